@@ -1,0 +1,17 @@
+pub mod Formatting
+pub mod Content
+pub mod Answers
+pub mod Found
+pub mod PlainEntry
+pub mod Finds
+pub mod EqualEntries
+pub mod Element
+pub mod ElementView
+pub mod Style
+pub mod StyleView
+pub mod Child
+pub mod ChildView
+pub mod Falls
+pub mod Tree
+pub mod SameTree
+pub mod EqualTrees

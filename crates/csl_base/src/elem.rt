@@ -1,0 +1,279 @@
+// Trees of rendered text.
+ghost use Rattle.std.specs.Prelude.{◌≡◌, ℕ, Bool, ◌∷◌, [], ◌++◌, map, OnOk, IsOk, IfOk, option_map};
+ghost use Rattle.std.specs.Fmt.{WritesInCalls};
+ghost use Rattle.csl_base.specs.ChildView.{child_view};
+ghost use Rattle.csl_base.specs.Tree.{plain, child_plain, find_elem, last_text, child_last_text, simplified, no_children, has_names, child_find, has_content, child_has_content};
+
+use crate::entry::Person;
+use crate::formatting::{Display, Formatted, Formatting};
+use crate::seq::Seq;
+use crate::taxonomy::NameVariable;
+use crate::text::Text;
+use std::alloc::{AllocError, Global};
+use std::fmt;
+use std::marker::Model;
+
+#[derive(Clone, Copy, PartialEq, Eq)]
+pub enum BufWriteFormat {
+    Plain,
+}
+
+#[derive(Clone, PartialEq, Eq, Hash, Drop)]
+pub enum ElemMeta {
+    Names(Seq<(Seq<Person>, NameVariable)>),
+    Name(NameVariable, usize),
+    Date,
+    CitationNumber,
+    CitationLabel,
+    Entry(usize),
+}
+
+#[derive(Drop)]
+#[cycle(tree)]
+pub struct ElemChildren(pub Vec<ElemChild>);
+
+#[derive(PartialEq, Eq, Drop)]
+#[cycle(tree)]
+pub enum ElemChild {
+    Text(Formatted),
+    Elem(Elem),
+    Markup(Text),
+    Link { text: Formatted, url: Text },
+    Transparent { cite_idx: usize, format: Formatting },
+}
+
+#[derive(PartialEq, Eq, Drop)]
+#[cycle(tree)]
+pub struct Elem {
+    pub children: ElemChildren,
+    pub display: Option<Display>,
+    pub meta: Option<ElemMeta>,
+}
+
+impl Model for ElemChildren {
+    ghost use Rattle.std.specs.Prelude.{List};
+    ghost use Rattle.csl_base.specs.Child.{Child, coded_children};
+
+    ghost Value = { List Child };
+
+    ghost coded = { coded_children };
+
+    ghost use Rattle.csl_base.specs.ChildView.{children_view, nodes};
+
+    ghost view = { children_view };
+
+    ghost size = { nodes };
+
+    ghost use Rattle.std.proofs.Common.{arith};
+    ghost use Rattle.csl_base.specs.Falls.{most_falls};
+
+    ghost size_decreases = { λ a h. omega (arith, most_falls a.0.items) };
+}
+
+impl ElemChildren {
+    pub fn new(alloc: Global) -> ElemChildren
+        ensures { result ≡ [] }
+    {
+        ElemChildren(Vec::new(alloc))
+    }
+
+    pub fn is_empty(&self) -> bool
+        ensures { result ≡ no_children self.now }
+    {
+        self.0.is_empty()
+    }
+
+    pub fn push(&mut self, child: ElemChild) -> Result<(), AllocError>
+        ensures { OnOk result (self.new ≡ self.old ++ child_view child ∷ []) }
+    {
+        self.0.push(child)?;
+        Ok(())
+    }
+
+    pub fn into_vec(self) -> Vec<ElemChild>
+        ensures { map child_view result.items ≡ self }
+    {
+        self.0
+    }
+
+    #[cycle(write)]
+    pub fn write_buf<W: fmt::Write>(&self, w: &mut W, format: BufWriteFormat) -> fmt::Result
+        ensures { IsOk result → WritesInCalls W.write_str_gives w.old (plain self.now) w.new }
+    {
+        for child in &self.0 {
+            child.write_buf(w, format)?;
+        }
+        Ok(())
+    }
+
+    #[cycle(last_text)]
+    pub fn last_text(&self) -> Option<&Formatted>
+        ensures { option_map (λ f. f.now) result ≡ last_text self.now }
+    {
+        match self.0.last() {
+            Some(child) => child.last_text(),
+            None => None,
+        }
+    }
+
+    #[cycle(find_names)]
+    pub fn find_names(&self) -> Option<&Elem>
+        ensures { option_map (λ e. e.now) result ≡ find_elem has_names self.now }
+    {
+        for child in &self.0 {
+            if let Some(elem) = child.find_names() {
+                return Some(elem);
+            }
+        }
+        None
+    }
+
+    #[cycle(has_content)]
+    pub fn has_content(&self) -> bool
+        ensures { result ≡ has_content self.now }
+    {
+        for child in &self.0 {
+            if child.has_content() {
+                return true;
+            }
+        }
+        false
+    }
+}
+
+impl ElemChild {
+    #[cycle(write)]
+    pub fn write_buf<W: fmt::Write>(&self, w: &mut W, format: BufWriteFormat) -> fmt::Result
+        ensures { IsOk result → WritesInCalls W.write_str_gives w.old (child_plain (child_view self.now)) w.new }
+    {
+        match self {
+            ElemChild::Text(f) => w.write_str(f.text.as_str()),
+            ElemChild::Elem(e) => e.children.write_buf(w, format),
+            ElemChild::Markup(s) => w.write_str(s.as_str()),
+            ElemChild::Link { text, .. } => w.write_str(text.text.as_str()),
+            ElemChild::Transparent { .. } => Ok(()),
+        }
+    }
+
+    #[cycle(last_text)]
+    pub fn last_text(&self) -> Option<&Formatted>
+        ensures { option_map (λ f. f.now) result ≡ child_last_text (child_view self.now) }
+    {
+        match self {
+            ElemChild::Text(f) => Some(f),
+            ElemChild::Elem(e) => e.children.last_text(),
+            ElemChild::Markup(_) | ElemChild::Link { .. } | ElemChild::Transparent { .. } => None,
+        }
+    }
+
+    #[cycle(find_names)]
+    pub fn find_names(&self) -> Option<&Elem>
+        ensures { option_map (λ e. e.now) result ≡ child_find has_names (child_view self.now) }
+    {
+        match self {
+            ElemChild::Elem(e) => {
+                if e.has_names() {
+                    Some(e)
+                } else {
+                    e.children.find_names()
+                }
+            }
+            ElemChild::Text(_)
+            | ElemChild::Markup(_)
+            | ElemChild::Link { .. }
+            | ElemChild::Transparent { .. } => None,
+        }
+    }
+
+    #[cycle(has_content)]
+    fn has_content(&self) -> bool
+        ensures { result ≡ child_has_content (child_view self.now) }
+    {
+        match self {
+            ElemChild::Text(f) => f.text.has_content(),
+            ElemChild::Elem(e) => e.children.has_content(),
+            ElemChild::Markup(_) | ElemChild::Link { .. } | ElemChild::Transparent { .. } => true,
+        }
+    }
+}
+
+impl Elem {
+    pub fn has_names(&self) -> bool
+        ensures { result ≡ has_names self.now }
+    {
+        match self.meta {
+            Some(ElemMeta::Names(_)) => true,
+            _ => false,
+        }
+    }
+}
+
+impl Clone for ElemChildren {
+    ghost is_clone = { λ a b. b ≡ a };
+
+    fn clone(&self) -> Result<ElemChildren, AllocError> {
+        copy_children(self)
+    }
+}
+
+#[cycle(copy)]
+fn copy_children(children: &ElemChildren) -> Result<ElemChildren, AllocError>
+    ensures { IfOk result (λ c. c ≡ children.now) }
+{
+    let mut copies = Vec::with_capacity(*children.0.allocator(), children.0.len())?;
+    for child in &children.0 {
+        copies.push(copy_child(child)?)?;
+    }
+    Ok(ElemChildren(copies))
+}
+
+#[cycle(copy)]
+fn copy_child(child: &ElemChild) -> Result<ElemChild, AllocError>
+    ensures { IfOk result (λ c. c ≡ child.now) }
+{
+    match child {
+        ElemChild::Text(f) => Ok(ElemChild::Text(f.clone()?)),
+        ElemChild::Elem(e) => Ok(ElemChild::Elem(Elem {
+            children: copy_children(&e.children)?,
+            display: e.display,
+            meta: e.meta.clone()?,
+        })),
+        ElemChild::Markup(s) => Ok(ElemChild::Markup(s.clone()?)),
+        ElemChild::Link { text, url } => Ok(ElemChild::Link {
+            text: text.clone()?,
+            url: url.clone()?,
+        }),
+        ElemChild::Transparent { cite_idx, format } => Ok(ElemChild::Transparent {
+            cite_idx: *cite_idx,
+            format: *format,
+        }),
+    }
+}
+
+impl PartialEq for ElemChildren {
+    ghost use Rattle.csl_base.specs.SameTree.{same_trees, same_trees-laws};
+    ghost use Rattle.std.specs.Cmp.{partial_equiv_from_equiv};
+
+    ghost eq = { same_trees };
+
+    ghost laws = { partial_equiv_from_equiv same_trees-laws };
+
+    #[cycle(tree)]
+    fn eq(&self, other: &ElemChildren) -> bool {
+        if self.0.len() != other.0.len() {
+            return false;
+        }
+        for i in 0..self.0.len() {
+            if !(self.0[i] == other.0[i]) {
+                return false;
+            }
+        }
+        true
+    }
+}
+
+impl Eq for ElemChildren {
+    ghost use Rattle.csl_base.specs.SameTree.{same_trees-laws};
+
+    ghost laws = { same_trees-laws };
+}

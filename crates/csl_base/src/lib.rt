@@ -1,0 +1,15 @@
+//! Style values, entries, trees and stacks of the citation driver.
+//!
+//! Contracts see plain data: a text is its list of bytes, a list is its items, a tree is the list of
+//! its children. No capacity and no address shows.
+#![tactic(auto)]
+
+pub mod elem;
+pub mod element;
+pub mod entry;
+pub mod formatting;
+pub mod locale;
+pub mod seq;
+pub mod style;
+pub mod taxonomy;
+pub mod text;

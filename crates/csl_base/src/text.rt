@@ -1,0 +1,85 @@
+// A text that contracts see as its bytes.
+ghost use Rattle.std.specs.Prelude.{◌≡◌, ℕ, List, string_bytes, bytes_eq, ◌++◌, OnOk};
+ghost use Rattle.std.proofs.Common.{rules};
+ghost use Rattle.std.specs.Cmp.Rules.{comparing, hashing};
+ghost use Rattle.std.specs.Hash as fed;
+ghost use Rattle.csl_base.specs.Content.{text_has_content};
+
+use std::alloc::AllocError;
+use std::hash::{Hash, Hasher};
+use std::marker::Model;
+
+#[derive(Drop)]
+pub struct Text(String);
+
+impl Model for Text {
+    ghost Value = { List ℕ };
+
+    ghost view = { λ a. string_bytes a.0 };
+}
+
+impl Text {
+    pub fn new(s: String) -> Text
+        ensures { result ≡ string_bytes s }
+    {
+        Text(s)
+    }
+
+    pub fn into_string(self) -> String
+        ensures { string_bytes result ≡ self }
+    {
+        self.0
+    }
+
+    pub fn as_str(&self) -> &str
+        ensures { result.now ≡ self.now }
+    {
+        self.0.as_str()
+    }
+
+    // Whether some character is no white space.
+    pub fn has_content(&self) -> bool
+        ensures { result ≡ text_has_content self.now }
+    {
+        self.0.as_str().chars().any(|c| !c.is_whitespace())
+    }
+
+    pub fn push_str(&mut self, s: &str) -> Result<(), AllocError>
+        ensures { OnOk result (self.new ≡ self.old ++ s.now) }
+    {
+        self.0.push_str(s)?;
+        Ok(())
+    }
+}
+
+impl Clone for Text {
+    ghost is_clone = { λ a b. b ≡ a };
+
+    fn clone(&self) -> Result<Text, AllocError> {
+        Ok(Text(self.0.clone()?))
+    }
+}
+
+impl PartialEq for Text {
+    ghost eq = { bytes_eq };
+
+    ghost laws = { Prim.search (comparing, rules) };
+
+    fn eq(&self, other: &Text) -> bool {
+        self.0 == other.0
+    }
+}
+
+impl Eq for Text {
+    ghost laws = { Prim.search (comparing, rules) };
+}
+
+impl Hash for Text {
+    ghost hash_input = { fed.str };
+
+    ghost respects_eq = { Prim.search (hashing, rules) };
+
+    fn hash<H: Hasher>(&self, state: &mut H) {
+        self.0.hash(state);
+    }
+}
