@@ -1,0 +1,54 @@
+-- Requests as plain data: no capacity and no address is seen.
+use Rattle.std.specs.Prelude.{ℕ, ◌+◌, Bool, List, [], ◌∷◌, Option, map}
+use Rattle.std.specs.List.{flat_map}
+use Rattle.csl_base.specs.declared.taxonomy.Locator.{Locator}
+use Rattle.csl_base.specs.Style.{StyleValue, LocaleValue}
+use Rattle.csl_driver.specs.declared.purpose.CitePurpose.{CitePurpose}
+
+-- where a locator points: a text, or a payload of the caller's own
+pub data Payload (P : Type 0) : Type 0 where
+  text_payload : List ℕ → Payload P
+  own_payload : P → Payload P
+
+pub record LocatorValue (P : Type 0) : Type 0 where
+  pub kind : Locator
+  pub payload : Payload P
+
+-- a cite: what is cited and how, and the place that it had in its request
+pub record Cite (E P : Type 0) : Type 0 where
+  pub entry : E
+  pub locator : Option (LocatorValue P)
+  pub locale : Option (List ℕ)
+  pub hidden : Bool
+  pub purpose : Option CitePurpose
+  pub place : ℕ
+
+pub record Request (E P : Type 0) : Type 0 where
+  pub cites : List (Cite E P)
+  pub style : StyleValue
+  pub locale : Option (List ℕ)
+  pub locales : List LocaleValue
+  pub note_number : Option ℕ
+
+-- a driver: the requests that it accepted, in order, and the number of the first entry
+pub record Driver (E P : Type 0) : Type 0 where
+  pub requests : List (Request E P)
+  pub offset : ℕ
+
+module _ {E P : Type 0} where
+  -- the cites with the places k, k + 1 and on
+  abbrev pub placed_from : ℕ → List (Cite E P) → List (Cite E P)
+  placed_from k [] = []
+  placed_from k (c ∷ cs) = record c { place = k } ∷ placed_from (k + 1) cs
+
+  -- the request with each cite's place set to where it stands
+  abbrev pub with_places : Request E P → Request E P
+  with_places r = record r { cites = placed_from 0 r.cites }
+
+  -- what is cited, in order
+  abbrev pub entries_of : List (Cite E P) → List E
+  entries_of = map (λ c. c.entry)
+
+  -- the cited entries of all requests, in order
+  abbrev pub cited : List (Request E P) → List E
+  cited requests = flat_map (λ r. entries_of r.cites) requests

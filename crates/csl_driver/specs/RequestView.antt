@@ -1,0 +1,53 @@
+-- The plain data that requests stand for.
+use Rattle.std.specs.Prelude.{List, Option, Some, None, map, option_map}
+use Rattle.std.specs.Borrow.{Bor}
+use Rattle.csl_base.specs.StyleView.{code_view, locale_view, style_view}
+use Rattle.csl_driver.specs.declared.item.CitationItem.{CitationItem}
+use Rattle.csl_driver.specs.declared.locator.LocatorPayload.{LocatorPayload}
+use Rattle.csl_driver.specs.declared.locator.LocatorPayload.TheVariants as payloads
+use Rattle.csl_driver.specs.declared.locator.SpecificLocator.{SpecificLocator}
+use Rattle.csl_driver.specs.declared.request.CitationRequest.{CitationRequest}
+use Rattle.csl_driver.specs.declared.request.Order.{Order}
+use Rattle.csl_driver.specs.Request.{Payload, text_payload, own_payload, LocatorValue, Cite, Request}
+
+module _ {P : Type 0} where
+  abbrev pub payload_view : LocatorPayload P → Payload P
+  payload_view (payloads.Str text) = text_payload text.now
+  payload_view (payloads.Transparent locator) = own_payload locator
+
+  abbrev pub locator_view : SpecificLocator P → LocatorValue P
+  locator_view l = record { kind = l.0; payload = payload_view l.1 }
+
+module _ {T P : Type 0} where
+  abbrev pub cite_view : CitationItem T P → Cite T P
+  cite_view i = record {
+    entry = i.entry.now;
+    locator = option_map locator_view i.locator;
+    locale = option_map code_view i.locale;
+    hidden = i.hidden;
+    purpose = i.purpose;
+    place = i.initial_idx;
+  }
+
+  abbrev pub cites_view : List (CitationItem T P) → List (Cite T P)
+  cites_view = map cite_view
+
+  abbrev pub request_view : CitationRequest T P → Request T P
+  request_view r = record {
+    cites = cites_view r.items.items;
+    style = style_view r.style.now;
+    locale = option_map code_view r.locale;
+    locales = map locale_view r.locale_files.now;
+    note_number = r.note_number;
+  }
+
+  abbrev pub requests_view : List (CitationRequest T P) → List (Request T P)
+  requests_view = map request_view
+
+module _ {T : Type 0} where
+  abbrev pub entries_view : List (Bor T) → List T
+  entries_view = map (λ e. e.now)
+
+  abbrev pub order_view : Option (Order T) → Option (List T)
+  order_view None = None
+  order_view (Some order) = Some (entries_view order.0.now)

@@ -1,0 +1,9 @@
+//! Requests for citations and a bibliography, and the driver that answers them.
+#![tactic(auto)]
+
+pub mod error;
+pub mod item;
+pub mod locator;
+pub mod purpose;
+pub mod rendered;
+pub mod request;

@@ -1,0 +1,100 @@
+//! What a caller asks for: citations, and a bibliography.
+ghost use Rattle.std.specs.Prelude.{◌≡◌, None, if◌then◌else◌, map, option_map};
+ghost use Rattle.csl_base.specs.StyleView.{code_view, locale_view, style_view};
+ghost use Rattle.csl_driver.specs.Class.{is_note};
+ghost use Rattle.csl_driver.specs.RequestView.{cites_view, request_view};
+
+use crate::item::CitationItem;
+use csl_base::locale::{Locale, LocaleCode};
+use csl_base::style::{IndependentStyle, StyleClass};
+
+/// A citation: the entries that one place in a text cites.
+#[derive(PartialEq, Eq, Drop)]
+pub struct CitationRequest<'a, T, P> {
+    /// The cites, in the order in which they are asked for.
+    pub items: Vec<CitationItem<'a, T, P>>,
+    pub(crate) style: &'a IndependentStyle,
+    /// The locale of the style's terms; the style's own where there is none.
+    pub locale: Option<LocaleCode>,
+    /// The locales that are asked for terms that the style doesn't have.
+    pub locale_files: &'a [Locale],
+    pub(crate) note_number: Option<usize>,
+}
+
+impl<'a, T, P> CitationRequest<'a, T, P> {
+    /// A request for a citation. The note number is kept only where the style's cites stand in notes.
+    pub fn new(
+        items: Vec<CitationItem<'a, T, P>>,
+        style: &'a IndependentStyle,
+        locale: Option<LocaleCode>,
+        locale_files: &'a [Locale],
+        note_number: Option<usize>,
+    ) -> CitationRequest<'a, T, P>
+        ensures { request_view result
+            ≡ record { cites = cites_view items.entry.items; style = style_view style.now; locale = option_map code_view locale; locales = map locale_view locale_files.now; note_number = (if is_note style.now.settings.class then note_number else None) } }
+    {
+        CitationRequest {
+            items,
+            style,
+            locale,
+            locale_files,
+            note_number: match style.settings.class {
+                StyleClass::Note => note_number,
+                StyleClass::InText => None,
+            },
+        }
+    }
+
+    /// A request for a citation in the style's own locale and without a note number.
+    pub fn from_items(
+        items: Vec<CitationItem<'a, T, P>>,
+        style: &'a IndependentStyle,
+        locale_files: &'a [Locale],
+    ) -> CitationRequest<'a, T, P>
+        ensures { request_view result
+            ≡ record { cites = cites_view items.entry.items; style = style_view style.now; locale = None; locales = map locale_view locale_files.now; note_number = None } }
+    {
+        CitationRequest {
+            items,
+            style,
+            locale: None,
+            locale_files,
+            note_number: None,
+        }
+    }
+}
+
+/// The order in which a caller wants the bibliography's entries. It may lack, repeat or add entries.
+#[derive(PartialEq, Eq, Drop)]
+pub struct Order<'o, 'a, T>(pub &'o [&'a T]);
+
+/// A request for a bibliography.
+#[derive(PartialEq, Eq, Drop)]
+pub struct BibliographyRequest<'o, 'a, T> {
+    /// The style of the bibliography. Some styles have none; then none is answered.
+    pub style: &'o IndependentStyle,
+    /// The locale of the style's terms; the style's own where there is none.
+    pub locale: Option<LocaleCode>,
+    /// The locales that are asked for terms that the style doesn't have.
+    pub locale_files: &'o [Locale],
+    /// The order of the entries; that of their first cites where there is none.
+    pub order: Option<Order<'o, 'a, T>>,
+}
+
+impl<'o, 'a, T> BibliographyRequest<'o, 'a, T> {
+    /// A request for a bibliography in the order of the first cites.
+    pub fn new(
+        style: &'o IndependentStyle,
+        locale: Option<LocaleCode>,
+        locale_files: &'o [Locale],
+    ) -> BibliographyRequest<'o, 'a, T>
+        ensures { result ≡ record { style = style.entry; locale = locale; locale_files = locale_files.entry; order = None } }
+    {
+        BibliographyRequest {
+            style,
+            locale,
+            locale_files,
+            order: None,
+        }
+    }
+}
