@@ -1,8 +1,11 @@
 //! Requests for citations and a bibliography, and the driver that answers them.
 #![tactic(auto)]
 
+pub mod driver;
+mod entries;
 pub mod error;
 pub mod item;
+pub mod laws;
 pub mod locator;
 pub mod purpose;
 pub mod rendered;
