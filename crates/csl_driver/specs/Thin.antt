@@ -6,7 +6,7 @@ use Rattle.std.specs.List.{list_any}
 use Rattle.std.specs.Str.{chars}
 use Rattle.csl_base.specs.Child.{Child, text, elem, kids_of}
 use Rattle.csl_base.specs.Content.{text_has_content}
-use Rattle.csl_base.specs.Element.{Look, value_target, Element, text_element, number_element, Elements, no_elements, element}
+use Rattle.csl_base.specs.Element.{Affix, Look, value_target, Element, text_element, number_element, Elements, no_elements, element}
 use Rattle.csl_base.specs.declared.elem.ElemMeta.TheVariants.{CitationNumber}
 use Rattle.csl_base.specs.declared.formatting.Formatting.{Formatting}
 use Rattle.csl_base.specs.declared.formatting.StyleFormatting.{StyleFormatting}
@@ -36,10 +36,9 @@ abbrev pub value_children : Formatting → List ℕ → List Child
 value_children f value = if text_has_content value then text_child f (Some value) else []
 
 -- the number plus one, marked as the citation number, between the affixes
-abbrev pub number_children : Formatting → Look → ℕ → List Child
-number_children f look n =
-    text_child f look.affixes.prefix
-    ++ elem (kids_of (text_child f (Some (decimal (n + 1))))) None (Some CitationNumber) ∷ text_child f look.affixes.suffix
+abbrev pub number_children : Formatting → Affix → ℕ → List Child
+number_children f affixes n =
+    text_child f affixes.prefix ++ elem (kids_of (text_child f (Some (decimal (n + 1))))) None (Some CitationNumber) ∷ text_child f affixes.suffix
 
 abbrev pub is_citation_number : NumberVariable → Bool
 is_citation_number numbers.CitationNumber = true
@@ -56,7 +55,7 @@ thin_element f n (text_element (value_target value) quotes strip look) =
     if (not quotes && not strip) && (has_plain_look look && has_no_affixes look) then value_children f value else []
 thin_element f n (number_element variable look) =
     if is_citation_number variable && (has_plain_look look && (is_plain_affix look.affixes.prefix && is_plain_affix look.affixes.suffix))
-    then number_children f look n
+    then number_children f look.affixes n
     else []
 thin_element f n _ = []
 

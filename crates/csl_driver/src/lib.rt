@@ -10,3 +10,4 @@ pub mod locator;
 pub mod purpose;
 pub mod rendered;
 pub mod request;
+mod thin;
