@@ -2,3 +2,4 @@ pub mod Trees
 pub mod Compare
 pub mod Joining
 pub mod Simplifying
+pub mod SimplifyLaws

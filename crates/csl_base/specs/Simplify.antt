@@ -1,5 +1,5 @@
 -- Adjacent texts of equal formatting, joined.
-use Rattle.std.specs.Prelude.{Bool, true, false, cond, ◌&&◌, List, [], ◌∷◌, ◌++◌}
+use Rattle.std.specs.Prelude.{◌≡◌, Bool, true, false, cond, ◌&&◌, List, [], ◌∷◌, ◌++◌}
 use Rattle.csl_base.specs.Child.{Child, text, elem, markup, link, transparent, Kids, no_kids, kid, kids_of}
 use Rattle.csl_base.specs.declared.formatting.Formatting.{Formatting}
 use Rattle.csl_base.specs.declared.formatting.FontStyle.{FontStyle}
@@ -52,7 +52,25 @@ abbrev mutual
 abbrev pub simplified : List Child → List Child
 simplified cs = kids_simple (kids_of cs)
 
--- the same at one level alone
+-- a child and the first of those after it are to be one
+abbrev pub joins_first : Child → Kids → Bool
+joins_first c no_kids = false
+joins_first c (kid d ks) = joins c d
+
+-- no two neighbours are to be one, at any depth
+abbrev mutual
+  pub ChildApart : Child → Type 0
+  ChildApart (text f) = Unit {0}
+  ChildApart (elem ks d m) = Apart ks
+  ChildApart (markup s) = Unit {0}
+  ChildApart (link f s) = Unit {0}
+  ChildApart (transparent i f) = Unit {0}
+
+  pub Apart : Kids → Type 0
+  Apart no_kids = Unit {0}
+  Apart (kid c ks) = ChildApart c × (joins_first c ks ≡ false) × Apart ks
+
+-- the same as `simplified` at one level alone
 abbrev pub level_joined : List Child → List Child
 level_joined [] = []
 level_joined (c ∷ cs) = join_first c (level_joined cs)

@@ -1,7 +1,9 @@
 //! Adjacent texts of equal formatting become one.
-ghost use Rattle.std.specs.Prelude.{◌≡◌, OnOk, IfOk};
+ghost use Rattle.std.specs.Prelude.{◌≡◌, List, OnOk, IfOk};
+ghost use Rattle.csl_base.specs.Child.{Child, kids_of};
 ghost use Rattle.csl_base.specs.ChildView.{child_view};
-ghost use Rattle.csl_base.specs.Simplify.{simplified, child_simple, level_joined, join_last, joins, joined};
+ghost use Rattle.csl_base.specs.Tree.{plain};
+ghost use Rattle.csl_base.specs.Simplify.{simplified, child_simple, level_joined, join_last, joins, joined, Apart};
 
 use crate::elem::{ElemChild, ElemChildren};
 use std::alloc::AllocError;
@@ -89,3 +91,11 @@ fn append(children: &mut ElemChildren, child: ElemChild) -> Result<(), AllocErro
         None => children.push(child),
     }
 }
+
+/// Joining adjacent texts keeps the plain text, leaves no two that are to be joined, and does nothing
+/// the second time.
+pub fn simplify_laws()
+    ensures keeps_plain_text { (cs : List Child) → plain (simplified cs) ≡ plain cs }
+    ensures leaves_none_to_join { (cs : List Child) → Apart (kids_of (simplified cs)) }
+    ensures twice_is_once { (cs : List Child) → simplified (simplified cs) ≡ simplified cs }
+{}
