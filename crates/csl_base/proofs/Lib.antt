@@ -1,2 +1,5 @@
 pub mod Trees
 pub mod Compare
+pub mod Joining
+pub mod Simplifying
+pub mod SimplifyLaws

@@ -13,5 +13,6 @@ pub mod Child
 pub mod ChildView
 pub mod Falls
 pub mod Tree
+pub mod Simplify
 pub mod SameTree
 pub mod EqualTrees

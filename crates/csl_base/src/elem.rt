@@ -2,7 +2,7 @@
 ghost use Rattle.std.specs.Prelude.{◌≡◌, ℕ, Bool, ◌∷◌, [], ◌++◌, map, OnOk, IsOk, IfOk, option_map};
 ghost use Rattle.std.specs.Fmt.{WritesInCalls};
 ghost use Rattle.csl_base.specs.ChildView.{child_view};
-ghost use Rattle.csl_base.specs.Tree.{plain, child_plain, find_elem, last_text, child_last_text, simplified, no_children, has_names, child_find, has_content, child_has_content};
+ghost use Rattle.csl_base.specs.Tree.{plain, child_plain, find_elem, last_text, child_last_text, no_children, has_names, child_find, has_content, child_has_content};
 
 use crate::entry::Person;
 use crate::formatting::{Display, Formatted, Formatting};

@@ -10,6 +10,7 @@ pub mod entry;
 pub mod formatting;
 pub mod locale;
 pub mod seq;
+pub mod simplify;
 pub mod style;
 pub mod taxonomy;
 pub mod text;
