@@ -1,2 +1,4 @@
 pub mod Trees
 pub mod Compare
+pub mod LastTextSteps
+pub mod FirstNamesSteps

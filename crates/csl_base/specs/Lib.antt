@@ -15,3 +15,8 @@ pub mod Falls
 pub mod Tree
 pub mod SameTree
 pub mod EqualTrees
+pub mod Nested
+pub mod LastText
+pub mod LastTextStep
+pub mod FirstNames
+pub mod FirstNamesStep
