@@ -2,3 +2,4 @@ pub mod Trees
 pub mod Compare
 pub mod LastTextSteps
 pub mod FirstNamesSteps
+pub mod Metas

@@ -20,3 +20,4 @@ pub mod LastText
 pub mod LastTextStep
 pub mod FirstNames
 pub mod FirstNamesStep
+pub mod Metas

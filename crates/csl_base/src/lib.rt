@@ -7,6 +7,7 @@
 pub mod elem;
 pub mod element;
 pub mod entry;
+pub mod find;
 pub mod first_names;
 pub mod formatting;
 pub mod last_text;
