@@ -16,3 +16,9 @@ pub mod Tree
 pub mod Simplify
 pub mod SameTree
 pub mod EqualTrees
+pub mod Nested
+pub mod LastText
+pub mod LastTextStep
+pub mod FirstNames
+pub mod FirstNamesStep
+pub mod Metas

@@ -7,7 +7,10 @@
 pub mod elem;
 pub mod element;
 pub mod entry;
+pub mod find;
+pub mod first_names;
 pub mod formatting;
+pub mod last_text;
 pub mod locale;
 pub mod seq;
 pub mod simplify;
