@@ -15,3 +15,5 @@ pub mod Falls
 pub mod Tree
 pub mod SameTree
 pub mod EqualTrees
+pub mod Calls
+pub mod Ring

@@ -4,11 +4,13 @@
 //! its children. No capacity and no address shows.
 #![tactic(auto)]
 
+pub mod calls;
 pub mod elem;
 pub mod element;
 pub mod entry;
 pub mod formatting;
 pub mod locale;
+pub mod ring;
 pub mod seq;
 pub mod style;
 pub mod taxonomy;
