@@ -6,3 +6,7 @@ pub mod SimplifyLaws
 pub mod LastTextSteps
 pub mod FirstNamesSteps
 pub mod Metas
+pub mod Names
+pub mod Gathering
+pub mod Views
+pub mod Weight

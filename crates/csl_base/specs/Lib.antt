@@ -22,3 +22,5 @@ pub mod LastTextStep
 pub mod FirstNames
 pub mod FirstNamesStep
 pub mod Metas
+pub mod Calls
+pub mod Ring

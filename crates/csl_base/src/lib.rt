@@ -4,6 +4,7 @@
 //! its children. No capacity and no address shows.
 #![tactic(auto)]
 
+pub mod calls;
 pub mod elem;
 pub mod element;
 pub mod entry;
@@ -12,6 +13,7 @@ pub mod first_names;
 pub mod formatting;
 pub mod last_text;
 pub mod locale;
+pub mod ring;
 pub mod seq;
 pub mod simplify;
 pub mod style;
