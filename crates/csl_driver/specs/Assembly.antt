@@ -4,7 +4,8 @@ use Rattle.std.specs.List.{flat_map, list_all, ends_with}
 use Rattle.csl_base.specs.Child.{Child, elem, kids_of}
 use Rattle.csl_base.specs.Formatting.{normal, applied}
 use Rattle.csl_base.specs.Style.{LayoutValue}
-use Rattle.csl_base.specs.Tree.{simplified, last_text}
+use Rattle.csl_base.specs.Tree.{last_text}
+use Rattle.csl_base.specs.Simplify.{simplified}
 use Rattle.csl_base.specs.declared.elem.ElemMeta.TheVariants.{Entry}
 use Rattle.csl_base.specs.declared.formatting.Formatted.{Formatted}
 use Rattle.csl_base.specs.declared.formatting.Formatting.{Formatting}
@@ -41,10 +42,6 @@ abbrev pub assembled : Bool → LayoutValue → List Child → List Child
 assembled encloses layout [] = []
 assembled encloses layout (c ∷ cs) = simplified (enclosed encloses layout (c ∷ cs))
 
--- a cite's tree, marked with the cite's place in its request
-abbrev pub marked : ℕ → List Child → Child
-marked place tree = elem (kids_of tree) None (Some (Entry place))
-
 module _ {E P : Type 0} where
   abbrev pub shown : List (Cite E P) → List (Cite E P)
   shown = filter (λ c. not c.hidden)
@@ -53,7 +50,11 @@ module _ {E P : Type 0} where
   abbrev pub has_no_purpose : List (Cite E P) → Bool
   has_no_purpose = list_all (λ c. is_none c.purpose)
 
+  -- the tree of a cite, marked with the cite's place in its request
+  abbrev pub marked : (Cite E P → List Child) → Cite E P → Child
+  marked tree_of c = elem (kids_of (tree_of c)) None (Some (Entry c.place))
+
   -- a citation, where tree_of gives the tree of a cite; the layout encloses it where no cite has a purpose
   abbrev pub citation_tree : (Cite E P → List Child) → Request E P → List Child
   citation_tree tree_of request =
-      assembled (has_no_purpose request.cites) request.style.citation.layout (map (λ c. marked c.place (tree_of c)) (shown request.cites))
+      assembled (has_no_purpose request.cites) request.style.citation.layout (map (marked tree_of) (shown request.cites))

@@ -7,3 +7,4 @@ pub mod Assembly
 pub mod Answer
 pub mod Laws
 pub mod DriverView
+pub mod Rings

@@ -2,18 +2,35 @@
 ghost use Rattle.std.specs.Prelude.{◌≡◌, [], OnOk, OnErr, IfErr};
 ghost use Rattle.csl_driver.specs.DriverView.{driver_view};
 ghost use Rattle.csl_driver.specs.Request.{with_request};
-ghost use Rattle.csl_driver.specs.RequestView.{request_view};
+ghost use Rattle.csl_driver.specs.RequestView.{request_view, requests_view};
 
 use crate::error::CitationRefused;
 use crate::request::{CitationRequest, number_items};
 use std::alloc::Global;
 
 /// Takes requests for citations, one after another, and answers them all at once.
-#[derive(Drop)]
 pub struct BibliographyDriver<'a, T, P> {
     pub(crate) citations: Vec<CitationRequest<'a, T, P>>,
     pub(crate) citation_number_offset: usize,
     pub(crate) alloc: Global,
+}
+
+/// Lets requests go one by one: a list of lists that hold references to a type parameter can't be let
+/// go as a whole.
+pub(crate) fn discard<T, P: Drop>(mut requests: Vec<CitationRequest<'_, T, P>>) {
+    while let Some(_request) = requests.pop() {}
+    requests.destroy_empty();
+}
+
+impl<'a, T, P: Drop> Drop for BibliographyDriver<'a, T, P> {
+    fn drop(self) {
+        let BibliographyDriver {
+            citations,
+            citation_number_offset: _,
+            alloc: _,
+        } = self;
+        discard(citations);
+    }
 }
 
 impl<'a, T, P: Drop> BibliographyDriver<'a, T, P> {
@@ -62,5 +79,18 @@ impl<'a, T, P: Drop> BibliographyDriver<'a, T, P> {
         number_items(&mut request.items);
         let _ = self.citations.push(request);
         Ok(())
+    }
+
+    /// The requests, the offset, and the allocator.
+    pub(crate) fn into_parts(self) -> (Vec<CitationRequest<'a, T, P>>, usize, Global)
+        ensures requests { requests_view result.0.items ≡ (driver_view self.entry).requests }
+        ensures offset { result.1 ≡ (driver_view self.entry).offset }
+    {
+        let BibliographyDriver {
+            citations,
+            citation_number_offset,
+            alloc,
+        } = self;
+        (citations, citation_number_offset, alloc)
     }
 }

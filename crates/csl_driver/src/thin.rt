@@ -11,13 +11,12 @@ ghost use Rattle.csl_driver.specs.Answer.{layout_tree};
 ghost use Rattle.csl_driver.specs.Assembly.{layout_formatting};
 ghost use Rattle.csl_driver.specs.Thin.{text_child, is_plain_affix, is_unformatted, has_no_affixes, value_children, number_children, thin_element};
 
-use std::alloc::{AllocError, Global};
-
 use csl_base::elem::{Elem, ElemChild, ElemChildren, ElemMeta};
 use csl_base::element::{Affixes, LayoutRenderingElement, TextTarget};
 use csl_base::formatting::{Display, Formatting, StyleFormatting};
 use csl_base::style::Layout;
 use csl_base::taxonomy::NumberVariable;
+use std::alloc::{AllocError, Global};
 
 /// Adds a text; the empty text adds nothing.
 pub(crate) fn push_text(
