@@ -9,6 +9,7 @@ pub mod element;
 pub mod entry;
 pub mod formatting;
 pub mod locale;
+pub mod print;
 pub mod seq;
 pub mod simplify;
 pub mod style;
