@@ -277,3 +277,25 @@ impl Eq for ElemChildren {
 
     ghost laws = { same_trees-laws };
 }
+
+impl From<Formatted> for ElemChild {
+    ghost use Rattle.csl_base.specs.declared.elem.ElemChild.TheVariants.{Text};
+
+    ghost from_gives = { λ formatted child. child ≡ Text formatted };
+
+    /// A text of a tree.
+    fn from(formatted: Formatted) -> ElemChild {
+        ElemChild::Text(formatted)
+    }
+}
+
+impl From<Elem> for ElemChild {
+    ghost use Rattle.csl_base.specs.declared.elem.ElemChild.TheVariants.{Elem};
+
+    ghost from_gives = { λ elem child. child ≡ Elem elem };
+
+    /// An element inside a tree.
+    fn from(elem: Elem) -> ElemChild {
+        ElemChild::Elem(elem)
+    }
+}

@@ -13,6 +13,7 @@ pub mod first_names;
 pub mod formatting;
 pub mod last_text;
 pub mod locale;
+pub mod print;
 pub mod ring;
 pub mod seq;
 pub mod simplify;
