@@ -3,3 +3,5 @@ pub mod Compare
 pub mod LastTextSteps
 pub mod FirstNamesSteps
 pub mod Metas
+pub mod LastTextLaws
+pub mod FirstNamesLaws
