@@ -1,7 +1,8 @@
 pub mod Trees
 pub mod Compare
+pub mod Nested
 pub mod LastTextSteps
 pub mod FirstNamesSteps
-pub mod Metas
+pub mod FirstPlace
 pub mod LastTextLaws
 pub mod FirstNamesLaws
