@@ -7,17 +7,14 @@ use Rattle.csl_base.specs.Tree.{elem_of, has_names, find_elem, child_find, kids_
 use Rattle.csl_base.specs.FirstNames.{holds_names, as_child, put_names, child_put_names, kids_put_names}
 use Rattle.csl_base.specs.declared.elem.Elem.{Elem}
 use Rattle.csl_base.proofs.Trees.{elem_back}
+use Rattle.csl_base.proofs.FirstNamesSteps.{or_next}
 
 abbrev given_or : Elem → Option Elem → Elem
 given_or g None = g
 given_or g (Some e) = e
 
-or_first : {Y : Type 0} (a b : Option Y) (y : Y) → a ≡ Some y → option_or a b ≡ Some y
-or_first a b y h = ap (λ o. option_or o b) h
-
-or_next : {Y : Type 0} (a b : Option Y) → is_some a ≡ false → option_or a b ≡ b
-or_next None b h = refl
-or_next (Some x) b h = cc
+or_found : {Y : Type 0} (a b : Option Y) (y : Y) → a ≡ Some y → option_or a b ≡ Some y
+or_found a b y h = ap (λ o. option_or o b) h
 
 or_same : {Y : Type 0} (a b : Option Y) (y : Y) → is_some a ≡ true → option_or a b ≡ Some y → a ≡ Some y
 or_same None b y h e = cc
@@ -49,7 +46,7 @@ mutual
   kids_read no_kids w e h = cc
   kids_read (kid c ks) w e h = elim (cases_Bool (holds_names c)) [
     | inl y ↦ ap (λ b. kids_find has_names (cond b (kid (child_put_names c w) ks) (kid c (kids_put_names ks w)))) y
-        ∙ or_first (child_find has_names (child_put_names c w)) (kids_find has_names ks) w (child_read c w y h)
+        ∙ or_found (child_find has_names (child_put_names c w)) (kids_find has_names ks) w (child_read c w y h)
     | inr n ↦ ap (λ b. kids_find has_names (cond b (kid (child_put_names c w) ks) (kid c (kids_put_names ks w)))) n
         ∙ or_next (child_find has_names c) (kids_find has_names (kids_put_names ks w)) n
         ∙ kids_read ks w (ap is_some (sym (or_next (child_find has_names c) (kids_find has_names ks) n)) ∙ e) h

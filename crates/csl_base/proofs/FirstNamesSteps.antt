@@ -76,7 +76,7 @@ or_first : {Y : Type 0} (a b : Option Y) → is_some a ≡ true → option_or a 
 or_first None b h = cc
 or_first (Some x) b h = refl
 
-or_next : {Y : Type 0} (a b : Option Y) → is_some a ≡ false → option_or a b ≡ b
+pub or_next : {Y : Type 0} (a b : Option Y) → is_some a ≡ false → option_or a b ≡ b
 or_next None b h = refl
 or_next (Some x) b h = cc
 

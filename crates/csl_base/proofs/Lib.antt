@@ -6,3 +6,4 @@ pub mod FirstNamesSteps
 pub mod FirstPlace
 pub mod LastTextLaws
 pub mod FirstNamesLaws
+pub mod Lent
