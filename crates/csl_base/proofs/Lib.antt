@@ -10,3 +10,8 @@ pub mod Names
 pub mod Gathering
 pub mod Views
 pub mod Weight
+pub mod Nested
+pub mod FirstPlace
+pub mod LastTextLaws
+pub mod FirstNamesLaws
+pub mod Lent

@@ -1,5 +1,7 @@
 -- One step down to the first element of meta Names: the first child that holds one.
-use Rattle.std.specs.Prelude.{ℕ, suc, Bool, false, not, cond, List, [], ◌∷◌, Option, None, Some}
+use Rattle.std.specs.Prelude.{ℕ, Bool, false, not, List, Option, None, Some, slice_set}
+use Rattle.std.specs.List.{find, position_or_len}
+use Rattle.std.specs.Option.{option_and_then, option_map_or}
 use Rattle.csl_base.specs.ChildView.{child_view}
 use Rattle.csl_base.specs.Child.{Child, text, elem, markup, link, transparent}
 use Rattle.csl_base.specs.Tree.{elem_of, has_names}
@@ -16,28 +18,25 @@ elem_without_names (markup s) = false
 elem_without_names (link f s) = false
 elem_without_names (transparent i f) = false
 
--- the first child that holds names, and the list with it replaced
+-- the first child that holds names
 abbrev pub first_holder : List Child → Option Child
-first_holder [] = None
-first_holder (c ∷ cs) = cond (holds_names c) (Some c) (first_holder cs)
+first_holder cs = find holds_names cs
 
+-- its index; the number of children where none does
+abbrev pub holder_index : List Child → ℕ
+holder_index cs = position_or_len holds_names cs
+
+-- the list with that child replaced
 abbrev pub put_holder : List Child → Child → List Child
-put_holder [] d = []
-put_holder (c ∷ cs) d = cond (holds_names c) (d ∷ cs) (c ∷ put_holder cs d)
+put_holder cs d = slice_set cs (holder_index cs) d
 
 -- the same, by a child as `src/` has it
 abbrev pub put_holder_child : List Child → ElemChild → List Child
 put_holder_child cs w = put_holder cs (child_view w)
 
--- how many children stand before that one
-abbrev pub holder_index : List Child → ℕ
-holder_index [] = 0
-holder_index (c ∷ cs) = cond (holds_names c) 0 (suc (holder_index cs))
-
 -- the names stand in that child, which is not their element
 abbrev pub names_lie_deeper : List Child → Bool
-names_lie_deeper [] = false
-names_lie_deeper (c ∷ cs) = cond (holds_names c) (elem_without_names c) (names_lie_deeper cs)
+names_lie_deeper cs = option_map_or elem_without_names (first_holder cs) false
 
 -- the element that a child is, if it is one
 abbrev pub own_elem : Child → Option Elem
@@ -65,9 +64,7 @@ with_elem (v.Transparent i f) w = v.Transparent i f
 
 -- the element that the first holder is, and the list with it replaced
 abbrev pub holder_elem : List Child → Option Elem
-holder_elem [] = None
-holder_elem (c ∷ cs) = cond (holds_names c) (own_elem c) (holder_elem cs)
+holder_elem cs = option_and_then own_elem (first_holder cs)
 
 abbrev pub put_holder_elem : List Child → Elem → List Child
-put_holder_elem [] w = []
-put_holder_elem (c ∷ cs) w = cond (holds_names c) (put_own_elem c w ∷ cs) (c ∷ put_holder_elem cs w)
+put_holder_elem cs w = option_map_or (λ c. put_holder cs (put_own_elem c w)) (first_holder cs) cs

@@ -1,16 +1,12 @@
 -- One step down to the last text: the last child, and the text that it is.
 use Rattle.std.specs.Prelude.{Bool, false, List, [], ◌∷◌, Option, None, Some}
+use Rattle.std.specs.Option.{option_and_then, option_map_or}
 use Rattle.csl_base.specs.ChildView.{child_view}
 use Rattle.csl_base.specs.Child.{Child, text, elem, markup, link, transparent}
 use Rattle.csl_base.specs.Nested.{child_is_elem}
 use Rattle.csl_base.specs.declared.formatting.Formatted.{Formatted}
 use Rattle.csl_base.specs.declared.elem.ElemChild.{ElemChild}
 use Rattle.csl_base.specs.declared.elem.ElemChild.TheVariants as v
-
--- the last child is an element
-abbrev pub ends_in_elem : List Child → Bool
-ends_in_elem [] = false
-ends_in_elem (c ∷ cs) = elim cs [ [] ↦ child_is_elem c | _ ∷ _ ↦ ends_in_elem cs ]
 
 -- the last child
 abbrev pub last_child : List Child → Option Child
@@ -25,6 +21,10 @@ put_last (c ∷ cs) d = elim cs [ [] ↦ d ∷ [] | _ ∷ _ ↦ c ∷ put_last c
 -- the same, by a child as `src/` has it
 abbrev pub put_last_child : List Child → ElemChild → List Child
 put_last_child cs w = put_last cs (child_view w)
+
+-- the last child is an element
+abbrev pub ends_in_elem : List Child → Bool
+ends_in_elem cs = option_map_or child_is_elem (last_child cs) false
 
 -- the text that a child is, if it is one
 abbrev pub own_text : Child → Option Formatted
@@ -52,9 +52,7 @@ with_text (v.Transparent i f) w = v.Transparent i f
 
 -- the text that the last child is, and the list with it replaced
 abbrev pub end_text : List Child → Option Formatted
-end_text [] = None
-end_text (c ∷ cs) = elim cs [ [] ↦ own_text c | _ ∷ _ ↦ end_text cs ]
+end_text cs = option_and_then own_text (last_child cs)
 
 abbrev pub put_end_text : List Child → Formatted → List Child
-put_end_text [] w = []
-put_end_text (c ∷ cs) w = elim cs [ [] ↦ put_own_text c w ∷ [] | _ ∷ _ ↦ c ∷ put_end_text cs w ]
+put_end_text cs w = option_map_or (λ c. put_last cs (put_own_text c w)) (last_child cs) cs

@@ -1,10 +1,12 @@
 //! The first element of meta Names in a tree, for writing.
-ghost use Rattle.std.specs.Prelude.{◌≡◌, option_map, Some, true};
+ghost use Rattle.std.specs.Prelude.{◌≡◌, List, option_map, is_some, None, Some, true};
 ghost use Rattle.std.specs.Borrow.{Lends, LendsIf, sem};
+ghost use Rattle.csl_base.specs.Child.{Child};
 ghost use Rattle.csl_base.specs.ChildView.{child_view};
 ghost use Rattle.csl_base.specs.Tree.{find_elem, has_names};
 ghost use Rattle.csl_base.specs.FirstNames.{put_names};
 ghost use Rattle.csl_base.specs.FirstNamesStep.{elem_without_names, first_holder, put_holder_child, holder_index, names_lie_deeper, own_elem, with_elem, holder_elem, put_holder_elem};
+ghost use Rattle.csl_base.specs.declared.elem.Elem.{Elem};
 ghost use Rattle.csl_base.specs.contracts.elem.Elem as elem_;
 ghost use Rattle.csl_base.specs.contracts.elem.ElemChild as child_;
 ghost use Rattle.csl_base.specs.contracts.elem.ElemChildren as children_;
@@ -21,6 +23,14 @@ impl ElemChildren {
         find_names_mut(self)
     }
 }
+
+/// What a write of the first element of meta Names does: it is read again, if its own meta is Names, it
+/// changes nothing where it writes what stood there, and nothing where there is no such element.
+pub fn first_names_laws()
+    ensures read_after_write { (cs : List Child) (w : Elem) → is_some (find_elem has_names cs) ≡ true → has_names w ≡ true → find_elem has_names (put_names cs w) ≡ Some w }
+    ensures write_what_is_read { (cs : List Child) (e : Elem) → find_elem has_names cs ≡ Some e → put_names cs e ≡ cs }
+    ensures no_names_no_change { (cs : List Child) (w : Elem) → find_elem has_names cs ≡ None → put_names cs w ≡ cs }
+{}
 
 // The contract of this recursion is proved by hand, along its statements. The steps are functions of
 // their own, so that their proofs are found.

@@ -1,11 +1,13 @@
 //! The last text of a tree, for writing.
-ghost use Rattle.std.specs.Prelude.{◌≡◌, option_map, Some, true};
+ghost use Rattle.std.specs.Prelude.{◌≡◌, List, option_map, is_some, None, Some, true};
 ghost use Rattle.std.specs.Borrow.{Lends, LendsIf, sem};
+ghost use Rattle.csl_base.specs.Child.{Child};
 ghost use Rattle.csl_base.specs.ChildView.{child_view};
 ghost use Rattle.csl_base.specs.Tree.{last_text};
 ghost use Rattle.csl_base.specs.Nested.{child_is_elem, inner, with_children};
 ghost use Rattle.csl_base.specs.LastText.{put_last_text};
 ghost use Rattle.csl_base.specs.LastTextStep.{own_text, with_text, ends_in_elem, last_child, put_last_child, end_text, put_end_text};
+ghost use Rattle.csl_base.specs.declared.formatting.Formatted.{Formatted};
 ghost use Rattle.csl_base.specs.contracts.formatting.Formatted as formatted_;
 ghost use Rattle.csl_base.specs.contracts.elem.ElemChild as child_;
 ghost use Rattle.csl_base.specs.contracts.elem.ElemChildren as children_;
@@ -23,6 +25,14 @@ impl ElemChildren {
         last_text_mut(self)
     }
 }
+
+/// What a write of the last text does: it is read again, it changes nothing where it writes what stood
+/// there, and nothing where there is no last text.
+pub fn last_text_laws()
+    ensures read_after_write { (cs : List Child) (w : Formatted) → is_some (last_text cs) ≡ true → last_text (put_last_text cs w) ≡ Some w }
+    ensures write_what_is_read { (cs : List Child) (f : Formatted) → last_text cs ≡ Some f → put_last_text cs f ≡ cs }
+    ensures no_text_no_change { (cs : List Child) (w : Formatted) → last_text cs ≡ None → put_last_text cs w ≡ cs }
+{}
 
 // The contract of this recursion is proved by hand, along its statements. The steps are functions of
 // their own, so that their proofs are found.

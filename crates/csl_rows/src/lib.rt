@@ -2,4 +2,5 @@
 #![tactic(auto)]
 
 #[cfg(test)]
+mod places;
 mod trees;

@@ -1,3 +1,4 @@
+-- The search for an element: a child that has none, one that has one, and an element itself.
 use Rattle.std.proofs.Common.{◌≡◌, map, arith, ap, sym, ◌∙◌, option_map, None, Some}
 use Rattle.csl_base.specs.Tree.{find_elem, child_find}
 use Rattle.csl_base.specs.ChildView.{child_view}

@@ -1,3 +1,4 @@
+-- The search for an element, one child at a time.
 use Rattle.std.proofs.Common.{◌≡◌, Bool, map, drop}
 use Rattle.std.specs.Borrow.{Bor}
 use Rattle.csl_base.specs.ChildView.{child_view}

@@ -1,3 +1,4 @@
+-- The loop that seeks the first holder.
 use Rattle.std.proofs.Common.{◌≡◌, ◌+◌, drop, map}
 use Rattle.csl_base.specs.ChildView.{child_view}
 use Rattle.csl_base.specs.FirstNamesStep.{holder_index}

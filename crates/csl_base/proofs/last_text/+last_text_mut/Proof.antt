@@ -1,11 +1,9 @@
 -- The walk of `last_text_mut`, by recursion on how many nodes the tree has. Assumes `Logic`.
-use Rattle.std.proofs.Common.{◌≡◌, ◌<◌, List, [], ◌∷◌, Some, Bool, true, false, not, option_map, refl, sym, ap, subst, ◌∙◌, MutBor}
-use mathlib.Core.Option.{Option as Maybe, none, some as just}
+use Rattle.std.proofs.Common.{◌≡◌, ◌<◌, List, [], ◌∷◌, Some, Bool, true, false, option_map, refl, sym, ap, subst, ◌∙◌, MutBor}
 use seplogic.Ra.Ura.{Ura}
 use base.Fraction.{full_share}
 use base.Logic.{ent, sep, emp, id⊢}
 use base.Fml.{Fml, Lft, Share, GName, ftrue, flft, fres}
-use lib.Dec.{T}
 use lib.WfN.{lt-wf_rel}
 use mir.Syntax.{named}
 use mir.Val.{Val}
@@ -22,16 +20,13 @@ use contract.Monad.{fact, fact_i}
 use contract.Running.{Running, MachineTables, tables, tables_of}
 use denote.RattleType.{RattleType}
 use denote.Builtin.{bool}
-use denote.Laws.{Is, Lawful, shows}
-use denote.Ref.{MutRef, mut_vals, mut_Tells, mut_Lawful}
-use denote.Follow.{follows, follows_if, follows_by, followed, follows_then}
+use denote.Laws.{Is, shows}
+use denote.Ref.{MutRef, mut_vals, mut_Tells}
+use denote.Follow.{follows, follows_if, follows_then}
 use denote.Lend.{lends_again, comes_back, LentAgain}
 use denote.Exit.{no}
 use denote.Signature.{plain, mut_ref_to}
 use denote.Steps.{nothing, heard, peeks, facts, only}
-use denote.Enum.Declared.{shape}
-use denote.Enum.Enum.{Enum, Enum-Lawful}
-use denote.Struct.Recorded.{recorded_lawful}
 use denote.Triple.Call.{calls_at, calls_at_last, calls_from_last}
 use denote.Triple.Clauses.{Clauses, Lasts, lasts}
 use denote.Triple.Statement.{Contract}
@@ -50,6 +45,7 @@ use Rattle.csl_base.specs.Nested.{child_is_elem, inner, with_children}
 use Rattle.csl_base.specs.LastTextStep.{ends_in_elem, last_child, put_last_child, end_text, put_end_text}
 use Rattle.csl_base.specs.declared.formatting.Formatted.{Formatted}
 use Rattle.csl_base.specs.declared.elem.ElemChild.{ElemChild}
+use Rattle.csl_base.proofs.Lent.{true_of, false_of, follows_on, lent_option}
 use Rattle.csl_base.proofs.LastTextSteps.{last_is_elem, text_down, nodes_fall, text_here, put_here, step_put, step_same}
 use Rattle.csl_base.specs.contracts.elem.ElemChildren.{the_row as R}
 use Rattle.csl_base.specs.contracts.elem.ElemChild.{the_row as C'}
@@ -70,30 +66,6 @@ use Rattle.csl_base.proofs.last_text.+last_text_mut.Code.+last_text_mut as Mir
 
 abbrev stayed : Stays f.ended.signature.params f.ended.kept
 stayed = (stay_dropped (mut_ref_to (0 ∷ []) tt (plain (λ _. R))) no, tt)
-
-true_of : (u : Bool) → T u → u ≡ true
-true_of true t = refl
-true_of false t = absurd t
-
-not_of : (u : Bool) → T (not u) → u ≡ false
-not_of true t = absurd t
-not_of false t = refl
-
-module _ {M : Type 1} {𝓤 : Ura M} (𝓛 : Logic 𝓤) where
-  -- a holder_index in a part, if there is one
-  follows_on : (A B D : RattleType) (F : B.Denot → A.Denot) (G : D.Denot → B.Denot) (x : B.Denot) (γ γ' : GName) (m : Maybe GName)
-      → ent 𝓤 (sep 𝓤 (sem 𝓛 (follows A B γ γ' F)) (sem 𝓛 (follows_if B D γ' m G x))) (sem 𝓛 (follows_if A D γ m (λ w. F (G w)) (F x)))
-  unfolding follows_by
-  follows_on A B D F G x γ γ' none = followed 𝓛 A B F γ γ' x
-  follows_on A B D F G x γ γ' (just γ'') = follows_then 𝓛 A B D F G γ γ' γ''
-
-  -- an `Option<&mut Formatted>` is of its type
-  abbrev X : Lft → RattleType
-  X κ = MutRef (named 0) κ F'
-
-  option_Lawful : (κ : Lft) → Lawful 𝓛 (OP.the_row (X κ))
-  option_Lawful κ = recorded_lawful (Enum (shape (OP.the_type (X κ)))) (OP.the_type (X κ)).D (OP.the_type (X κ)).to (OP.the_type (X κ)).to_one 𝓛
-      (Enum-Lawful 𝓛 (shape (OP.the_type (X κ))) tt (tt, ((mut_Lawful 𝓛 (named 0) κ F', tt), tt)))
 
 module _ {M : Type 1} {𝓤 : Ura M} (𝓛 : Logic 𝓤) (𝓜 : Model 𝓤 𝓛.H) (𝓡 : Running 𝓤 𝓛.H 𝓜) (wired : Wired 𝓡.env code.code) where
   open 𝓛 use {H}
@@ -133,7 +105,7 @@ module _ {M : Type 1} {𝓤 : Ura M} (𝓛 : Logic 𝓤) (𝓜 : Model 𝓤 𝓛
     Of κ' x us = (MutRef (named 0) κ' R).own_val x us
 
     abbrev Opt : RattleType
-    Opt = OP.the_row (X 𝓛 κ)
+    Opt = OP.the_row (MutRef (named 0) κ F')
 
     -- the return
     exits : (r : MutBor (List Child)) (x : Opt.Denot) (v : Val) → option_map (λ w. w.now) x ≡ last_text r.now
@@ -211,12 +183,12 @@ module _ {M : Type 1} {𝓤 : Ura M} (𝓛 : Logic 𝓤) (𝓜 : Model 𝓤 𝓛
         (follows_on 𝓛 R R F' (λ w. put_last_child r.now (with_children x.now w)) (put_last_text y.now) y.now r.ghost_name y.ghost_name (ghost_name_of m)) $
         rewrite ! 0 (λ (p : (Formatted → List Child) × List Child). ‵ (follows_if R F' r.ghost_name (ghost_name_of m) p.0 p.1)) (λ i. ((λ w. step_put r.now y.now x.now w s₂ s₃ is_elem i), step_same r.now y.now x.now s₂ s₃ i)) refl $
         move ! (3 ∷ []) $ peeks ! Opt (Is Opt) (shows 𝓛 Opt) m (v₄ ∷ []) (λ is₄.
-        let ok = ((option_Lawful 𝓛 κ).typed m (v₄ ∷ []) is₄).0 in
+        let ok = ((lent_option 𝓛 κ F').typed m (v₄ ∷ []) is₄).0 in
         lands_last ! refl ok $ exec ! 𝓣.C 𝓣.Λ (env Mir.locals l) Mir.t-4 (at_ret _ (W.post (at r))) $
         sets ! (of_opd ! (get ! refl)) refl ok $ returns ! (look_at ! 0 refl) $ free_all ! refl $ keep ! (0 ∷ 2 ∷ 1 ∷ []) $
         by ! (exits r m v₄ (s₄ ∙ ap last_text s₃ ∙ text_down r.now (child_view x.now) s₂ is_elem))))))))))))))))))
         (λ t.
-        let small : ends_in_elem r.now ≡ false = sym said.1 ∙ not_of u t in
+        let small : ends_in_elem r.now ≡ false = sym said.1 ∙ false_of u t in
         let z₄ : G₄.Ghost = (((κ, tt), (q, tt), tt, (r, tt), (vs, tt)), tt) in
         sets ! (addr ! (through ! refl (stop !))) refl (tt, tt) $
         nothing ! $ move ! (1 ∷ 0 ∷ []) $ join ! $ nothing ! $ move ! (2 ∷ 0 ∷ []) $ join ! $ join ! $
@@ -227,7 +199,7 @@ module _ {M : Type 1} {𝓤 : Ura M} (𝓛 : Logic 𝓤) (𝓜 : Model 𝓤 𝓛
         await ! tt $ pick ! (λ m. split ! $ split ! $ split ! $ move ! (3 ∷ []) $ pick ! (λ ws₄. split ! $ drop ! $ split ! $ move ! (1 ∷ []) $ heard ! _ (λ s₄.
         rewrite ! 0 (λ (p : Formatted → List Child). ‵ (follows_if R F' r.ghost_name (ghost_name_of m) p r.now)) (λ i w. put_here r.now w small i) refl $
         move ! (3 ∷ []) $ peeks ! Opt (Is Opt) (shows 𝓛 Opt) m (v₄ ∷ []) (λ is₄.
-        let ok = ((option_Lawful 𝓛 κ).typed m (v₄ ∷ []) is₄).0 in
+        let ok = ((lent_option 𝓛 κ F').typed m (v₄ ∷ []) is₄).0 in
         lands_last ! refl ok $ exec ! 𝓣.C 𝓣.Λ (env Mir.locals l) Mir.t-4 (at_ret _ (W.post (at r))) $
         sets ! (of_opd ! (get ! refl)) refl ok $ returns ! (look_at ! 0 refl) $ free_all ! refl $ keep ! (0 ∷ 2 ∷ 1 ∷ []) $
         by ! (exits r m v₄ (s₄ ∙ text_here r.now small))))))))))))))))

@@ -1,3 +1,4 @@
+-- Whether the last child is an element.
 use Rattle.std.proofs.Common.{◌-◌, arith, refl, ap, ◌∙◌}
 use Rattle.csl_base.specs.LastTextStep.{ends_in_elem}
 use Rattle.csl_base.proofs.LastTextSteps.{ends_at}

@@ -1,3 +1,4 @@
+-- The children of the element that the child is.
 use Rattle.csl_base.specs.Child.{list_of-kids_of}
 use Rattle.std.proofs.Common.{refl}
 use Rattle.csl_base.proofs.elem.ElemChild.children_mut.Goals as goal

@@ -1,3 +1,4 @@
+-- The element that the child is.
 use Rattle.csl_base.proofs.Trees.{elem_back}
 use Rattle.csl_base.proofs.elem.ElemChild.elem_mut.Goals as goal
 
