@@ -1,6 +1,6 @@
 pub mod Trees
 pub mod Compare
-pub mod Names
-pub mod Gathering
+pub mod Reached
+pub mod Rings
 pub mod Views
 pub mod Weight

@@ -16,4 +16,6 @@ pub mod Tree
 pub mod SameTree
 pub mod EqualTrees
 pub mod Calls
+pub mod Places
 pub mod Ring
+pub mod Stack
