@@ -4,3 +4,6 @@ pub mod Reached
 pub mod Rings
 pub mod Views
 pub mod Weight
+pub mod Tops
+pub mod Raised
+pub mod Orders

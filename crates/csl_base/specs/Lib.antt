@@ -19,3 +19,6 @@ pub mod Calls
 pub mod Places
 pub mod Ring
 pub mod Stack
+pub mod Seq
+pub mod Forms
+pub mod Ordered

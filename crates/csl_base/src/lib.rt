@@ -11,6 +11,7 @@ pub mod entry;
 pub mod formatting;
 mod graph;
 pub mod locale;
+pub mod names;
 pub mod ring;
 pub mod seq;
 pub mod stack;

@@ -1,7 +1,7 @@
 //! A stack that always has a bottom.
-ghost use Rattle.std.specs.Prelude.{◌≡◌, ◌+◌, ◌-◌, ◌<◌, List, [], ◌∷◌, ◌++◌, length, take, slice_get, Some, None, IfOk, IfSome, OnOk, OnErr};
+ghost use Rattle.std.specs.Prelude.{◌≡◌, ◌+◌, ◌-◌, ◌<◌, List, [], ◌∷◌, ◌++◌, length, take, slice_get, Some, None, IfOk, IfSome, OnOk, OnErr, Bool, option_map, option_and_then};
 ghost use Rattle.std.specs.Borrow.{sem};
-ghost use Rattle.csl_base.specs.Stack.{LendsItem};
+ghost use Rattle.csl_base.specs.Stack.{topmost, AnswersAs, LendsItem, LendsTopmost};
 
 use std::alloc::{AllocError, AllocFailed, Global};
 use std::marker::Model;
@@ -88,6 +88,27 @@ impl<T> NonEmptyStack<T> {
         &mut self.items[top]
     }
 
+    /// The topmost item that satisfies a test, for writing; none where no item does.
+    pub fn last_mut_predicate<F: Fn(&T) -> bool>(&mut self, f: F) -> Option<&mut T>
+        requires { F.IsAlwaysCallable f }
+        ensures* writes_back { sem 𝓛 (LendsTopmost T.row (F.post f) self.entry result) }
+        ensures value { (p : T → Bool) → AnswersAs (F.post f) p → option_map (λ x. x.now) result ≡ option_and_then (slice_get self.old) (topmost p self.old) }
+    {
+        match topmost(&self.items, &f) {
+            Some(place) => Some(self.item_mut(place)),
+            None => None,
+        }
+    }
+
+    // The item at a place, for writing.
+    fn item_mut(&mut self, place: usize) -> &mut T
+        requires { place < length self.old }
+        ensures* writes_back { sem 𝓛 (LendsItem T.row self.entry place result) }
+        ensures value { slice_get self.old place ≡ Some result.now }
+    {
+        &mut self.items[place]
+    }
+
     /// The bottom, for writing.
     pub fn first_mut(&mut self) -> &mut T
         ensures* writes_back { sem 𝓛 (LendsItem T.row self.entry 0 result) }
@@ -115,4 +136,20 @@ impl<T> NonEmptyStack<T> {
         let mut items = self.items;
         items.swap_remove(0)
     }
+}
+
+// The place of the last item that satisfies a test.
+fn topmost<T, F: Fn(&T) -> bool>(items: &Vec<T>, f: &F) -> Option<usize>
+    requires { F.IsAlwaysCallable f.now }
+    ensures exact { (p : T → Bool) → AnswersAs (F.post f.now) p → result ≡ topmost p items.now.items }
+    ensures within { IfSome result (λ place. place < length items.now.items) }
+{
+    let mut height = items.len();
+    while height > 0 {
+        height -= 1;
+        if f(&items[height]) {
+            return Some(height);
+        }
+    }
+    None
 }
