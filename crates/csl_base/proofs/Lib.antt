@@ -15,3 +15,8 @@ pub mod FirstPlace
 pub mod LastTextLaws
 pub mod FirstNamesLaws
 pub mod Lent
+pub mod Reached
+pub mod Rings
+pub mod Tops
+pub mod Raised
+pub mod Orders

@@ -23,4 +23,9 @@ pub mod FirstNames
 pub mod FirstNamesStep
 pub mod Metas
 pub mod Calls
+pub mod Places
 pub mod Ring
+pub mod Stack
+pub mod Seq
+pub mod Forms
+pub mod Ordered

@@ -1,9 +1,11 @@
 -- Which macros lie on a ring of calls.
-use Rattle.std.specs.Prelude.{◌≡◌, ℕ, ◌<◌, List, [], ◌∷◌, ◌++◌, map, take, slice_get, is_some, Bool, true, false, ◌||◌, ◌==◌, Option, Some, None}
+use Rattle.std.specs.Prelude.{◌≡◌, ℕ, suc, ◌<◌, List, [], ◌∷◌, map, take, slice_get, Bool, true, false, ◌||◌, ◌==◌, Option, Some, None, option_map}
 use Rattle.std.specs.Bool.{if◌then◌else◌}
+use Rattle.std.specs.List.{filter_map}
 use lib.Pointwise.{pointwise}
 use Rattle.csl_base.specs.Element.{Name, Elements, Macro}
 use Rattle.csl_base.specs.Calls.{Names, calls_of_all}
+use Rattle.csl_base.specs.Places.{Places}
 
 abbrev pub name_eq : Name → Name → Bool
 name_eq = pointwise ◌==◌
@@ -50,15 +52,15 @@ abbrev pub IsFirstRing : List Macro → Option ℕ → Type 0
 IsFirstRing macros None = (i : ℕ) → IsRingAt macros i → ⊥
 IsFirstRing macros (Some i) = IsRingAt macros i × ((k : ℕ) → k < i → IsRingAt macros k → ⊥)
 
--- for the code: the names with one more, where it has a macro and is not there
-abbrev pub with_new : Bool → Bool → Name → Names → Names
-with_new true false name names = names ++ name ∷ []
-with_new true true name names = names
-with_new false b name names = names
+-- the place of the first macro of a name
+abbrev pub place_of : Name → List Macro → Option ℕ
+place_of name [] = None
+place_of name (m ∷ ms) = if name_eq m.name name then Some 0 else option_map (λ i. suc i) (place_of name ms)
 
-abbrev pub add_new : List Macro → Name → Names → Names
-add_new macros name names = with_new (is_some (body_of name macros)) (has_name name names) name names
+-- the places of the macros of these names, without the names that have none
+abbrev pub places_of : List Macro → Names → Places
+places_of macros = filter_map (λ name. place_of name macros)
 
-abbrev pub add_each : List Macro → Names → Names → Names
-add_each macros [] names = names
-add_each macros (name ∷ rest) names = add_each macros rest (add_new macros name names)
+-- for each macro the places of those that it calls
+abbrev pub call_places : List Macro → List Places
+call_places macros = map (λ m. places_of macros (calls_of_all m.children)) macros

@@ -1,10 +1,12 @@
 //! Rings of macros that call each other.
-ghost use Rattle.std.specs.Prelude.{◌≡◌, ◌+◌, ℕ, IfOk, OnOk, None, map, take, not, true, false, ◌≤◌, vec_len, option_map, length};
-ghost use Rattle.csl_base.specs.Ring.{has_name, body_of, macro_calls, add_new, add_each, IsOnRing, IsFirstRing, HasNoRing};
+ghost use Rattle.std.specs.Prelude.{◌≡◌, ◌+◌, ℕ, IfOk, None, map, take, not, true, false, ◌≤◌, vec_len, option_map, length};
+ghost use Rattle.csl_base.specs.Ring.{has_name, body_of, place_of, places_of, call_places, IsFirstRing, HasNoRing};
+ghost use Rattle.csl_base.specs.Calls.{calls_of_all};
 ghost use Rattle.csl_base.specs.ElementView.{elements_view, macros_view};
 
 use crate::calls::add_all_calls;
 use crate::element::{CslMacro, LayoutRenderingElement};
+use crate::graph::is_on_round;
 use crate::style::IndependentStyle;
 use std::alloc::{AllocError, Global};
 
@@ -20,69 +22,46 @@ pub fn body_of<'a>(macros: &'a Vec<CslMacro>, name: &str) -> Option<&'a Vec<Layo
     None
 }
 
-fn has_name(names: &Vec<&str>, name: &str) -> bool
-    ensures { result ≡ has_name name.now (map (λ s. s.now) names.now.items) }
+/// The place of the first macro of a name.
+fn place_of(macros: &Vec<CslMacro>, name: &str) -> Option<usize>
+    ensures { result ≡ place_of name.now (macros_view macros.now.items) }
 {
-    for each in names {
-        if *each == name {
-            return true;
+    for i in 0..macros.len() {
+        if macros[i].name.as_str() == name {
+            return Some(i);
         }
     }
-    false
+    None
 }
 
-// One more name, where it has a macro and is not there.
-fn add_new<'a>(
-    macros: &'a Vec<CslMacro>,
-    name: &'a str,
-    names: &mut Vec<&'a str>,
-) -> Result<(), AllocError>
-    ensures { OnOk result (map (λ s. s.now) names.new.items ≡ add_new (macros_view macros.now.items) name.now (map (λ s. s.now) names.old.items)) }
-{
-    if body_of(macros, name).is_some() && !has_name(names, name) {
-        names.push(name)?;
-    }
-    Ok(())
-}
-
-// The names that a macro calls.
-fn add_called<'a>(
-    macros: &'a Vec<CslMacro>,
-    name: &str,
-    names: &mut Vec<&'a str>,
-) -> Result<(), AllocError>
-    ensures { OnOk result (map (λ s. s.now) names.new.items
-        ≡ add_each (macros_view macros.now.items) (macro_calls (macros_view macros.now.items) name.now) (map (λ s. s.now) names.old.items)) }
-{
-    let Some(elements) = body_of(macros, name) else {
-        return Ok(());
-    };
-    let mut called = Vec::new(*names.allocator());
-    add_all_calls(&mut called, elements)?;
-    for each in &called {
-        add_new(macros, *each, names)?;
-    }
-    Ok(())
-}
-
-// Whether a name lies on a ring: the names that it leads to are gathered, each once.
-fn is_on_ring<'a>(
+/// The places of the macros that these elements call, without the names that have no macro.
+fn called_places(
     alloc: Global,
-    macros: &'a Vec<CslMacro>,
-    name: &'a str,
-) -> Result<bool, AllocError>
-    ensures yes { IfOk result (λ b. b ≡ true → IsOnRing (macros_view macros.now.items) name.now) }
-    ensures no { IfOk result (λ b. b ≡ false → IsOnRing (macros_view macros.now.items) name.now → ⊥) }
+    macros: &Vec<CslMacro>,
+    elements: &Vec<LayoutRenderingElement>,
+) -> Result<Vec<usize>, AllocError>
+    ensures { IfOk result (λ places. places.items ≡ places_of (macros_view macros.now.items) (calls_of_all (elements_view elements.now.items))) }
 {
     let mut names = Vec::new(alloc);
-    add_called(macros, name, &mut names)?;
-    let mut at = 0;
-    while at < names.len() {
-        let next = names[at];
-        add_called(macros, next, &mut names)?;
-        at += 1;
+    add_all_calls(&mut names, elements)?;
+    let mut places = Vec::new(alloc);
+    for name in &names {
+        if let Some(place) = place_of(macros, *name) {
+            places.push(place)?;
+        }
     }
-    Ok(has_name(&names, name))
+    Ok(places)
+}
+
+/// For each macro the places of those that it calls.
+fn call_places(alloc: Global, macros: &Vec<CslMacro>) -> Result<Vec<Vec<usize>>, AllocError>
+    ensures { IfOk result (λ rows. map (λ row. row.items) rows.items ≡ call_places (macros_view macros.now.items)) }
+{
+    let mut rows = Vec::new(alloc);
+    for each in macros {
+        rows.push(called_places(alloc, macros, &each.children)?)?;
+    }
+    Ok(rows)
 }
 
 // Whether no macro before `i` has that name.
@@ -104,9 +83,10 @@ impl IndependentStyle {
         ensures first { IfOk result (IsFirstRing (macros_view self.now.macros.items)) }
         ensures none { IfOk result (λ r. r ≡ None → HasNoRing (macros_view self.now.macros.items)) }
     {
+        let rows = call_places(alloc, &self.macros)?;
         for i in 0..self.macros.len() {
             let name = self.macros[i].name.as_str();
-            if is_new_name(&self.macros, i, name) && is_on_ring(alloc, &self.macros, name)? {
+            if is_new_name(&self.macros, i, name) && is_on_round(alloc, &rows, i)? {
                 return Ok(Some(i));
             }
         }
