@@ -3,7 +3,7 @@ use crate::request::CitationRequest;
 use std::alloc::AllocError;
 
 /// Why no answer is given.
-#[derive(PartialEq, Eq, Drop)]
+#[derive(Debug, PartialEq, Eq, Drop)]
 pub enum DriverError {
     /// The macros of a style call each other in a ring: the style's place, and the place in its
     /// macros of the first one that lies on a ring.
@@ -15,7 +15,7 @@ pub enum DriverError {
 }
 
 /// Where a style was handed in.
-#[derive(Clone, Copy, PartialEq, Eq)]
+#[derive(Clone, Copy, Debug, PartialEq, Eq)]
 pub enum RingPlace {
     /// With the request of this place, from 0.
     Request(usize),

@@ -2,6 +2,10 @@
 #![tactic(auto)]
 
 #[cfg(test)]
+mod finish;
+#[cfg(test)]
 mod places;
+#[cfg(test)]
+mod styles;
 #[cfg(test)]
 mod trees;
