@@ -1,3 +1,4 @@
+-- The proofs of this crate.
 pub mod Trees
 pub mod Compare
 pub mod Joining

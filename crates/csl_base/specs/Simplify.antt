@@ -7,17 +7,19 @@ use Rattle.csl_base.specs.declared.formatting.FontStyle.TheVariants as style
 use Rattle.csl_base.specs.declared.formatting.FontWeight.{FontWeight}
 use Rattle.csl_base.specs.declared.formatting.FontWeight.TheVariants as weight
 
--- equal formatting
+-- equal slant
 abbrev pub same_style : FontStyle → FontStyle → Bool
 same_style style.Normal style.Normal = true
 same_style style.Italic style.Italic = true
 same_style _ _ = false
 
+-- equal weight
 abbrev pub same_weight : FontWeight → FontWeight → Bool
 same_weight weight.Normal weight.Normal = true
 same_weight weight.Bold weight.Bold = true
 same_weight _ _ = false
 
+-- equal formatting
 abbrev pub same_formatting : Formatting → Formatting → Bool
 same_formatting a b = same_style a.font_style b.font_style && same_weight a.font_weight b.font_weight
 
@@ -36,7 +38,7 @@ abbrev pub join_first : Child → List Child → List Child
 join_first c [] = c ∷ []
 join_first c (d ∷ ds) = cond (joins c d) (joined c d ∷ ds) (c ∷ d ∷ ds)
 
--- adjacent texts of equal formatting joined at every depth
+-- adjacent texts joined inside a child, and among children and inside them
 abbrev mutual
   pub child_simple : Child → Child
   child_simple (text f) = text f
@@ -49,6 +51,7 @@ abbrev mutual
   kids_simple no_kids = []
   kids_simple (kid c ks) = join_first (child_simple c) (kids_simple ks)
 
+-- a tree with adjacent texts of equal formatting joined at every depth
 abbrev pub simplified : List Child → List Child
 simplified cs = kids_simple (kids_of cs)
 

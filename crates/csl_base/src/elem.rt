@@ -1,4 +1,4 @@
-// Trees of rendered text.
+//! Trees of rendered text.
 ghost use Rattle.std.specs.Prelude.{◌≡◌, ℕ, Bool, ◌∷◌, [], ◌++◌, map, OnOk, IsOk, IfOk, option_map};
 ghost use Rattle.std.specs.Fmt.{WritesInCalls};
 ghost use Rattle.csl_base.specs.ChildView.{child_view};
@@ -13,35 +13,49 @@ use std::alloc::{AllocError, Global};
 use std::fmt;
 use std::marker::Model;
 
+/// How a tree is written.
 #[derive(Clone, Copy, PartialEq, Eq)]
 pub enum BufWriteFormat {
+    /// Texts, markup and links in their order, without formatting.
     Plain,
 }
 
+/// What an element was rendered for.
 #[derive(Clone, PartialEq, Eq, Hash, Drop)]
 pub enum ElemMeta {
+    /// Names: the persons of each name variable that was rendered.
     Names(Seq<(Seq<Person>, NameVariable)>),
+    /// One name of a variable, and its place among them.
     Name(NameVariable, usize),
     Date,
     CitationNumber,
     CitationLabel,
+    /// A whole entry, and its place.
     Entry(usize),
 }
 
+/// A tree: the children of an element, or of no element.
 #[derive(Drop)]
 #[cycle(tree)]
 pub struct ElemChildren(pub Vec<ElemChild>);
 
+/// A child of an element.
 #[derive(PartialEq, Eq, Drop)]
 #[cycle(tree)]
 pub enum ElemChild {
+    /// A text in its formatting.
     Text(Formatted),
+    /// An element with children of its own.
     Elem(Elem),
+    /// A text in markup of its own.
     Markup(Text),
+    /// A text that leads to a URL.
     Link { text: Formatted, url: Text },
+    /// A place for what the caller puts in for a cite, in this formatting.
     Transparent { cite_idx: usize, format: Formatting },
 }
 
+/// An element: children, and how they are set off and what they stand for.
 #[derive(PartialEq, Eq, Drop)]
 #[cycle(tree)]
 pub struct Elem {
@@ -71,18 +85,23 @@ impl Model for ElemChildren {
 }
 
 impl ElemChildren {
+    /// No children.
     pub fn new(alloc: Global) -> ElemChildren
         ensures { result ≡ [] }
     {
         ElemChildren(Vec::new(alloc))
     }
 
+    /// Whether there are no children.
     pub fn is_empty(&self) -> bool
         ensures { result ≡ no_children self.now }
     {
         self.0.is_empty()
     }
 
+    /// Adds a child at the end.
+    ///
+    /// Fails where memory is refused.
     pub fn push(&mut self, child: ElemChild) -> Result<(), AllocError>
         ensures { OnOk result (self.new ≡ self.old ++ child_view child ∷ []) }
     {
@@ -90,12 +109,16 @@ impl ElemChildren {
         Ok(())
     }
 
+    /// The children as a vector.
     pub fn into_vec(self) -> Vec<ElemChild>
         ensures { map child_view result.items ≡ self }
     {
         self.0
     }
 
+    /// Writes the plain text: that of texts, markup and links in their order, and nothing for a `Transparent`.
+    ///
+    /// Fails where the writer does, after some of the text.
     #[cycle(write)]
     pub fn write_buf<W: fmt::Write>(&self, w: &mut W, format: BufWriteFormat) -> fmt::Result
         ensures { IsOk result → WritesInCalls W.write_str_gives w.old (plain self.now) w.new }
@@ -106,6 +129,8 @@ impl ElemChildren {
         Ok(())
     }
 
+    /// The last child where it is a text, and where it is an element, that of its children; `None` where the
+    /// last child is of another kind, or there is none.
     #[cycle(last_text)]
     pub fn last_text(&self) -> Option<&Formatted>
         ensures { option_map (λ f. f.now) result ≡ last_text self.now }
@@ -116,6 +141,7 @@ impl ElemChildren {
         }
     }
 
+    /// The first element with names, at any depth; an element comes before those inside it.
     #[cycle(find_names)]
     pub fn find_names(&self) -> Option<&Elem>
         ensures { option_map (λ e. e.now) result ≡ find_elem has_names self.now }
@@ -128,6 +154,8 @@ impl ElemChildren {
         None
     }
 
+    /// Whether there is something to see: markup, a link, a `Transparent`, or a text that is not all white
+    /// space, at any depth.
     #[cycle(has_content)]
     pub fn has_content(&self) -> bool
         ensures { result ≡ has_content self.now }
@@ -142,6 +170,9 @@ impl ElemChildren {
 }
 
 impl ElemChild {
+    /// Writes the plain text of this child and those inside it.
+    ///
+    /// Fails where the writer does, after some of the text.
     #[cycle(write)]
     pub fn write_buf<W: fmt::Write>(&self, w: &mut W, format: BufWriteFormat) -> fmt::Result
         ensures { IsOk result → WritesInCalls W.write_str_gives w.old (child_plain (child_view self.now)) w.new }
@@ -155,6 +186,7 @@ impl ElemChild {
         }
     }
 
+    /// This text, or the last text of this element; `None` for a child of another kind.
     #[cycle(last_text)]
     pub fn last_text(&self) -> Option<&Formatted>
         ensures { option_map (λ f. f.now) result ≡ child_last_text (child_view self.now) }
@@ -166,6 +198,7 @@ impl ElemChild {
         }
     }
 
+    /// This element where it has names, and otherwise the first inside it that has.
     #[cycle(find_names)]
     pub fn find_names(&self) -> Option<&Elem>
         ensures { option_map (λ e. e.now) result ≡ child_find has_names (child_view self.now) }
@@ -198,6 +231,7 @@ impl ElemChild {
 }
 
 impl Elem {
+    /// Whether the meta is `Names`.
     pub fn has_names(&self) -> bool
         ensures { result ≡ has_names self.now }
     {

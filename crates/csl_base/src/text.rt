@@ -1,4 +1,4 @@
-// A text that contracts see as its bytes.
+//! A text that contracts see as its bytes.
 ghost use Rattle.std.specs.Prelude.{◌≡◌, ℕ, List, string_bytes, bytes_eq, ◌++◌, OnOk};
 ghost use Rattle.std.proofs.Common.{rules};
 ghost use Rattle.std.specs.Cmp.Rules.{comparing, hashing};
@@ -9,6 +9,7 @@ use std::alloc::AllocError;
 use std::hash::{Hash, Hasher};
 use std::marker::Model;
 
+/// A text, which contracts see as its bytes.
 #[derive(Drop)]
 pub struct Text(String);
 
@@ -19,31 +20,37 @@ impl Model for Text {
 }
 
 impl Text {
+    /// The text that a string holds.
     pub fn new(s: String) -> Text
         ensures { result ≡ string_bytes s }
     {
         Text(s)
     }
 
+    /// The string that holds this text.
     pub fn into_string(self) -> String
         ensures { string_bytes result ≡ self }
     {
         self.0
     }
 
+    /// The text as a slice.
     pub fn as_str(&self) -> &str
         ensures { result.now ≡ self.now }
     {
         self.0.as_str()
     }
 
-    // Whether some character is no white space.
+    /// Whether some character is not white space, as Unicode has it; an empty text has none.
     pub fn has_content(&self) -> bool
         ensures { result ≡ text_has_content self.now }
     {
         self.0.as_str().chars().any(|c| !c.is_whitespace())
     }
 
+    /// Appends `s`.
+    ///
+    /// Fails where memory is refused.
     pub fn push_str(&mut self, s: &str) -> Result<(), AllocError>
         ensures { OnOk result (self.new ≡ self.old ++ s.now) }
     {

@@ -1,3 +1,4 @@
+-- Copies: the children up to now.
 use Rattle.std.proofs.Common.{◌≡◌, take}
 use Rattle.csl_base.proofs.elem.+copy.Given as goal
 

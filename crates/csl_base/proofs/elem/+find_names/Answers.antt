@@ -1,3 +1,4 @@
+-- The search for names: a child that has none, one that has some, and an element with names.
 use Rattle.std.proofs.Common.{◌≡◌, map, arith, ap, sym, ◌∙◌, option_map, None, Some}
 use Rattle.csl_base.specs.Tree.{find_elem, has_names, child_find}
 use Rattle.csl_base.specs.ChildView.{child_view}

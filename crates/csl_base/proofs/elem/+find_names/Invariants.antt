@@ -1,3 +1,4 @@
+-- The search for names, from the next child on.
 use Rattle.std.proofs.Common.{◌≡◌, map, drop}
 use Rattle.csl_base.specs.ChildView.{child_view}
 use Rattle.csl_base.specs.Tree.{find_elem, has_names}

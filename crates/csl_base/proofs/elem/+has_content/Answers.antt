@@ -1,3 +1,4 @@
+-- Content: a child that has none, and one that has some.
 use Rattle.std.proofs.Common.{map, arith, ap, sym, ◌∙◌}
 use Rattle.csl_base.specs.Tree.{has_content}
 use Rattle.csl_base.specs.ChildView.{child_view}

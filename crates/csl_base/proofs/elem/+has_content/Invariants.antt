@@ -1,3 +1,4 @@
+-- Content, from the next child on.
 use Rattle.std.proofs.Common.{◌≡◌, map, drop}
 use Rattle.csl_base.specs.ChildView.{child_view}
 use Rattle.csl_base.specs.Tree.{has_content}

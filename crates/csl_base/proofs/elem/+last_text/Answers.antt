@@ -1,3 +1,4 @@
+-- The last text, from the last child.
 use Rattle.std.proofs.Common.{map, ap, sym, ◌∙◌}
 use Rattle.std.proofs.Common.{option_and_then, option_copied}
 use Rattle.csl_base.specs.Tree.{child_last_text}

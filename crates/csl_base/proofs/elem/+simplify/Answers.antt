@@ -1,3 +1,4 @@
+-- Joining at every depth: all children are simple, and then their own level is joined.
 use Rattle.std.proofs.Common.{map, arith, ap, ◌∙◌}
 use Rattle.csl_base.specs.Simplify.{level_joined, child_simple}
 use Rattle.csl_base.proofs.Joining.{level_joined-simple}

@@ -1,3 +1,4 @@
+-- Joining at every depth: the children before the index are simple, and the others are as they were.
 use Rattle.std.proofs.Common.{◌≡◌, ℕ, ◌<◌, ◌≤◌, length, get_or}
 use Rattle.csl_base.specs.ChildView.{child_view}
 use Rattle.csl_base.specs.Simplify.{child_simple}

@@ -1,3 +1,4 @@
+-- Equality: another length, another child, one more that is the same, and all the same.
 use Rattle.std.proofs.Common.{arith, sym, ◌∙◌, true≢false}
 use Rattle.csl_base.specs.EqualTrees.{child_Decides}
 use Rattle.csl_base.proofs.Compare.{other_length, other_child, all_same, same_next}

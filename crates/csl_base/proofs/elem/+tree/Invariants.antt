@@ -1,3 +1,4 @@
+-- Equality: the children up to now are the same.
 use Rattle.std.proofs.Common.{◌≡◌, take}
 use Rattle.csl_base.proofs.elem.+tree.Given as goal
 

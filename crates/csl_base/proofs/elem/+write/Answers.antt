@@ -1,7 +1,8 @@
+-- Writing: one more child, and a child that is a text, markup or a link.
 use Rattle.std.proofs.Common.{arith, sym, subst}
 use Rattle.std.specs.Fmt.{WritesInCalls}
 use Rattle.std.proofs.Output.{writes_in_calls_append}
-use Rattle.std.proofs.Common.{ap, ◌∙◌, refl}
+use Rattle.std.proofs.Common.{ap, ◌∙◌, refl, true}
 use Rattle.csl_base.specs.Tree.{child_plain}
 use Rattle.csl_base.specs.ChildView.{child_view}
 use Rattle.csl_base.proofs.Trees.{plain-next, write_one}
@@ -12,7 +13,7 @@ ElemChildren::write_buf-loop-child-preserved g t c =
     let l = c.loop-child in
     subst (λ bs. WritesInCalls g.W.Write.write_str_gives c.args.w.now bs c.write_buf.new.w)
     (sym (plain-next _ l.child-index c.child-item.result (omega arith) c.child-item.is))
-    (writes_in_calls_append _ _ _ _ _ _ l.invariant (c.in_ok-write_buf.ensures refl))
+    (writes_in_calls_append _ _ _ _ _ _ l.invariant (c.in_ok-write_buf.ensures (refl {a = true})))
 
 pub ElemChild::write_buf-returns-in-Text : goal.ElemChild::write_buf-returns-in-Text
 ElemChild::write_buf-returns-in-Text g t c =

@@ -1,3 +1,4 @@
+-- Writing: what the children up to now wrote.
 use Rattle.std.proofs.Common.{map, take}
 use Rattle.std.specs.Fmt.{WritesInCalls}
 use Rattle.csl_base.specs.ChildView.{child_view}

@@ -1,3 +1,4 @@
+-- Printing: one more child.
 use Rattle.std.proofs.Common.{arith, sym, refl, true}
 use Rattle.std.proofs.Output.{has_written_append, has_written_of_eq}
 use Rattle.csl_base.proofs.Trees.{plain-next}

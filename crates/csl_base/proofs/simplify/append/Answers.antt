@@ -1,3 +1,4 @@
+-- A last child that the next one joins, and one that it stays apart from.
 use Rattle.std.proofs.Common.{map, sym, ap, ◌∙◌, ◌++◌, ◌∷◌, []}
 use Rattle.csl_base.specs.ChildView.{child_view}
 use Rattle.csl_base.proofs.Simplifying.{put_joined, put_apart, on_ok-then}

@@ -1,3 +1,4 @@
+-- One level: one more child.
 use Rattle.csl_base.proofs.Simplifying.{level_next}
 use Rattle.csl_base.proofs.simplify.join_adjacent.Goals as goal
 

@@ -1,3 +1,4 @@
+-- One level: the children up to now are joined.
 use Rattle.std.proofs.Common.{◌≡◌, map}
 use Rattle.csl_base.specs.ChildView.{child_view}
 use Rattle.csl_base.specs.Simplify.{level_joined}

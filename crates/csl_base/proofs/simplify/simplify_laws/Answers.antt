@@ -1,3 +1,4 @@
+-- The laws of joining adjacent texts.
 use Rattle.csl_base.specs.Child.{kids_of}
 use Rattle.csl_base.proofs.SimplifyLaws.{simplified-plain, simplified-simplified, kids_simple-Apart}
 use Rattle.csl_base.proofs.simplify.simplify_laws.Goals as goal
