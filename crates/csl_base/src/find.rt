@@ -10,8 +10,9 @@ ghost use Rattle.csl_base.specs.declared.elem.Elem.{Elem};
 use crate::elem::{Elem, ElemChild, ElemChildren, ElemMeta};
 
 impl ElemChildren {
-    /// The first element in preorder that the test accepts: an element comes before those in it.
-    /// `None` where it accepts none.
+    /// The first element in preorder that the test accepts: an element comes before those in it, and
+    /// those in it before those after it. `None` where it accepts none. The test has to accept any
+    /// element as its argument; the answer is told for tests that answer equal elements alike.
     pub fn find_elem_by<F: Fn(&Elem) -> bool>(&self, test: F) -> Option<&Elem>
         requires { F.IsAlwaysCallable test }
         ensures { (p : Elem → Bool) → ((e : Bor Elem) (b : Bool) → F.post test e b → b ≡ p e.now) → option_map (λ e. e.now) result ≡ find_elem p self.now }
@@ -27,8 +28,9 @@ impl ElemChildren {
         find_in_tree(self, &|elem: &Elem| elem.has_meta(meta))
     }
 
-    /// Takes out the first child that is an element with some meta. Elements further in are left
-    /// where they are. `None` where no child is such an element; then nothing changes.
+    /// Takes out the first child that is an element with some meta, and gives it; the children after
+    /// it move up. Elements further in are left where they are. `None` where no child is such an
+    /// element; then nothing changes. It takes no memory.
     pub fn remove_any_meta(&mut self) -> Option<ElemChild>
         ensures value { option_map child_view result ≡ find child_has_any_meta self.old }
         ensures rest { self.new ≡ remove self.old (position_or_len child_has_any_meta self.old) }
@@ -71,6 +73,7 @@ fn find_in_child<'a, F: Fn(&Elem) -> bool>(child: &'a ElemChild, test: &F) -> Op
     }
 }
 
+/// The index of the first child that is an element with some meta.
 fn first_with_meta(children: &[ElemChild]) -> Option<usize>
     ensures { result ≡ position (λ c. child_has_any_meta (child_view c)) children.now }
 {

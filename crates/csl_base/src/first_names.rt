@@ -1,4 +1,6 @@
 //! The first element of meta Names in a tree, for writing.
+//!
+//! A holder is a child that is such an element, or in which one stands.
 ghost use Rattle.std.specs.Prelude.{◌≡◌, List, option_map, is_some, None, Some, true};
 ghost use Rattle.std.specs.Borrow.{Lends, LendsIf, sem};
 ghost use Rattle.csl_base.specs.Child.{Child};
@@ -15,7 +17,8 @@ use crate::elem::{Elem, ElemChild, ElemChildren};
 
 impl ElemChildren {
     /// The first element in preorder whose meta is Names, for writing; the one that `find_names`
-    /// gives. `None` where there is none.
+    /// gives. `None` where there is none. A write leaves the rest of the tree as it is, and is what
+    /// `find_names` gives next, if its meta is still Names (`first_names_laws`).
     pub fn find_names_mut(&mut self) -> Option<&mut Elem>
         ensures* writes_back { sem 𝓛 (LendsIf children_.the_row elem_.the_row self.entry result (put_names self.old) self.old) }
         ensures value { option_map (λ e. e.now) result ≡ find_elem has_names self.old }
@@ -24,8 +27,8 @@ impl ElemChildren {
     }
 }
 
-/// What a write of the first element of meta Names does: it is read again, if its own meta is Names, it
-/// changes nothing where it writes what stood there, and nothing where there is no such element.
+/// What a write of the first element of meta Names does: it is read again if its own meta is Names,
+/// it changes nothing where it writes what stood there, and nothing where there is no such element.
 pub fn first_names_laws()
     ensures read_after_write { (cs : List Child) (w : Elem) → is_some (find_elem has_names cs) ≡ true → has_names w ≡ true → find_elem has_names (put_names cs w) ≡ Some w }
     ensures write_what_is_read { (cs : List Child) (e : Elem) → find_elem has_names cs ≡ Some e → put_names cs e ≡ cs }
@@ -45,7 +48,7 @@ fn find_names_mut(tree: &mut ElemChildren) -> Option<&mut Elem>
     }
 }
 
-/// The index of the first child that holds names; the number of children where none does.
+/// The index of the first holder; the number of children where there is none.
 fn holder_index(tree: &ElemChildren) -> usize
     ensures { result ≡ holder_index tree.now }
 {

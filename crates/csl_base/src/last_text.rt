@@ -17,7 +17,8 @@ use crate::formatting::Formatted;
 
 impl ElemChildren {
     /// The last text, for writing: the last child, if it is a text, or the last text of the last
-    /// child, if that is an element. `None` where the tree ends in anything else.
+    /// child, if that is an element. `None` where the tree ends in anything else. A write leaves the
+    /// rest of the tree as it is, and is what `last_text` gives next (`last_text_laws`).
     pub fn last_text_mut(&mut self) -> Option<&mut Formatted>
         ensures* writes_back { sem 𝓛 (LendsIf children_.the_row formatted_.the_row self.entry result (put_last_text self.old) self.old) }
         ensures value { option_map (λ f. f.now) result ≡ last_text self.old }
@@ -26,8 +27,8 @@ impl ElemChildren {
     }
 }
 
-/// What a write of the last text does: it is read again, it changes nothing where it writes what stood
-/// there, and nothing where there is no last text.
+/// What a write of the last text does: it is read again, it changes nothing where it writes what
+/// stood there, and nothing where there is no last text.
 pub fn last_text_laws()
     ensures read_after_write { (cs : List Child) (w : Formatted) → is_some (last_text cs) ≡ true → last_text (put_last_text cs w) ≡ Some w }
     ensures write_what_is_read { (cs : List Child) (f : Formatted) → last_text cs ≡ Some f → put_last_text cs f ≡ cs }

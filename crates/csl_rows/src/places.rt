@@ -1,4 +1,12 @@
 //! Places of a tree: found, taken out, written.
+ghost use Rattle.std.specs.Prelude.{◌≡◌, None, Some};
+ghost use Rattle.csl_base.specs.Tree.{last_text, find_elem, has_names};
+ghost use Rattle.csl_base.specs.LastText.{put_last_text};
+ghost use Rattle.csl_base.specs.FirstNames.{put_names};
+ghost use Rattle.csl_base.specs.declared.elem.Elem.{Elem};
+ghost use Rattle.csl_base.specs.declared.formatting.Formatted.{Formatted};
+ghost use Rattle.csl_base.specs.declared.formatting.FontStyle.TheVariants as style;
+
 use csl_base::elem::{BufWriteFormat, Elem, ElemChild, ElemChildren, ElemMeta};
 use csl_base::formatting::{Display, FontStyle, Formatted, Formatting};
 use csl_base::seq::Seq;
@@ -59,6 +67,26 @@ fn shows(rt: &HostRuntime, tree: &ElemChildren, want: &str) -> Result<bool, Fail
     Ok(shown.as_str() == want)
 }
 
+/// Writes one field. The contract shows what a caller learns of a tree that lent its last text.
+fn make_last_text_italic(tree: &mut ElemChildren)
+    ensures some { (f : Formatted) → last_text tree.old ≡ Some f → tree.new ≡ put_last_text tree.old (record f { formatting = record f.formatting { font_style = style.Italic } }) }
+    ensures none { last_text tree.old ≡ None → tree.new ≡ tree.old }
+{
+    if let Some(text) = tree.last_text_mut() {
+        text.formatting.font_style = FontStyle::Italic;
+    }
+}
+
+/// The same of the first names.
+fn strip_first_names(tree: &mut ElemChildren)
+    ensures some { (e : Elem) → find_elem has_names tree.old ≡ Some e → tree.new ≡ put_names tree.old (record e { meta = None }) }
+    ensures none { find_elem has_names tree.old ≡ None → tree.new ≡ tree.old }
+{
+    if let Some(elem) = tree.find_names_mut() {
+        elem.meta = None;
+    }
+}
+
 #[test]
 fn finds_elements(rt: HostRuntime) -> Result<(), Fail> {
     let tree = cite(&rt)?;
@@ -109,8 +137,7 @@ fn writes_the_last_text(rt: HostRuntime) -> Result<(), Fail> {
     let last = tree.last_text_mut().ok_or("no last text")?;
     *last = text(&rt, "p. 6")?;
     assert!(rt; shows(&rt, &tree, "See DoeDoe2120217p. 6")?);
-    let last = tree.last_text_mut().ok_or("no last text")?;
-    last.formatting.font_style = FontStyle::Italic;
+    make_last_text_italic(&mut tree);
     let read = tree.last_text().ok_or("no last text")?;
     assert!(rt; read.formatting.font_style == FontStyle::Italic);
     assert!(rt; shows(&rt, &tree, "See DoeDoe2120217p. 6")?);
@@ -135,8 +162,7 @@ fn writes_the_first_names(rt: HostRuntime) -> Result<(), Fail> {
 
     let mut nested = ElemChildren::new(rt.alloc());
     nested.push(ElemChild::Elem(around(&rt, leaf(&rt, "Roe", names(&rt))?, names(&rt))?))?;
-    let outer = nested.find_names_mut().ok_or("no names")?;
-    outer.meta = None;
+    strip_first_names(&mut nested);
     let inner = nested.find_names().ok_or("no inner names")?;
     assert!(rt;
         shows(&rt, &inner.children, "Roe")?,
