@@ -7,3 +7,4 @@ pub mod Weight
 pub mod Tops
 pub mod Raised
 pub mod Orders
+pub mod GivenNames

@@ -22,3 +22,4 @@ pub mod Stack
 pub mod Seq
 pub mod Forms
 pub mod Ordered
+pub mod Initials

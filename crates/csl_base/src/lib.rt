@@ -10,6 +10,7 @@ pub mod element;
 pub mod entry;
 pub mod formatting;
 mod graph;
+pub mod initials;
 pub mod locale;
 pub mod names;
 pub mod ring;
