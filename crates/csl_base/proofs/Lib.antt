@@ -5,6 +5,5 @@ pub mod Rings
 pub mod Views
 pub mod Weight
 pub mod Tops
-pub mod Raised
 pub mod Orders
 pub mod GivenNames

