@@ -16,5 +16,5 @@ pub mod Lent
 pub mod Reached
 pub mod Rings
 pub mod Tops
-pub mod Raised
 pub mod Orders
+pub mod GivenNames

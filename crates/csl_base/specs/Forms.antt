@@ -1,5 +1,5 @@
 -- The forms of names: adding a name, and a write through a borrowed form.
-use Rattle.std.specs.Prelude.{ℕ, zero, suc, List, Option, Some, slice_get, slice_set}
+use Rattle.std.specs.Prelude.{ℕ, zero, suc, List, Option, option_map, unwrap_or, slice_get, slice_set}
 use Rattle.std.specs.Borrow.{LendsIf, MutBor, Fml}
 use Rattle.csl_base.specs.declared.names.DisambiguatedNameForm.{DisambiguatedNameForm}
 use Rattle.csl_base.specs.declared.names.NameDisambiguationProperties.{NameDisambiguationProperties}
@@ -9,15 +9,15 @@ use Rattle.csl_base.specs.contracts.names.NameDisambiguationProperties as proper
 abbrev pub Forms : Type 0
 Forms = List DisambiguatedNameForm
 
--- where the form at a place only counts, it becomes the short one
-abbrev pub raise : Option DisambiguatedNameForm → ℕ → Forms → Forms
-raise (Some DisambiguatedNameForm.Count) i forms = slice_set forms i DisambiguatedNameForm.Short
-raise _ i forms = forms
+-- a form with the name written: where it only counts, the short form
+abbrev pub written : DisambiguatedNameForm → DisambiguatedNameForm
+written DisambiguatedNameForm.Count = DisambiguatedNameForm.Short
+written form = form
 
--- the forms with name i, counted from one, written
+-- the forms with name i, counted from one, written, if there is such a name
 abbrev pub add_name : ℕ → Forms → Forms
 add_name zero forms = forms
-add_name (suc i) forms = raise (slice_get forms i) i forms
+add_name (suc i) forms = unwrap_or (option_map (λ form. slice_set forms i (written form)) (slice_get forms i)) forms
 
 -- the forms end as they were, with form i set to the last value behind r
 abbrev pub LendsForm : MutBor NameDisambiguationProperties → ℕ → Option (MutBor DisambiguatedNameForm) → Fml

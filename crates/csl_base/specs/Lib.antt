@@ -29,3 +29,4 @@ pub mod Stack
 pub mod Seq
 pub mod Forms
 pub mod Ordered
+pub mod Initials

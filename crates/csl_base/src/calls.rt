@@ -6,6 +6,11 @@ ghost use Rattle.csl_base.specs.ElementView.{element_view, elements_view, branch
 use crate::element::{ChooseBranch, LayoutRenderingElement, TextTarget};
 use std::alloc::AllocError;
 
+/// Adds the names of the macros that an element calls, from left to right, in every branch.
+///
+/// # Errors
+///
+/// Where memory is refused; what was added till then stays.
 #[cycle(calls)]
 pub fn add_calls<'a>(
     names: &mut Vec<&'a str>,
@@ -31,6 +36,11 @@ pub fn add_calls<'a>(
     }
 }
 
+/// Adds the names of the macros that these elements call, from left to right, in every branch.
+///
+/// # Errors
+///
+/// Where memory is refused; what was added till then stays.
 #[cycle(calls)]
 pub fn add_all_calls<'a>(
     names: &mut Vec<&'a str>,

@@ -25,12 +25,8 @@ fn add_places(
     Ok(())
 }
 
-/// Whether steps lead from a place back to it. `rows` has for each place those to which it leads in
-/// one step. The time is the number of all these at most.
-///
-/// # Errors
-///
-/// Where memory is refused.
+// Whether steps lead from a place back to it. `rows` has for each place those to which it leads in
+// one step; each row is gone through once at most.
 pub(crate) fn is_on_round(
     alloc: Global,
     rows: &Vec<Vec<usize>>,

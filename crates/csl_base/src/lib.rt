@@ -12,6 +12,7 @@ pub mod find;
 pub mod first_names;
 pub mod formatting;
 mod graph;
+pub mod initials;
 pub mod last_text;
 pub mod locale;
 pub mod names;

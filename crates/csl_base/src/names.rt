@@ -1,7 +1,7 @@
 //! How far the names of a cite are written, to tell cites apart (CSL 1.0.2, disambiguation).
 ghost use Rattle.std.specs.Prelude.{◌≡◌, option_map, slice_get};
 ghost use Rattle.std.specs.Borrow.{sem};
-ghost use Rattle.csl_base.specs.Forms.{add_name, LendsForm};
+ghost use Rattle.csl_base.specs.Forms.{written, add_name, LendsForm};
 ghost use Rattle.csl_base.specs.Ordered.{IsValueOrder, form_cmp, properties_cmp};
 
 use crate::seq::Seq;
@@ -17,6 +17,18 @@ pub enum DisambiguatedNameForm {
     LongInitialized,
     /// In full.
     LongFull,
+}
+
+impl DisambiguatedNameForm {
+    // The form of a name that is to be written.
+    fn written(self) -> DisambiguatedNameForm
+        ensures { result ≡ written self }
+    {
+        match self {
+            DisambiguatedNameForm::Count => DisambiguatedNameForm::Short,
+            other => other,
+        }
+    }
 }
 
 /// The form of each of a cite's names, in their order.
@@ -35,9 +47,7 @@ impl NameDisambiguationProperties {
             return;
         }
         if let Some(form) = self.get_form_mut(i - 1) {
-            if *form == DisambiguatedNameForm::Count {
-                *form = DisambiguatedNameForm::Short;
-            }
+            *form = form.written();
         }
     }
 

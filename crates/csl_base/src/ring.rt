@@ -10,7 +10,7 @@ use crate::graph::is_on_round;
 use crate::style::IndependentStyle;
 use std::alloc::{AllocError, Global};
 
-// The children of the first macro of a name.
+/// The children of the first macro of a name; none without such a macro.
 pub fn body_of<'a>(macros: &'a Vec<CslMacro>, name: &str) -> Option<&'a Vec<LayoutRenderingElement>>
     ensures { option_map (λ v. elements_view v.now.items) result ≡ body_of name.now (macros_view macros.now.items) }
 {
@@ -22,7 +22,7 @@ pub fn body_of<'a>(macros: &'a Vec<CslMacro>, name: &str) -> Option<&'a Vec<Layo
     None
 }
 
-/// The place of the first macro of a name.
+// The place of the first macro of a name.
 fn place_of(macros: &Vec<CslMacro>, name: &str) -> Option<usize>
     ensures { result ≡ place_of name.now (macros_view macros.now.items) }
 {
@@ -34,7 +34,7 @@ fn place_of(macros: &Vec<CslMacro>, name: &str) -> Option<usize>
     None
 }
 
-/// The places of the macros that these elements call, without the names that have no macro.
+// The places of the macros that these elements call, without the names that have no macro.
 fn called_places(
     alloc: Global,
     macros: &Vec<CslMacro>,
@@ -53,7 +53,7 @@ fn called_places(
     Ok(places)
 }
 
-/// For each macro the places of those that it calls.
+// For each macro the places of those that it calls.
 fn call_places(alloc: Global, macros: &Vec<CslMacro>) -> Result<Vec<Vec<usize>>, AllocError>
     ensures { IfOk result (λ rows. map (λ row. row.items) rows.items ≡ call_places (macros_view macros.now.items)) }
 {
@@ -78,7 +78,13 @@ fn is_new_name(macros: &Vec<CslMacro>, i: usize, name: &str) -> bool
 }
 
 impl IndependentStyle {
-    // The place of the first macro that lies on a ring of calls.
+    /// The place of the first macro that calls itself, through others or alone; none where no macro
+    /// does. A call means the first macro of its name, and a call of a name without a macro means
+    /// nothing (CSL 1.0.2, macro).
+    ///
+    /// # Errors
+    ///
+    /// Where memory is refused.
     pub fn ring(&self, alloc: Global) -> Result<Option<usize>, AllocError>
         ensures first { IfOk result (IsFirstRing (macros_view self.now.macros.items)) }
         ensures none { IfOk result (λ r. r ≡ None → HasNoRing (macros_view self.now.macros.items)) }

@@ -2,10 +2,14 @@
 #![tactic(auto)]
 
 #[cfg(test)]
+#[cfg(test)]
+#[cfg(test)]
+#[cfg(test)]
 mod finish;
-#[cfg(test)]
+mod initials;
+mod names;
 mod places;
-#[cfg(test)]
+mod rings;
+mod stacks;
 mod styles;
-#[cfg(test)]
 mod trees;
