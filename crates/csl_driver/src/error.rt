@@ -15,7 +15,7 @@ pub enum DriverError {
 }
 
 /// Where a style was handed in.
-#[derive(Clone, Copy, PartialEq, Eq)]
+#[derive(Clone, Copy, Debug, PartialEq, Eq)]
 pub enum RingPlace {
     /// With the request of this place, from 0.
     Request(usize),

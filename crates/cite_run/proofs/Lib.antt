@@ -1,0 +1,4 @@
+pub mod Keys
+pub mod Members
+pub mod Progress
+pub mod Utf8

@@ -1,0 +1,8 @@
+//! Reads a document from standard input, and prints its citations and its bibliography.
+#![tactic(auto)]
+
+mod document;
+mod error;
+mod words;
+
+fn main(_rt: HostRuntime) {}
