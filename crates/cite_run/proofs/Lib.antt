@@ -2,3 +2,4 @@ pub mod Keys
 pub mod Members
 pub mod Progress
 pub mod Utf8
+pub mod Written

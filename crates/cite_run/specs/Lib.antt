@@ -10,3 +10,4 @@ pub mod Requests
 pub mod WantedView
 pub mod Form
 pub mod DocumentView
+pub mod Print

@@ -3,6 +3,7 @@
 
 mod document;
 mod error;
+mod printing;
 mod words;
 
 fn main(_rt: HostRuntime) {}
