@@ -1,15 +1,10 @@
 -- What the calls of a tree answer.
-use Rattle.std.specs.Prelude.{ℕ, Bool, true, false, cond, ◌&&◌, ◌||◌, List, [], ◌∷◌, ◌++◌, Option, None, Some}
+use Rattle.std.specs.Prelude.{ℕ, Bool, true, false, cond, ◌||◌, List, [], ◌∷◌, ◌++◌, Option, None, Some}
 use Rattle.std.specs.Option.{option_or}
 use Rattle.csl_base.specs.declared.formatting.Display.{Display}
 use Rattle.csl_base.specs.declared.elem.ElemMeta.{ElemMeta}
 use Rattle.csl_base.specs.Child.{Child, text, elem, markup, link, transparent, Kids, no_kids, kid, kids_of, list_of}
 use Rattle.csl_base.specs.declared.formatting.Formatted.{Formatted}
-use Rattle.csl_base.specs.declared.formatting.Formatting.{Formatting}
-use Rattle.csl_base.specs.declared.formatting.FontStyle.{FontStyle}
-use Rattle.csl_base.specs.declared.formatting.FontStyle.TheVariants as style
-use Rattle.csl_base.specs.declared.formatting.FontWeight.{FontWeight}
-use Rattle.csl_base.specs.declared.formatting.FontWeight.TheVariants as weight
 use Rattle.csl_base.specs.declared.elem.Elem.{Elem}
 use Rattle.csl_base.specs.declared.elem.ElemMeta.TheVariants as meta
 use Rattle.csl_base.specs.Content.{text_has_content}
@@ -74,55 +69,6 @@ is_names _ = false
 abbrev pub has_names : Elem → Bool
 has_names e = elim e.meta [ None ↦ false | Some m ↦ is_names m ]
 
--- equal formatting
-abbrev pub same_style : FontStyle → FontStyle → Bool
-same_style style.Normal style.Normal = true
-same_style style.Italic style.Italic = true
-same_style _ _ = false
-
-abbrev pub same_weight : FontWeight → FontWeight → Bool
-same_weight weight.Normal weight.Normal = true
-same_weight weight.Bold weight.Bold = true
-same_weight _ _ = false
-
-abbrev pub same_formatting : Formatting → Formatting → Bool
-same_formatting a b = same_style a.font_style b.font_style && same_weight a.font_weight b.font_weight
-
--- a child before others, joined to the first where both are texts of equal formatting
-abbrev pub joined : Formatted → Formatted → Formatted
-joined f g = record { text = f.text ++ g.text; formatting = f.formatting }
-
-abbrev pub join_text : Formatted → Kids → Kids
-join_text f no_kids = kid (text f) no_kids
-join_text f (kid (text g) ks) = cond (same_formatting f.formatting g.formatting) (kid (text (joined f g)) ks) (kid (text f) (kid (text g) ks))
-join_text f (kid (elem ls d m) ks) = kid (text f) (kid (elem ls d m) ks)
-join_text f (kid (markup s) ks) = kid (text f) (kid (markup s) ks)
-join_text f (kid (link g s) ks) = kid (text f) (kid (link g s) ks)
-join_text f (kid (transparent i g) ks) = kid (text f) (kid (transparent i g) ks)
-
-abbrev pub join_child : Child → Kids → Kids
-join_child (text f) ks = join_text f ks
-join_child (elem ls d m) ks = kid (elem ls d m) ks
-join_child (markup s) ks = kid (markup s) ks
-join_child (link g s) ks = kid (link g s) ks
-join_child (transparent i g) ks = kid (transparent i g) ks
-
--- adjacent texts of equal formatting joined at every depth
-abbrev mutual
-  pub child_simple : Child → Child
-  child_simple (text f) = text f
-  child_simple (elem ks d m) = elem (kids_simple ks) d m
-  child_simple (markup s) = markup s
-  child_simple (link f s) = link f s
-  child_simple (transparent i f) = transparent i f
-
-  pub kids_simple : Kids → Kids
-  kids_simple no_kids = no_kids
-  kids_simple (kid c ks) = join_child (child_simple c) (kids_simple ks)
-
-abbrev pub simplified : List Child → List Child
-simplified cs = list_of (kids_simple (kids_of cs))
-
 abbrev pub no_children : List Child → Bool
 no_children [] = true
 no_children (c ∷ cs) = false
@@ -142,16 +88,3 @@ abbrev mutual
 
 abbrev pub has_content : List Child → Bool
 has_content cs = kids_have_content (kids_of cs)
-
--- one level joined
-abbrev pub kids_joined : Kids → Kids
-kids_joined no_kids = no_kids
-kids_joined (kid c ks) = join_child c (kids_joined ks)
-
-abbrev pub level_joined : List Child → List Child
-level_joined cs = list_of (kids_joined (kids_of cs))
-
--- a child after others, joined to the last where both are texts of equal formatting
-abbrev pub join_last : List Child → Child → List Child
-join_last [] c = c ∷ []
-join_last (d ∷ ds) c = elim ds [ [] ↦ list_of (join_child d (kid c no_kids)) | _ ∷ _ ↦ d ∷ join_last ds c ]

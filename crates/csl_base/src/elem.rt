@@ -2,7 +2,7 @@
 ghost use Rattle.std.specs.Prelude.{◌≡◌, ℕ, Bool, ◌∷◌, [], ◌++◌, map, OnOk, IsOk, IfOk, option_map};
 ghost use Rattle.std.specs.Fmt.{WritesInCalls};
 ghost use Rattle.csl_base.specs.ChildView.{child_view};
-ghost use Rattle.csl_base.specs.Tree.{plain, child_plain, find_elem, last_text, child_last_text, simplified, no_children, has_names, child_find, has_content, child_has_content};
+ghost use Rattle.csl_base.specs.Tree.{plain, child_plain, find_elem, last_text, child_last_text, no_children, has_names, child_find, has_content, child_has_content};
 
 use crate::entry::Person;
 use crate::formatting::{Display, Formatted, Formatting};
@@ -276,4 +276,26 @@ impl Eq for ElemChildren {
     ghost use Rattle.csl_base.specs.SameTree.{same_trees-laws};
 
     ghost laws = { same_trees-laws };
+}
+
+impl From<Formatted> for ElemChild {
+    ghost use Rattle.csl_base.specs.declared.elem.ElemChild.TheVariants.{Text};
+
+    ghost from_gives = { λ formatted child. child ≡ Text formatted };
+
+    /// A text of a tree.
+    fn from(formatted: Formatted) -> ElemChild {
+        ElemChild::Text(formatted)
+    }
+}
+
+impl From<Elem> for ElemChild {
+    ghost use Rattle.csl_base.specs.declared.elem.ElemChild.TheVariants.{Elem};
+
+    ghost from_gives = { λ elem child. child ≡ Elem elem };
+
+    /// An element inside a tree.
+    fn from(elem: Elem) -> ElemChild {
+        ElemChild::Elem(elem)
+    }
 }

@@ -1,6 +1,6 @@
 //! Formatting: what a style asks for, and what a text of a tree has.
 ghost use Rattle.std.specs.Prelude.{◌≡◌, string_bytes};
-ghost use Rattle.csl_base.specs.Formatting.{normal, applied};
+ghost use Rattle.csl_base.specs.Formatting.{applied};
 
 use crate::text::Text;
 
@@ -45,10 +45,10 @@ impl Default for Formatting {
     ghost use Rattle.std.specs.Prelude.{◌≡◌};
     ghost use Rattle.csl_base.specs.Formatting.{normal};
 
+    ghost is_default = { λ formatting. formatting ≡ normal };
+
     /// Normal in both fields.
-    fn default() -> Formatting
-        ensures { result ≡ normal }
-    {
+    fn default() -> Formatting {
         Formatting {
             font_style: FontStyle::Normal,
             font_weight: FontWeight::Normal,

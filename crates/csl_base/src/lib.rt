@@ -4,12 +4,22 @@
 //! its children. No capacity and no address shows.
 #![tactic(auto)]
 
+pub mod calls;
 pub mod elem;
 pub mod element;
 pub mod entry;
+pub mod find;
+pub mod first_names;
 pub mod formatting;
+mod graph;
+pub mod last_text;
 pub mod locale;
+pub mod names;
+pub mod print;
+pub mod ring;
 pub mod seq;
+pub mod simplify;
+pub mod stack;
 pub mod style;
 pub mod taxonomy;
 pub mod text;

@@ -1,0 +1,5 @@
+pub mod Distinct
+pub mod Places
+pub mod Once
+pub mod Joined
+pub mod RingLemmas

@@ -1,5 +1,5 @@
 -- Requests as plain data: no capacity and no address is seen.
-use Rattle.std.specs.Prelude.{ℕ, ◌+◌, Bool, List, [], ◌∷◌, Option, map}
+use Rattle.std.specs.Prelude.{ℕ, ◌+◌, Bool, List, [], ◌∷◌, ◌++◌, Option, map}
 use Rattle.std.specs.List.{flat_map}
 use Rattle.csl_base.specs.declared.taxonomy.Locator.{Locator}
 use Rattle.csl_base.specs.Style.{StyleValue, LocaleValue}
@@ -44,6 +44,10 @@ module _ {E P : Type 0} where
   -- the request with each cite's place set to where it stands
   abbrev pub with_places : Request E P → Request E P
   with_places r = record r { cites = placed_from 0 r.cites }
+
+  -- the driver that has taken one more request
+  abbrev pub with_request : Driver E P → Request E P → Driver E P
+  with_request d r = record d { requests = d.requests ++ with_places r ∷ [] }
 
   -- what is cited, in order
   abbrev pub entries_of : List (Cite E P) → List E

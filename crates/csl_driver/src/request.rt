@@ -2,6 +2,7 @@
 ghost use Rattle.std.specs.Prelude.{◌≡◌, None, if◌then◌else◌, map, option_map};
 ghost use Rattle.csl_base.specs.StyleView.{code_view, locale_view, style_view};
 ghost use Rattle.csl_driver.specs.Class.{is_note};
+ghost use Rattle.csl_driver.specs.Request.{placed_from};
 ghost use Rattle.csl_driver.specs.RequestView.{cites_view, request_view};
 
 use crate::item::CitationItem;
@@ -96,5 +97,14 @@ impl<'o, 'a, T> BibliographyRequest<'o, 'a, T> {
             locale_files,
             order: None,
         }
+    }
+}
+
+/// Sets each item's place to where it stands.
+pub(crate) fn number_items<'a, T, P>(items: &mut [CitationItem<'a, T, P>])
+    ensures { cites_view items.new ≡ placed_from 0 (cites_view items.old) }
+{
+    for (k, item) in items.iter_mut().enumerate() {
+        item.initial_idx = k;
     }
 }

@@ -1,0 +1,23 @@
+use Rattle.std.proofs.Common.{◌≡◌, ◌++◌, map, drop}
+use Rattle.csl_base.specs.Calls.{calls_of_all, calls_of_branches}
+use Rattle.csl_base.specs.ElementView.{elements_view, branches_view}
+use Rattle.csl_base.specs.ElementView.{element_view}
+use Rattle.csl_base.proofs.Weight.{weight_with, weight_all_with, weight_branches_with}
+use Rattle.csl_base.proofs.calls.+calls.Given as goal
+
+abbrev pub invariant-add_all_calls-loop-element : goal.invariant-add_all_calls-loop-element
+invariant-add_all_calls-loop-element l =
+    map (λ s. s.now) l.names.items ++ calls_of_all (elements_view (drop l.element-index l.element-items)) ≡ map (λ s. s.now) l.initial.names.items ++ calls_of_all (elements_view l.element-items)
+
+abbrev pub invariant-add_branch_calls-loop-branch : goal.invariant-add_branch_calls-loop-branch
+invariant-add_branch_calls-loop-branch l =
+    map (λ s. s.now) l.names.items ++ calls_of_branches (branches_view (drop l.branch-index l.branch-items) l.otherwise.items) ≡ map (λ s. s.now) l.initial.names.items ++ calls_of_branches (branches_view l.branch-items l.otherwise.items)
+
+abbrev pub decreases-add_calls : goal.decreases-add_calls
+decreases-add_calls l = weight_with (λ _. 0) (element_view l.element.now)
+
+abbrev pub decreases-add_all_calls : goal.decreases-add_all_calls
+decreases-add_all_calls l = weight_all_with (λ _. 0) (elements_view l.elements.now.items)
+
+abbrev pub decreases-add_branch_calls : goal.decreases-add_branch_calls
+decreases-add_branch_calls l = weight_branches_with (λ _. 0) (branches_view l.branches.now.items l.otherwise.now.items)

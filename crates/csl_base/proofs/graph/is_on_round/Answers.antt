@@ -1,0 +1,88 @@
+use Rattle.std.proofs.Common.{◌≡◌, ◌<◌, ◌∙◌, ◌+◌, ◌-◌, ◌≤◌, ℕ, List, [], Vec, Global, map, sym, ap, subst, length, get_or, arith}
+use Rattle.std.proofs.lemmas.List.{length-map, get_or-map}
+use Rattle.csl_base.specs.Places.{Places, steps_from, IsWithin, IsClosed, add_each}
+use Rattle.csl_base.proofs.Reached.{left, IsReached, reached-start, reached-more, next_within, falls, mark_read, on_round}
+use Rattle.csl_base.proofs.graph.is_on_round.Goals as goal
+
+abbrev rows_of : List (Vec ℕ Global) → List Places
+rows_of = map (λ row. row.items)
+
+row_read : (rows : List (Vec ℕ Global)) (i : ℕ) (row : Vec ℕ Global) → i < length rows → row ≡ get_or rows i row → row.items ≡ steps_from (rows_of rows) i
+row_read rows i row h e = ap (λ (r : Vec ℕ Global). r.items) e ∙ sym (get_or-map (λ (r : Vec ℕ Global). r.items) rows i row [] h)
+
+row_within : (rows : List (Vec ℕ Global)) (i : ℕ) (row : Vec ℕ Global) → IsClosed (rows_of rows) → i < length rows → row ≡ get_or rows i row → IsWithin (length rows) row.items
+row_within rows i row closed h e =
+    subst (λ n. IsWithin n row.items) (length-map rows (λ (r : Vec ℕ Global). r.items)) (subst (IsWithin (length (rows_of rows))) (sym (row_read rows i row h e)) (closed i))
+
+pub add_places-requires-clause-within : goal.add_places-requires-clause-within
+add_places-requires-clause-within c =
+    let rows = c.args.rows.now in
+    let m = c.in_ok-marks.ensures in
+    let n : length c.in_ok-marks.marks.items ≡ length rows.items = sym c.in_ok-marks.marks.ok.0 ∙ m.len ∙ c.len.ensures ∙ rows.ok.0 in
+    subst (λ n. IsWithin n c.index.result.now.items) (sym n) (row_within rows.items c.args.start c.index.result.now c.requires.closed c.requires.start c.index.ensures)
+
+pub loop-at-init : goal.loop-at-init
+loop-at-init c =
+    let rows = c.args.rows.now in
+    let m = c.in_ok-marks.ensures in
+    let n : length c.in_ok-marks.marks.items ≡ length rows.items = sym c.in_ok-marks.marks.ok.0 ∙ m.len ∙ c.len.ensures ∙ rows.ok.0 in
+    let a = c.in_ok-add_places.ensures in
+    let row = row_read rows.items c.args.start c.index.result.now c.requires.start c.index.ensures in
+    let found : c.add_places.new.found.items ≡ add_each (steps_from (rows_of rows.items) c.args.start) [] = a.found ∙ ap (λ xs. add_each xs c.new-found.result.items) row ∙ ap (add_each (steps_from (rows_of rows.items) c.args.start)) c.new-found.ensures.items in
+    (subst (λ xs. IsReached (rows_of rows.items) c.args.start xs 0) (sym found) (reached-start (rows_of rows.items) c.requires.closed c.args.start), a.marked, a.length ∙ n)
+
+pub index-requires-in-loop-at : goal.index-requires-in-loop-at
+index-requires-in-loop-at c =
+    let rows = c.args.rows.now in
+    let l = c.loop-at in
+    let next = c.index-next.result.now in
+    let at : l.at < length l.found.items = omega (arith, c.loop-at-test.true, c.len-in-loop-at.ensures, l.found.ok.0) in
+    let n : length (rows_of rows.items) ≡ length rows.items = length-map rows.items (λ (r : Vec ℕ Global). r.items) in
+    let lt : next < length rows.items = omega (arith, n, next_within (rows_of rows.items) c.requires.closed c.args.start l.found.items l.at next l.invariant.0 at c.index-next.ensures) in
+    omega (arith, lt, rows.ok.0)
+
+pub add_places-requires-in-loop-at-clause-within : goal.add_places-requires-in-loop-at-clause-within
+add_places-requires-in-loop-at-clause-within c =
+    let rows = c.args.rows.now in
+    let l = c.loop-at in
+    let next = c.index-next.result.now in
+    let at : l.at < length l.found.items = omega (arith, c.loop-at-test.true, c.len-in-loop-at.ensures, l.found.ok.0) in
+    let n : length (rows_of rows.items) ≡ length rows.items = length-map rows.items (λ (r : Vec ℕ Global). r.items) in
+    let lt : next < length rows.items = omega (arith, n, next_within (rows_of rows.items) c.requires.closed c.args.start l.found.items l.at next l.invariant.0 at c.index-next.ensures) in
+    subst (λ n. IsWithin n c.index-in-loop-at.result.now.items) (sym l.invariant.2) (row_within rows.items next c.index-in-loop-at.result.now c.requires.closed lt c.index-in-loop-at.ensures)
+
+pub loop-at-smaller : goal.loop-at-smaller
+loop-at-smaller c =
+    let rows = c.args.rows.now in
+    let l = c.loop-at in
+    let next = c.index-next.result.now in
+    let at : l.at < length l.found.items = omega (arith, c.loop-at-test.true, c.len-in-loop-at.ensures, l.found.ok.0) in
+    let n : length (rows_of rows.items) ≡ length rows.items = length-map rows.items (λ (r : Vec ℕ Global). r.items) in
+    let lt : next < length rows.items = omega (arith, n, next_within (rows_of rows.items) c.requires.closed c.args.start l.found.items l.at next l.invariant.0 at c.index-next.ensures) in
+    let row = row_read rows.items next c.index-in-loop-at.result.now lt c.index-in-loop-at.ensures in
+    let found = c.in_ok-add_places-2.ensures.found ∙ ap (λ xs. add_each xs l.found.items) row in
+    let h = falls (rows_of rows.items) c.requires.closed c.args.start l.found.items l.at next at in
+    subst (λ n. left n c.add_places-in-loop-at.new.found.items + (length c.add_places-in-loop-at.new.found.items - (l.at + 1)) < left n l.found.items + (length l.found.items - l.at)) n
+    (subst (λ xs. left (length (rows_of rows.items)) xs + (length xs - (l.at + 1)) < left (length (rows_of rows.items)) l.found.items + (length l.found.items - l.at)) (sym found) h)
+
+pub loop-at-preserved : goal.loop-at-preserved
+loop-at-preserved c =
+    let rows = c.args.rows.now in
+    let l = c.loop-at in
+    let a = c.in_ok-add_places-2.ensures in
+    let next = c.index-next.result.now in
+    let at : l.at < length l.found.items = omega (arith, c.loop-at-test.true, c.len-in-loop-at.ensures, l.found.ok.0) in
+    let n : length (rows_of rows.items) ≡ length rows.items = length-map rows.items (λ (r : Vec ℕ Global). r.items) in
+    let lt : next < length rows.items = omega (arith, n, next_within (rows_of rows.items) c.requires.closed c.args.start l.found.items l.at next l.invariant.0 at c.index-next.ensures) in
+    let row = row_read rows.items next c.index-in-loop-at.result.now lt c.index-in-loop-at.ensures in
+    let found = a.found ∙ ap (λ xs. add_each xs l.found.items) row in
+    let h = reached-more (rows_of rows.items) c.requires.closed c.args.start l.found.items l.at next l.invariant.0 at c.index-next.ensures in
+    (subst (λ xs. IsReached (rows_of rows.items) c.args.start xs (l.at + 1)) (sym found) h, a.marked, a.length ∙ l.invariant.2)
+
+pub returns-clause-no : goal.returns-clause-no
+returns-clause-no c =
+    let l = c.loop-at in
+    let end : length l.found.items ≤ l.at = omega (arith, c.loop-at-test.false, c.len-in-loop-at.ensures, l.found.ok.0) in
+    let lt : c.args.start < length l.marks.items = omega (arith, c.requires.start, l.invariant.2) in
+    let mark = mark_read l.marks.items l.found.items c.args.start c.index-2.result.now l.invariant.1 lt c.index-2.ensures in
+    (on_round (rows_of c.args.rows.now.items) c.args.start l.found.items l.at c.index-2.result.now l.invariant.0 end mark).1

@@ -1,0 +1,24 @@
+-- The forms of names: adding a name, and a write through a borrowed form.
+use Rattle.std.specs.Prelude.{ℕ, zero, suc, List, Option, Some, slice_get, slice_set}
+use Rattle.std.specs.Borrow.{LendsIf, MutBor, Fml}
+use Rattle.csl_base.specs.declared.names.DisambiguatedNameForm.{DisambiguatedNameForm}
+use Rattle.csl_base.specs.declared.names.NameDisambiguationProperties.{NameDisambiguationProperties}
+use Rattle.csl_base.specs.contracts.names.DisambiguatedNameForm as form
+use Rattle.csl_base.specs.contracts.names.NameDisambiguationProperties as properties
+
+abbrev pub Forms : Type 0
+Forms = List DisambiguatedNameForm
+
+-- where the form at a place only counts, it becomes the short one
+abbrev pub raise : Option DisambiguatedNameForm → ℕ → Forms → Forms
+raise (Some DisambiguatedNameForm.Count) i forms = slice_set forms i DisambiguatedNameForm.Short
+raise _ i forms = forms
+
+-- the forms with name i, counted from one, written
+abbrev pub add_name : ℕ → Forms → Forms
+add_name zero forms = forms
+add_name (suc i) forms = raise (slice_get forms i) i forms
+
+-- the forms end as they were, with form i set to the last value behind r
+abbrev pub LendsForm : MutBor NameDisambiguationProperties → ℕ → Option (MutBor DisambiguatedNameForm) → Fml
+LendsForm names i r = LendsIf properties.the_row form.the_row names r (λ w. record { forms = slice_set names.now.forms i w }) names.now

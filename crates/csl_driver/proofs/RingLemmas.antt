@@ -1,0 +1,42 @@
+-- Requests that are looked at for rings, one after another.
+use Rattle.std.proofs.Common.{◌≡◌, ℕ, ◌+◌, ◌<◌, ◌≤◌, List, length, take, map, get_or, Some, Bool, ap, sym, subst, ◌∙◌}
+use Rattle.std.proofs.Math.ListN.{get_or-map, length-map}
+use Rattle.std.proofs.lemmas.List.{take_all}
+use Rattle.std.proofs.lemmas.List.Elements.{All-more}
+use Rattle.std.proofs.lemmas.Option.{slice_get-get_or}
+use Rattle.csl_base.specs.Ring.{HasNoRing, IsFirstRing}
+use Rattle.csl_base.specs.Style.{StyleValue}
+use Rattle.csl_driver.specs.Request.{Request}
+use Rattle.csl_driver.specs.Rings.{NoRingIn, IsFirstRingOf, RefusesRing, Refuses}
+use Rattle.csl_driver.specs.declared.error.DriverError.{DriverError}
+use Rattle.csl_driver.specs.declared.error.DriverError.TheVariants as errors
+use Rattle.csl_driver.specs.declared.error.RingPlace.TheVariants as places
+
+module _ {E P : Type 0} where
+  -- a refusal for a ring is one of the driver's
+  pub refuses_ring : (eq : E → E → Bool) (requests : List (Request E P)) (style : StyleValue) (offset : ℕ) (e : DriverError)
+      → RefusesRing requests style e → Refuses eq requests style offset e
+  refuses_ring eq requests style offset (errors.MacroRing place i) h = h
+  refuses_ring eq requests style offset errors.NumberOverflow h = absurd h
+  refuses_ring eq requests style offset (errors.OutOfMemory a) h = h
+
+  module _ {X : Type 0} (view : X → Request E P) (xs : List X) (k : ℕ) (x : X) (within : k < length xs) (here : x ≡ get_or xs k x) where
+    at_view : get_or (map view xs) k (view x) ≡ view x
+    at_view = get_or-map view xs k x ∙ ap view (sym here)
+
+    within_view : k < length (map view xs)
+    within_view = simp length-map within
+
+    -- one more request has no ring
+    pub no_ring-more : HasNoRing (view x).style.macros → NoRingIn (take k (map view xs)) → NoRingIn (take (k + 1) (map view xs))
+    no_ring-more h before =
+        All-more (λ r. HasNoRing r.style.macros) (map view xs) k (view x) within_view before (subst (λ r. HasNoRing r.style.macros) (sym at_view) h)
+
+    -- the first request that has a ring
+    pub first_ring : (style : StyleValue) (i : ℕ) → IsFirstRing (view x).style.macros (Some i) → NoRingIn (take k (map view xs))
+        → IsFirstRingOf (map view xs) style (places.Request k) i
+    first_ring style i first before = (view x, slice_get-get_or (map view xs) k (view x) within_view ∙ ap Some at_view, before, first)
+
+  -- no request has a ring
+  pub no_ring-all : (rs : List (Request E P)) (k : ℕ) → length rs ≤ k → NoRingIn (take k rs) → NoRingIn rs
+  no_ring-all rs k h before = subst NoRingIn (take_all k rs h) before

@@ -1,0 +1,21 @@
+use Rattle.std.proofs.Common.{ap, ◌∙◌, sym}
+use Rattle.csl_driver.specs.RequestView.{entries_view, order_view}
+use Rattle.csl_driver.specs.Entries.{with_all_new}
+use Rattle.csl_driver.proofs.Distinct.{bib_from_steps}
+use Rattle.csl_driver.proofs.Once.{counted}
+use Rattle.csl_driver.proofs.entries.bibliography_entries.Goals as goal
+
+pub returns-clause-made : goal.returns-clause-made
+returns-clause-made g c =
+    let eq = g.T.PartialEq.eq in
+    bib_from_steps eq g.met.T.Eq.laws (entries_view c.in-Some.order.0.now) _
+    (ap order_view c.in-Some.is)
+    (ap entries_view c.deref.ensures.value ∙ c.in_ok-cited.ensures)
+    (ap entries_view c.new-entries.ensures.items)
+    c.in_ok-add_listed-in-Some.ensures
+    (c.in_ok-add_entries-in-Some.ensures
+    ∙ ap (λ t. with_all_new eq (entries_view c.add_listed.new.entries.items) (entries_view t)) (c.deref-in-Some.ensures.value ∙ sym c.deref.ensures.value))
+
+pub returns-clause-count : goal.returns-clause-count
+returns-clause-count g c =
+    c.add_entries.new.entries.ok.0 ∙ counted g.T.PartialEq.eq g.met.T.Eq.laws (λ e. e.now) c.add_entries.new.entries.items (order_view c.args.order) _ (returns-clause-made g c)

@@ -1,0 +1,42 @@
+-- Why the driver refuses: a style whose macros call each other in a ring, or numbers that grow too large.
+use Rattle.std.specs.Prelude.{◌≡◌, ℕ, ◌+◌, ◌≤◌, ◌^◌, Bool, List, length, take, slice_get, Some, All}
+use Rattle.csl_base.specs.Ring.{HasNoRing, IsFirstRing}
+use Rattle.csl_base.specs.Style.{StyleValue}
+use Rattle.csl_driver.specs.Entries.{distinct}
+use Rattle.csl_driver.specs.Request.{Request, cited}
+use Rattle.csl_driver.specs.declared.error.DriverError.{DriverError}
+use Rattle.csl_driver.specs.declared.error.DriverError.TheVariants as errors
+use Rattle.csl_driver.specs.declared.error.RingPlace.{RingPlace}
+use Rattle.csl_driver.specs.declared.error.RingPlace.TheVariants as places
+
+module _ {E P : Type 0} where
+  -- no request's style has a ring
+  abbrev pub NoRingIn : List (Request E P) → Type 0
+  NoRingIn requests = All (λ r. HasNoRing r.style.macros) requests
+
+  -- neither a request's style nor that of the bibliography has a ring
+  abbrev pub NoRingAtAll : List (Request E P) → StyleValue → Type 0
+  NoRingAtAll requests style = NoRingIn requests × HasNoRing style.macros
+
+  -- the style at this place is the first that has a ring, the requests' in order and then that of the bibliography, and
+  -- the i-th is its first macro on a ring
+  abbrev pub IsFirstRingOf : List (Request E P) → StyleValue → RingPlace → ℕ → Type 0
+  IsFirstRingOf requests style (places.Request k) i =
+      (r : Request E P) × (slice_get requests k ≡ Some r) × NoRingIn (take k requests) × IsFirstRing r.style.macros (Some i)
+  IsFirstRingOf requests style places.Bibliography i = NoRingIn requests × IsFirstRing style.macros (Some i)
+
+  -- for the code: a refusal for a ring names the first one, and none is for the numbers
+  abbrev pub RefusesRing : List (Request E P) → StyleValue → DriverError → Type 0
+  RefusesRing requests style (errors.MacroRing place i) = IsFirstRingOf requests style place i
+  RefusesRing requests style errors.NumberOverflow = ⊥
+  RefusesRing requests style (errors.OutOfMemory a) = Unit {0}
+
+  -- the offset and the number of distinct entries are above the greatest usize
+  abbrev pub Overflows : (E → E → Bool) → List (Request E P) → ℕ → Type 0
+  Overflows eq requests offset = 2 ^ 64 ≤ offset + length (distinct eq (cited requests))
+
+  -- each refusal has its reason: the first ring, or, where no style has one, too large a number; memory may run out anywhere
+  abbrev pub Refuses : (E → E → Bool) → List (Request E P) → StyleValue → ℕ → DriverError → Type 0
+  Refuses eq requests style offset (errors.MacroRing place i) = IsFirstRingOf requests style place i
+  Refuses eq requests style offset errors.NumberOverflow = NoRingAtAll requests style × Overflows eq requests offset
+  Refuses eq requests style offset (errors.OutOfMemory a) = Unit {0}

@@ -1,0 +1,50 @@
+//! Styles whose macros call each other in a ring are refused before anything is rendered.
+ghost use Rattle.std.specs.Prelude.{◌≡◌, ℕ, IfOk, IfErr, IfSome, OnOk, None};
+ghost use Rattle.csl_base.specs.Ring.{HasNoRing};
+ghost use Rattle.csl_base.specs.StyleView.{style_view};
+ghost use Rattle.csl_driver.specs.RequestView.{requests_view};
+ghost use Rattle.csl_driver.specs.Rings.{IsFirstRingOf, NoRingAtAll, NoRingIn, RefusesRing};
+ghost use Rattle.csl_driver.specs.declared.error.RingPlace.{RingPlace};
+
+use crate::error::{DriverError, RingPlace};
+use crate::request::CitationRequest;
+use csl_base::style::IndependentStyle;
+use std::alloc::{AllocError, Global};
+
+/// The place of the first request whose style has a ring, and that of its first macro on one.
+fn request_ring<T, P>(
+    alloc: Global,
+    requests: &[CitationRequest<'_, T, P>],
+    style: &IndependentStyle,
+) -> Result<Option<(usize, usize)>, AllocError>
+    ensures found { IfOk result (λ r. IfSome r (λ p. IsFirstRingOf (requests_view requests.now) (style_view style.now) (RingPlace.Request p.0) p.1)) }
+    ensures none { IfOk result (λ r. r ≡ None → NoRingIn (requests_view requests.now)) }
+{
+    for (k, request) in requests.iter().enumerate() {
+        if let Some(macro_idx) = request.style.ring(alloc)? {
+            return Ok(Some((k, macro_idx)));
+        }
+    }
+    Ok(None)
+}
+
+/// Refuses the first style that has a ring: those of the requests in their order, and then that of
+/// the bibliography.
+pub(crate) fn refuse_rings<T, P>(
+    alloc: Global,
+    requests: &[CitationRequest<'_, T, P>],
+    style: &IndependentStyle,
+) -> Result<(), DriverError>
+    ensures none { OnOk result (NoRingAtAll (requests_view requests.now) (style_view style.now)) }
+    ensures refused { IfErr result (RefusesRing (requests_view requests.now) (style_view style.now)) }
+{
+    if let Some((k, macro_idx)) = request_ring(alloc, requests, style)? {
+        let place = RingPlace::Request(k);
+        return Err(DriverError::MacroRing { place, macro_idx });
+    }
+    if let Some(macro_idx) = style.ring(alloc)? {
+        let place = RingPlace::Bibliography;
+        return Err(DriverError::MacroRing { place, macro_idx });
+    }
+    Ok(())
+}

@@ -1,0 +1,6 @@
+//! Tests that cross crates.
+#![tactic(auto)]
+
+#[cfg(test)]
+mod places;
+mod trees;
