@@ -5,9 +5,6 @@ pub mod Simplifying
 pub mod SimplifyLaws
 pub mod LastTextSteps
 pub mod FirstNamesSteps
-pub mod Metas
-pub mod Names
-pub mod Gathering
 pub mod Views
 pub mod Weight
 pub mod Nested

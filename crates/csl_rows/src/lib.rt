@@ -3,4 +3,5 @@
 
 #[cfg(test)]
 mod places;
+#[cfg(test)]
 mod trees;
