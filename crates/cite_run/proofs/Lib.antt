@@ -1,5 +1,6 @@
 pub mod Keys
 pub mod Members
 pub mod Progress
+pub mod Refusals
 pub mod Utf8
 pub mod Written

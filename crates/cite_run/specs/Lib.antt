@@ -11,3 +11,4 @@ pub mod WantedView
 pub mod Form
 pub mod DocumentView
 pub mod Print
+pub mod Run

@@ -4,6 +4,7 @@
 mod document;
 mod error;
 mod printing;
+mod running;
 mod words;
 
 fn main(_rt: HostRuntime) {}

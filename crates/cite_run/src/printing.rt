@@ -2,21 +2,12 @@
 ghost use Rattle.std.specs.Prelude.{◌≡◌, ◌++◌, OnOk, IfOk, string_bytes};
 ghost use Rattle.std.specs.List.{flat_map};
 ghost use Rattle.csl_base.specs.ChildView.{child_view};
-ghost use Rattle.csl_base.specs.Tree.{plain, child_plain};
+ghost use Rattle.csl_base.specs.Tree.{child_plain};
 ghost use Rattle.cite_run.specs.Print.{citation_line, first_text, item_line, bibliography_lines, print};
 
-use csl_base::elem::{BufWriteFormat, ElemChild, ElemChildren};
+use csl_base::elem::{BufWriteFormat, ElemChild};
 use csl_driver::rendered::{BibliographyItem, Rendered, RenderedBibliography, RenderedCitation};
 use std::alloc::{AllocError, Global};
-
-fn push_tree(text: &mut String, tree: &ElemChildren) -> Result<(), AllocError>
-    ensures { OnOk result (string_bytes text.new ≡ string_bytes text.old ++ plain tree.now) }
-{
-    match tree.write_buf(text, BufWriteFormat::Plain) {
-        Ok(()) => Ok(()),
-        Err(_) => Err(AllocError),
-    }
-}
 
 fn push_child(text: &mut String, child: &ElemChild) -> Result<(), AllocError>
     ensures { OnOk result (string_bytes text.new ≡ string_bytes text.old ++ child_plain (child_view child.now)) }
@@ -39,7 +30,7 @@ fn push_first_field(text: &mut String, first_field: &Option<ElemChild>) -> Resul
 fn print_citation(text: &mut String, citation: &RenderedCitation) -> Result<(), AllocError>
     ensures { OnOk result (string_bytes text.new ≡ string_bytes text.old ++ citation_line citation.now) }
 {
-    push_tree(text, &citation.citation)?;
+    citation.citation.write_plain(text)?;
     text.push_str("\n")?;
     Ok(())
 }
@@ -59,7 +50,7 @@ fn print_item(text: &mut String, item: &BibliographyItem) -> Result<(), AllocErr
     text.push_str(item.key.as_str())?;
     text.push_str("\t")?;
     push_first_field(text, &item.first_field)?;
-    push_tree(text, &item.content)?;
+    item.content.write_plain(text)?;
     text.push_str("\n")?;
     Ok(())
 }
