@@ -2,7 +2,7 @@
 ghost use Rattle.std.specs.Prelude.{◌≡◌};
 ghost use Rattle.cite_run.specs.Status.{status};
 
-use csl_driver::error::{DriverError, RingPlace};
+use csl_driver::error::RingPlace;
 use std::alloc::{AllocError, AllocFailed};
 use thiserror::Error;
 
@@ -60,20 +60,5 @@ impl<T: Drop> From<AllocFailed<T>> for RunError {
 
     fn from(_error: AllocFailed<T>) -> RunError {
         RunError::OutOfMemory
-    }
-}
-
-impl From<DriverError> for RunError {
-    ghost use Rattle.std.specs.Prelude.{◌≡◌};
-    ghost use Rattle.cite_run.specs.Status.{refusal};
-
-    ghost from_gives = { λ d e. e ≡ refusal d };
-
-    fn from(error: DriverError) -> RunError {
-        match error {
-            DriverError::MacroRing { place, macro_idx } => RunError::MacroRing { place, macro_idx },
-            DriverError::NumberOverflow => RunError::NumberOverflow,
-            DriverError::OutOfMemory(_) => RunError::OutOfMemory,
-        }
     }
 }

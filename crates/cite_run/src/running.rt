@@ -8,7 +8,7 @@ ghost use Rattle.csl_driver.specs.declared.error.RingPlace.{RingPlace};
 ghost use Rattle.cite_run.specs.DocumentView.{document_view};
 ghost use Rattle.cite_run.specs.Form.{form, document_form};
 ghost use Rattle.cite_run.specs.Print.{print};
-ghost use Rattle.cite_run.specs.Run.{accepted, answer, HasFirstRing, HasTooLargeNumbers, IsDocumentThat, Prints};
+ghost use Rattle.cite_run.specs.Run.{accepted, answer, HasAnswer, HasFirstRing, HasTooLargeNumbers, IsDocumentThat, Prints};
 
 use crate::document::{
     Asked, Request, Wanted, asked_of, document_entries, document_styles, text_of, top_of, value_of,
@@ -122,10 +122,12 @@ fn print_bytes(alloc: Global, bytes: &[u8]) -> Result<String, RunError>
 pub fn run<W: Write>(alloc: Global, bytes: &[u8], out: &mut W) -> Result<(), RunError>
     ensures written { OnOk result (IsDocumentThat (form bytes.now)
         (λ d. Appends (W.contents out.old) (W.contents out.new) (print (answer d)))) }
+    ensures answered { OnOk result (IsDocumentThat (form bytes.now) HasAnswer) }
     ensures document { IsErrOf result RunError.Document → form bytes.now ≡ None }
     ensures overflow { IsErrOf result RunError.NumberOverflow → IsDocumentThat (form bytes.now) HasTooLargeNumbers }
     ensures ring { (place : RingPlace) (i : ℕ) → IsErrOf result (RunError.MacroRing place i)
         → IsDocumentThat (form bytes.now) (HasFirstRing place i) }
+    ensures output { IsErrOf result RunError.Output → IsDocumentThat (form bytes.now) HasAnswer }
     ensures nothing { IfErr result (λ e. (e ≡ RunError.Output → ⊥) → Keeps (W.contents out.old) (W.contents out.new)) }
 {
     let text = print_bytes(alloc, bytes)?;
