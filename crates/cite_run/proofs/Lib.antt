@@ -1,3 +1,4 @@
+pub mod Consumed
 pub mod Keys
 pub mod Members
 pub mod Progress

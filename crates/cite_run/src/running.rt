@@ -54,9 +54,7 @@ fn filled_driver<'e>(
     Ok(driver)
 }
 
-fn order_of<'o, 'e>(
-    entries: &'o Option<Vec<&'e PlainEntry>>,
-) -> Option<Order<'o, 'e, PlainEntry>>
+fn order_of<'o, 'e>(entries: &'o Option<Vec<&'e PlainEntry>>) -> Option<Order<'o, 'e, PlainEntry>>
     ensures { order_view result ≡ option_map (λ v. entries_view v.items) entries.now }
 {
     match entries {
