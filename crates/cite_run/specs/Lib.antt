@@ -1,0 +1,14 @@
+pub mod Status
+pub mod Reads
+pub mod Words
+pub mod Names
+pub mod Elements
+pub mod Styles
+pub mod NamedStyleView
+pub mod Entries
+pub mod Requests
+pub mod WantedView
+pub mod Form
+pub mod DocumentView
+pub mod Print
+pub mod Run

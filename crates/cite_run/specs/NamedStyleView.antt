@@ -1,0 +1,11 @@
+-- The plain data that named styles stand for.
+use Rattle.std.specs.Prelude.{List, map, string_bytes}
+use Rattle.csl_base.specs.StyleView.{style_view}
+use Rattle.cite_run.specs.Styles as form
+use Rattle.cite_run.specs.declared.document.styles.NamedStyle.{NamedStyle}
+
+abbrev pub named_style_view : NamedStyle → form.NamedStyle
+named_style_view s = (string_bytes s.name, style_view s.style)
+
+abbrev pub named_styles_view : List NamedStyle → List form.NamedStyle
+named_styles_view = map named_style_view

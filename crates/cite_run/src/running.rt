@@ -1,0 +1,136 @@
+//! The program's work, over any writer.
+ghost use Rattle.std.specs.Prelude.{◌≡◌, ◌++◌, ℕ, None, Some, option_map, OnOk, IfOk, IfErr, IsErrOf};
+ghost use Rattle.std.specs.Io.KnownBytes.{Appends, Keeps};
+ghost use Rattle.serde_json.specs.View.{view};
+ghost use Rattle.csl_driver.specs.DriverView.{driver_view};
+ghost use Rattle.csl_driver.specs.RequestView.{entries_view, order_view, requests_view};
+ghost use Rattle.csl_driver.specs.declared.error.RingPlace.{RingPlace};
+ghost use Rattle.cite_run.specs.DocumentView.{document_view};
+ghost use Rattle.cite_run.specs.Form.{form, document_form};
+ghost use Rattle.cite_run.specs.Print.{print};
+ghost use Rattle.cite_run.specs.Run.{accepted, answer, HasAnswer, HasFirstRing, HasTooLargeNumbers, IsDocumentThat, Prints};
+
+use crate::document::{
+    Asked, Request, Wanted, asked_of, document_entries, document_styles, text_of, top_of, value_of,
+};
+use crate::error::RunError;
+use crate::printing::print_rendered;
+use csl_base::entry::PlainEntry;
+use csl_driver::driver::BibliographyDriver;
+use csl_driver::error::DriverError;
+use csl_driver::request::{BibliographyRequest, Order};
+use serde_json::Value;
+use std::alloc::Global;
+use std::convert::Infallible;
+use std::io::Write;
+
+fn add_all<'e>(
+    driver: &mut BibliographyDriver<'e, PlainEntry, Infallible>,
+    requests: Vec<Request<'e>>,
+) -> Result<(), RunError>
+    ensures added { OnOk result
+        (driver_view driver.new ≡ record (driver_view driver.old) { requests = (driver_view driver.old).requests ++ accepted (requests_view requests.entry.items) }) }
+    ensures memory { IfErr result (λ e. e ≡ RunError.OutOfMemory) }
+{
+    for request in requests {
+        if driver.citation(request).is_err() {
+            return Err(RunError::OutOfMemory);
+        }
+    }
+    Ok(())
+}
+
+/// A driver that has taken these requests, in their order.
+fn filled_driver<'e>(
+    alloc: Global,
+    requests: Vec<Request<'e>>,
+    offset: usize,
+) -> Result<BibliographyDriver<'e, PlainEntry, Infallible>, RunError>
+    ensures filled { IfOk result (λ d. driver_view d ≡ record { requests = accepted (requests_view requests.entry.items); offset = offset }) }
+    ensures memory { IfErr result (λ e. e ≡ RunError.OutOfMemory) }
+{
+    let mut driver = BibliographyDriver::new(alloc).with_citation_number_offset(offset);
+    add_all(&mut driver, requests)?;
+    Ok(driver)
+}
+
+fn order_of<'o, 'e>(entries: &'o Option<Vec<&'e PlainEntry>>) -> Option<Order<'o, 'e, PlainEntry>>
+    ensures { order_view result ≡ option_map (λ v. entries_view v.items) entries.now }
+{
+    match entries {
+        Some(entries) => Some(Order(entries.as_slice())),
+        None => None,
+    }
+}
+
+/// The text that is printed for what a document asks for.
+fn print_asked(alloc: Global, asked: Asked<'_>) -> Result<String, RunError>
+    ensures { Prints result (Some (document_view asked.entry)) }
+{
+    let Asked {
+        requests,
+        wanted,
+        offset,
+    } = asked;
+    let Wanted { style, order } = wanted;
+    let driver = filled_driver(alloc, requests, offset)?;
+    let request = BibliographyRequest {
+        style,
+        locale: None,
+        locale_files: &[],
+        order: order_of(&order),
+    };
+    match driver.finish(request) {
+        Ok(rendered) => Ok(print_rendered(alloc, &rendered)?),
+        Err(DriverError::MacroRing { place, macro_idx }) => {
+            Err(RunError::MacroRing { place, macro_idx })
+        }
+        Err(DriverError::NumberOverflow) => Err(RunError::NumberOverflow),
+        Err(DriverError::OutOfMemory(_)) => Err(RunError::OutOfMemory),
+    }
+}
+
+#[tactic(auto, unfolding(crate::specs::Form::document_form))]
+fn print_value(alloc: Global, value: &Value) -> Result<String, RunError>
+    ensures { Prints result (document_form (view value.now)) }
+{
+    let object = top_of(value)?;
+    let styles = document_styles(alloc, object)?;
+    let entries = document_entries(alloc, object)?;
+    let asked = asked_of(alloc, &styles, &entries, object)?;
+    print_asked(alloc, asked)
+}
+
+#[tactic(auto, unfolding(crate::specs::Form::form))]
+fn print_bytes(alloc: Global, bytes: &[u8]) -> Result<String, RunError>
+    ensures { Prints result (form bytes.now) }
+{
+    let text = text_of(bytes)?;
+    let value = value_of(alloc, text)?;
+    print_value(alloc, &value)
+}
+
+/// Writes what the document of these bytes prints. The whole text is ready before any of it is
+/// written.
+///
+/// # Errors
+/// `Document` exactly where the bytes are no document; `MacroRing` and `NumberOverflow` exactly where
+/// the driver refuses the document; `Output` where the writer fails, which may have taken a beginning;
+/// `OutOfMemory` where memory runs out before the text is ready.
+pub fn run<W: Write>(alloc: Global, bytes: &[u8], out: &mut W) -> Result<(), RunError>
+    ensures written { OnOk result (IsDocumentThat (form bytes.now)
+        (λ d. Appends (W.contents out.old) (W.contents out.new) (print (answer d)))) }
+    ensures answered { OnOk result (IsDocumentThat (form bytes.now) HasAnswer) }
+    ensures document { IsErrOf result RunError.Document → form bytes.now ≡ None }
+    ensures overflow { IsErrOf result RunError.NumberOverflow → IsDocumentThat (form bytes.now) HasTooLargeNumbers }
+    ensures ring { (place : RingPlace) (i : ℕ) → IsErrOf result (RunError.MacroRing place i)
+        → IsDocumentThat (form bytes.now) (HasFirstRing place i) }
+    ensures output { IsErrOf result RunError.Output → IsDocumentThat (form bytes.now) HasAnswer }
+    ensures nothing { IfErr result (λ e. (e ≡ RunError.Output → ⊥) → Keeps (W.contents out.old) (W.contents out.new)) }
+{
+    let text = print_bytes(alloc, bytes)?;
+    match out.write_all(text.as_bytes()) {
+        Ok(()) => Ok(()),
+        Err(_) => Err(RunError::Output),
+    }
+}
