@@ -2,14 +2,18 @@
 #![tactic(auto)]
 
 #[cfg(test)]
-#[cfg(test)]
-#[cfg(test)]
-#[cfg(test)]
 mod finish;
+#[cfg(test)]
 mod initials;
+#[cfg(test)]
 mod names;
+#[cfg(test)]
 mod places;
+#[cfg(test)]
 mod rings;
+#[cfg(test)]
 mod stacks;
+#[cfg(test)]
 mod styles;
+#[cfg(test)]
 mod trees;
