@@ -29,14 +29,7 @@ impl<'a, T, P> CitationItem<'a, T, P> {
         ensures { cite_view result
             ≡ record { entry = entry.now; locator = None; locale = None; hidden = false; purpose = None; place = 0 } }
     {
-        CitationItem {
-            entry,
-            locator: None,
-            locale: None,
-            hidden: false,
-            purpose: None,
-            initial_idx: 0,
-        }
+        CitationItem::with_locator(entry, None)
     }
 
     /// A cite of the entry with a locator, if there is one.
@@ -47,14 +40,7 @@ impl<'a, T, P> CitationItem<'a, T, P> {
         ensures { cite_view result
             ≡ record { entry = entry.now; locator = option_map locator_view locator.entry; locale = None; hidden = false; purpose = None; place = 0 } }
     {
-        CitationItem {
-            entry,
-            locator,
-            locale: None,
-            hidden: false,
-            purpose: None,
-            initial_idx: 0,
-        }
+        CitationItem::new(entry, locator, None, false, None)
     }
 
     /// A cite with all that a caller can say of it.

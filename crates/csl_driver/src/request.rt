@@ -55,13 +55,7 @@ impl<'a, T, P> CitationRequest<'a, T, P> {
         ensures { request_view result
             ≡ record { cites = cites_view items.entry.items; style = style_view style.now; locale = None; locales = map locale_view locale_files.now; note_number = None } }
     {
-        CitationRequest {
-            items,
-            style,
-            locale: None,
-            locale_files,
-            note_number: None,
-        }
+        CitationRequest::new(items, style, None, locale_files, None)
     }
 }
 
