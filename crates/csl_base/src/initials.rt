@@ -34,8 +34,7 @@ fn parts_name(c: char) -> bool
 fn initials_of(alloc: Global, name: &str) -> Result<String, AllocError>
     ensures { IfOk result (λ text. string_bytes text ≡ encode_utf8_all (initials (chars name.now))) }
 {
-    let mut initials = String::new(alloc);
-    let mut part_begins = true;
+    let (mut initials, mut part_begins) = (String::new(alloc), true);
     for c in name.chars() {
         if parts_name(c) {
             part_begins = true;
