@@ -4,5 +4,6 @@ use Rattle.cite_run.specs.Form.{Document}
 use Rattle.cite_run.specs.WantedView.{wanted_view}
 use Rattle.cite_run.specs.declared.document.Asked.{Asked}
 
+-- a document
 abbrev pub document_view : Asked → Document
 document_view a = record { requests = requests_view a.requests.items; style = (wanted_view a.wanted).0; order = (wanted_view a.wanted).1; offset = a.offset }

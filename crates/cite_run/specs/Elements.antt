@@ -22,12 +22,14 @@ affix_form d = do
   text ← as_str d
   if is_plain_affix text then Some text else None
 
+-- an element that writes a text of the style
 unfoldable pub text_form : Data → Option Element
 text_form d = do
   o ← object_with (codes "kind" ∷ codes "value" ∷ []) d
   value ← required as_str (codes "value") o
   Some (text_element (value_target value) false false (with_affixes None None))
 
+-- an element that writes a number
 unfoldable pub number_form : Data → Option Element
 number_form d = do
   o ← object_with (codes "kind" ∷ codes "variable" ∷ codes "prefix" ∷ codes "suffix" ∷ []) d
@@ -42,6 +44,7 @@ kind_form kind d =
     if pointwise nat_eq kind (codes "text") then text_form d else
     (if pointwise nat_eq kind (codes "number") then number_form d else None)
 
+-- an element, of the kind that it names
 abbrev pub element_form : Data → Option Element
 element_form d = option_and_then (λ kind. kind_form kind d) (required as_str (codes "kind") d)
 

@@ -6,12 +6,14 @@ use Rattle.serde_json.specs.Find.{as_array, as_str}
 use Rattle.csl_base.specs.declared.entry.PlainEntry.{PlainEntry}
 use Rattle.cite_run.specs.Words.{◌>>=◌, object_with, required, all_items}
 
+-- an entry, of which the key alone is known
 unfoldable pub entry_form : Data → Option PlainEntry
 entry_form d = do
   o ← object_with (codes "key" ∷ []) d
   key ← required as_str (codes "key") o
   Some (record { key = key; label = None; names = []; dates = []; texts = []; numbers = [] })
 
+-- the entries of a list
 unfoldable pub entries_form : Data → Option (List PlainEntry)
 entries_form o = do
   list ← required as_array (codes "entries") o

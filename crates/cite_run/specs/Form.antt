@@ -31,6 +31,7 @@ asked_form styles entries o = do
 abbrev pub top_form : Data → Option Data
 top_form d = object_with (codes "styles" ∷ codes "entries" ∷ codes "requests" ∷ codes "bibliography" ∷ codes "offset" ∷ []) d
 
+-- the document that a value is, or none
 unfoldable pub document_form : Data → Option Document
 document_form d = do
   o ← top_form d

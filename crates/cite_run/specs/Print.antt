@@ -9,10 +9,11 @@ use Rattle.csl_driver.specs.declared.rendered.Rendered.{Rendered}
 use Rattle.csl_driver.specs.declared.rendered.RenderedBibliography.{RenderedBibliography}
 use Rattle.csl_driver.specs.declared.rendered.RenderedCitation.{RenderedCitation}
 
--- the bytes of a line feed and of a tab
+-- the byte of a line feed
 abbrev pub line_feed : ℕ
 line_feed = 10
 
+-- the byte of a tab
 abbrev pub tab : ℕ
 tab = 9
 

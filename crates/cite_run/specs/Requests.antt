@@ -11,6 +11,7 @@ use Rattle.cite_run.specs.Words.{◌>>=◌, object_with, required, optional, whe
 use Rattle.cite_run.specs.Styles.{NamedStyle}
 use Rattle.cite_run.specs.Entries.{entry_named}
 
+-- a cite
 unfoldable pub item_form : List PlainEntry → Data → Option (Cite PlainEntry Infallible)
 item_form entries d = do
   o ← object_with (codes "entry" ∷ codes "hidden" ∷ []) d
@@ -18,7 +19,7 @@ item_form entries d = do
   hidden ← optional false as_bool (codes "hidden") o
   Some (record { entry = entry; locator = None; locale = None; hidden = hidden; purpose = None; place = 0 })
 
--- the note number is kept where the style's cites stand in notes
+-- a request for a citation; the note number is kept where the style's cites stand in notes
 unfoldable pub request_form : List NamedStyle → List PlainEntry → Data → Option (Request PlainEntry Infallible)
 request_form styles entries d = do
   o ← object_with (codes "style" ∷ codes "note" ∷ codes "items" ∷ []) d
@@ -28,6 +29,7 @@ request_form styles entries d = do
   cites ← all_items (item_form entries) items
   Some (record { cites = cites; style = style; locale = None; locales = []; note_number = (if is_note style.class then note else None) })
 
+-- the requests of a list
 unfoldable pub requests_form : List NamedStyle → List PlainEntry → Data → Option (List (Request PlainEntry Infallible))
 requests_form styles entries o = do
   list ← required as_array (codes "requests") o
@@ -37,6 +39,7 @@ requests_form styles entries o = do
 abbrev pub Wanted : Type 0
 Wanted = StyleValue × Option (List PlainEntry)
 
+-- what an object asks of the bibliography
 unfoldable pub wanted_form : List NamedStyle → List PlainEntry → Data → Option Wanted
 wanted_form styles entries d = do
   o ← object_with (codes "style" ∷ codes "order" ∷ []) d

@@ -3,6 +3,7 @@ use Rattle.std.specs.Prelude.{ℕ}
 use Rattle.cite_run.specs.declared.error.RunError.{RunError}
 use Rattle.cite_run.specs.declared.error.RunError.TheVariants as errors
 
+-- 1 to 5; a run without an error ends with 0
 abbrev pub status : RunError → ℕ
 status errors.Output = 1
 status errors.Document = 2

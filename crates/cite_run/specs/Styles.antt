@@ -33,6 +33,7 @@ no_options = record {
 abbrev pub single : NonZeroI16
 single = record { value = pos 1; ok = le_refl 1 }
 
+-- how a style writes citations
 unfoldable pub citation_form : Data → Option CitationValue
 citation_form d = do
   o ← object_with (codes "elements" ∷ codes "prefix" ∷ codes "suffix" ∷ codes "delimiter" ∷ codes "collapse" ∷ codes "after_collapse_delimiter" ∷ []) d
@@ -56,6 +57,7 @@ citation_form d = do
     name_options = no_options;
   })
 
+-- how a style writes its bibliography
 unfoldable pub bibliography_form : Data → Option BibliographyValue
 bibliography_form d = do
   o ← object_with (codes "elements" ∷ []) d
@@ -71,6 +73,7 @@ bibliography_form d = do
     name_options = no_options;
   })
 
+-- a style
 unfoldable pub style_form : Data → Option StyleValue
 style_form d = do
   o ← object_with (codes "class" ∷ codes "citation" ∷ codes "bibliography" ∷ []) d

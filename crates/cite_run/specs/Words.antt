@@ -8,6 +8,7 @@ use Rattle.std.specs.Cmp.Lexicographic.{pointwise}
 use Rattle.serde_json.specs.Data.{Data, Items, no_items, item, Members, no_members, member}
 use Rattle.serde_json.specs.Find.{get, as_array, as_number, as_object, as_str, as_u64}
 
+-- one after another: nothing where one gives nothing
 infixl 10 ◌>>=◌
 abbrev pub ◌>>=◌ : {A B : Type 0} → Option A → (A → Option B) → Option B
 o >>= f = option_and_then f o
@@ -18,6 +19,7 @@ o >>= f = option_and_then f o
 abbrev pub is_one_of : List (List ℕ) → List ℕ → Bool
 is_one_of keys k = list_any (pointwise nat_eq k) keys
 
+-- the keys of an object, in their order
 abbrev pub member_keys : Members → List (List ℕ)
 member_keys no_members = []
 member_keys (member k d ms) = k ∷ member_keys ms
@@ -34,6 +36,7 @@ object_with keys d = if has_only keys d then Some d else None
 abbrev pub required : {A : Type 0} → (Data → Option A) → List ℕ → Data → Option A
 required f k d = option_and_then f (get k d)
 
+-- what a member is, or the default where there is none
 abbrev pub or_default : {A : Type 0} → A → (Data → Option A) → Option Data → Option A
 or_default default f None = Some default
 or_default default f (Some e) = f e
@@ -52,6 +55,7 @@ where_present f = optional None (present f)
 
 -- ---- lists and objects of things
 
+-- what the items are, each of the form f
 abbrev pub all_items : {A : Type 0} → (Data → Option A) → Items → Option (List A)
 all_items f no_items = Some []
 all_items f (item d ds) = do
@@ -63,6 +67,7 @@ all_items f (item d ds) = do
 abbrev pub member_form : {A : Type 0} → (Data → Option A) → List ℕ → Data → Option (List ℕ × A)
 member_form f k d = option_map (λ x. (k, x)) (f d)
 
+-- what the members are, each of the form f, with their names
 abbrev pub all_members : {A : Type 0} → (Data → Option A) → Members → Option (List (List ℕ × A))
 all_members f no_members = Some []
 all_members f (member k d ms) = do
@@ -84,6 +89,7 @@ whole d = option_and_then as_u64 (as_number d)
 abbrev pub is_plain_char : ℕ → Bool
 is_plain_char c = not (is_ascii_digit c) && not (is_whitespace c)
 
+-- a text of such characters alone
 abbrev pub is_plain_affix : List ℕ → Bool
 is_plain_affix text = list_all is_plain_char (chars text)
 

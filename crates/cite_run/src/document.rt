@@ -5,23 +5,20 @@ mod names;
 mod requests;
 mod styles;
 
-ghost use Rattle.std.specs.Prelude.{◌≡◌, codes, Some, IfOk, ◌<◌};
-ghost use Rattle.serde_json.specs.Data.{Data};
+ghost use Rattle.std.specs.Prelude.{codes};
 ghost use Rattle.serde_json.specs.Read.{read};
 ghost use Rattle.serde_json.specs.View.{view};
-ghost use Rattle.cite_run.specs.Words.{required, optional, whole};
+ghost use Rattle.cite_run.specs.Words.{optional, whole};
 ghost use Rattle.cite_run.specs.NamedStyleView.{named_styles_view};
-ghost use Rattle.cite_run.specs.Styles.{styles_form};
-ghost use Rattle.cite_run.specs.Entries.{entries_form};
 ghost use Rattle.cite_run.specs.Form.{asked_form, top_form, text_of};
 ghost use Rattle.cite_run.specs.DocumentView.{document_view};
 ghost use Rattle.cite_run.specs.Reads.{Reads};
 
-use crate::document::entries::entries_of;
+pub(crate) use crate::document::entries::entries_of;
 pub use crate::document::requests::{Request, Wanted};
 use crate::document::requests::{requests_of, wanted_of};
 pub use crate::document::styles::NamedStyle;
-use crate::document::styles::styles_of;
+pub(crate) use crate::document::styles::styles_of;
 use crate::error::RunError;
 use crate::words::{object_with, optional_number, required};
 use csl_base::entry::PlainEntry;
@@ -72,20 +69,6 @@ pub(crate) fn top_of(value: &Value) -> Result<&Value, RunError>
         &["styles", "entries", "requests", "bibliography", "offset"],
         value,
     )
-}
-
-/// The styles of the document.
-pub(crate) fn document_styles(alloc: Global, object: &Value) -> Result<Vec<NamedStyle>, RunError>
-    ensures { Reads (λ v. named_styles_view v.items) result (styles_form (view object.now)) }
-{
-    styles_of(alloc, object)
-}
-
-/// The entries of the document.
-pub(crate) fn document_entries(alloc: Global, object: &Value) -> Result<Vec<PlainEntry>, RunError>
-    ensures { Reads (λ v. v.items) result (entries_form (view object.now)) }
-{
-    entries_of(alloc, object)
 }
 
 fn optional_offset(value: &Value) -> Result<usize, RunError>

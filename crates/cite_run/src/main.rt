@@ -10,6 +10,8 @@ mod error;
 mod input;
 mod printing;
 mod running;
+#[cfg(test)]
+mod tests;
 mod words;
 
 use crate::error::RunError;

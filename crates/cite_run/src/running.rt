@@ -11,7 +11,7 @@ ghost use Rattle.cite_run.specs.Print.{print};
 ghost use Rattle.cite_run.specs.Run.{accepted, answer, HasAnswer, HasFirstRing, HasTooLargeNumbers, IsDocumentThat, Prints};
 
 use crate::document::{
-    Asked, Request, Wanted, asked_of, document_entries, document_styles, text_of, top_of, value_of,
+    Asked, Request, Wanted, asked_of, entries_of, styles_of, text_of, top_of, value_of,
 };
 use crate::error::RunError;
 use crate::printing::print_rendered;
@@ -95,8 +95,8 @@ fn print_value(alloc: Global, value: &Value) -> Result<String, RunError>
     ensures { Prints result (document_form (view value.now)) }
 {
     let object = top_of(value)?;
-    let styles = document_styles(alloc, object)?;
-    let entries = document_entries(alloc, object)?;
+    let styles = styles_of(alloc, object)?;
+    let entries = entries_of(alloc, object)?;
     let asked = asked_of(alloc, &styles, &entries, object)?;
     print_asked(alloc, asked)
 }

@@ -1,8 +1,7 @@
 //! Readers of the parts of a JSON value. Each refuses, as a document, what isn't of its form.
-ghost use Rattle.std.specs.Prelude.{◌≡◌, map, true, false, OnOk, OnErr, None, Some, option_map, string_bytes};
+ghost use Rattle.std.specs.Prelude.{◌≡◌, map, false, Some, option_map, string_bytes};
 ghost use Rattle.serde_json.specs.View.{view, items_view};
 ghost use Rattle.serde_json.specs.Find.{as_array, as_str, as_bool};
-ghost use Rattle.serde_json.specs.Data.{no_items};
 ghost use Rattle.cite_run.specs.Words.{has_only, object_with, required, optional, where_present, is_one_of, is_plain_char, is_plain_affix, whole};
 ghost use Rattle.cite_run.specs.Reads.{Reads};
 

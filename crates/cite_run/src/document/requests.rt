@@ -1,6 +1,5 @@
 //! Reading what is asked for: citations, and a bibliography.
-ghost use Rattle.std.specs.Prelude.{◌≡◌, codes, option_map};
-ghost use Rattle.serde_json.specs.Find.{as_bool};
+ghost use Rattle.std.specs.Prelude.{codes, option_map};
 ghost use Rattle.serde_json.specs.View.{view, items_view};
 ghost use Rattle.csl_base.specs.StyleView.{style_view};
 ghost use Rattle.csl_driver.specs.RequestView.{cite_view, cites_view, request_view, requests_view, entries_view};

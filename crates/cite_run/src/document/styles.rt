@@ -1,7 +1,5 @@
 //! Reading styles. Where a style says nothing, it has what CSL 1.0.2 gives by default.
-ghost use Rattle.std.specs.Prelude.{◌≡◌, codes, map, Some, string_bytes, option_map};
-ghost use Rattle.std.specs.Option.{option_copied};
-ghost use Rattle.serde_json.specs.Find.{as_object};
+ghost use Rattle.std.specs.Prelude.{◌≡◌, codes, option_map};
 ghost use Rattle.serde_json.specs.View.{view, members_view};
 ghost use Rattle.csl_base.specs.ElementView.{options_view};
 ghost use Rattle.csl_base.specs.StyleView.{citation_view, bibliography_view, style_view};
