@@ -1,0 +1,158 @@
+#!/usr/bin/env python3
+"""How long cite_run takes, and how much memory, as documents grow.
+
+    bench/bench.py [--program PATH] [--kinds NAME,..] [--most N] [--runs N]
+
+Makes documents of n = 1,000, 4,000, 16,000 and 64,000 (up to --most) of each kind, runs the program on each, and prints
+a row for each: the document's size, the best time of --runs runs, the peak of memory, the growth of the time from the n
+before (from n to 4n; linear is 4), and the ratio of the time to that of reading alone. Reading alone is the same program
+on the same document with one more key at the top, which it reads as JSON whole and then refuses.
+
+Only Python's standard library and the built program are used. Build it first: (cd crates/cite_run && rt run < stdin).
+Documents are made in a process of their own, since a child's peak of memory begins with that of its parent: peaks below
+some 12 MiB are this script's.
+"""
+import argparse
+import json
+import os
+import pathlib
+import subprocess
+import sys
+import tempfile
+import time
+
+SIZES = [1_000, 4_000, 16_000, 64_000]
+DOCUMENT_REFUSED = 2
+LINE = "{:<18} {:>7} {:>9} {:>9} {:>9} {:>7} {:>8}"
+
+
+def numeric_style():
+    number = {"kind": "number", "variable": "citation-number"}
+    return {
+        "citation": {"elements": [number], "prefix": "[", "suffix": "]", "delimiter": ", "},
+        "bibliography": {"elements": [{**number, "prefix": "[", "suffix": "]"}]},
+    }
+
+
+def document(style, entries, requests, **top):
+    return {
+        "styles": {"s": style},
+        "entries": entries,
+        "requests": [{"style": "s", "items": [{"entry": key} for key in keys]} for keys in requests],
+        "bibliography": {"style": "s"},
+        **top,
+    }
+
+
+def keys_of(count):
+    return [f"entry{i}" for i in range(count)]
+
+
+def numeric(n):
+    """n requests of two cites each; every entry is cited about four times."""
+    keys = keys_of(max(n // 2, 1))
+    requests = [[keys[i * 7 % len(keys)], keys[i * 11 % len(keys)]] for i in range(n)]
+    return document(numeric_style(), [{"key": key} for key in keys], requests)
+
+
+def all_distinct(n):
+    """n requests, each of an entry of its own."""
+    keys = keys_of(n)
+    return document(numeric_style(), [{"key": key} for key in keys], [[key] for key in keys])
+
+
+def one_entry(n):
+    """n requests of one entry."""
+    return document(numeric_style(), [{"key": "entry"}], [["entry"]] * n)
+
+
+def one_request(n):
+    """One request of n cites."""
+    keys = keys_of(n)
+    return document(numeric_style(), [{"key": key} for key in keys], [keys])
+
+
+def handed_order(n):
+    """n requests, and an order that lists their entries from the last to the first."""
+    keys = keys_of(n)
+    made = document(numeric_style(), [{"key": key} for key in keys], [[key] for key in keys])
+    made["bibliography"]["order"] = keys[::-1]
+    return made
+
+
+def macros(n):
+    """A style of n macros, each of which calls the next, and no layout calls one; one request."""
+    style = numeric_style()
+    style["macros"] = [
+        {"name": f"macro{i}", "children": [{"kind": "text", "macro": f"macro{i + 1}"}]} for i in range(n)
+    ]
+    return document(style, [{"key": "entry"}], [["entry"]])
+
+
+KINDS = {
+    kind.__name__: kind for kind in (numeric, all_distinct, one_entry, one_request, handed_order, macros)
+}
+
+
+def run(program, path):
+    """Seconds, peak of memory in MiB, and status of one run."""
+    with open(path, "rb") as source:
+        start = time.perf_counter()
+        child = subprocess.Popen([program], stdin=source, stdout=subprocess.DEVNULL, stderr=subprocess.DEVNULL)
+        _, status, usage = os.wait4(child.pid, 0)
+        seconds = time.perf_counter() - start
+    child.returncode = os.waitstatus_to_exitcode(status)
+    return seconds, usage.ru_maxrss / 1024, child.returncode
+
+
+def best(program, path, runs, wanted):
+    """The best time and the peak of memory of some runs on a document."""
+    results = [run(program, path) for _ in range(runs)]
+    for _, _, status in results:
+        if status != wanted:
+            sys.exit(f"bench: {path}: the program ended with status {status}, not {wanted}")
+    return min(seconds for seconds, _, _ in results), max(peak for _, peak, _ in results)
+
+
+def make(folder, name, n):
+    """Writes the document of a kind and a size, and the one that is only read."""
+    made = KINDS[name](n)
+    for file, text in [("whole", made), ("refused", {**made, "unknown": 0})]:
+        (folder / file).write_text(json.dumps(text, separators=(",", ":")))
+
+
+def measure(folder, chosen, name):
+    """Prints the rows of a kind."""
+    before = None
+    for n in (size for size in SIZES if size <= chosen.most):
+        subprocess.run([sys.executable, __file__, "--make", str(folder), name, str(n)], check=True)
+        whole, refused = folder / "whole", folder / "refused"
+        seconds, peak = best(chosen.program, whole, chosen.runs, 0)
+        reading, _ = best(chosen.program, refused, chosen.runs, DOCUMENT_REFUSED)
+        growth = f"{seconds / before:.1f}" if before else ""
+        size = whole.stat().st_size // 1024
+        times = f"{seconds * 1000:.1f}", f"{peak:.1f}", growth, f"{seconds / reading:.1f}"
+        print(LINE.format(name, n, size, *times), flush=True)
+        before = seconds
+
+
+def main():
+    root = pathlib.Path(__file__).resolve().parent.parent
+    parser = argparse.ArgumentParser(description=__doc__, formatter_class=argparse.RawDescriptionHelpFormatter)
+    parser.add_argument("--program", default=str(root / "crates/cite_run/out/cite_run"))
+    parser.add_argument("--kinds", default=",".join(KINDS), help="which kinds, joined by commas")
+    parser.add_argument("--most", type=int, default=SIZES[-1], help="the greatest n")
+    parser.add_argument("--runs", type=int, default=3)
+    parser.add_argument("--make", nargs=3, metavar=("FOLDER", "KIND", "N"), help=argparse.SUPPRESS)
+    chosen = parser.parse_args()
+    if chosen.make:
+        folder, name, n = chosen.make
+        return make(pathlib.Path(folder), name, int(n))
+    print(LINE.format("kind", "n", "KiB", "ms", "MiB", "growth", "reading"))
+    with tempfile.TemporaryDirectory() as folder:
+        for name in chosen.kinds.split(","):
+            measure(pathlib.Path(folder), chosen, name)
+
+
+if __name__ == "__main__":
+    main()
