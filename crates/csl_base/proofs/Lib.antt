@@ -1,5 +1,6 @@
 -- The proofs of this crate.
 pub mod Trees
+pub mod Accepted
 pub mod Compare
 pub mod Joining
 pub mod Simplifying
@@ -14,6 +15,8 @@ pub mod LastTextLaws
 pub mod FirstNamesLaws
 pub mod Lent
 pub mod Reached
+pub mod Rows
+pub mod NamedPlaces
 pub mod Rings
 pub mod Tops
 pub mod Orders

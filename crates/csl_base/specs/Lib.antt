@@ -15,7 +15,9 @@ pub mod Falls
 pub mod Tree
 pub mod Simplify
 pub mod SameTree
+pub mod TreeHash
 pub mod EqualTrees
+pub mod Elements
 pub mod Nested
 pub mod LastText
 pub mod LastTextStep
@@ -25,6 +27,7 @@ pub mod Metas
 pub mod Calls
 pub mod Places
 pub mod Ring
+pub mod NamedPlaces
 pub mod Stack
 pub mod Seq
 pub mod Forms

@@ -3,3 +3,4 @@ pub mod Places
 pub mod Once
 pub mod Joined
 pub mod RingLemmas
+mod Sets

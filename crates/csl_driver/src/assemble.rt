@@ -17,6 +17,7 @@ use csl_base::elem::{Elem, ElemChild, ElemChildren, ElemMeta};
 use csl_base::entry::EntryLike;
 use csl_base::formatting::Formatting;
 use csl_base::style::Layout;
+use indexmap::IndexSet;
 use std::alloc::{AllocError, Global};
 
 /// Whether no cite is written for a purpose of its own.
@@ -36,11 +37,11 @@ fn marked_cite<'a, T: EntryLike, P>(
     alloc: Global,
     layout: &Layout,
     item: &CitationItem<'a, T, P>,
-    entries: &[&'a T],
+    entries: &IndexSet<&'a T>,
     offset: usize,
 ) -> Result<ElemChild, AllocError>
-    requires fits { offset + length entries.now < 2 ^ 64 }
-    ensures { IfOk result (λ cite. child_view cite ≡ marked (cite_tree T.eq (layout_view layout.now) (entries_view entries.now) offset) (cite_view item.now)) }
+    requires fits { offset + length entries.now.keys < 2 ^ 64 }
+    ensures { IfOk result (λ cite. child_view cite ≡ marked (cite_tree T.eq (layout_view layout.now) (entries_view entries.now.keys) offset) (cite_view item.now)) }
 {
     let number = offset + place_of(entries, item.entry);
     Ok(ElemChild::Elem(Elem {
@@ -56,13 +57,13 @@ fn push_shown<'a, T: EntryLike, P>(
     cites: &mut Vec<ElemChild>,
     layout: &Layout,
     item: &CitationItem<'a, T, P>,
-    entries: &[&'a T],
+    entries: &IndexSet<&'a T>,
     offset: usize,
 ) -> Result<(), AllocError>
-    requires fits { offset + length entries.now < 2 ^ 64 }
+    requires fits { offset + length entries.now.keys < 2 ^ 64 }
     ensures { OnOk result (map child_view cites.new.items
         ≡ map child_view cites.old.items
-        ++ (if item.now.hidden then [] else marked (cite_tree T.eq (layout_view layout.now) (entries_view entries.now) offset) (cite_view item.now) ∷ [])) }
+        ++ (if item.now.hidden then [] else marked (cite_tree T.eq (layout_view layout.now) (entries_view entries.now.keys) offset) (cite_view item.now) ∷ [])) }
 {
     if !item.hidden {
         cites.push(marked_cite(alloc, layout, item, entries, offset)?)?;
@@ -75,12 +76,12 @@ fn shown_cites<'a, T: EntryLike, P>(
     alloc: Global,
     layout: &Layout,
     items: &[CitationItem<'a, T, P>],
-    entries: &[&'a T],
+    entries: &IndexSet<&'a T>,
     offset: usize,
 ) -> Result<Vec<ElemChild>, AllocError>
-    requires fits { offset + length entries.now < 2 ^ 64 }
+    requires fits { offset + length entries.now.keys < 2 ^ 64 }
     ensures { IfOk result (λ cites. map child_view cites.items
-        ≡ map (marked (cite_tree T.eq (layout_view layout.now) (entries_view entries.now) offset)) (shown (cites_view items.now))) }
+        ≡ map (marked (cite_tree T.eq (layout_view layout.now) (entries_view entries.now.keys) offset)) (shown (cites_view items.now))) }
 {
     let mut cites = Vec::new(alloc);
     for item in items {
@@ -197,12 +198,12 @@ fn assembled(
 pub(crate) fn citation_tree<'a, T: EntryLike, P>(
     alloc: Global,
     request: &CitationRequest<'a, T, P>,
-    entries: &[&'a T],
+    entries: &IndexSet<&'a T>,
     offset: usize,
 ) -> Result<ElemChildren, AllocError>
-    requires fits { offset + length entries.now < 2 ^ 64 }
+    requires fits { offset + length entries.now.keys < 2 ^ 64 }
     ensures { let layout = (style_view request.now.style.now).citation.layout in
-        IfOk result (λ tree. tree ≡ citation_tree (cite_tree T.eq layout (entries_view entries.now) offset) (request_view request.now)) }
+        IfOk result (λ tree. tree ≡ citation_tree (cite_tree T.eq layout (entries_view entries.now.keys) offset) (request_view request.now)) }
 {
     let layout = &request.style.citation.layout;
     let cites = shown_cites(alloc, layout, &request.items, entries, offset)?;

@@ -13,17 +13,18 @@ use csl_base::entry::EntryLike;
 use csl_base::seq::Seq;
 use csl_base::style::{Bibliography, IndependentStyle, Layout};
 use csl_base::text::Text;
+use indexmap::IndexSet;
 use std::alloc::{AllocError, Global};
 
 /// The citation of each request.
 pub(crate) fn rendered_citations<'a, T: EntryLike, P>(
     alloc: Global,
     requests: &[CitationRequest<'a, T, P>],
-    entries: &[&'a T],
+    entries: &IndexSet<&'a T>,
     offset: usize,
 ) -> Result<Vec<RenderedCitation>, AllocError>
-    requires fits { offset + length entries.now < 2 ^ 64 }
-    ensures { IfOk result (λ citations. citations.items ≡ map (rendered_citation T.eq T.answers (entries_view entries.now) offset) (requests_view requests.now)) }
+    requires fits { offset + length entries.now.keys < 2 ^ 64 }
+    ensures { IfOk result (λ citations. citations.items ≡ map (rendered_citation T.eq T.answers (entries_view entries.now.keys) offset) (requests_view requests.now)) }
 {
     let mut citations = Vec::new(alloc);
     for request in requests {
@@ -38,12 +39,12 @@ pub(crate) fn rendered_citations<'a, T: EntryLike, P>(
 fn bibliography_item<T: EntryLike>(
     alloc: Global,
     layout: &Layout,
-    entries: &[&T],
+    entries: &IndexSet<&T>,
     offset: usize,
     entry: &T,
 ) -> Result<BibliographyItem, AllocError>
-    requires fits { offset + length entries.now < 2 ^ 64 }
-    ensures { IfOk result (λ item. item ≡ bibliography_item T.eq T.answers (layout_view layout.now) (entries_view entries.now) offset entry.now) }
+    requires fits { offset + length entries.now.keys < 2 ^ 64 }
+    ensures { IfOk result (λ item. item ≡ bibliography_item T.eq T.answers (layout_view layout.now) (entries_view entries.now.keys) offset entry.now) }
 {
     let mut content = layout_tree(alloc, layout, offset + place_of(entries, entry))?;
     content.simplify_children()?;
@@ -58,15 +59,15 @@ fn bibliography_item<T: EntryLike>(
 fn bibliography_items<T: EntryLike>(
     alloc: Global,
     layout: &Layout,
-    entries: &[&T],
+    entries: &IndexSet<&T>,
     offset: usize,
 ) -> Result<Vec<BibliographyItem>, AllocError>
-    requires fits { offset + length entries.now < 2 ^ 64 }
+    requires fits { offset + length entries.now.keys < 2 ^ 64 }
     ensures { IfOk result (λ items. items.items
-        ≡ map (bibliography_item T.eq T.answers (layout_view layout.now) (entries_view entries.now) offset) (entries_view entries.now)) }
+        ≡ map (bibliography_item T.eq T.answers (layout_view layout.now) (entries_view entries.now.keys) offset) (entries_view entries.now.keys)) }
 {
     let mut items = Vec::new(alloc);
-    for entry in entries {
+    for entry in entries.as_slice() {
         items.push(bibliography_item(alloc, layout, entries, offset, *entry)?)?;
     }
     Ok(items)
@@ -75,11 +76,11 @@ fn bibliography_items<T: EntryLike>(
 fn rendered_bibliography<T: EntryLike>(
     alloc: Global,
     bibliography: &Bibliography,
-    entries: &[&T],
+    entries: &IndexSet<&T>,
     offset: usize,
 ) -> Result<RenderedBibliography, AllocError>
-    requires fits { offset + length entries.now < 2 ^ 64 }
-    ensures { IfOk result (λ r. r ≡ rendered_bibliography T.eq T.answers (entries_view entries.now) offset (bibliography_view bibliography.now)) }
+    requires fits { offset + length entries.now.keys < 2 ^ 64 }
+    ensures { IfOk result (λ r. r ≡ rendered_bibliography T.eq T.answers (entries_view entries.now.keys) offset (bibliography_view bibliography.now)) }
 {
     let items = bibliography_items(alloc, &bibliography.layout, entries, offset)?;
     Ok(RenderedBibliography {
@@ -95,11 +96,11 @@ fn rendered_bibliography<T: EntryLike>(
 pub(crate) fn style_bibliography<T: EntryLike>(
     alloc: Global,
     style: &IndependentStyle,
-    entries: &[&T],
+    entries: &IndexSet<&T>,
     offset: usize,
 ) -> Result<Option<RenderedBibliography>, AllocError>
-    requires fits { offset + length entries.now < 2 ^ 64 }
-    ensures { IfOk result (λ r. r ≡ option_map (rendered_bibliography T.eq T.answers (entries_view entries.now) offset) (style_view style.now).bibliography) }
+    requires fits { offset + length entries.now.keys < 2 ^ 64 }
+    ensures { IfOk result (λ r. r ≡ option_map (rendered_bibliography T.eq T.answers (entries_view entries.now.keys) offset) (style_view style.now).bibliography) }
 {
     match &style.bibliography {
         Some(bibliography) => Ok(Some(rendered_bibliography(

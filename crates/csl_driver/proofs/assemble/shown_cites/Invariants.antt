@@ -9,5 +9,5 @@ use Rattle.csl_driver.proofs.assemble.shown_cites.Given as goal
 abbrev pub invariant-loop-item : goal.invariant-loop-item
 invariant-loop-item g l =
     map child_view l.cites.items
-    ++ map (marked (cite_tree g.T.PartialEq.eq (layout_view l.layout) (entries_view l.entries) l.offset)) (shown (cites_view (drop l.item-index l.items)))
-    ≡ map (marked (cite_tree g.T.PartialEq.eq (layout_view l.layout) (entries_view l.entries) l.offset)) (shown (cites_view l.items))
+    ++ map (marked (cite_tree g.T.PartialEq.eq (layout_view l.layout) (entries_view l.entries.keys) l.offset)) (shown (cites_view (drop l.item-index l.items)))
+    ≡ map (marked (cite_tree g.T.PartialEq.eq (layout_view l.layout) (entries_view l.entries.keys) l.offset)) (shown (cites_view l.items))

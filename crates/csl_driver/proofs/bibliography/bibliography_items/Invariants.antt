@@ -7,4 +7,4 @@ use Rattle.csl_driver.proofs.bibliography.bibliography_items.Given as goal
 abbrev pub invariant-loop-entry : goal.invariant-loop-entry
 invariant-loop-entry g l =
     l.items.items
-    ≡ map (bibliography_item g.T.PartialEq.eq g.T.EntryLike.answers (layout_view l.layout) (entries_view l.entries) l.offset) (entries_view (take l.entry-index l.entries))
+    ≡ map (bibliography_item g.T.PartialEq.eq g.T.EntryLike.answers (layout_view l.layout) (entries_view l.entries.keys) l.offset) (entries_view (take l.entry-index l.entries.keys))
