@@ -1,2 +1,4 @@
 pub mod Properties
 pub mod PropertiesView
+pub mod Lookup
+pub mod SourceView

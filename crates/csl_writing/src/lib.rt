@@ -3,6 +3,7 @@
 
 pub mod brackets;
 pub mod locator;
+pub mod lookup;
 pub mod properties;
 pub mod purpose;
 pub mod state;
