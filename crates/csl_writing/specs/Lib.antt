@@ -1,4 +1,7 @@
 pub mod Properties
 pub mod PropertiesView
+pub mod NoProperties
+pub mod States
+pub mod BracketPairs
 pub mod Lookup
 pub mod SourceView
