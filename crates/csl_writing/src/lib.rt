@@ -2,6 +2,7 @@
 #![tactic(auto)]
 
 pub mod brackets;
+pub mod laws;
 pub mod locator;
 pub mod lookup;
 pub mod properties;
