@@ -5,4 +5,5 @@ pub mod States
 pub mod ValueLaws
 pub mod BracketPairs
 pub mod Lookup
+pub mod FirstAnswer
 pub mod SourceView
