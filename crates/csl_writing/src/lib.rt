@@ -8,3 +8,4 @@ pub mod lookup;
 pub mod properties;
 pub mod purpose;
 pub mod state;
+pub mod year;
