@@ -8,10 +8,12 @@ use std::rc::Rc;
 
 /// A locator: what it counts, and where it points.
 #[derive(PartialEq, Eq, Drop)]
+#[derive_where(Clone; P: Drop)]
 pub struct SpecificLocator<'a, P>(pub Locator, pub LocatorPayload<'a, P>);
 
 /// Where a locator points.
 #[derive(PartialEq, Eq, Drop)]
+#[derive_where(Clone; P: Drop)]
 pub enum LocatorPayload<'a, P> {
     /// The text that is printed.
     Str(&'a str),
@@ -35,6 +37,16 @@ impl<P: Drop> TransparentLocator<P> {
         ensures { IfOk result (λ l. l ≡ payload) }
     {
         Ok(TransparentLocator(Rc::new(alloc, payload)?))
+    }
+}
+
+impl<P: Drop> Clone for TransparentLocator<P> {
+    ghost is_clone = { λ l copy. copy ≡ l };
+
+    /// A copy that shares the payload. An error comes only where the payload has as many copies
+    /// as can be counted.
+    fn clone(&self) -> Result<TransparentLocator<P>, AllocError> {
+        Ok(TransparentLocator(self.0.clone()?))
     }
 }
 
