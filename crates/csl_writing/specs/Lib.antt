@@ -1,2 +1,4 @@
 pub mod Properties
 pub mod PropertiesView
+pub mod Steps
+pub mod Quotes

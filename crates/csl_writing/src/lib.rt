@@ -6,3 +6,4 @@ pub mod locator;
 pub mod properties;
 pub mod purpose;
 pub mod state;
+pub mod text;
