@@ -1,1 +1,3 @@
 pub mod TextSteps
+pub mod Greater
+pub mod StateOrder

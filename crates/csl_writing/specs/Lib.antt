@@ -2,3 +2,11 @@ pub mod Properties
 pub mod PropertiesView
 pub mod Steps
 pub mod Quotes
+pub mod NoProperties
+pub mod States
+pub mod ValueLaws
+pub mod BracketPairs
+pub mod Lookup
+pub mod SourceView
+pub mod OpenFrames
+pub mod Edits

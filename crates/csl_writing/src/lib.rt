@@ -2,7 +2,10 @@
 #![tactic(auto)]
 
 pub mod brackets;
+mod frames;
+pub mod laws;
 pub mod locator;
+pub mod lookup;
 pub mod properties;
 pub mod purpose;
 pub mod state;
