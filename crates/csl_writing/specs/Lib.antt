@@ -10,3 +10,4 @@ pub mod Lookup
 pub mod SourceView
 pub mod OpenFrames
 pub mod Edits
+pub mod WritingState

@@ -10,3 +10,5 @@ pub mod properties;
 pub mod purpose;
 pub mod state;
 pub mod text;
+pub mod token;
+pub mod writing;
