@@ -2,3 +2,5 @@ pub mod TextSteps
 pub mod Greater
 pub mod StateOrder
 pub mod FrameSteps
+pub mod FirstAnswers
+pub mod Letters

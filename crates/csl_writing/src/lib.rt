@@ -12,3 +12,4 @@ pub mod state;
 pub mod text;
 pub mod token;
 pub mod writing;
+pub mod year;
