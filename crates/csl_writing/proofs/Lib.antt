@@ -4,3 +4,4 @@ pub mod StateOrder
 pub mod FrameSteps
 pub mod FirstAnswers
 pub mod Letters
+pub mod WordingSteps

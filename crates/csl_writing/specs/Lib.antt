@@ -14,3 +14,5 @@ pub mod SourceView
 pub mod OpenFrames
 pub mod Edits
 pub mod WritingState
+pub mod Wording
+pub mod ContextView

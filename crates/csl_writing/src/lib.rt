@@ -2,6 +2,7 @@
 #![tactic(auto)]
 
 pub mod brackets;
+pub mod context;
 mod frames;
 pub mod laws;
 pub mod locator;
@@ -11,5 +12,6 @@ pub mod purpose;
 pub mod state;
 pub mod text;
 pub mod token;
+mod wording;
 pub mod writing;
 pub mod year;
