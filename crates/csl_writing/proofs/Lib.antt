@@ -5,3 +5,4 @@ pub mod FrameSteps
 pub mod FirstAnswers
 pub mod Letters
 pub mod WordingSteps
+pub mod Copies
