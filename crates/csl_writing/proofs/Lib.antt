@@ -1,5 +1,8 @@
+pub mod TextSteps
 pub mod Greater
 pub mod StateOrder
+pub mod FrameSteps
 pub mod FirstAnswers
 pub mod Letters
+pub mod WordingSteps
 pub mod Copies

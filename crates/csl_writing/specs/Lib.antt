@@ -1,5 +1,7 @@
 pub mod Properties
 pub mod PropertiesView
+pub mod Steps
+pub mod Quotes
 pub mod NoProperties
 pub mod States
 pub mod ValueLaws
@@ -9,3 +11,8 @@ pub mod SuffixLetters
 pub mod Lookup
 pub mod FirstAnswer
 pub mod SourceView
+pub mod OpenFrames
+pub mod Edits
+pub mod WritingState
+pub mod Wording
+pub mod ContextView

@@ -2,10 +2,16 @@
 #![tactic(auto)]
 
 pub mod brackets;
+pub mod context;
+mod frames;
 pub mod laws;
 pub mod locator;
 pub mod lookup;
 pub mod properties;
 pub mod purpose;
 pub mod state;
+pub mod text;
+pub mod token;
+mod wording;
+pub mod writing;
 pub mod year;
