@@ -32,7 +32,7 @@ abbrev mutual
   pub pick_with : Env → Call → Element → Notes → Picked
   pick_with env call (text_element target quotes strip look) n = pick_text env call target look quotes strip n
   pick_with env call (number_element v look) n = pick_variable env (meant env.is_bibliography env.cite.usage (Variable.Number v)) look false false n
-  pick_with env call (date_element v look) n = pick_date env v look n
+  pick_with env call (date_element v look) n = pick_date env v look false false n
   pick_with env call (names_element variables substitute options look) n = pick_names env variables substitute options look n
   pick_with env call (group_element children delimiter look) n = grouped (group_node look delimiter) (pick_all_with env call children n)
   pick_with env call (choose_element branches) n = pick_first_with env call branches n

@@ -1,5 +1,5 @@
 -- What texts, numbers and dates give (CSL 1.0.2, text, number, date).
-use Rattle.std.specs.Prelude.{ℕ, ◌+◌, List, [], ◌∷◌, ◌++◌, map, Bool, true, false, ◌||◌, ◌&&◌, Option, Some, None, option_map, option_and_then, unwrap_or, is_some}
+use Rattle.std.specs.Prelude.{ℕ, ◌+◌, List, [], ◌∷◌, ◌++◌, map, Bool, true, false, ◌||◌, ◌&&◌, Option, Some, None, option_map, option_and_then, unwrap_or, is_some, codes}
 use Rattle.std.specs.Bool.{if◌then◌else◌}
 use Rattle.std.specs.Option.{option_or}
 use Rattle.std.specs.List.{list_any}
@@ -7,6 +7,7 @@ use Rattle.csl_base.specs.declared.taxonomy.Variable.{Variable}
 use Rattle.csl_base.specs.declared.taxonomy.DateVariable.{DateVariable}
 use Rattle.csl_base.specs.declared.taxonomy.StandardVariable.TheVariants as standard
 use Rattle.csl_base.specs.declared.taxonomy.NumberVariable.TheVariants as number
+use Rattle.csl_base.specs.declared.taxonomy.Term.{Term}
 use Rattle.csl_base.specs.declared.taxonomy.Term.TheVariants as term
 use Rattle.csl_base.specs.declared.taxonomy.OtherTerm.{OtherTerm}
 use Rattle.csl_base.specs.declared.taxonomy.TermForm.{TermForm}
@@ -134,15 +135,14 @@ pick_words form words look quotes strip n =
     else nothing n
 
 -- a term in its long form, or other words where no locale has it
-abbrev pub words_for : Env → OtherTerm → List ℕ → List ℕ
-words_for env t words = unwrap_or (env.term (term.Other t) TermForm.Long false) words
+abbrev pub words_for : (Term → TermForm → Bool → Option (List ℕ)) → OtherTerm → List ℕ → List ℕ
+words_for found t words = unwrap_or (found (term.Other t) TermForm.Long false) words
 
--- ` AD` and ` BC`
 abbrev pub ad_words : Env → List ℕ
-ad_words env = words_for env OtherTerm.Ad (32 ∷ 65 ∷ 68 ∷ [])
+ad_words env = words_for env.term OtherTerm.Ad (codes " AD")
 
 abbrev pub bc_words : Env → List ℕ
-bc_words env = words_for env OtherTerm.Bc (32 ∷ 66 ∷ 67 ∷ [])
+bc_words env = words_for env.term OtherTerm.Bc (codes " BC")
 
 -- whether the year of a date is written
 abbrev pub writes_year : Form → DateVariable → Notes → Bool
@@ -163,7 +163,7 @@ date_leaves env v (Some d) n =
     if writes_year env.form v n then leaves_of (Some (year_leaf d.year (ad_words env) (bc_words env))) (implicit_suffix env.explicit_suffix env.cite.state n)
     else (if writes_suffix_alone env.form then leaves_of None (implicit_suffix env.explicit_suffix env.cite.state n) else [])
 
-abbrev pub pick_date : Env → DateVariable → Look → Notes → Picked
-pick_date env v look n =
-    let ps = node_of (plain_node look false false (Some meta.Date)) (date_leaves env v (env.answers.date v) n) in
+abbrev pub pick_date : Env → DateVariable → Look → Bool → Bool → Notes → Picked
+pick_date env v look quotes strip n =
+    let ps = node_of (plain_node look quotes strip (Some meta.Date)) (date_leaves env v (env.answers.date v) n) in
     record { parts = ps; called = called_with (gives ps); noted = dated (gives ps) n }

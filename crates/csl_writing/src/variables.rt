@@ -1,11 +1,14 @@
 //! Texts, numbers and dates (CSL 1.0.2, text, number, date).
 ghost use Rattle.std.specs.Prelude.{◌≡◌, OnOk, option_map};
-ghost use Rattle.csl_writing.specs.Variables.{is_plain, is_kept, writes, chunk_has_content, text_leaves, chunked_leaves, locator_leaf, variable_leaf, suffix_behind, variable_meta, dated, noted_use, noted_behind, meant, pick_variable, pick_words, words_for, writes_year, pick_date};
+ghost use Rattle.std.specs.List.{list_any};
+ghost use Rattle.csl_base.specs.Content.{text_has_content};
+ghost use Rattle.csl_writing.specs.Pieces.{leaves_of};
+ghost use Rattle.csl_writing.specs.Variables.{is_plain, is_kept, writes, chunk_has_content, text_leaves, chunked_leaves, locator_leaf, variable_leaf, suffix_behind, variable_meta, dated, noted_use, noted_behind, meant, pick_variable, pick_words, words_for, ad_words, bc_words, writes_year, writes_suffix_alone, date_leaves, pick_date};
 ghost use Rattle.csl_writing.specs.Suffix.{implicit_suffix};
 ghost use Rattle.csl_writing.specs.Picked.{added, called_with};
 ghost use Rattle.csl_writing.specs.PiecesView.{leaf_view, shape_look};
 ghost use Rattle.csl_writing.specs.HeldView.{held};
-ghost use Rattle.csl_writing.specs.InputView.{cite_facts, env_of};
+ghost use Rattle.csl_writing.specs.InputView.{cite_facts, term_for, env_of};
 
 use crate::held::Picking;
 use crate::input::{Input, Setting};
@@ -14,7 +17,9 @@ use crate::pieces::{Leaf, Shape, add_node};
 use crate::state::IdentifierUsage;
 use csl_base::elem::ElemMeta;
 use csl_base::entry::{Chunk, ChunkKind, ChunkedString, EntryLike};
-use csl_base::taxonomy::{DateVariable, NumberVariable, StandardVariable, Variable};
+use csl_base::taxonomy::{
+    DateVariable, NumberVariable, OtherTerm, StandardVariable, Term, TermForm, Variable,
+};
 use std::alloc::AllocError;
 
 impl Form {
@@ -56,6 +61,18 @@ impl Form {
     }
 }
 
+impl Form {
+    // Whether dates write their suffix alone.
+    fn writes_suffix_alone(self) -> bool
+        ensures { result ≡ writes_suffix_alone self }
+    {
+        match self {
+            Form::OnlyYearSuffix => true,
+            _ => false,
+        }
+    }
+}
+
 // The year suffix and the locator stay where a cite is cut.
 fn is_kept(variable: Variable) -> bool
     ensures { result ≡ is_kept variable }
@@ -67,13 +84,20 @@ fn is_kept(variable: Variable) -> bool
     }
 }
 
+// Whether some character is not white space.
+fn has_content(text: &str) -> bool
+    ensures { result ≡ text_has_content text.now }
+{
+    text.chars().any(|c| !c.is_whitespace())
+}
+
 // A text that isn't blank.
 fn text_leaf<'a>(text: Option<&'a str>) -> Option<Leaf<'a>>
     ensures { option_map leaf_view result ≡ text_leaves (option_map (λ t. t.now) text.entry) }
 {
     match text {
         Some(text) => {
-            if text.chars().any(|c| !c.is_whitespace()) {
+            if has_content(text) {
                 Some(Leaf::Text(text))
             } else {
                 None
@@ -93,13 +117,20 @@ fn chunk_has_content(chunk: &Chunk) -> bool
     }
 }
 
+// Whether some chunk has content.
+fn chunks_have_content(text: &ChunkedString) -> bool
+    ensures { result ≡ list_any chunk_has_content text.now.0 }
+{
+    text.0.as_slice().iter().any(|c| chunk_has_content(c))
+}
+
 // A chunked text that isn't blank.
 fn chunked_leaf<'a>(text: Option<&'a ChunkedString>) -> Option<Leaf<'a>>
     ensures { option_map leaf_view result ≡ chunked_leaves (option_map (λ t. t.now) text.entry) }
 {
     match text {
         Some(text) => {
-            if text.0.as_slice().iter().any(|c| chunk_has_content(c)) {
+            if chunks_have_content(text) {
                 Some(Leaf::Chunked(text))
             } else {
                 None
@@ -158,7 +189,28 @@ fn variable_leaf<'a, T: EntryLike>(
     }
 }
 
-impl Setting<'_> {
+impl<'a> Setting<'a> {
+    /// A term in words, for this cite.
+    pub(crate) fn term(&self, name: Term, form: TermForm, plural: bool) -> Option<&'a str>
+        ensures { option_map (λ t. t.now) result ≡ term_for self.now name form plural }
+    {
+        let kind = match self.cite.locator {
+            Some(locator) => Some(locator.kind),
+            None => None,
+        };
+        self.context.term(kind, name, form, plural)
+    }
+
+    /// A term in its long form, or these words where no locale has it.
+    pub(crate) fn words_for(&self, term: OtherTerm, words: &'a str) -> &'a str
+        ensures { result.now ≡ words_for (term_for self.now) term words.now }
+    {
+        match self.term(Term::Other(term), TermForm::Long, false) {
+            Some(found) => found,
+            None => words,
+        }
+    }
+
     // The suffix that the first date or label adds.
     fn implicit_suffix(&self, notes: &Notes) -> Option<usize>
         ensures { result ≡ implicit_suffix self.now.explicit_suffix self.now.cite.state.now notes.now }
@@ -296,5 +348,52 @@ pub(crate) fn pick_words<'a>(
     if setting.form.is_plain() {
         add_node(&mut picking.pieces, shape.node(None), text_leaf(words), None)?;
     }
+    Ok(())
+}
+
+// What a date gives: its year and the suffix behind it, or the suffix alone.
+fn date_leaves<'a, T: EntryLike>(
+    input: &Input<'a, T>,
+    variable: DateVariable,
+    notes: &Notes,
+) -> (Option<Leaf<'a>>, Option<usize>)
+    ensures { let env = env_of (T.answers input.now.entry.now) input.now.setting in
+        leaves_of (option_map leaf_view result.0) result.1 ≡ date_leaves env variable (env.answers.date variable) notes.now }
+{
+    let setting = &input.setting;
+    let date = match input.entry.resolve_date_variable(variable) {
+        Some(date) => date,
+        None => return (None, None),
+    };
+    let suffix = setting.implicit_suffix(notes);
+    if setting.form.writes_year(variable, notes) {
+        let year = Leaf::Year {
+            year: date.year,
+            ad: setting.words_for(OtherTerm::Ad, " AD"),
+            bc: setting.words_for(OtherTerm::Bc, " BC"),
+        };
+        (Some(year), suffix)
+    } else if setting.form.writes_suffix_alone() {
+        (None, suffix)
+    } else {
+        (None, None)
+    }
+}
+
+/// A date.
+pub(crate) fn pick_date<'a, T: EntryLike>(
+    input: &Input<'a, T>,
+    variable: DateVariable,
+    shape: Shape<'a>,
+    picking: &mut Picking<'a>,
+) -> Result<(), AllocError>
+    ensures { let env = env_of (T.answers input.now.entry.now) input.now.setting in
+        OnOk result (held picking.new ≡ added (pick_date env variable (shape_look shape.entry) shape.entry.quotes shape.entry.strip_periods picking.old.notes) (held picking.old)) }
+{
+    let (leaf, suffix) = date_leaves(input, variable, &picking.notes);
+    let node = shape.node(Some(ElemMeta::Date));
+    let given = add_node(&mut picking.pieces, node, leaf, suffix)?;
+    picking.called = picking.called.and(called_with(given));
+    picking.notes.note_date(given);
     Ok(())
 }
