@@ -1,2 +1,5 @@
 pub mod Greater
 pub mod StateOrder
+pub mod Tokens
+pub mod Weight
+pub mod Steps

@@ -10,6 +10,7 @@ pub mod Notes
 pub mod Pieces
 pub mod PiecesView
 pub mod Picked
+pub mod Nodes
 pub mod Env
 pub mod Suffix
 pub mod Conditions
