@@ -4,7 +4,10 @@ pub mod NoProperties
 pub mod States
 pub mod ValueLaws
 pub mod BracketPairs
+pub mod Years
+pub mod SuffixLetters
 pub mod Lookup
+pub mod FirstAnswer
 pub mod SourceView
 pub mod Notes
 pub mod Pieces

@@ -16,3 +16,4 @@ pub mod properties;
 pub mod purpose;
 pub mod state;
 mod variables;
+pub mod year;
