@@ -5,3 +5,5 @@ pub mod Weight
 pub mod Steps
 pub mod FirstAnswers
 pub mod Letters
+pub mod Agree
+pub mod Nesting

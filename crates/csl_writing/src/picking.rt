@@ -4,7 +4,7 @@ ghost use Rattle.csl_base.specs.ElementView.{element_view, elements_view, branch
 ghost use Rattle.csl_writing.specs.Picked.{added};
 ghost use Rattle.csl_writing.specs.PiecesView.{node_view, shape_look};
 ghost use Rattle.csl_writing.specs.Pieces.{plain_node};
-ghost use Rattle.csl_writing.specs.Pick.{group_node, picks, picks_all, picks_first, called_macro};
+ghost use Rattle.csl_writing.specs.Pick.{group_node, picks, picks_all, picks_first, called_macro, pick_layout, MacrosUnfold};
 ghost use Rattle.csl_writing.specs.HeldView.{held};
 ghost use Rattle.csl_writing.specs.InputView.{env_of, macros_of};
 
@@ -210,4 +210,27 @@ fn pick_macro<'a, T: EntryLike>(
             picking.close_macro(opened)
         }
     }
+}
+
+/// A law: in a style without a ring each call of a macro gives what its first macro's children
+/// give (CSL 1.0.2, macro).
+#[tactic(auto, using(crate::proofs::Nesting::macros_unfold))]
+pub fn macros_unfold()
+    ensures { MacrosUnfold }
+{}
+
+/// What a layout gives, behind what is picked already.
+///
+/// # Errors
+///
+/// Where memory is refused; the picking may then only be dropped.
+pub(crate) fn pick_layout<'a, T: EntryLike>(
+    input: &Input<'a, T>,
+    elements: &'a Vec<LayoutRenderingElement>,
+    picking: &mut Picking<'a>,
+) -> Result<(), AllocError>
+    ensures { let env = env_of (T.answers input.now.entry.now) input.now.setting in
+        OnOk result (held picking.new ≡ added (pick_layout env (macros_of input.now.setting) (elements_view elements.now.items) (held picking.old).noted) (held picking.old)) }
+{
+    pick_all(input, elements, input.setting.context.style.macros.len(), picking)
 }
