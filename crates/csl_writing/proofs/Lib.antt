@@ -6,4 +6,5 @@ pub mod Steps
 pub mod FirstAnswers
 pub mod Letters
 pub mod Agree
+pub mod Settled
 pub mod Nesting
