@@ -1,28 +1,16 @@
 -- What an element gives depends on the macros that it calls, and on no others.
-use Rattle.std.proofs.Common.{◌≡◌, [], ◌∷◌, ◌++◌, None, Bool, true, false, cond, ◌||◌, refl}
+use Rattle.std.proofs.Common.{◌≡◌, ◌++◌, None, Bool, true, false, cond, refl}
 use Rattle.std.specs.Prelude.{bytes_eq}
 use Rattle.std.proofs.lemmas.Cmp.{nat_list_eq_equiv}
-use Rattle.std.proofs.lemmas.Bool.{false≢true}
 use Rattle.csl_base.specs.Element.{Name, Look, Target, value_target, standard_target, macro_target, term_target, Element, text_element, number_element, date_element, names_element, group_element, choose_element, Elements, no_elements, element, Branches, otherwise, branch}
 use Rattle.csl_base.specs.Calls.{Names, target_calls, calls, calls_of_all, calls_of_branches}
 use Rattle.csl_base.specs.Ring.{has_name}
-use Rattle.csl_base.proofs.Reached.{or-left, or-right}
+use Rattle.csl_writing.proofs.NameLists.{or-left, has_name-left, has_name-right}
 use Rattle.csl_writing.specs.Env.{Env}
 use Rattle.csl_writing.specs.Conditions.{passes, tested}
 use Rattle.csl_writing.specs.Pieces.{plain_node}
 use Rattle.csl_writing.specs.Picked.{followed, grouped}
 use Rattle.csl_writing.specs.Pick.{Call, group_node, pick_text, pick_with, pick_all_with, pick_first_with}
-
-has_name-left : (a : Name) (xs ys : Names) → has_name a xs ≡ true → has_name a (xs ++ ys) ≡ true
-has_name-left a [] ys h = absurd (false≢true h)
-has_name-left a (x ∷ xs) ys h =
-    let by : (b : Bool) → (b || has_name a xs) ≡ true → (b || has_name a (xs ++ ys)) ≡ true = λ b.
-    elim b as (λ b. (b || has_name a xs) ≡ true → (b || has_name a (xs ++ ys)) ≡ true) [ true ↦ λ _. refl | false ↦ λ k. has_name-left a xs ys k ] in
-    by (bytes_eq x a) h
-
-has_name-right : (a : Name) (xs ys : Names) → has_name a ys ≡ true → has_name a (xs ++ ys) ≡ true
-has_name-right a [] ys h = h
-has_name-right a (x ∷ xs) ys h = or-right (bytes_eq x a) _ (has_name-right a xs ys h)
 
 -- two ways to call macros agree on these names
 abbrev pub AgreeOn : Call → Call → Names → Type 0

@@ -5,6 +5,9 @@ pub mod Weight
 pub mod Steps
 pub mod FirstAnswers
 pub mod Letters
+pub mod NameLists
 pub mod Agree
 pub mod Settled
 pub mod Nesting
+pub mod Gathering
+pub mod Suffixes

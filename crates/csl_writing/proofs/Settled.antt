@@ -1,6 +1,6 @@
 -- In a style without a ring it is never felt how deep macros are followed: what their names mean,
 -- level by level, is settled at the count of macros.
-use Rattle.std.proofs.Common.{◌≡◌, ℕ, zero, suc, ◌+◌, ◌≤◌, List, [], ◌∷◌, ◌++◌, length, Bool, true, false, ◌||◌, cond, Option, Some, None, sym, ap, ◌∙◌, refl, subst, arith}
+use Rattle.std.proofs.Common.{◌≡◌, ℕ, zero, suc, ◌+◌, ◌≤◌, List, [], ◌∷◌, ◌++◌, length, Bool, true, false, ◌||◌, Option, Some, None, is_some, sym, ap, ◌∙◌, refl, subst, arith}
 use Rattle.std.specs.Prelude.{bytes_eq}
 use Rattle.std.specs.Cmp.Lexicographic.{same_text}
 use Rattle.std.proofs.lemmas.Cmp.{nat_list_eq_equiv}
@@ -8,50 +8,17 @@ use Rattle.std.proofs.lemmas.Bool.{false≢true}
 use Rattle.csl_base.specs.Element.{Name, Elements, Macro}
 use Rattle.csl_base.specs.Calls.{Names}
 use Rattle.csl_base.specs.Ring.{has_name, body_of, Calls, IsWalk, HasNoRing}
+use Rattle.csl_writing.proofs.NameLists.{or-left, or-right, left, left-lt, left-empty}
 
 -- a walk, and one call more
 walk-more : (ms : List Macro) (a : Name) (between : Names) (b c : Name) → IsWalk ms a between b → Calls ms b c → IsWalk ms a (between ++ b ∷ []) c
 walk-more ms a [] b c w h = (w, h)
 walk-more ms a (d ∷ between) b c w h = (w.0, walk-more ms d between b c w.1 h)
 
-abbrev pub one_unless : Bool → ℕ
-one_unless true = 0
-one_unless false = 1
-
--- how many macros are not open
-abbrev pub left : Names → List Macro → ℕ
-left open_names [] = 0
-left open_names (m ∷ ms) = one_unless (has_name m.name open_names) + left open_names ms
-
-one_unless-or : (b c : Bool) → one_unless (b || c) ≤ one_unless c
-one_unless-or true true = omega arith
-one_unless-or true false = omega arith
-one_unless-or false c = omega arith
-
-pub left-le : (a : Name) (os : Names) (ms : List Macro) → left (a ∷ os) ms ≤ left os ms
-left-le a os [] = omega arith
-left-le a os (m ∷ ms) =
-    omega (arith, left-le a os ms, one_unless-or (bytes_eq a m.name) (has_name m.name os))
-
-pub left-empty : (ms : List Macro) → left [] ms ≡ length ms
-left-empty [] = refl
-left-empty (m ∷ ms) = omega (arith, left-empty ms)
-
-pub left-lt : (a : Name) (os : Names) (ms : List Macro) (es : Elements) → Some es ≡ body_of a ms → has_name a os ≡ false → left (a ∷ os) ms + 1 ≤ left os ms
-left-lt a os [] es e h = cc
-left-lt a os (m ∷ ms) es e h =
-    let n = m.name in
-    let here : (b : Bool) → b ≡ bytes_eq n a → Some es ≡ cond b (Some m.children) (body_of a ms) → left (a ∷ os) (m ∷ ms) + 1 ≤ left os (m ∷ ms) = λ b.
-    elim b as (λ b. b ≡ bytes_eq n a → Some es ≡ cond b (Some m.children) (body_of a ms) → left (a ∷ os) (m ∷ ms) + 1 ≤ left os (m ∷ ms)) [
-      | true ↦ λ q _.
-          let same : n ≡ a = same_text n a q in
-          let out : has_name n os ≡ false = ap (λ x. has_name x os) same ∙ h in
-          let opened : bytes_eq a n ≡ true = ap (bytes_eq a) same ∙ nat_list_eq_equiv.refl a in
-          omega (arith, left-le a os ms, ap one_unless out, ap (λ b. one_unless (b || has_name n os)) opened)
-      | false ↦ λ _ k.
-          omega (arith, left-lt a os ms es k h, one_unless-or (bytes_eq a n) (has_name n os))
-    ] in
-    here (bytes_eq n a) refl e
+-- one more open name leaves fewer macros, where it has one
+opened : (a : Name) (os : Names) (ms : List Macro) (es : Elements) → Some es ≡ body_of a ms → has_name a os ≡ false → left (a ∷ os) ms + 1 ≤ left os ms
+opened a os ms es e out =
+    left-lt a os (a ∷ os) ms (ap is_some (sym e)) out (λ b h. or-right (bytes_eq a b) _ h) (or-left (bytes_eq a a) _ (nat_list_eq_equiv.refl a))
 
 module _ (ms : List Macro) (no_ring : HasNoRing ms) where
   -- each open name leads to this one
@@ -90,7 +57,7 @@ module _ (ms : List Macro) (no_ring : HasNoRing ms) where
         let by : (o : Option Elements) → o ≡ body_of a ms → meaning (0 + k) a ≡ meaning 0 a = λ o.
         elim o as (λ o. o ≡ body_of a ms → meaning (0 + k) a ≡ meaning 0 a) [
           | None ↦ λ e. at_none (0 + k) a e
-          | Some es ↦ λ e. absurd (omega (arith, left-lt a os ms es e (is_closed os a all)))
+          | Some es ↦ λ e. absurd (omega (arith, opened a os ms es e (is_closed os a all)))
         ] in
         by (body_of a ms) refl
     unfelt (suc n) os a all le k =
@@ -98,7 +65,7 @@ module _ (ms : List Macro) (no_ring : HasNoRing ms) where
         elim o as (λ o. o ≡ body_of a ms → level (meaning (n + k)) a ≡ level (meaning n) a) [
           | None ↦ λ e. bare (meaning (n + k)) a e ∙ sym (bare (meaning n) a e)
           | Some es ↦ λ e.
-              let fewer = left-lt a os ms es e (is_closed os a all) in
+              let fewer = opened a os ms es e (is_closed os a all) in
               agree (meaning (n + k)) (meaning n) a (λ b m. unfelt n (a ∷ os) b (leads_on os a b all m) (omega (arith, fewer, le)) k)
         ] in
         let next : suc n + k ≡ suc (n + k) = omega arith in

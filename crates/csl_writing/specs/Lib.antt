@@ -23,3 +23,5 @@ pub mod Names
 pub mod Pick
 pub mod InputView
 pub mod HeldView
+pub mod SuffixText
+pub mod Gathered

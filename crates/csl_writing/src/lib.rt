@@ -15,5 +15,6 @@ mod pieces;
 pub mod properties;
 pub mod purpose;
 pub mod state;
+mod suffix_text;
 mod variables;
 pub mod year;
