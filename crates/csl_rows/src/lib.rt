@@ -8,6 +8,8 @@ mod finish;
 #[cfg(test)]
 mod initials;
 #[cfg(test)]
+mod laws;
+#[cfg(test)]
 mod names;
 #[cfg(test)]
 mod places;
