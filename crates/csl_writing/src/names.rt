@@ -1,5 +1,5 @@
 //! Names elements (CSL 1.0.2, names).
-ghost use Rattle.std.specs.Prelude.{◌≡◌, ◌==◌, [], ◌∷◌, ◌++◌, IfOk, OnOk, Some, None, ◌||◌, unwrap_or, take, map, length, codes, option_map, filter, find, if◌then◌else◌};
+ghost use Rattle.std.specs.Prelude.{◌≡◌, ◌==◌, [], ◌∷◌, ◌++◌, IfOk, OnOk, false, Some, None, ◌||◌, unwrap_or, take, map, length, codes, option_map, filter, find, if◌then◌else◌};
 ghost use Rattle.std.specs.List.{list_any};
 ghost use Rattle.csl_base.specs.declared.taxonomy.OtherTerm.{OtherTerm};
 ghost use Rattle.csl_base.specs.declared.elem.ElemMeta.TheVariants as meta;
@@ -8,7 +8,7 @@ ghost use Rattle.csl_writing.specs.Names.{is_present, stand_in, blocks, author_v
 ghost use Rattle.csl_writing.specs.NamesView.{name_view};
 ghost use Rattle.csl_writing.specs.NameRules.{forms_by};
 ghost use Rattle.csl_writing.specs.NameRulesView.{rules_view};
-ghost use Rattle.csl_writing.specs.Pieces.{leaf_token, closing, text_leaf, part_tokens, tokens, plain_node};
+ghost use Rattle.csl_writing.specs.Pieces.{opening, leaf_token, closing, text_leaf, part_tokens, tokens, plain_node};
 ghost use Rattle.csl_writing.specs.PiecesView.{leaf_view, node_view, shape_look, tokens_of};
 ghost use Rattle.csl_writing.specs.Variables.{words_for};
 ghost use Rattle.csl_writing.specs.Picked.{gives, added};
@@ -562,6 +562,14 @@ fn names_node<'a>(shape: Shape<'a>, meta: ElemMeta) -> Node<'a>
     }
 }
 
+// Opens a node.
+fn push_opening<'a>(node: Node<'a>, pieces: &mut Vec<Piece<'a>>) -> Result<(), AllocError>
+    ensures { OnOk result (tokens_of pieces.new.items ≡ tokens_of pieces.old.items ++ opening (node_view node.entry) ∷ []) }
+{
+    pieces.push(Piece::Open(node))?;
+    Ok(())
+}
+
 // Closes the node that stands at this place, or takes it out where nothing stands in it.
 fn close_node(
     pieces: &mut Vec<Piece>,
@@ -597,12 +605,13 @@ pub(crate) fn pick_names<'a, T: EntryLike>(
         stand_in,
     } = chosen;
     keep_written(input.setting.form, author_variable(input.entry), &mut blocks);
+    let blocks = blocks.as_slice();
     let style = input.setting.context.style;
     let rules = NameRules::new(options, input.setting.layout_options, &style.settings.options);
     let start = picking.pieces.len();
-    let meta = names_meta(alloc, input.entry, &blocks)?;
-    picking.pieces.push(Piece::Open(names_node(shape, meta)))?;
-    let given = push_blocks(input, &rules, &blocks, picking)?;
+    let meta = names_meta(alloc, input.entry, blocks)?;
+    push_opening(names_node(shape, meta), &mut picking.pieces)?;
+    let given = push_blocks(input, &rules, blocks, picking)?;
     close_node(&mut picking.pieces, start, given)?;
     picking.called = picking.called.and(called_with(given));
     picking.notes.note_stand_in(given, stand_in);
