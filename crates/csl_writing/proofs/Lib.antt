@@ -5,3 +5,14 @@ pub mod WrittenNames
 pub mod NameParts
 pub mod FormsLength
 pub mod NameBlocks
+pub mod Tokens
+pub mod Weight
+pub mod Steps
+pub mod FirstAnswers
+pub mod Letters
+pub mod NameLists
+pub mod Agree
+pub mod Settled
+pub mod Nesting
+pub mod Gathering
+pub mod Suffixes

@@ -4,12 +4,16 @@ pub mod NoProperties
 pub mod States
 pub mod ValueLaws
 pub mod BracketPairs
+pub mod Years
+pub mod SuffixLetters
 pub mod Lookup
+pub mod FirstAnswer
 pub mod SourceView
 pub mod Notes
 pub mod Pieces
 pub mod PiecesView
 pub mod Picked
+pub mod Nodes
 pub mod Env
 pub mod Suffix
 pub mod Conditions
@@ -23,3 +27,5 @@ pub mod NamesView
 pub mod Pick
 pub mod InputView
 pub mod HeldView
+pub mod SuffixText
+pub mod Gathered

@@ -1,7 +1,5 @@
 //! What a picking only reads.
 
-
-
 use crate::lookup::StyleContext;
 use crate::notes::Form;
 use crate::state::{DisambiguateState, IbidState, IdentifierUsage};
@@ -46,6 +44,7 @@ pub(crate) struct Setting<'a> {
 }
 
 /// What a picking reads.
+#[derive(Drop)]
 pub(crate) struct Input<'a, T> {
     pub(crate) entry: &'a T,
     pub(crate) setting: Setting<'a>,
