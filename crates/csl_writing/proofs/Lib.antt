@@ -6,6 +6,11 @@ pub mod FirstAnswers
 pub mod Letters
 pub mod WordingSteps
 pub mod Copies
+pub mod InitialsLeft
+pub mod WrittenNames
+pub mod NameParts
+pub mod FormsLength
+pub mod NameBlocks
 pub mod Tokens
 pub mod Weight
 pub mod Steps
