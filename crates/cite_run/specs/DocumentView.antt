@@ -1,4 +1,6 @@
 -- The plain data that what a document asks for stands for.
+use Rattle.std.specs.Prelude.{map}
+use Rattle.csl_base.specs.StyleView.{locale_view}
 use Rattle.csl_driver.specs.RequestView.{requests_view}
 use Rattle.cite_run.specs.Form.{Document}
 use Rattle.cite_run.specs.WantedView.{wanted_view}
@@ -6,4 +8,11 @@ use Rattle.cite_run.specs.declared.document.Asked.{Asked}
 
 -- a document
 abbrev pub document_view : Asked → Document
-document_view a = record { requests = requests_view a.requests.items; style = (wanted_view a.wanted).0; order = (wanted_view a.wanted).1; offset = a.offset }
+document_view a = record {
+  requests = requests_view a.requests.items;
+  style = (wanted_view a.wanted).0;
+  locale = (wanted_view a.wanted).1;
+  locales = map locale_view a.locales.now;
+  order = (wanted_view a.wanted).2;
+  offset = a.offset;
+}

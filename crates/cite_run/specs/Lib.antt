@@ -1,12 +1,16 @@
 pub mod Status
 pub mod Reads
 pub mod Words
+pub mod Tables
 pub mod Names
+pub mod Options
 pub mod Elements
+pub mod Locales
 pub mod Styles
 pub mod NamedStyleView
 pub mod Entries
 pub mod Requests
+pub mod Finders
 pub mod WantedView
 pub mod Form
 pub mod DocumentView

@@ -1,48 +1,54 @@
--- The form of requests, in a document of these styles and entries.
-use Rattle.std.specs.Prelude.{false, List, [], ◌∷◌, Option, Some, None, codes, if◌then◌else◌}
-use Rattle.serde_json.specs.Data.{Data}
-use Rattle.serde_json.specs.Find.{as_array, as_bool}
+-- The form of what is asked for, of the styles and entries that names and keys find.
+use Rattle.std.specs.Prelude.{ℕ, List, [], ◌∷◌, Option, Some, None, option_and_then, codes, if◌then◌else◌}
 use Rattle.std.specs.declared.convert.Infallible.{Infallible}
+use Rattle.serde_json.specs.Data.{Data, Items, no_items, item}
+use Rattle.serde_json.specs.Find.{as_array, as_str}
 use Rattle.csl_base.specs.declared.entry.PlainEntry.{PlainEntry}
-use Rattle.csl_base.specs.Style.{StyleValue}
+use Rattle.csl_base.specs.Style.{LocaleValue, StyleValue}
 use Rattle.csl_driver.specs.Class.{is_note}
-use Rattle.csl_driver.specs.Request.{Cite, Request}
-use Rattle.cite_run.specs.Words.{◌>>=◌, object_with, required, optional, where_present, all_items, list_of, whole, name_form, named}
-use Rattle.cite_run.specs.Styles.{NamedStyle}
-use Rattle.cite_run.specs.Entries.{entry_named}
+use Rattle.csl_driver.specs.Request.{text_payload, LocatorValue, Cite, Request}
+use Rattle.cite_run.specs.Words.{◌>>=◌, object_with, required, where_present, flag, list_of, items_at, whole, name_form}
+use Rattle.cite_run.specs.Names.{one_of}
+use Rattle.cite_run.specs.Tables.{locators, purposes}
 
--- a cite
-unfoldable pub item_form : List PlainEntry → Data → Option (Cite PlainEntry Infallible)
-item_form entries d = do
-  o ← object_with (codes "entry" ∷ codes "hidden" ∷ []) d
-  entry ← required (name_form (entry_named entries)) (codes "entry") o
-  hidden ← optional false as_bool (codes "hidden") o
-  Some (record { entry = entry; locator = None; locale = None; hidden = hidden; purpose = None; place = 0 })
+-- a locator: what it counts, and its text
+abbrev pub locator_of : Items → Option (LocatorValue Infallible)
+locator_of (item kind (item text no_items)) = do
+  counted ← one_of locators kind
+  place ← as_str text
+  Some (record { kind = counted; payload = text_payload place })
+locator_of _ = None
 
--- a request for a citation; the note number is kept where the style's cites stand in notes
-unfoldable pub request_form : List NamedStyle → List PlainEntry → Data → Option (Request PlainEntry Infallible)
-request_form styles entries d = do
-  o ← object_with (codes "style" ∷ codes "note" ∷ codes "items" ∷ []) d
-  style ← required (name_form (named styles)) (codes "style") o
-  note ← where_present whole (codes "note") o
-  items ← required as_array (codes "items") o
-  cites ← all_items (item_form entries) items
-  Some (record { cites = cites; style = style; locale = None; locales = []; note_number = (if is_note style.class then note else None) })
+abbrev pub locator_form : Data → Option (LocatorValue Infallible)
+locator_form d = option_and_then locator_of (as_array d)
 
--- the requests of a list
-unfoldable pub requests_form : List NamedStyle → List PlainEntry → Data → Option (List (Request PlainEntry Infallible))
-requests_form styles entries o = do
-  list ← required as_array (codes "requests") o
-  all_items (request_form styles entries) list
+-- a cite of an entry
+unfoldable pub item_form : (List ℕ → Option PlainEntry) → Data → Option (Cite PlainEntry Infallible)
+item_form entry d = do
+  o ← object_with (codes "entry" ∷ codes "locator" ∷ codes "locale" ∷ codes "hidden" ∷ codes "purpose" ∷ []) d
+  cited ← required (name_form entry) (codes "entry") o
+  locator ← where_present locator_form (codes "locator") o
+  locale ← where_present as_str (codes "locale") o
+  hidden ← flag (codes "hidden") o
+  purpose ← where_present (one_of purposes) (codes "purpose") o
+  Some (record { entry = cited; locator = locator; locale = locale; hidden = hidden; purpose = purpose; place = 0 })
 
--- what is asked of the bibliography: its style, and the order of its entries
-abbrev pub Wanted : Type 0
-Wanted = StyleValue × Option (List PlainEntry)
+module _ (style : List ℕ → Option StyleValue) (entry : List ℕ → Option PlainEntry) where
+  -- a request for a citation, with these locales; the note number is kept where the style's cites stand in notes
+  unfoldable pub request_form : List LocaleValue → Data → Option (Request PlainEntry Infallible)
+  request_form locales d = do
+    o ← object_with (codes "style" ∷ codes "locale" ∷ codes "note" ∷ codes "items" ∷ []) d
+    by ← required (name_form style) (codes "style") o
+    locale ← where_present as_str (codes "locale") o
+    note ← where_present whole (codes "note") o
+    cites ← items_at (item_form entry) (codes "items") o
+    Some (record { cites = cites; style = by; locale = locale; locales = locales; note_number = (if is_note by.class then note else None) })
 
--- what an object asks of the bibliography
-unfoldable pub wanted_form : List NamedStyle → List PlainEntry → Data → Option Wanted
-wanted_form styles entries d = do
-  o ← object_with (codes "style" ∷ codes "order" ∷ []) d
-  style ← required (name_form (named styles)) (codes "style") o
-  order ← where_present (list_of (name_form (entry_named entries))) (codes "order") o
-  Some (style, order)
+  -- what is asked of the bibliography: its style, its locale, and the order of its entries
+  unfoldable pub wanted_form : Data → Option (StyleValue × Option (List ℕ) × Option (List PlainEntry))
+  wanted_form d = do
+    o ← object_with (codes "style" ∷ codes "locale" ∷ codes "order" ∷ []) d
+    by ← required (name_form style) (codes "style") o
+    locale ← where_present as_str (codes "locale") o
+    order ← where_present (list_of (name_form entry)) (codes "order") o
+    Some (by, locale, order)

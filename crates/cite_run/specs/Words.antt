@@ -1,17 +1,20 @@
 -- Words for the forms of JSON values.
-use Rattle.std.specs.Prelude.{ℕ, Bool, false, not, List, [], ◌∷◌, Option, Some, None, option_and_then, option_map, nat_eq, if◌then◌else◌, ◌&&◌}
-use Rattle.std.specs.Char.{is_ascii_digit, is_whitespace}
+use Rattle.std.specs.Prelude.{ℕ, ℤ, Bool, false, List, [], ◌∷◌, Option, Some, None, option_and_then, option_map, nat_eq, int_le, if◌then◌else◌, ◌&&◌}
 use Rattle.std.specs.List.{list_any, list_all}
 use Rattle.std.specs.Option.{option_map_or}
-use Rattle.std.specs.Str.{chars}
 use Rattle.std.specs.Cmp.Lexicographic.{pointwise}
 use Rattle.serde_json.specs.Data.{Data, Items, no_items, item, Members, no_members, member}
-use Rattle.serde_json.specs.Find.{get, as_array, as_number, as_object, as_str, as_u64}
+use Rattle.serde_json.specs.Find.{get, as_array, as_bool, as_i64, as_number, as_object, as_str, as_u64}
 
 -- one after another: nothing where one gives nothing
 infixl 10 ◌>>=◌
 abbrev pub ◌>>=◌ : {A B : Type 0} → Option A → (A → Option B) → Option B
 o >>= f = option_and_then f o
+
+-- what the first gives, or else what the second gives
+abbrev pub first_of : {A : Type 0} → Option A → Option A → Option A
+first_of (Some x) other = Some x
+first_of None other = other
 
 -- ---- objects
 
@@ -53,6 +56,10 @@ present f d = option_map (λ x. Some x) (f d)
 abbrev pub where_present : {A : Type 0} → (Data → Option A) → List ℕ → Data → Option (Option A)
 where_present f = optional None (present f)
 
+-- the truth value of a key; false where the key is absent
+abbrev pub flag : List ℕ → Data → Option Bool
+flag = optional false as_bool
+
 -- ---- lists and objects of things
 
 -- what the items are, each of the form f
@@ -62,6 +69,18 @@ all_items f (item d ds) = do
   x ← f d
   xs ← all_items f ds
   Some (x ∷ xs)
+
+-- an array whose items are of the form f
+abbrev pub list_of : {A : Type 0} → (Data → Option A) → Data → Option (List A)
+list_of f d = option_and_then (all_items f) (as_array d)
+
+-- what the items of a key's array are, which must be there
+abbrev pub items_at : {A : Type 0} → (Data → Option A) → List ℕ → Data → Option (List A)
+items_at f k d = option_and_then (all_items f) (required as_array k d)
+
+-- the same; none where the key is absent
+abbrev pub optional_items : {A : Type 0} → (Data → Option A) → List ℕ → Data → Option (List A)
+optional_items f k d = option_and_then (all_items f) (optional no_items as_array k d)
 
 -- a member's name and what the member is, where that is of the form f
 abbrev pub member_form : {A : Type 0} → (Data → Option A) → List ℕ → Data → Option (List ℕ × A)
@@ -75,31 +94,20 @@ all_members f (member k d ms) = do
   xs ← all_members f ms
   Some (x ∷ xs)
 
--- an array whose items are of the form f
-abbrev pub list_of : {A : Type 0} → (Data → Option A) → Data → Option (List A)
-list_of f d = option_and_then (all_items f) (as_array d)
-
--- ---- numbers and texts
+-- ---- numbers and names
 
 -- a whole number from 0 to the greatest of 64 bits, without sign, fraction and exponent
 abbrev pub whole : Data → Option ℕ
 whole d = option_and_then as_u64 (as_number d)
 
--- neither an ASCII digit nor white space
-abbrev pub is_plain_char : ℕ → Bool
-is_plain_char c = not (is_ascii_digit c) && not (is_whitespace c)
+-- a number, if it is neither below the one bound nor above the other
+abbrev pub between : ℤ → ℤ → ℤ → Option ℤ
+between low high z = if int_le low z && int_le z high then Some z else None
 
--- a text of such characters alone
-abbrev pub is_plain_affix : List ℕ → Bool
-is_plain_affix text = list_all is_plain_char (chars text)
+-- a whole number between these bounds, without fraction and exponent
+abbrev pub whole_between : ℤ → ℤ → Data → Option ℤ
+whole_between low high d = option_and_then (between low high) (option_and_then as_i64 (as_number d))
 
--- ---- names
-
--- the value of a name, by a table: that of the first row
-abbrev pub named : {A : Type 0} → List (List ℕ × A) → List ℕ → Option A
-named [] name = None
-named (row ∷ rows) name = if pointwise nat_eq name row.0 then Some row.1 else named rows name
-
--- a text that names a value
+-- a text that names what f finds
 abbrev pub name_form : {A : Type 0} → (List ℕ → Option A) → Data → Option A
 name_form f d = option_and_then f (as_str d)

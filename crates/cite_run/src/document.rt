@@ -1,27 +1,36 @@
 //! The document: its styles, its entries, and what is asked of them.
 mod elements;
 mod entries;
-mod names;
+mod locales;
+pub(crate) mod names;
+mod options;
 mod requests;
 mod styles;
 
-ghost use Rattle.std.specs.Prelude.{codes};
+ghost use Rattle.std.specs.Prelude.{codes, map};
 ghost use Rattle.serde_json.specs.Read.{read};
 ghost use Rattle.serde_json.specs.View.{view};
-ghost use Rattle.cite_run.specs.Words.{optional, whole};
+ghost use Rattle.csl_base.specs.StyleView.{locale_view};
+ghost use Rattle.cite_run.specs.Finders.{entry_in, style_in};
 ghost use Rattle.cite_run.specs.NamedStyleView.{named_styles_view};
+ghost use Rattle.cite_run.specs.Styles.{style_named};
+ghost use Rattle.cite_run.specs.Entries.{entry_named};
 ghost use Rattle.cite_run.specs.Form.{asked_form, top_form, text_of};
 ghost use Rattle.cite_run.specs.DocumentView.{document_view};
 ghost use Rattle.cite_run.specs.Reads.{Reads};
 
 pub(crate) use crate::document::entries::entries_of;
+use crate::document::entries::{EntriesByKey, entries_by_key};
+pub(crate) use crate::document::locales::locales_at;
 pub use crate::document::requests::{Request, Wanted};
 use crate::document::requests::{requests_of, wanted_of};
 pub use crate::document::styles::NamedStyle;
 pub(crate) use crate::document::styles::styles_of;
+use crate::document::styles::{StylesByName, styles_by_name};
 use crate::error::RunError;
-use crate::words::{object_with, optional_number, required};
+use crate::words::{number_or, object_with, required};
 use csl_base::entry::PlainEntry;
+use csl_base::locale::Locale;
 use serde_json::Value;
 use std::alloc::Global;
 
@@ -30,6 +39,8 @@ use std::alloc::Global;
 pub struct Asked<'e> {
     pub requests: Vec<Request<'e>>,
     pub wanted: Wanted<'e>,
+    /// The locales that are asked for terms that a style doesn't have.
+    pub locales: &'e [Locale],
     /// The number of the first entry.
     pub offset: usize,
 }
@@ -66,36 +77,52 @@ pub(crate) fn top_of(value: &Value) -> Result<&Value, RunError>
     ensures { Reads (λ v. view v.now) result (top_form (view value.now)) }
 {
     object_with(
-        &["styles", "entries", "requests", "bibliography", "offset"],
+        &[
+            "styles",
+            "locales",
+            "entries",
+            "requests",
+            "bibliography",
+            "offset",
+        ],
         value,
     )
 }
 
-fn optional_offset(value: &Value) -> Result<usize, RunError>
-    ensures { Reads (λ n. n) result (optional 0 whole (codes "offset") (view value.now)) }
-{
-    match optional_number(value, "offset")? {
-        Some(offset) => Ok(offset),
-        None => Ok(0),
-    }
-}
-
-/// What the document asks for, of these styles and entries.
+/// What the document asks for, of the styles and entries that the maps find, with these locales.
 #[tactic(auto, unfolding(crate::specs::Form::asked_form))]
-pub(crate) fn asked_of<'e>(
+fn asked_of<'e>(
     alloc: Global,
-    styles: &'e [NamedStyle],
-    entries: &'e [PlainEntry],
-    object: &Value,
+    styles: &StylesByName<'e>,
+    entries: &EntriesByKey<'e>,
+    locales: &'e [Locale],
+    object: &'e Value,
 ) -> Result<Asked<'e>, RunError>
-    ensures { Reads document_view result (asked_form (named_styles_view styles.now) entries.now (view object.now)) }
+    ensures { Reads document_view result (asked_form (style_in styles.now) (entry_in entries.now) (map locale_view locales.now) (view object.now)) }
 {
-    let requests = requests_of(alloc, styles, entries, object)?;
+    let requests = requests_of(alloc, styles, entries, locales, object)?;
     let wanted = wanted_of(alloc, styles, entries, required(object, "bibliography")?)?;
-    let offset = optional_offset(object)?;
+    let offset = number_or(object, "offset", 0)?;
     Ok(Asked {
         requests,
         wanted,
+        locales,
         offset,
     })
+}
+
+/// What the document asks for. A name finds the style of that name, and a key the first entry that
+/// has it.
+pub(crate) fn asked_in<'e>(
+    alloc: Global,
+    styles: &'e [NamedStyle],
+    entries: &'e [PlainEntry],
+    locales: &'e [Locale],
+    object: &'e Value,
+) -> Result<Asked<'e>, RunError>
+    ensures { Reads document_view result (asked_form (style_named (named_styles_view styles.now)) (entry_named entries.now) (map locale_view locales.now) (view object.now)) }
+{
+    let by_name = styles_by_name(alloc, styles)?;
+    let by_key = entries_by_key(alloc, entries)?;
+    asked_of(alloc, &by_name, &by_key, locales, object)
 }

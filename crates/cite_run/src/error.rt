@@ -9,13 +9,15 @@ use thiserror::Error;
 /// Why a run ends without an answer, with the line that standard error gets.
 #[derive(Debug, Drop, Error)]
 pub enum RunError {
-    /// The input couldn't be read, or the output couldn't be written.
+    /// A read of the input failed, or it didn't end within the reads that are made; or a write of
+    /// the output failed.
     #[error("cite_run: input or output failed")]
     Output,
     /// The input isn't JSON, or not the form of a document.
     #[error("cite_run: document refused")]
     Document,
-    /// The macros of a style call each other in a ring.
+    /// The macros of a style call each other in a ring: where the first such style is asked for, and
+    /// its first macro on a ring.
     #[error("cite_run: macro ring")]
     MacroRing { place: RingPlace, macro_idx: usize },
     /// The offset and the number of entries together are above the greatest `usize`.

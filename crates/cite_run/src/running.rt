@@ -11,7 +11,7 @@ ghost use Rattle.cite_run.specs.Print.{print};
 ghost use Rattle.cite_run.specs.Run.{accepted, answer, HasAnswer, HasFirstRing, HasTooLargeNumbers, IsDocumentThat, Prints};
 
 use crate::document::{
-    Asked, Request, Wanted, asked_of, entries_of, styles_of, text_of, top_of, value_of,
+    Asked, Request, Wanted, asked_in, entries_of, locales_at, styles_of, text_of, top_of, value_of,
 };
 use crate::error::RunError;
 use crate::printing::print_rendered;
@@ -70,14 +70,19 @@ fn print_asked(alloc: Global, asked: Asked<'_>) -> Result<String, RunError>
     let Asked {
         requests,
         wanted,
+        locales,
         offset,
     } = asked;
-    let Wanted { style, order } = wanted;
+    let Wanted {
+        style,
+        locale,
+        order,
+    } = wanted;
     let driver = filled_driver(alloc, requests, offset)?;
     let request = BibliographyRequest {
         style,
-        locale: None,
-        locale_files: &[],
+        locale,
+        locale_files: locales,
         order: order_of(&order),
     };
     match driver.finish(request) {
@@ -96,8 +101,9 @@ fn print_value(alloc: Global, value: &Value) -> Result<String, RunError>
 {
     let object = top_of(value)?;
     let styles = styles_of(alloc, object)?;
+    let locales = locales_at(alloc, object, "locales")?;
     let entries = entries_of(alloc, object)?;
-    let asked = asked_of(alloc, &styles, &entries, object)?;
+    let asked = asked_in(alloc, &styles, &entries, &locales, object)?;
     print_asked(alloc, asked)
 }
 

@@ -1,184 +1,71 @@
-//! Runs on documents, over memory and over writers that fail.
+//! Runs on documents, over memory and over readers and writers that fail.
+mod parts;
+mod rows;
+
 use crate::error::RunError;
+use crate::input::read_input;
 use crate::running::run;
-use std::alloc::AllocError;
+use csl_driver::error::RingPlace;
 use std::io;
-use std::io::{ErrorKind, Write};
+use std::io::{ErrorKind, Read, Write};
 use std::test::Fail;
 
-/// A citation that writes numbers in brackets.
-const NUMBERS: &str =
-    r#"{"elements":[{"kind":"number","variable":"citation-number"}],"prefix":"[","suffix":"]","delimiter":", ","collapse":"citation-number","after_collapse_delimiter":"; "}"#;
-
-/// A bibliography that writes a number in brackets.
-const NUMBERED: &str =
-    r#"{"elements":[{"kind":"number","variable":"citation-number","prefix":"[","suffix":"]"}]}"#;
-
-/// A document of that style, with this behind its styles.
-fn numeric(rt: &HostRuntime, rest: &str) -> Result<String, AllocError> {
-    format!(in rt.alloc();
-        "{{\"styles\":{{\"num\":{{\"citation\":{NUMBERS},\"bibliography\":{NUMBERED}}}}},{rest}"
-    )
-}
-
-/// A document of one style, whose citation and bibliography are these, with one cite.
-fn styled(rt: &HostRuntime, style: &str) -> Result<String, AllocError> {
-    format!(in rt.alloc();
-        "{{\"styles\":{{\"s\":{style}}},\"entries\":[{{\"key\":\"a\"}}],\"requests\":[{{\"style\":\"s\",\"note\":3,\"items\":[{{\"entry\":\"a\"}}]}}],\"bibliography\":{{\"style\":\"s\"}}}}"
-    )
-}
-
-/// Whether the run on the document succeeds and writes exactly the text.
-fn prints(rt: &HostRuntime, document: &str, text: &str) -> bool {
-    let mut out = Vec::new(rt.alloc());
-    let done = run(rt.alloc(), document.as_bytes(), &mut out);
-    done.is_ok() && out.as_slice() == text.as_bytes()
-}
-
-/// The error of the run on the document, where there is one and nothing was written.
-fn refusal(rt: &HostRuntime, document: &str) -> Option<RunError> {
+/// The status that the run on the document ends with, and what it writes.
+fn ended(rt: &HostRuntime, document: &str) -> (u8, Vec<u8>) {
     let mut out = Vec::new(rt.alloc());
     match run(rt.alloc(), document.as_bytes(), &mut out) {
-        Err(error) if out.is_empty() => Some(error),
-        _ => None,
+        Ok(()) => (0, out),
+        Err(error) => (error.status(), out),
     }
 }
 
-fn is_refused(rt: &HostRuntime, document: &str) -> bool {
-    matches!(refusal(rt, document), Some(RunError::Document))
+/// Whether the run on the document ends with this status and has written exactly the text.
+pub(crate) fn gives(rt: &HostRuntime, document: &str, status: u8, text: &str) -> bool {
+    let (got, out) = ended(rt, document);
+    got == status && out.as_slice() == text.as_bytes()
 }
 
-fn overflows(rt: &HostRuntime, document: &str) -> bool {
-    matches!(refusal(rt, document), Some(RunError::NumberOverflow))
+/// Whether the document is one.
+pub(crate) fn is_accepted(rt: &HostRuntime, document: &str) -> bool {
+    ended(rt, document).0 == 0
 }
 
-/// What comes behind the styles in the stored run.
-const ORDERED: &str =
-    r#""entries":[{"key":"a"},{"key":"b"},{"key":"c"},{"key":"x"}],"requests":[{"style":"num","items":[{"entry":"a"}]},{"style":"num","items":[{"entry":"b"}]},{"style":"num","items":[{"entry":"c"}]},{"style":"num","items":[{"entry":"b"}]}],"bibliography":{"style":"num","order":["c","x","a","c"]},"offset":"#;
-
-#[test]
-fn offset_and_order(rt: HostRuntime) -> Result<(), Fail> {
-    let document = numeric(&rt, format!(in rt.alloc(); "{ORDERED}2}}")?.as_str())?;
-    assert!(&rt;
-        prints(
-            &rt,
-            document.as_str(),
-            "[4]\n[5]\n[3]\n[5]\n\nc\t[3]\na\t[4]\nb\t[5]\n",
-        )
-    );
-    Ok(())
+/// Whether the document is refused, and nothing was written.
+pub(crate) fn is_refused(rt: &HostRuntime, document: &str) -> bool {
+    gives(rt, document, 2, "")
 }
 
 #[test]
-fn cut_documents(rt: HostRuntime) -> Result<(), Fail> {
-    assert!(&rt; is_refused(&rt, numeric(&rt, "")?.as_str()));
-    for offset in ["2.0}", "2e0}", "-2}", "-0}", "18446744073709551616}"] {
-        let document = numeric(&rt, format!(in rt.alloc(); "{ORDERED}{offset}")?.as_str())?;
-        assert!(&rt; is_refused(&rt, document.as_str()));
-    }
-    Ok(())
-}
-
-#[test]
-fn empty_run(rt: HostRuntime) -> Result<(), Fail> {
-    let rest = r#""entries":[],"requests":[],"bibliography":{"style":"num"}}"#;
-    assert!(&rt; prints(&rt, numeric(&rt, rest)?.as_str(), "\n"));
-    Ok(())
-}
-
-#[test]
-fn hidden_first(rt: HostRuntime) -> Result<(), Fail> {
-    let rest =
-        r#""entries":[{"key":"a"},{"key":"b"}],"requests":[{"style":"num","items":[{"entry":"a","hidden":true},{"entry":"b"}]},{"style":"num","items":[{"entry":"a","hidden":true}]}],"bibliography":{"style":"num"}}"#;
-    let document = numeric(&rt, rest)?;
-    assert!(&rt; prints(&rt, document.as_str(), "[2]\n\n\na\t[1]\nb\t[2]\n"));
-    Ok(())
-}
-
-#[test]
-fn number_overflow(rt: HostRuntime) -> Result<(), Fail> {
-    let entries =
-        r#""entries":[{"key":"a"},{"key":"b"}],"bibliography":{"style":"num"},"requests":"#;
-    let none = format!(in rt.alloc(); "{entries}[],\"offset\":18446744073709551615}}")?;
-    assert!(&rt; prints(&rt, numeric(&rt, none.as_str())?.as_str(), "\n"));
-    let one = r#"[{"style":"num","items":[{"entry":"a"}]}],"offset":1844674407370955161"#;
-    let full = format!(in rt.alloc(); "{entries}{one}5}}")?;
-    assert!(&rt; overflows(&rt, numeric(&rt, full.as_str())?.as_str()));
-    let last = format!(in rt.alloc(); "{entries}{one}4}}")?;
-    assert!(&rt;
-        prints(
-            &rt,
-            numeric(&rt, last.as_str())?.as_str(),
-            "[18446744073709551615]\n\na\t[18446744073709551615]\n",
-        )
-    );
-    let two =
-        r#"[{"style":"num","items":[{"entry":"a"},{"entry":"b"}]}],"offset":18446744073709551614}"#;
-    let above = format!(in rt.alloc(); "{entries}{two}")?;
-    assert!(&rt; overflows(&rt, numeric(&rt, above.as_str())?.as_str()));
-    Ok(())
-}
-
-#[test]
-fn refused_parts(rt: HostRuntime) -> Result<(), Fail> {
-    let rests = [
-        r#""entries":[],"requests":[],"bibliography":{"style":"num"},"styel":1}"#,
-        r#""entries":[],"requests":[],"bibliography":{"style":"num"},"offset":null}"#,
-        r#""entries":[],"requests":[],"bibliography":{"style":"num","order":null}}"#,
-        r#""entries":[],"requests":[],"bibliography":{"style":"none"}}"#,
-        r#""entries":[],"requests":[]}"#,
-        r#""entries":[{}],"requests":[],"bibliography":{"style":"num"}}"#,
-        r#""entries":[{"key":"a"}],"requests":[{"style":"num","items":[{"entry":"a","hidden":1}]}],"bibliography":{"style":"num"}}"#,
-        r#""entries":[{"key":"a"}],"requests":[{"style":"num","items":[{"entry":"q"}]}],"bibliography":{"style":"num"}}"#,
-        r#""entries":[{"key":"a"}],"requests":[{"style":"num","items":[{}]}],"bibliography":{"style":"num"}}"#,
-        r#""entries":[{"key":"a"}],"requests":[{"style":"nun","items":[]}],"bibliography":{"style":"num"}}"#,
-        r#""entries":[{"key":"a"}],"requests":[{"style":"num","note":-1,"items":[]}],"bibliography":{"style":"num"}}"#,
-        r#""entries":[{"key":"a"}],"requests":[],"bibliography":{"style":"num","order":["a","q"]}}"#,
+fn lines_of_errors(rt: HostRuntime) -> Result<(), Fail> {
+    let lines = [
+        (RunError::Output, "cite_run: input or output failed"),
+        (RunError::Document, "cite_run: document refused"),
+        (
+            RunError::MacroRing {
+                place: RingPlace::Bibliography,
+                macro_idx: 0,
+            },
+            "cite_run: macro ring",
+        ),
+        (RunError::NumberOverflow, "cite_run: number overflow"),
+        (RunError::OutOfMemory, "cite_run: out of memory"),
     ];
-    for rest in rests {
-        assert!(&rt; is_refused(&rt, numeric(&rt, rest)?.as_str()));
+    for (error, line) in lines {
+        let text = format!(in rt.alloc(); "{error}")?;
+        assert_eq!(&rt; text.as_str(), line);
     }
     Ok(())
 }
 
-#[test]
-fn refused_styles(rt: HostRuntime) -> Result<(), Fail> {
-    let citations = [
-        r#"[{"kind":"texts","value":"x"}]"#,
-        r#"[{"kind":"text","value":"x","variable":"title"}]"#,
-        r#"[{"kind":"text"}]"#,
-        r#"[{"kind":"number","variable":"volume"}]"#,
-        r#"[{"kind":"text","value":"x"},{"kind":"text","value":"y"}]"#,
-        r#"[]"#,
-        r#"[{"kind":"number","variable":"citation-number","prefix":"a1"}]"#,
-        r#"[{"kind":"number","variable":"citation-number","suffix":" "}]"#,
-        r#"[{"kind":"number","variable":"citation-number","suffix":"\u2003"}]"#,
-    ];
-    for elements in citations {
-        let style = format!(in rt.alloc(); "{{\"citation\":{{\"elements\":{elements}}}}}")?;
-        assert!(&rt; is_refused(&rt, styled(&rt, style.as_str())?.as_str()));
-    }
-    let class = format!(in rt.alloc(); "{{\"class\":\"notes\",\"citation\":{NUMBERS}}}")?;
-    assert!(&rt; is_refused(&rt, styled(&rt, class.as_str())?.as_str()));
-    Ok(())
-}
-
-#[test]
-fn no_bibliography(rt: HostRuntime) -> Result<(), Fail> {
-    let style =
-        r#"{"class":"note","citation":{"elements":[{"kind":"text","value":"See it"}],"suffix":"."}}"#;
-    assert!(&rt; prints(&rt, styled(&rt, style)?.as_str(), "See it.\n"));
-    Ok(())
-}
-
-/// Takes some bytes, one at each write, and then fails.
+/// Takes some bytes, one at each write, keeps them, and then fails.
 struct Failing {
     left: usize,
+    got: Vec<u8>,
 }
 
 impl Write for Failing {
     fn write(&mut self, buf: &[u8]) -> io::Result<usize> {
-        if self.left == 0 || buf.is_empty() {
+        if self.left == 0 || buf.is_empty() || self.got.push(buf[0]).is_err() {
             return Err(ErrorKind::BrokenPipe.into());
         }
         self.left -= 1;
@@ -191,16 +78,62 @@ impl Write for Failing {
 }
 
 #[test]
-fn failing_writers(rt: HostRuntime) -> Result<(), Fail> {
-    let rest =
-        r#""entries":[],"requests":[{"style":"num","items":[]}],"bibliography":{"style":"num"}}"#;
-    let document = numeric(&rt, rest)?;
-    for left in 0..2 {
-        let mut out = Failing { left };
+fn failing_writers(rt: HostRuntime) {
+    let document =
+        r#"{"styles":{"s":{"citation":{"elements":[{"kind":"text","value":"See it"}]}}},"entries":[{"key":"a"}],"requests":[{"style":"s","items":[{"entry":"a"}]}],"bibliography":{"style":"s"}}"#;
+    for left in 0..7 {
+        let mut out = Failing {
+            left,
+            got: Vec::new(rt.alloc()),
+        };
         let done = run(rt.alloc(), document.as_bytes(), &mut out);
+        let Failing { left, got } = out;
         assert!(&rt; matches!(done, Err(RunError::Output)));
-        let Failing { left } = out;
         assert_eq!(&rt; left, 0);
+        assert!(&rt; b"See it\n".starts_with(got.as_slice()));
     }
-    Ok(())
+}
+
+/// Gives its bytes one at each read, and then its end or a failure.
+#[derive(Drop)]
+struct Slow<'b> {
+    rest: &'b [u8],
+    fails: bool,
+}
+
+impl Read for Slow<'_> {
+    fn read(&mut self, buf: &mut [u8]) -> io::Result<usize> {
+        let Some((first, others)) = self.rest.split_first() else {
+            if self.fails {
+                return Err(ErrorKind::BrokenPipe.into());
+            }
+            return Ok(0);
+        };
+        if buf.is_empty() {
+            return Ok(0);
+        }
+        buf[0] = *first;
+        self.rest = others;
+        Ok(1)
+    }
+}
+
+#[test]
+fn slow_readers(rt: HostRuntime) {
+    for fails in [false, true] {
+        let mut reader = Slow {
+            rest: b"{\"styles\":{}}",
+            fails,
+        };
+        match read_input(rt.alloc(), &mut reader) {
+            Ok(bytes) => {
+                assert!(&rt; !fails);
+                assert_eq!(&rt; bytes.as_slice(), b"{\"styles\":{}}".as_slice());
+            }
+            Err(error) => {
+                assert!(&rt; fails);
+                assert_eq!(&rt; error.status(), 1);
+            }
+        }
+    }
 }
