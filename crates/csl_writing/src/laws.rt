@@ -30,8 +30,9 @@ pub fn states_have_a_greatest()
     forms_are_in_order();
 }
 
-/// A law: the letters of suffixes are `a` to `z`, and say which suffix it is: they are its number and
-/// one more, written with these letters for 1 to 26. So different suffixes have different letters.
+/// A law: the letters of suffixes are `a` to `z`, and say which suffix it is: they are its number
+/// and one more, written with these letters for 1 to 26. So different suffixes have different
+/// letters.
 pub fn suffixes_differ()
     ensures { SuffixesDiffer }
 {}
