@@ -22,6 +22,7 @@ pub mod Options
 pub mod Names
 pub mod Pick
 pub mod InputView
+pub mod Work
 pub mod HeldView
 pub mod SuffixText
 pub mod Gathered
