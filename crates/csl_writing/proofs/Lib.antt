@@ -10,3 +10,5 @@ pub mod Settled
 pub mod Nesting
 pub mod Gathering
 pub mod Suffixes
+pub mod WorkSteps
+pub mod TextView
