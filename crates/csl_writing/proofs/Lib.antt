@@ -11,3 +11,8 @@ pub mod Settled
 pub mod Nesting
 pub mod Gathering
 pub mod Suffixes
+pub mod InitialsLeft
+pub mod WrittenNames
+pub mod NameParts
+pub mod FormsLength
+pub mod NameBlocks
