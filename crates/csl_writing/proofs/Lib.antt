@@ -12,3 +12,8 @@ pub mod Gathering
 pub mod Suffixes
 pub mod WorkSteps
 pub mod TextView
+pub mod InitialsLeft
+pub mod WrittenNames
+pub mod NameParts
+pub mod FormsLength
+pub mod NameBlocks
