@@ -16,8 +16,13 @@ at_most false kept count = omega arith
 pub length_of_forms : (r : Rules) (count : ℕ) → length (forms_by r count) ≡ count
 length_of_forms r count =
     let h : written_count r count ≤ count = at_most (is_cut r.et_al_min count) r.kept count in
-    omega (arith, h, length-append (replicate (written_count r count) r.form) (replicate (count - written_count r count) DisambiguatedNameForm.Count),
-      length-replicate (written_count r count) r.form, length-replicate (count - written_count r count) DisambiguatedNameForm.Count)
+    omega (
+      arith,
+      h,
+      length-append (replicate (written_count r count) r.form) (replicate (count - written_count r count) DisambiguatedNameForm.Count),
+      length-replicate (written_count r count) r.form,
+      length-replicate (count - written_count r count) DisambiguatedNameForm.Count,
+    )
 
 of_state : (s : DisambiguateState) (forms : Forms) → length (forms_in s forms) ≡ length forms
 of_state (state.NameDisambiguation own) forms =

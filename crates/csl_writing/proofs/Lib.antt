@@ -1,7 +1,7 @@
 pub mod Greater
 pub mod StateOrder
 pub mod Tokens
-pub mod Steps
+pub mod MacroCalls
 pub mod FirstAnswers
 pub mod Letters
 pub mod NameLists

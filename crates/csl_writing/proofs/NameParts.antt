@@ -22,13 +22,13 @@ module _ {X Y : Type 0} (f : X → Part) (g : Y → X) where
 
   -- a joint and a name further
   pub name_further : (old : List Y) (y : Y) (ys : List Y) (words last : List ℕ) (left : ℕ) (joint : LeafValue) (before between after : List Token)
-    → old ≡ y ∷ ys → left ≡ length ys → joint ≡ text_leaf (cond (left == 0) last words)
-    → between ≡ before ++ leaf_token joint ∷ [] → after ≡ between ++ part_tokens (f (g y))
-    → after ++ tokens (joined_behind words last (map f (map g ys))) ≡ before ++ tokens (joined_behind words last (map f (map g old)))
+      → old ≡ y ∷ ys → left ≡ length ys → joint ≡ text_leaf (cond (left == 0) last words)
+      → between ≡ before ++ leaf_token joint ∷ [] → after ≡ between ++ part_tokens (f (g y))
+      → after ++ tokens (joined_behind words last (map f (map g ys))) ≡ before ++ tokens (joined_behind words last (map f (map g old)))
   name_further old y ys words last left joint before between after e l j a b =
       let rest = tokens (joined_behind words last (map f (map g ys))) in
       let says : joint ≡ text_leaf (cond (gives (map f (map g ys))) words last)
-          = j ∙ ap (λ n. text_leaf (cond (n == 0) last words)) l ∙ ap text_leaf (last_if_none ys words last) in
+      = j ∙ ap (λ n. text_leaf (cond (n == 0) last words)) l ∙ ap text_leaf (last_if_none ys words last) in
       ap (λ ts. ts ++ rest) (b ∙ ap (λ ts. ts ++ part_tokens (f (g y))) a)
       ∙ append_assoc (before ++ leaf_token joint ∷ []) (part_tokens (f (g y))) rest
       ∙ append_assoc before (leaf_token joint ∷ []) (part_tokens (f (g y)) ++ rest)
@@ -37,9 +37,9 @@ module _ {X Y : Type 0} (f : X → Part) (g : Y → X) where
 
   -- behind the last name
   pub names_ended : (all : List Y) (y : Y) (ys none : List Y) (words : List ℕ) (last : ℕ → List ℕ) (count : ℕ) (before first after : List Token)
-    → all ≡ y ∷ ys → none ≡ [] → count ≡ length all → first ≡ before ++ part_tokens (f (g y))
-    → after ++ tokens (joined_behind words (last count) (map f (map g none))) ≡ first ++ tokens (joined_behind words (last count) (map f (map g ys)))
-    → after ≡ before ++ tokens (joined_parts words (last (length (map g all))) (map f (map g all)))
+      → all ≡ y ∷ ys → none ≡ [] → count ≡ length all → first ≡ before ++ part_tokens (f (g y))
+      → after ++ tokens (joined_behind words (last count) (map f (map g none))) ≡ first ++ tokens (joined_behind words (last count) (map f (map g ys)))
+      → after ≡ before ++ tokens (joined_parts words (last (length (map g all))) (map f (map g all)))
   names_ended all y ys none words last count before first after e n k a inv =
       let rest = tokens (joined_behind words (last count) (map f (map g ys))) in
       sym (append-nil after)
@@ -61,10 +61,10 @@ preceded_tokens (Some words) p ps = refl
 -- a block that has names, of which some may be cut
 module _ {X : Type 0} (f : X → Part) (terms : Terms) (r : Rules) (cut : Bool) (before : Option (List ℕ)) (old first between after : List Token) where
   pub block_written : (xs : List X) → (length xs == 0) ≡ false
-    → first ≡ old ++ tokens (before_parts before)
-    → between ≡ first ++ tokens (joined_parts r.name_delimiter (last_words terms r cut (length xs)) (map f xs))
-    → after ≡ between ++ tokens (et_al_parts terms cut)
-    → after ≡ old ++ tokens (preceded before (joined_names terms r cut (map f xs)))
+      → first ≡ old ++ tokens (before_parts before)
+      → between ≡ first ++ tokens (joined_parts r.name_delimiter (last_words terms r cut (length xs)) (map f xs))
+      → after ≡ between ++ tokens (et_al_parts terms cut)
+      → after ≡ old ++ tokens (preceded before (joined_names terms r cut (map f xs)))
   block_written [] some a b d = cc
   block_written (x ∷ xs) some a b d =
       let last = last_words terms r cut in

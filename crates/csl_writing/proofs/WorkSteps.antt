@@ -15,12 +15,12 @@ use Rattle.csl_writing.specs.declared.picking.Step.TheVariants as steps
 use Rattle.csl_writing.specs.Env.{Env}
 use Rattle.csl_writing.specs.Conditions.{passes, tested}
 use Rattle.csl_writing.specs.Pieces.{NodeValue}
-use Rattle.csl_writing.specs.Picked.{Picked, Held, added, grouped, in_macro, nothing}
+use Rattle.csl_writing.specs.Picked.{Held, added, grouped}
 use Rattle.csl_writing.specs.Nodes.{inside, opened}
 use Rattle.csl_writing.specs.Pick.{Call, pick_all_with, pick_first_with, body_picked, called_macro, picks, picks_all}
 use Rattle.csl_writing.specs.Work.{StepValue, step_view, steps_view, done, all_done, plain_done, inside_done, body_weight, macro_weight, weight, weight_all, step_work, work}
 use Rattle.csl_writing.proofs.Tokens.{group_step, macro_step, added-nothing, added-followed}
-use Rattle.csl_writing.proofs.Steps.{macro_called}
+use Rattle.csl_writing.proofs.MacroCalls.{macro_called}
 
 all_done-append : (env : Env) (ms : List Macro) (xs ys : List StepValue) (h : Held) → all_done env ms (xs ++ ys) h ≡ all_done env ms xs (all_done env ms ys h)
 all_done-append env ms [] ys h = refl

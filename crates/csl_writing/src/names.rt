@@ -346,10 +346,7 @@ fn are_cut(forms: &[DisambiguatedNameForm]) -> bool
 }
 
 // Adds a text before a block, if there is one.
-fn push_before<'a>(
-    before: Option<&'a str>,
-    pieces: &mut Vec<Piece<'a>>,
-) -> Result<(), AllocError>
+fn push_before<'a>(before: Option<&'a str>, pieces: &mut Vec<Piece<'a>>) -> Result<(), AllocError>
     ensures { OnOk result (tokens_of pieces.new.items ≡ tokens_of pieces.old.items ++ tokens (before_parts (option_map (λ t. t.now) before.entry))) }
 {
     match before {
@@ -571,11 +568,7 @@ fn push_opening<'a>(node: Node<'a>, pieces: &mut Vec<Piece<'a>>) -> Result<(), A
 }
 
 // Closes the node that stands at this place, or takes it out where nothing stands in it.
-fn close_node(
-    pieces: &mut Vec<Piece>,
-    start: usize,
-    given: bool,
-) -> Result<(), AllocError>
+fn close_node(pieces: &mut Vec<Piece>, start: usize, given: bool) -> Result<(), AllocError>
     ensures { OnOk result (tokens_of pieces.new.items ≡ (if given then tokens_of pieces.old.items ++ closing ∷ [] else take start (tokens_of pieces.old.items))) }
 {
     if given {
@@ -604,10 +597,18 @@ pub(crate) fn pick_names<'a, T: EntryLike>(
         variables: mut blocks,
         stand_in,
     } = chosen;
-    keep_written(input.setting.form, author_variable(input.entry), &mut blocks);
+    keep_written(
+        input.setting.form,
+        author_variable(input.entry),
+        &mut blocks,
+    );
     let blocks = blocks.as_slice();
     let style = input.setting.context.style;
-    let rules = NameRules::new(options, input.setting.layout_options, &style.settings.options);
+    let rules = NameRules::new(
+        options,
+        input.setting.layout_options,
+        &style.settings.options,
+    );
     let start = picking.pieces.len();
     let meta = names_meta(alloc, input.entry, blocks)?;
     push_opening(names_node(shape, meta), &mut picking.pieces)?;

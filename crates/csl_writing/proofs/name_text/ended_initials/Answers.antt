@@ -26,7 +26,7 @@ loop-c-preserved-then-part_begins c =
     let pushed : string_bytes c.push.new.self ≡ string_bytes l.initials ++ encode_utf8 c.in-Some.c = c.in_ok-push.ensures.bytes in
     let ended : string_bytes c.push_str.new.self ≡ string_bytes c.push.new.self ++ c.args.end.now = c.in_ok-push_str.ensures.bytes in
     let all : string_bytes c.push_str.new.self ≡ string_bytes l.initials ++ (encode_utf8 c.in-Some.c ++ c.args.end.now)
-        = ended ∙ ap (λ bs. bs ++ c.args.end.now) pushed ∙ append_assoc (string_bytes l.initials) (encode_utf8 c.in-Some.c) c.args.end.now in
+    = ended ∙ ap (λ bs. bs ++ c.args.end.now) pushed ∙ append_assoc (string_bytes l.initials) (encode_utf8 c.in-Some.c) c.args.end.now in
     ap (λ bs. bs ++ rest) all
     ∙ append_assoc (string_bytes l.initials) (encode_utf8 c.in-Some.c ++ c.args.end.now) rest
     ∙ ap (λ cs. string_bytes l.initials ++ spelled c.args.end.now cs) (sym step)

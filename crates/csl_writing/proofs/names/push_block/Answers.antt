@@ -19,6 +19,6 @@ returns-clause-pieces c =
     let part = name_part c.args.block.variable in
     let some : (length seen == 0) ≡ false = ap (λ n. n == 0) (length-mapped name_view names.items ∙ sym names.ok.0) ∙ sym c.is_empty.ensures ∙ c.if-is_empty.false in
     block_written part terms r c.are_cut-is_cut.result before old (tokens_of c.push_before.new.pieces.items) (tokens_of c.push_names.new.pieces.items) (tokens_of c.push_et_al.new.pieces.items)
-      seen some c.in_ok-push_before.ensures c.in_ok-push_names.ensures c.in_ok-push_et_al.ensures
+    seen some c.in_ok-push_before.ensures c.in_ok-push_names.ensures c.in_ok-push_et_al.ensures
     ∙ ap (λ (ns : List (ℕ × LeafValue)). old ++ tokens (preceded before (joined_names terms r c.are_cut-is_cut.result (map part ns)))) c.in_ok-names.ensures
     ∙ ap (λ (cut : Bool). old ++ tokens (preceded before (joined_names terms r cut (map part (written_names r.initial_end c.args.block.forms.now c.args.block.persons.now))))) c.are_cut-is_cut.ensures

@@ -20,10 +20,10 @@ returns-clause-pieces g c =
     let old = tokens_of c.args.picking.now.pieces.items in
     let between = tokens_of c.push_first_block.new.picking.pieces.items in
     on_ok_weaker c.push_others.result (λ e.
-      e
-      ∙ ap (λ (t : Bool). between ++ tokens (blocks_after r.names_delimiter t rest)) c.in_ok-given.ensures.given
-      ∙ blocks_further r.names_delimiter false first rest old between c.in_ok-given.ensures.pieces
-      ∙ ap (λ (vs : List NameVariable). old ++ tokens (blocks_parts env r n vs)) (sym c.in-Some.ensures.cases.0)) c.push_others.ensures.pieces
+    e
+    ∙ ap (λ (t : Bool). between ++ tokens (blocks_after r.names_delimiter t rest)) c.in_ok-given.ensures.given
+    ∙ blocks_further r.names_delimiter false first rest old between c.in_ok-given.ensures.pieces
+    ∙ ap (λ (vs : List NameVariable). old ++ tokens (blocks_parts env r n vs)) (sym c.in-Some.ensures.cases.0)) c.push_others.ensures.pieces
 
 pub returns-clause-given : goal.returns-clause-given
 returns-clause-given g c =
@@ -33,7 +33,7 @@ returns-clause-given g c =
     let first = first_block env r n c.in-Some.split.0.now in
     let rest = map (plain_block env r) c.in-Some.split.1.now in
     IfOk-weaker c.push_others.result _ (λ b. b ≡ gives (blocks_parts env r n c.args.blocks.now)) (λ b e.
-      e
-      ∙ ap (λ (t : Bool). t || gives (blocks_after r.names_delimiter t rest)) c.in_ok-given.ensures.given
-      ∙ given_further r.names_delimiter false first rest
-      ∙ ap (λ (vs : List NameVariable). gives (blocks_parts env r n vs)) (sym c.in-Some.ensures.cases.0)) c.push_others.ensures.given
+    e
+    ∙ ap (λ (t : Bool). t || gives (blocks_after r.names_delimiter t rest)) c.in_ok-given.ensures.given
+    ∙ given_further r.names_delimiter false first rest
+    ∙ ap (λ (vs : List NameVariable). gives (blocks_parts env r n vs)) (sym c.in-Some.ensures.cases.0)) c.push_others.ensures.given

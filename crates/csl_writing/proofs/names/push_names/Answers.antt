@@ -21,7 +21,7 @@ loop-place-preserved c =
           r.name_delimiter (last_words (term_for c.args.setting.now) r c.args.is_cut c.len-count.result) (c.loop-place.left - 1) (leaf_view c.in_ok-joint.joint)
           (tokens_of c.loop-place.pieces.items) (tokens_of c.push_leaf.new.pieces.items) (tokens_of c.push_name-in-loop-place.new.pieces.items)
           step left c.in_ok-joint.ensures c.in_ok-push_leaf.ensures c.in_ok-push_name-2.ensures
-        ∙ c.loop-place.invariant.written;
+          ∙ c.loop-place.invariant.written;
     }
 
 pub returns : goal.returns
@@ -30,6 +30,6 @@ returns c =
     let none : into_iter_items c.loop-place.place-iterator ≡ [] = nil_from_length (into_iter_items c.loop-place.place-iterator) (sym c.loop-place.place-iterator.rest.ok.0 ∙ c.in-None-2.ensures.steps.0) in
     let all : c.args.names.items ≡ c.in-Some.name ∷ into_iter_items c.into_iter-place-iterator.result = sym c.into_iter-names.ensures.rest ∙ c.in-Some.ensures.items ∙ ap (λ it. c.in-Some.name ∷ into_iter_items it) (sym c.into_iter-place-iterator.ensures.into_iter_gives) in
     names_ended (name_part c.args.variable) name_view c.args.names.items c.in-Some.name (into_iter_items c.into_iter-place-iterator.result) (into_iter_items c.loop-place.place-iterator)
-      r.name_delimiter (last_words (term_for c.args.setting.now) r c.args.is_cut) c.len-count.result
-      (tokens_of c.args.pieces.now.items) (tokens_of c.push_name.new.pieces.items) (tokens_of c.loop-place.pieces.items)
-      all none (c.len-count.ensures ∙ c.args.names.ok.0) c.in_ok-push_name.ensures c.loop-place.invariant.written
+    r.name_delimiter (last_words (term_for c.args.setting.now) r c.args.is_cut) c.len-count.result
+    (tokens_of c.args.pieces.now.items) (tokens_of c.push_name.new.pieces.items) (tokens_of c.loop-place.pieces.items)
+    all none (c.len-count.ensures ∙ c.args.names.ok.0) c.in_ok-push_name.ensures c.loop-place.invariant.written

@@ -15,5 +15,5 @@ invariant-loop-place l =
     record {
       left : l.left ≡ length (into_iter_items l.place-iterator);
       written : tokens_of l.pieces.items ++ tokens (joined_behind r.name_delimiter last (map (name_part l.variable) (map name_view (into_iter_items l.place-iterator))))
-        ≡ tokens_of l.initial.pieces.items ++ tokens (joined_behind r.name_delimiter last (map (name_part l.variable) (map name_view (into_iter_items l.initial.place-iterator))))
+          ≡ tokens_of l.initial.pieces.items ++ tokens (joined_behind r.name_delimiter last (map (name_part l.variable) (map name_view (into_iter_items l.initial.place-iterator))));
     }

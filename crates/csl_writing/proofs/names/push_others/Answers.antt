@@ -24,11 +24,11 @@ loop-variable-preserved g c =
     let pieces = c.in_ok-given.ensures.pieces ∙ ap (λ (o : Option (List ℕ)). before ++ tokens (preceded o b)) c.delimiter_behind-before.ensures in
     record {
       written = ap (λ (t : Bool). after ++ tokens (blocks_after words (l.is_behind || t) rest)) given
-        ∙ blocks_further words l.is_behind b rest before after pieces
-        ∙ sym (at_drop_more (λ vs. before ++ tokens (blocks_after words l.is_behind (map block vs))) c.args.others.now l.variable-index NameVariable.Author c.loop-variable-test.true)
-        ∙ l.invariant.written;
+          ∙ blocks_further words l.is_behind b rest before after pieces
+          ∙ sym (at_drop_more (λ vs. before ++ tokens (blocks_after words l.is_behind (map block vs))) c.args.others.now l.variable-index NameVariable.Author c.loop-variable-test.true)
+          ∙ l.invariant.written;
       given = ap (λ (t : Bool). (l.is_behind || t) || gives (blocks_after words (l.is_behind || t) rest)) given
-        ∙ given_further words l.is_behind b rest
-        ∙ sym (at_drop_more (λ vs. l.is_behind || gives (blocks_after words l.is_behind (map block vs))) c.args.others.now l.variable-index NameVariable.Author c.loop-variable-test.true)
-        ∙ l.invariant.given;
+          ∙ given_further words l.is_behind b rest
+          ∙ sym (at_drop_more (λ vs. l.is_behind || gives (blocks_after words l.is_behind (map block vs))) c.args.others.now l.variable-index NameVariable.Author c.loop-variable-test.true)
+          ∙ l.invariant.given;
     }

@@ -15,5 +15,5 @@ invariant-loop-variable g l =
     let all = blocks_after r.names_delimiter l.initial.is_behind (map (plain_block env r) l.others) in
     record {
       written : tokens_of l.pieces.items ++ tokens left ≡ tokens_of l.initial.pieces.items ++ tokens all;
-      given : (l.is_behind || gives left) ≡ (l.initial.is_behind || gives all)
+      given : (l.is_behind || gives left) ≡ (l.initial.is_behind || gives all);
     }
