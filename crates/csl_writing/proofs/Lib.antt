@@ -12,11 +12,12 @@ pub mod NameParts
 pub mod FormsLength
 pub mod NameBlocks
 pub mod Tokens
-pub mod Weight
-pub mod Steps
+pub mod MacroCalls
 pub mod NameLists
 pub mod Agree
 pub mod Settled
 pub mod Nesting
 pub mod Gathering
 pub mod Suffixes
+pub mod WorkSteps
+pub mod TextView

@@ -129,8 +129,3 @@ pub macro_step : (picks : Notes → Picked) (node seen : NodeValue) (s now then 
 macro_step picks node seen s now then after o v a b c d =
     let at : now ≡ inside node s = a ∙ ap (λ n. inside n s) v in
     d ∙ (λ i. macro_closed (b i) (c i)) ∙ ap (λ h. macro_closed (opened s) (added (picks h.noted) h)) at ∙ macro-closed node (picks s.noted) s
-
--- one element, and then the rest
-pub rest_step : (one rest : Notes → Picked) (s now : Held) → now ≡ added (one s.noted) s
-    → added (rest now.noted) now ≡ added (followed (one s.noted) (rest (one s.noted).noted)) s
-rest_step one rest s now e = ap (λ h. added (rest h.noted) h) e ∙ added-followed (one s.noted) (rest (one s.noted).noted) s

@@ -33,6 +33,7 @@ pub mod Names
 pub mod NamesView
 pub mod Pick
 pub mod InputView
+pub mod Work
 pub mod HeldView
 pub mod SuffixText
 pub mod Gathered

@@ -589,7 +589,7 @@ pub(crate) fn pick_names<'a, T: EntryLike>(
     picking: &mut Picking<'a>,
 ) -> Result<(), AllocError>
     ensures { let env = env_of (T.answers input.now.entry.now) input.now.setting in
-        OnOk result (held picking.new ≡ added (pick_names env variables.now.items substitute.now.items (options_view options.now) (shape_look shape.entry) (held picking.old).noted) (held picking.old)) }
+        OnOk result (held picking.new ≡ added (pick_names env variables.now.items substitute.now.items (options_view options.now) (shape_look shape.entry) picking.old.notes) (held picking.old)) }
 {
     let alloc = *picking.pieces.allocator();
     let chosen = blocks_of(alloc, input.entry, &picking.notes, variables, substitute)?;

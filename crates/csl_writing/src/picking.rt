@@ -1,17 +1,21 @@
 //! Picking: what a layout writes, from left to right, apart from writing it.
-ghost use Rattle.std.specs.Prelude.{◌≡◌, OnOk, None, false};
-ghost use Rattle.csl_base.specs.ElementView.{element_view, elements_view, branches_view, text_view, look};
+ghost use Rattle.std.specs.Prelude.{◌≡◌, ℕ, ◌+◌, ◌*◌, ◌<◌, OnOk, None, false};
+ghost use Rattle.csl_base.specs.ElementView.{element_view, elements_view, branches_view, target_view, text_view, look};
+ghost use Rattle.csl_base.specs.Element.{Name, text_element};
+ghost use Rattle.csl_base.proofs.Weight.{weight_all_with, weight_branches_with};
 ghost use Rattle.csl_writing.specs.Picked.{added};
 ghost use Rattle.csl_writing.specs.PiecesView.{node_view, shape_look};
 ghost use Rattle.csl_writing.specs.Pieces.{plain_node};
-ghost use Rattle.csl_writing.specs.Pick.{group_node, picks, picks_all, picks_first, called_macro, pick_layout, MacrosUnfold};
+ghost use Rattle.csl_writing.specs.Pick.{Call, group_node, pick_all_with, pick_first_with, called_macro, pick_layout, MacrosUnfold};
+ghost use Rattle.csl_writing.specs.Work.{steps_view, step_view, done, all_done, plain_done, inside_done, macro_weight, weight, step_work, work};
 ghost use Rattle.csl_writing.specs.HeldView.{held};
 ghost use Rattle.csl_writing.specs.InputView.{env_of, macros_of};
 
 use crate::choices::passes;
-use crate::held::Picking;
+use crate::held::{Opened, Picking};
 use crate::input::Input;
 use crate::names::pick_names;
+use crate::notes::Notes;
 use crate::pieces::{Node, Shape};
 use crate::variables::{meant, pick_date, pick_variable, pick_words};
 use csl_base::element::{Affixes, ChooseBranch, LayoutRenderingElement, TextTarget};
@@ -64,16 +68,23 @@ fn plain_shape<'a>(
     }
 }
 
-// What one element gives, where macros nest at most `depth` deep.
-#[cycle(pick)]
-fn pick_element<'a, T: EntryLike>(
+/// A step that is still to be done.
+#[derive(Drop)]
+enum Step<'a> {
+    /// These elements are to be picked, with macros nested at most so deep.
+    Elements(&'a [LayoutRenderingElement], usize),
+    CloseGroup(Opened),
+    CloseMacro(Opened),
+}
+
+// Picks an element that has none inside, and nothing of any other.
+fn pick_plain<'a, T: EntryLike>(
     input: &Input<'a, T>,
     element: &'a LayoutRenderingElement,
-    depth: usize,
     picking: &mut Picking<'a>,
 ) -> Result<(), AllocError>
     ensures { let env = env_of (T.answers input.now.entry.now) input.now.setting in
-        OnOk result (held picking.new ≡ added (picks env (macros_of input.now.setting) depth (element_view element.now) (held picking.old).noted) (held picking.old)) }
+        OnOk result ((call : Call) → held picking.new ≡ plain_done env call (element_view element.now) (held picking.old)) }
 {
     match element {
         LayoutRenderingElement::Text {
@@ -91,20 +102,7 @@ fn pick_element<'a, T: EntryLike>(
                 quotes: *quotes,
                 strip_periods: *strip_periods,
             };
-            match target {
-                TextTarget::Macro(name) => pick_macro(input, name.as_str(), shape, depth, picking),
-                TextTarget::Value(text) => {
-                    pick_words(&input.setting, Some(text.as_str()), shape, picking)
-                }
-                TextTarget::Term(name, form, plural) => {
-                    let words = input.setting.term(*name, *form, *plural);
-                    pick_words(&input.setting, words, shape, picking)
-                }
-                TextTarget::Standard(variable) => {
-                    let variable = meant(&input.setting, Variable::Standard(*variable));
-                    pick_variable(input, variable, shape, picking)
-                }
-            }
+            pick_text(input, target, shape, picking)
         }
         LayoutRenderingElement::Number {
             variable,
@@ -121,12 +119,10 @@ fn pick_element<'a, T: EntryLike>(
             affixes,
             formatting,
             display,
-        } => pick_date(
-            input,
-            *variable,
-            plain_shape(affixes, *formatting, *display),
-            picking,
-        ),
+        } => {
+            let shape = plain_shape(affixes, *formatting, *display);
+            pick_date(input, *variable, shape, picking)
+        }
         LayoutRenderingElement::Names {
             variables,
             substitute,
@@ -138,6 +134,89 @@ fn pick_element<'a, T: EntryLike>(
             let shape = plain_shape(affixes, *formatting, *display);
             pick_names(input, variables, substitute, options, shape, picking)
         }
+        LayoutRenderingElement::Group { .. } => Ok(()),
+        LayoutRenderingElement::Choose { .. } => Ok(()),
+    }
+}
+
+// Picks a text, but nothing of a macro.
+fn pick_text<'a, T: EntryLike>(
+    input: &Input<'a, T>,
+    target: &'a TextTarget,
+    shape: Shape<'a>,
+    picking: &mut Picking<'a>,
+) -> Result<(), AllocError>
+    ensures { let env = env_of (T.answers input.now.entry.now) input.now.setting in
+        let element = text_element (target_view target.now) shape.entry.quotes shape.entry.strip_periods (shape_look shape.entry) in
+        OnOk result ((call : Call) → held picking.new ≡ plain_done env call element (held picking.old)) }
+{
+    match target {
+        TextTarget::Value(text) => pick_words(&input.setting, Some(text.as_str()), shape, picking),
+        TextTarget::Term(name, form, plural) => {
+            let words = input.setting.term(*name, *form, *plural);
+            pick_words(&input.setting, words, shape, picking)
+        }
+        TextTarget::Standard(variable) => {
+            let variable = meant(&input.setting, Variable::Standard(*variable));
+            pick_variable(input, variable, shape, picking)
+        }
+        TextTarget::Macro(_) => Ok(()),
+    }
+}
+
+// The children of the first branch whose test holds, else the last part. All conditions of each
+// branch that is reached are tested.
+fn chosen_children<'a, T: EntryLike>(
+    input: &Input<'a, T>,
+    branches: &'a Vec<ChooseBranch>,
+    otherwise: &'a Vec<LayoutRenderingElement>,
+    notes: &mut Notes,
+) -> &'a Vec<LayoutRenderingElement>
+    ensures chosen { let env = env_of (T.answers input.now.entry.now) input.now.setting in
+        (call : Call) → pick_first_with env call (branches_view branches.now.items otherwise.now.items) notes.old ≡ pick_all_with env call (elements_view result.now.items) notes.new }
+    ensures lighter { (call : Name → ℕ) → weight_all_with call (elements_view result.now.items) < weight_branches_with call (branches_view branches.now.items otherwise.now.items) }
+{
+    for branch in branches {
+        if passes(input, &branch.conditions, branch.rule, notes) {
+            return &branch.children;
+        }
+    }
+    otherwise
+}
+
+// Adds the steps of an element that has others inside, and none of any other.
+fn step_inside<'a, T: EntryLike>(
+    input: &Input<'a, T>,
+    element: &'a LayoutRenderingElement,
+    depth: usize,
+    steps: &mut Vec<Step<'a>>,
+    picking: &mut Picking<'a>,
+) -> Result<(), AllocError>
+    ensures done { let env = env_of (T.answers input.now.entry.now) input.now.setting in
+        let ms = macros_of input.now.setting in
+        OnOk result (all_done env ms (steps_view steps.new.items) (held picking.new)
+        ≡ all_done env ms (steps_view steps.old.items) (inside_done env ms depth (element_view element.now) (held picking.old))) }
+    ensures falls { let ms = macros_of input.now.setting in
+        OnOk result (work ms (steps_view steps.new.items) < work ms (steps_view steps.old.items) + 2 * weight ms depth (element_view element.now)) }
+{
+    match element {
+        LayoutRenderingElement::Text {
+            target: TextTarget::Macro(name),
+            quotes,
+            strip_periods,
+            affixes,
+            formatting,
+            display,
+        } => {
+            let shape = Shape {
+                affixes,
+                formatting: *formatting,
+                display: *display,
+                quotes: *quotes,
+                strip_periods: *strip_periods,
+            };
+            step_macro(input, name.as_str(), shape, depth, steps, picking)
+        }
         LayoutRenderingElement::Group {
             children,
             delimiter,
@@ -146,63 +225,38 @@ fn pick_element<'a, T: EntryLike>(
             display,
         } => {
             let opened = picking.open(group_node(affixes, *formatting, *display, delimiter))?;
-            pick_all(input, children, depth, picking)?;
-            picking.close_group(opened)
+            steps.push(Step::CloseGroup(opened))?;
+            steps.push(Step::Elements(children.as_slice(), depth))?;
+            Ok(())
         }
         LayoutRenderingElement::Choose {
             branches,
             otherwise,
-        } => pick_branches(input, branches, otherwise, depth, picking),
-    }
-}
-
-#[cycle(pick)]
-fn pick_all<'a, T: EntryLike>(
-    input: &Input<'a, T>,
-    elements: &'a Vec<LayoutRenderingElement>,
-    depth: usize,
-    picking: &mut Picking<'a>,
-) -> Result<(), AllocError>
-    ensures { let env = env_of (T.answers input.now.entry.now) input.now.setting in
-        OnOk result (held picking.new ≡ added (picks_all env (macros_of input.now.setting) depth (elements_view elements.now.items) (held picking.old).noted) (held picking.old)) }
-{
-    for element in elements {
-        pick_element(input, element, depth, picking)?;
-    }
-    Ok(())
-}
-
-#[cycle(pick)]
-fn pick_branches<'a, T: EntryLike>(
-    input: &Input<'a, T>,
-    branches: &'a Vec<ChooseBranch>,
-    otherwise: &'a Vec<LayoutRenderingElement>,
-    depth: usize,
-    picking: &mut Picking<'a>,
-) -> Result<(), AllocError>
-    ensures { let env = env_of (T.answers input.now.entry.now) input.now.setting in
-        OnOk result (held picking.new
-        ≡ added (picks_first env (macros_of input.now.setting) depth (branches_view branches.now.items otherwise.now.items) (held picking.old).noted) (held picking.old)) }
-{
-    for branch in branches {
-        if passes(input, &branch.conditions, branch.rule, &mut picking.notes) {
-            return pick_all(input, &branch.children, depth, picking);
+        } => {
+            let children = chosen_children(input, branches, otherwise, &mut picking.notes);
+            steps.push(Step::Elements(children.as_slice(), depth))?;
+            Ok(())
         }
+        _ => Ok(()),
     }
-    pick_all(input, otherwise, depth, picking)
 }
 
-#[cycle(pick)]
-fn pick_macro<'a, T: EntryLike>(
+// Adds the steps of a macro's call; none where there is no such macro.
+fn step_macro<'a, T: EntryLike>(
     input: &Input<'a, T>,
     name: &str,
     shape: Shape<'a>,
     depth: usize,
+    steps: &mut Vec<Step<'a>>,
     picking: &mut Picking<'a>,
 ) -> Result<(), AllocError>
-    ensures { let env = env_of (T.answers input.now.entry.now) input.now.setting in
+    ensures done { let env = env_of (T.answers input.now.entry.now) input.now.setting in
+        let ms = macros_of input.now.setting in
         let node = plain_node (shape_look shape.entry) shape.entry.quotes shape.entry.strip_periods None in
-        OnOk result (held picking.new ≡ added (called_macro env (macros_of input.now.setting) depth name.now node (held picking.old).noted) (held picking.old)) }
+        OnOk result (all_done env ms (steps_view steps.new.items) (held picking.new)
+        ≡ all_done env ms (steps_view steps.old.items) (added (called_macro env ms depth name.now node (held picking.old).noted) (held picking.old))) }
+    ensures falls { let ms = macros_of input.now.setting in
+        OnOk result (work ms (steps_view steps.new.items) < work ms (steps_view steps.old.items) + 2 * (1 + macro_weight ms depth name.now)) }
 {
     if depth == 0 {
         return Ok(());
@@ -211,9 +265,38 @@ fn pick_macro<'a, T: EntryLike>(
         None => Ok(()),
         Some(elements) => {
             let opened = picking.open(shape.node(None))?;
-            pick_all(input, elements, depth - 1, picking)?;
-            picking.close_macro(opened)
+            steps.push(Step::CloseMacro(opened))?;
+            steps.push(Step::Elements(elements.as_slice(), depth - 1))?;
+            Ok(())
         }
+    }
+}
+
+// Does one step, which may add others.
+fn take_step<'a, T: EntryLike>(
+    input: &Input<'a, T>,
+    step: Step<'a>,
+    steps: &mut Vec<Step<'a>>,
+    picking: &mut Picking<'a>,
+) -> Result<(), AllocError>
+    ensures done { let env = env_of (T.answers input.now.entry.now) input.now.setting in
+        let ms = macros_of input.now.setting in
+        OnOk result (all_done env ms (steps_view steps.new.items) (held picking.new)
+        ≡ all_done env ms (steps_view steps.old.items) (done env ms (step_view step.entry) (held picking.old))) }
+    ensures falls { let ms = macros_of input.now.setting in
+        OnOk result (work ms (steps_view steps.new.items) < work ms (steps_view steps.old.items) + step_work ms (step_view step.entry)) }
+{
+    match step {
+        Step::Elements(elements, depth) => {
+            if let Some((element, rest)) = elements.split_first() {
+                steps.push(Step::Elements(rest, depth))?;
+                pick_plain(input, element, picking)?;
+                step_inside(input, element, depth, steps, picking)?;
+            }
+            Ok(())
+        }
+        Step::CloseGroup(opened) => picking.close_group(opened),
+        Step::CloseMacro(opened) => picking.close_macro(opened),
     }
 }
 
@@ -224,7 +307,8 @@ pub fn macros_unfold()
     ensures { MacrosUnfold }
 {}
 
-/// What a layout gives, behind what is picked already.
+/// What a layout gives, behind what is picked already. Elements and macros may nest as deep as
+/// memory allows.
 ///
 /// # Errors
 ///
@@ -237,10 +321,11 @@ pub(crate) fn pick_layout<'a, T: EntryLike>(
     ensures { let env = env_of (T.answers input.now.entry.now) input.now.setting in
         OnOk result (held picking.new ≡ added (pick_layout env (macros_of input.now.setting) (elements_view elements.now.items) (held picking.old).noted) (held picking.old)) }
 {
-    pick_all(
-        input,
-        elements,
-        input.setting.context.style.macros.len(),
-        picking,
-    )
+    let depth = input.setting.context.style.macros.len();
+    let mut steps = Vec::new(*picking.pieces.allocator());
+    steps.push(Step::Elements(elements.as_slice(), depth))?;
+    while let Some(step) = steps.pop() {
+        take_step(input, step, &mut steps, picking)?;
+    }
+    Ok(())
 }
