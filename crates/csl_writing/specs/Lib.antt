@@ -1,2 +1,5 @@
 pub mod Properties
 pub mod PropertiesView
+pub mod Notes
+pub mod Pieces
+pub mod PiecesView

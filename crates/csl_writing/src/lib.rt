@@ -3,6 +3,8 @@
 
 pub mod brackets;
 pub mod locator;
+mod notes;
+mod pieces;
 pub mod properties;
 pub mod purpose;
 pub mod state;
