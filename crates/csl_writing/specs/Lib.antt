@@ -1,5 +1,16 @@
 pub mod Properties
 pub mod PropertiesView
+pub mod Lookup
+pub mod SourceView
 pub mod Notes
 pub mod Pieces
 pub mod PiecesView
+pub mod Picked
+pub mod Env
+pub mod Suffix
+pub mod Conditions
+pub mod Variables
+pub mod Options
+pub mod Names
+pub mod Pick
+pub mod InputView

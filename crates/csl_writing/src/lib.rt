@@ -2,9 +2,14 @@
 #![tactic(auto)]
 
 pub mod brackets;
+mod choices;
+mod held;
+mod input;
 pub mod locator;
+pub mod lookup;
 mod notes;
 mod pieces;
 pub mod properties;
 pub mod purpose;
 pub mod state;
+mod variables;

@@ -1,8 +1,13 @@
-//! What a picking only reads, beside the entry.
+//! What a picking only reads.
+
+
+
+use crate::lookup::StyleContext;
 use crate::notes::Form;
 use crate::state::{DisambiguateState, IbidState, IdentifierUsage};
-use csl_base::element::{CslMacro, InheritableNameOptions};
-use csl_base::taxonomy::Locator;
+use csl_base::element::InheritableNameOptions;
+use csl_base::entry::EntryLike;
+use csl_base::taxonomy::{Locator, OtherTerm, Term, TermForm};
 
 /// A cite's locator: what it counts, and its text; none where it is the caller's own.
 #[derive(Clone, Copy)]
@@ -29,21 +34,19 @@ pub(crate) struct CiteFacts<'a> {
 /// What a picking reads of the style and the cite.
 #[derive(Clone, Copy)]
 pub(crate) struct Setting<'a> {
-    pub(crate) macros: &'a Vec<CslMacro>,
+    pub(crate) context: StyleContext<'a>,
     pub(crate) cite: CiteFacts<'a>,
     pub(crate) form: Form,
     /// Whether a year-suffix text stands in a layout of the style, so that no date adds letters.
     pub(crate) explicit_suffix: bool,
     /// Whether an item of the bibliography is picked.
     pub(crate) is_bibliography: bool,
-    /// The name options of the whole style.
-    pub(crate) style_options: &'a InheritableNameOptions,
-    /// Those of the layout, which go before them.
+    /// The name options of the layout, which go before those of the whole style.
     pub(crate) layout_options: &'a InheritableNameOptions,
 }
 
 /// What a picking reads.
-pub(crate) struct Source<'a, T> {
+pub(crate) struct Input<'a, T> {
     pub(crate) entry: &'a T,
     pub(crate) setting: Setting<'a>,
 }
