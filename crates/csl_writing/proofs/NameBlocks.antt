@@ -1,5 +1,5 @@
 -- The pieces of blocks, one block further, and the node that holds them.
-use Rattle.std.proofs.Common.{◌≡◌, ℕ, List, [], ◌∷◌, ◌++◌, append_assoc, length, take, Bool, true, false, ◌||◌, Option, Some, None, cond, sym, ap, ◌∙◌, refl, map, suc, if◌then◌else◌}
+use Rattle.std.proofs.Common.{◌≡◌, ℕ, List, [], ◌∷◌, ◌++◌, append_assoc, length, take, Bool, true, false, ◌||◌, Option, Some, None, cond, sym, ap, ◌∙◌, refl, if◌then◌else◌}
 use Rattle.std.proofs.lemmas.List.{append-nil, take_at}
 use Rattle.csl_writing.specs.Pieces.{NodeValue, Part, tokens, Token, opening, closing, node_of}
 use Rattle.csl_base.specs.declared.taxonomy.NameVariable.{NameVariable}
