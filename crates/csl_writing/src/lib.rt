@@ -14,7 +14,7 @@ mod name_rules;
 mod name_text;
 mod names;
 mod notes;
-mod picking;
+pub mod picking;
 mod pieces;
 pub mod properties;
 pub mod purpose;
