@@ -1,5 +1,5 @@
 -- The forms of names are as many as the names.
-use Rattle.std.proofs.Common.{◌≡◌, ◌-◌, ◌≤◌, ℕ, List, length, replicate, take, drop, min, Bool, true, false, cond, arith, length-append, length-drop, is_none, Option, refl}
+use Rattle.std.proofs.Common.{◌≡◌, ◌-◌, ◌≤◌, ℕ, length, replicate, take, drop, min, Bool, true, false, cond, arith, length-append, length-drop, is_none, refl}
 use Rattle.std.proofs.lemmas.List.{length-replicate, length-take}
 use Rattle.csl_base.specs.declared.names.DisambiguatedNameForm.{DisambiguatedNameForm}
 use Rattle.csl_base.specs.Forms.{Forms}

@@ -1,5 +1,10 @@
 pub mod Greater
 pub mod StateOrder
+pub mod InitialsLeft
+pub mod WrittenNames
+pub mod NameParts
+pub mod FormsLength
+pub mod NameBlocks
 pub mod Tokens
 pub mod MacroCalls
 pub mod FirstAnswers
@@ -12,8 +17,3 @@ pub mod Gathering
 pub mod Suffixes
 pub mod WorkSteps
 pub mod TextView
-pub mod InitialsLeft
-pub mod WrittenNames
-pub mod NameParts
-pub mod FormsLength
-pub mod NameBlocks

@@ -1,5 +1,5 @@
 -- The pieces of blocks, one block further, and the node that holds them.
-use Rattle.std.proofs.Common.{◌≡◌, ℕ, List, [], ◌∷◌, ◌++◌, append_assoc, length, take, Bool, true, false, ◌||◌, Option, Some, None, cond, sym, ap, ◌∙◌, refl, map, suc, if◌then◌else◌}
+use Rattle.std.proofs.Common.{◌≡◌, ℕ, List, [], ◌∷◌, ◌++◌, append_assoc, length, take, Bool, true, false, ◌||◌, Option, Some, None, cond, sym, ap, ◌∙◌, refl, if◌then◌else◌}
 use Rattle.std.proofs.lemmas.List.{append-nil, take_at}
 use Rattle.csl_writing.specs.Pieces.{NodeValue, Part, tokens, Token, opening, closing, node_of}
 use Rattle.csl_base.specs.declared.taxonomy.NameVariable.{NameVariable}
@@ -12,7 +12,7 @@ use Rattle.csl_writing.specs.Options.{applied_options}
 use Rattle.csl_writing.specs.NameRules.{Rules, rules_of}
 use Rattle.csl_writing.specs.Names.{preceded, blocks_after, blocks_parts, author_variable, blocks, stand_in, written_blocks, names_node, noted_forms, noted_stand_in, pick_names}
 use Rattle.csl_writing.specs.Picked.{Picked, Held, gives, called_with, added}
-use Rattle.csl_writing.proofs.NameParts.{tokens-append}
+use Rattle.csl_writing.proofs.Tokens.{tokens-append}
 
 pub blocks_further : (words : List ℕ) (behind : Bool) (b : List Part) (bs : List (List Part)) (before after : List Token)
     → after ≡ before ++ tokens (preceded (if behind then Some words else None) b)

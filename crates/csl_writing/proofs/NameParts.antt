@@ -6,16 +6,13 @@ use Rattle.csl_writing.specs.Pieces.{Part, part_tokens, tokens, Token, leaf_toke
 use Rattle.csl_writing.specs.NameRules.{Rules}
 use Rattle.csl_writing.specs.Names.{Terms, joined_behind, joined_parts, last_words, et_al_parts, joined_names, before_parts, preceded}
 use Rattle.csl_writing.specs.Picked.{gives}
+use Rattle.csl_writing.proofs.Tokens.{tokens-append}
 
-pub tokens-append : (ps qs : List Part) → tokens (ps ++ qs) ≡ tokens ps ++ tokens qs
-tokens-append [] qs = refl
-tokens-append (p ∷ ps) qs = ap (λ ts. part_tokens p ++ ts) (tokens-append ps qs) ∙ sym (append_assoc (part_tokens p) (tokens ps) (tokens qs))
+pub length-mapped : {X Y : Type 0} (f : X → Y) (xs : List X) → length (map f xs) ≡ length xs
+length-mapped f [] = refl
+length-mapped f (x ∷ xs) = ap (λ n. suc n) (length-mapped f xs)
 
 module _ {X Y : Type 0} (f : X → Part) (g : Y → X) where
-  length-seen : (ys : List Y) → length (map g ys) ≡ length ys
-  length-seen [] = refl
-  length-seen (y ∷ ys) = ap (λ n. suc n) (length-seen ys)
-
   last_if_none : (ys : List Y) (words last : List ℕ) → cond (length ys == 0) last words ≡ cond (gives (map f (map g ys))) words last
   last_if_none [] words last = refl
   last_if_none (y ∷ ys) words last = ap (λ t. cond t last words) (eqb-suc-zero (length ys))
@@ -48,11 +45,7 @@ module _ {X Y : Type 0} (f : X → Part) (g : Y → X) where
       ∙ ap (λ ts. ts ++ rest) a
       ∙ append_assoc before (part_tokens (f (g y))) rest
       ∙ ap (λ zs. before ++ tokens (joined_parts words (last count) (map f (map g zs)))) (sym e)
-      ∙ ap (λ m. before ++ tokens (joined_parts words (last m) (map f (map g all)))) (k ∙ sym (length-seen all))
-
-pub length-mapped : {X Y : Type 0} (f : X → Y) (xs : List X) → length (map f xs) ≡ length xs
-length-mapped f [] = refl
-length-mapped f (x ∷ xs) = ap (λ n. suc n) (length-mapped f xs)
+      ∙ ap (λ m. before ++ tokens (joined_parts words (last m) (map f (map g all)))) (k ∙ sym (length-mapped g all))
 
 preceded_tokens : (before : Option (List ℕ)) (p : Part) (ps : List Part) → tokens (preceded before (p ∷ ps)) ≡ tokens (before_parts before) ++ tokens (p ∷ ps)
 preceded_tokens None p ps = refl

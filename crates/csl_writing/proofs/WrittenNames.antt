@@ -2,7 +2,6 @@
 use Rattle.std.proofs.Common.{ℕ, List, option_map}
 use Rattle.std.specs.List.{filter_map, zip, enumerate_from}
 use Rattle.csl_base.specs.declared.entry.Person.{Person}
-use Rattle.csl_base.specs.declared.names.DisambiguatedNameForm.{DisambiguatedNameForm}
 use Rattle.csl_base.specs.Forms.{Forms}
 use Rattle.csl_writing.specs.NameText.{name_leaf}
 use Rattle.csl_writing.specs.Pieces.{LeafValue}

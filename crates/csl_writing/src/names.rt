@@ -6,7 +6,6 @@ ghost use Rattle.csl_base.specs.declared.elem.ElemMeta.TheVariants as meta;
 ghost use Rattle.csl_base.specs.ElementView.{options_view};
 ghost use Rattle.csl_writing.specs.Names.{is_present, stand_in, blocks, author_variable, is_variable, written_blocks, written_names, name_part, and_words, last_joint, is_count, joined_parts, last_words, et_al_parts, block_parts, plain_block, first_block, before_parts, preceded, blocks_after, first_forms, with_forms, noted_stand_in, blocks_parts, block_persons, names_node, noted_forms, pick_names};
 ghost use Rattle.csl_writing.specs.NamesView.{name_view};
-ghost use Rattle.csl_writing.specs.NameRules.{forms_by};
 ghost use Rattle.csl_writing.specs.NameRulesView.{rules_view};
 ghost use Rattle.csl_writing.specs.Pieces.{opening, leaf_token, closing, text_leaf, part_tokens, tokens, plain_node};
 ghost use Rattle.csl_writing.specs.PiecesView.{leaf_view, node_view, shape_look, tokens_of};
@@ -108,8 +107,8 @@ fn blocks_of<T: EntryLike>(
     })
 }
 
-// The variable that holds the author.
-fn author_variable<T: EntryLike>(entry: &T) -> NameVariable
+/// The variable that holds the author.
+pub(crate) fn author_variable<T: EntryLike>(entry: &T) -> NameVariable
     ensures { result ≡ author_variable (T.answers entry.now) }
 {
     if !entry.resolve_name_variable(NameVariable::Editor).is_empty()
@@ -589,7 +588,7 @@ pub(crate) fn pick_names<'a, T: EntryLike>(
     picking: &mut Picking<'a>,
 ) -> Result<(), AllocError>
     ensures { let env = env_of (T.answers input.now.entry.now) input.now.setting in
-        OnOk result (held picking.new ≡ added (pick_names env variables.now.items substitute.now.items (options_view options.now) (shape_look shape.entry) picking.old.notes) (held picking.old)) }
+        OnOk result (held picking.new ≡ added (pick_names env variables.now.items substitute.now.items (options_view options.now) (shape_look shape.entry) (held picking.old).noted) (held picking.old)) }
 {
     let alloc = *picking.pieces.allocator();
     let chosen = blocks_of(alloc, input.entry, &picking.notes, variables, substitute)?;

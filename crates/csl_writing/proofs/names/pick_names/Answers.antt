@@ -1,4 +1,4 @@
-use Rattle.std.proofs.Common.{◌≡◌, ◌∙◌, ◌++◌, ◌∷◌, [], List, Option, length, ap, sym, Some, false}
+use Rattle.std.proofs.Common.{◌≡◌, ◌∙◌, ◌++◌, ◌∷◌, [], List, length, ap, sym, Some, false}
 use Rattle.csl_base.specs.declared.taxonomy.NameVariable.{NameVariable}
 use Rattle.csl_base.specs.declared.elem.ElemMeta.{ElemMeta}
 use Rattle.csl_base.specs.ElementView.{options_view}

@@ -1,4 +1,4 @@
-use Rattle.std.proofs.Common.{◌≡◌, ◌∙◌, ◌++◌, ◌||◌, ◌∷◌, Bool, List, ap, sym, map, false}
+use Rattle.std.proofs.Common.{◌≡◌, ◌∙◌, ◌++◌, ◌||◌, Bool, List, ap, sym, map, false}
 use Rattle.std.proofs.lemmas.Result.{on_ok_weaker, IfOk-weaker}
 use Rattle.csl_base.specs.declared.taxonomy.NameVariable.{NameVariable}
 use Rattle.csl_writing.specs.InputView.{env_of}

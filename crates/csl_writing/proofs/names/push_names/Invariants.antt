@@ -2,7 +2,7 @@ use Rattle.std.proofs.Common.{◌≡◌, ◌++◌, map, length}
 use Rattle.std.specs.Vec.Iter.{into_iter_items}
 use Rattle.csl_writing.specs.InputView.{term_for}
 use Rattle.csl_writing.specs.NameRulesView.{rules_view}
-use Rattle.csl_writing.specs.Names.{joined_behind, joined_parts, last_words, name_part}
+use Rattle.csl_writing.specs.Names.{joined_behind, last_words, name_part}
 use Rattle.csl_writing.specs.NamesView.{name_view}
 use Rattle.csl_writing.specs.Pieces.{tokens}
 use Rattle.csl_writing.specs.PiecesView.{tokens_of}

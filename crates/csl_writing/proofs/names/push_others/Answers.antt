@@ -1,4 +1,4 @@
-use Rattle.std.proofs.Common.{◌≡◌, ◌∙◌, ◌++◌, ◌||◌, ◌+◌, Bool, List, ℕ, Option, ap, sym, map, drop, slice_index_or}
+use Rattle.std.proofs.Common.{◌∙◌, ◌++◌, ◌||◌, ◌+◌, Bool, List, ℕ, Option, ap, sym, map, drop, slice_index_or}
 use Rattle.std.proofs.lemmas.List.{at_drop_more}
 use Rattle.csl_base.specs.declared.taxonomy.NameVariable.{NameVariable}
 use Rattle.csl_writing.specs.InputView.{env_of}

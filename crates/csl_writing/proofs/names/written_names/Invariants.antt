@@ -1,4 +1,4 @@
-use Rattle.std.proofs.Common.{◌≡◌, ◌++◌, map, drop, length}
+use Rattle.std.proofs.Common.{◌≡◌, ◌++◌, map, drop}
 use Rattle.csl_writing.specs.Names.{written_names}
 use Rattle.csl_writing.specs.NamesView.{name_view}
 use Rattle.csl_writing.proofs.WrittenNames.{names_left}
