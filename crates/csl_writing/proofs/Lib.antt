@@ -6,3 +6,14 @@ pub mod FirstAnswers
 pub mod Letters
 pub mod WordingSteps
 pub mod Copies
+pub mod Tokens
+pub mod Weight
+pub mod Steps
+pub mod FirstAnswers
+pub mod Letters
+pub mod NameLists
+pub mod Agree
+pub mod Settled
+pub mod Nesting
+pub mod Gathering
+pub mod Suffixes
