@@ -9,8 +9,6 @@ pub mod Copies
 pub mod Tokens
 pub mod Weight
 pub mod Steps
-pub mod FirstAnswers
-pub mod Letters
 pub mod NameLists
 pub mod Agree
 pub mod Settled

@@ -32,3 +32,5 @@ pub mod InputView
 pub mod HeldView
 pub mod SuffixText
 pub mod Gathered
+pub mod PartsWritten
+pub mod PieceRun

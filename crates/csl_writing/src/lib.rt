@@ -2,9 +2,9 @@
 #![tactic(auto)]
 
 pub mod brackets;
+mod choices;
 pub mod context;
 mod frames;
-mod choices;
 mod held;
 mod input;
 pub mod laws;
@@ -17,10 +17,10 @@ mod pieces;
 pub mod properties;
 pub mod purpose;
 pub mod state;
+mod suffix_text;
 pub mod text;
 pub mod token;
+mod variables;
 mod wording;
 pub mod writing;
-mod suffix_text;
-mod variables;
 pub mod year;
