@@ -15,3 +15,5 @@ pub mod Settled
 pub mod Nesting
 pub mod Gathering
 pub mod Suffixes
+pub mod PieceSteps
+pub mod NestedNodes

@@ -34,3 +34,4 @@ pub mod SuffixText
 pub mod Gathered
 pub mod PartsWritten
 pub mod PieceRun
+pub mod OpenNodes

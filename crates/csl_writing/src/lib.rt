@@ -12,6 +12,8 @@ pub mod locator;
 pub mod lookup;
 mod names;
 mod notes;
+mod open_node;
+mod parts;
 mod picking;
 mod pieces;
 pub mod properties;
