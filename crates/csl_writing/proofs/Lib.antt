@@ -13,6 +13,8 @@ pub mod FormsLength
 pub mod NameBlocks
 pub mod Tokens
 pub mod MacroCalls
+pub mod Weight
+pub mod Steps
 pub mod NameLists
 pub mod Agree
 pub mod Settled
@@ -21,3 +23,5 @@ pub mod Gathering
 pub mod Suffixes
 pub mod WorkSteps
 pub mod TextView
+pub mod PieceSteps
+pub mod NestedNodes

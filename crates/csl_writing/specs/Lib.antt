@@ -37,3 +37,6 @@ pub mod Work
 pub mod HeldView
 pub mod SuffixText
 pub mod Gathered
+pub mod PartsWritten
+pub mod PieceRun
+pub mod OpenNodes
