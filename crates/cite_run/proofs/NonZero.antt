@@ -1,5 +1,5 @@
 -- A number that isn't 0 is found again.
-use Rattle.std.proofs.Common.{◌≡◌, ℕ, zero, suc, ◌<◌, ℤ, pos, negsuc, Option, Some, None, refl, sym, ap, ◌∙◌, subst, arith}
+use Rattle.std.proofs.Common.{◌≡◌, zero, suc, ◌<◌, ℤ, pos, negsuc, Option, Some, None, sym, ap, ◌∙◌, arith}
 use Rattle.std.specs.Coded.{le_prop}
 use Rattle.std.specs.Prelude.{MatchOption, unsigned_abs}
 use Rattle.std.specs.declared.num.NonZeroI16.{NonZeroI16}

@@ -11,7 +11,7 @@ use Rattle.csl_base.specs.declared.formatting.StyleFormatting.{StyleFormatting}
 use Rattle.csl_base.specs.declared.taxonomy.TermForm.{TermForm}
 use Rattle.csl_base.specs.declared.taxonomy.Variable.{Variable}
 use Rattle.csl_base.specs.Element.{Look, Target, value_target, standard_target, macro_target, term_target, Element, text_element, number_element, date_element, names_element, group_element, choose_element, Branch, elements_of, branches_of}
-use Rattle.cite_run.specs.Words.{◌>>=◌, object_with, required, optional, where_present, flag, all_items, items_at, optional_items, name_form}
+use Rattle.cite_run.specs.Words.{◌>>=◌, object_with, required, optional, where_present, flag, items_at, optional_items, name_form}
 use Rattle.cite_run.specs.Names.{named, one_of, variable_named, term_named}
 use Rattle.cite_run.specs.Options.{options_at}
 use Rattle.cite_run.specs.Tables.{displays, standard_variables, term_forms, number_variables, date_variables, name_variables, positions, matches}

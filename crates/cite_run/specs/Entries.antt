@@ -1,9 +1,8 @@
 -- The form of entries.
-use Rattle.std.specs.Prelude.{ℕ, ℤ, pos, negsuc, List, [], ◌∷◌, ◌++◌, Option, Some, None, option_map, option_and_then, nat_eq, codes, find, take, drop}
+use Rattle.std.specs.Prelude.{ℕ, pos, negsuc, List, [], ◌∷◌, ◌++◌, Option, Some, None, option_map, option_and_then, nat_eq, codes, find, take, drop}
 use Rattle.std.specs.Cmp.Lexicographic.{pointwise}
 use Rattle.serde_json.specs.Data.{Data, Items, no_items, item}
 use Rattle.serde_json.specs.Find.{as_array, as_str}
-use Rattle.csl_base.specs.declared.entry.Chunk.{Chunk}
 use Rattle.csl_base.specs.declared.entry.ChunkKind.{ChunkKind}
 use Rattle.csl_base.specs.declared.entry.ChunkedString.{ChunkedString}
 use Rattle.csl_base.specs.declared.entry.Date.{Date}

@@ -1,5 +1,5 @@
 -- The form of locales.
-use Rattle.std.specs.Prelude.{List, [], ◌∷◌, Option, Some, None, codes}
+use Rattle.std.specs.Prelude.{[], ◌∷◌, Option, Some, codes}
 use Rattle.serde_json.specs.Data.{Data}
 use Rattle.serde_json.specs.Find.{as_bool, as_str}
 use Rattle.csl_base.specs.declared.taxonomy.TermForm.{TermForm}

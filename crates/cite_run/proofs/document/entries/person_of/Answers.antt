@@ -1,5 +1,5 @@
 -- A list of one or two texts is a person, and no other list.
-use Rattle.std.proofs.Common.{◌<◌, ◌≤◌, length, arith}
+use Rattle.std.proofs.Common.{arith}
 use Rattle.serde_json.specs.View.{view}
 use Rattle.cite_run.proofs.Pairs.{no_name, three_names}
 use Rattle.cite_run.proofs.document.entries.person_of.Goals as goal
