@@ -8,8 +8,6 @@ mod finish;
 #[cfg(test)]
 mod initials;
 #[cfg(test)]
-mod laws;
-#[cfg(test)]
 mod names;
 #[cfg(test)]
 mod places;
