@@ -11,7 +11,6 @@ mod initials;
 mod laws;
 #[cfg(test)]
 mod lookup;
-#[cfg(test)]
 mod names;
 #[cfg(test)]
 mod places;
