@@ -11,6 +11,7 @@ mod initials;
 mod laws;
 #[cfg(test)]
 mod lookup;
+#[cfg(test)]
 mod names;
 #[cfg(test)]
 mod places;

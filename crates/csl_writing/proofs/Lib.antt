@@ -13,8 +13,6 @@ pub mod FormsLength
 pub mod NameBlocks
 pub mod Tokens
 pub mod MacroCalls
-pub mod Weight
-pub mod Steps
 pub mod NameLists
 pub mod Agree
 pub mod Settled

@@ -2,9 +2,9 @@
 #![tactic(auto)]
 
 pub mod brackets;
+mod choices;
 pub mod context;
 mod frames;
-mod choices;
 mod held;
 mod input;
 pub mod laws;
@@ -14,10 +14,9 @@ mod name_rules;
 mod name_text;
 mod names;
 mod notes;
-pub mod picking;
 mod open_node;
 mod parts;
-mod picking;
+pub mod picking;
 mod pieces;
 pub mod properties;
 pub mod purpose;
