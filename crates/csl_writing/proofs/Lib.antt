@@ -1,0 +1,3 @@
+pub mod Greater
+pub mod StateOrder
+pub mod FirstAnswers
