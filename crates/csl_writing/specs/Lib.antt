@@ -7,3 +7,5 @@ pub mod BracketPairs
 pub mod Lookup
 pub mod FirstAnswer
 pub mod SourceView
+pub mod CiteText
+pub mod Counted

@@ -2,9 +2,11 @@
 #![tactic(auto)]
 
 pub mod brackets;
+pub mod counter;
 pub mod laws;
 pub mod locator;
 pub mod lookup;
 pub mod properties;
 pub mod purpose;
+pub mod render;
 pub mod state;
