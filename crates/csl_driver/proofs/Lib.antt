@@ -3,3 +3,5 @@ pub mod Places
 pub mod Once
 pub mod Joined
 pub mod RingLemmas
+pub mod FirstCites
+pub mod Answered

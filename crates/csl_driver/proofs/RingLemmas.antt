@@ -32,6 +32,10 @@ module _ {E P : Type 0} where
     no_ring-more h before =
         All-more (λ r. HasNoRing r.style.macros) (map view xs) k (view x) within_view before (subst (λ r. HasNoRing r.style.macros) (sym at_view) h)
 
+    -- where no request has a ring, this one has none
+    pub no_ring-at : NoRingIn (map view xs) → HasNoRing (view x).style.macros
+    no_ring-at h = subst (λ r. HasNoRing r.style.macros) at_view (h k (view x) within_view)
+
     -- the first request that has a ring
     pub first_ring : (style : StyleValue) (i : ℕ) → IsFirstRing (view x).style.macros (Some i) → NoRingIn (take k (map view xs))
         → IsFirstRingOf (map view xs) style (places.Request k) i

@@ -3,15 +3,17 @@
 
 mod assemble;
 mod bibliography;
+mod citation;
+mod cites;
 pub mod driver;
 mod entries;
 pub mod error;
 mod finish;
 pub mod item;
 pub mod laws;
-pub mod locator;
-pub mod purpose;
 pub mod rendered;
 pub mod request;
 mod rings;
-mod thin;
+pub mod standalone;
+
+pub use csl_writing::{brackets, counter, locator, lookup, properties, purpose, state};
