@@ -1,3 +1,4 @@
 pub mod Greater
 pub mod StateOrder
 pub mod FirstAnswers
+pub mod Letters

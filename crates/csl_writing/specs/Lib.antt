@@ -4,6 +4,8 @@ pub mod NoProperties
 pub mod States
 pub mod ValueLaws
 pub mod BracketPairs
+pub mod Years
+pub mod SuffixLetters
 pub mod Lookup
 pub mod FirstAnswer
 pub mod SourceView

@@ -10,3 +10,4 @@ pub mod properties;
 pub mod purpose;
 pub mod render;
 pub mod state;
+pub mod year;
