@@ -15,6 +15,8 @@ pub mod LastTextLaws
 pub mod FirstNamesLaws
 pub mod Lent
 pub mod Reached
+pub mod Rows
+pub mod NamedPlaces
 pub mod Rings
 pub mod Tops
 pub mod Orders

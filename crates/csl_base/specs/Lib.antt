@@ -27,6 +27,7 @@ pub mod Metas
 pub mod Calls
 pub mod Places
 pub mod Ring
+pub mod NamedPlaces
 pub mod Stack
 pub mod Seq
 pub mod Forms

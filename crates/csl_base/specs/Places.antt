@@ -42,3 +42,7 @@ add_new i found = if has_place i found then found else found ++ i ∷ []
 abbrev pub add_each : Places → Places → Places
 add_each [] found = found
 add_each (i ∷ rest) found = add_each rest (add_new i found)
+
+-- each step leads to a place of higher rank
+abbrev pub LeadsUp : List Places → List ℕ → Type 0
+LeadsUp rows ranks = (i : ℕ) (j : ℕ) → has_place j (steps_from rows i) ≡ true → get_or ranks i 0 < get_or ranks j 0

@@ -17,6 +17,7 @@ pub mod initials;
 pub mod last_text;
 pub mod locale;
 pub mod names;
+mod order;
 pub mod print;
 pub mod ring;
 pub mod seq;

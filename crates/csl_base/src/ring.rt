@@ -1,14 +1,19 @@
 //! Rings of macros that call each other.
 ghost use Rattle.std.specs.Prelude.{◌≡◌, ◌+◌, ℕ, IfOk, None, map, take, not, true, false, ◌≤◌, vec_len, option_map, length};
-ghost use Rattle.csl_base.specs.Ring.{has_name, body_of, place_of, places_of, call_places, IsFirstRing, HasNoRing};
+ghost use Rattle.std.specs.List.{filter_map};
+ghost use Rattle.csl_base.specs.Element.{Name};
+ghost use Rattle.csl_base.specs.NamedPlaces.{place_named};
+ghost use Rattle.csl_base.specs.Ring.{has_name, body_of, place_of, call_places, IsFirstRing, HasNoRing};
 ghost use Rattle.csl_base.specs.Calls.{calls_of_all};
 ghost use Rattle.csl_base.specs.ElementView.{elements_view, macros_view};
 
 use crate::calls::add_all_calls;
 use crate::element::{CslMacro, LayoutRenderingElement};
 use crate::graph::is_on_round;
+use crate::order::has_order;
 use crate::style::IndependentStyle;
 use std::alloc::{AllocError, Global};
+use std::collections::HashMap;
 
 /// The children of the first macro of a name; none without such a macro.
 pub fn body_of<'a>(macros: &'a Vec<CslMacro>, name: &str) -> Option<&'a Vec<LayoutRenderingElement>>
@@ -22,44 +27,50 @@ pub fn body_of<'a>(macros: &'a Vec<CslMacro>, name: &str) -> Option<&'a Vec<Layo
     None
 }
 
-// The place of the first macro of a name.
-fn place_of(macros: &Vec<CslMacro>, name: &str) -> Option<usize>
-    ensures { result ≡ place_of name.now (macros_view macros.now.items) }
-{
-    for i in 0..macros.len() {
-        if macros[i].name.as_str() == name {
-            return Some(i);
-        }
-    }
-    None
-}
-
-// The places of the macros that these elements call, without the names that have no macro.
-fn called_places(
+// The place of the first macro of each name.
+fn first_places<'a>(
     alloc: Global,
-    macros: &Vec<CslMacro>,
-    elements: &Vec<LayoutRenderingElement>,
-) -> Result<Vec<usize>, AllocError>
-    ensures { IfOk result (λ places. places.items ≡ places_of (macros_view macros.now.items) (calls_of_all (elements_view elements.now.items))) }
+    macros: &'a Vec<CslMacro>,
+) -> Result<HashMap<&'a str, usize>, AllocError>
+    ensures { IfOk result (λ places. (name : Name) → place_named places name ≡ place_of name (macros_view macros.now.items)) }
 {
-    let mut names = Vec::new(alloc);
-    add_all_calls(&mut names, elements)?;
-    let mut places = Vec::new(alloc);
-    for name in &names {
-        if let Some(place) = place_of(macros, *name) {
-            places.push(place)?;
+    let mut places = HashMap::new(alloc);
+    for i in 0..macros.len() {
+        let name = macros[i].name.as_str();
+        if !places.contains_key(&name) {
+            places.insert(name, i)?;
         }
     }
     Ok(places)
+}
+
+// The places of the macros that these elements call, without the names that have no macro.
+fn called_places<'a>(
+    alloc: Global,
+    places: &HashMap<&'a str, usize>,
+    elements: &'a Vec<LayoutRenderingElement>,
+) -> Result<Vec<usize>, AllocError>
+    ensures { IfOk result (λ called. called.items ≡ filter_map (place_named places.now) (calls_of_all (elements_view elements.now.items))) }
+{
+    let mut names = Vec::new(alloc);
+    add_all_calls(&mut names, elements)?;
+    let mut called = Vec::new(alloc);
+    for name in &names {
+        if let Some(place) = places.get(name) {
+            called.push(*place)?;
+        }
+    }
+    Ok(called)
 }
 
 // For each macro the places of those that it calls.
 fn call_places(alloc: Global, macros: &Vec<CslMacro>) -> Result<Vec<Vec<usize>>, AllocError>
     ensures { IfOk result (λ rows. map (λ row. row.items) rows.items ≡ call_places (macros_view macros.now.items)) }
 {
+    let places = first_places(alloc, macros)?;
     let mut rows = Vec::new(alloc);
     for each in macros {
-        rows.push(called_places(alloc, macros, &each.children)?)?;
+        rows.push(called_places(alloc, &places, &each.children)?)?;
     }
     Ok(rows)
 }
@@ -77,6 +88,25 @@ fn is_new_name(macros: &Vec<CslMacro>, i: usize, name: &str) -> bool
     true
 }
 
+// The place of the first macro that lies on a ring. Each macro is asked for alone, so this is for
+// macros of which some do.
+fn first_ring(
+    alloc: Global,
+    macros: &Vec<CslMacro>,
+    rows: &Vec<Vec<usize>>,
+) -> Result<Option<usize>, AllocError>
+    requires { map (λ row. row.items) rows.now.items ≡ call_places (macros_view macros.now.items) }
+    ensures { IfOk result (IsFirstRing (macros_view macros.now.items)) }
+{
+    for i in 0..macros.len() {
+        let name = macros[i].name.as_str();
+        if is_new_name(macros, i, name) && is_on_round(alloc, rows, i)? {
+            return Ok(Some(i));
+        }
+    }
+    Ok(None)
+}
+
 impl IndependentStyle {
     /// The place of the first macro that calls itself, through others or alone; none where no macro
     /// does. A call means the first macro of its name, and a call of a name without a macro means
@@ -90,12 +120,9 @@ impl IndependentStyle {
         ensures none { IfOk result (λ r. r ≡ None → HasNoRing (macros_view self.now.macros.items)) }
     {
         let rows = call_places(alloc, &self.macros)?;
-        for i in 0..self.macros.len() {
-            let name = self.macros[i].name.as_str();
-            if is_new_name(&self.macros, i, name) && is_on_round(alloc, &rows, i)? {
-                return Ok(Some(i));
-            }
+        if has_order(alloc, &rows)? {
+            return Ok(None);
         }
-        Ok(None)
+        first_ring(alloc, &self.macros, &rows)
     }
 }

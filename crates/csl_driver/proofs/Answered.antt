@@ -9,11 +9,10 @@ use Rattle.csl_driver.specs.declared.rendered.Rendered.{Rendered}
 use Rattle.csl_driver.specs.declared.rendered.RenderedBibliography.{RenderedBibliography}
 use Rattle.csl_driver.specs.declared.rendered.RenderedCitation.{RenderedCitation}
 
--- both parts go by the same entries, which the code lends twice
 pub answered : {E P : Type 0} (eq : E → E → Bool) (answers : E → Answers) (wanted : Wanted E) (requests : List (Request E P)) (offset : ℕ)
-    {order : Option (List E)} {entries lent lent_again : List E} {citations : List RenderedCitation} {bibliography : Option RenderedBibliography}
-    → order ≡ used_order wanted.style wanted.order → entries ≡ bibliography_order eq order (cited requests) → lent ≡ entries → lent_again ≡ entries
-    → citations ≡ map (rendered_citation eq answers lent offset) requests
-    → bibliography ≡ option_map (rendered_bibliography eq answers (wanted_source wanted) requests lent_again offset) wanted.style.bibliography
+    {order : Option (List E)} {entries : List E} {citations : List RenderedCitation} {bibliography : Option RenderedBibliography}
+    → order ≡ used_order wanted.style wanted.order → entries ≡ bibliography_order eq order (cited requests)
+    → citations ≡ map (rendered_citation eq answers entries offset) requests
+    → bibliography ≡ option_map (rendered_bibliography eq answers (wanted_source wanted) requests entries offset) wanted.style.bibliography
     → let r : Rendered = record { bibliography = bibliography; citations = citations } in r ≡ rendered eq answers wanted requests offset
-answered eq answers wanted requests offset o e l m c b = rw (c, b, l, m, e, o) refl
+answered eq answers wanted requests offset o e c b = rw (c, b, e, o) refl

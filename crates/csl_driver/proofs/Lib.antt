@@ -3,5 +3,6 @@ pub mod Places
 pub mod Once
 pub mod Joined
 pub mod RingLemmas
-pub mod FirstCites
+pub mod Noted
 pub mod Answered
+mod Sets

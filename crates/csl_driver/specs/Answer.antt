@@ -19,7 +19,7 @@ use Rattle.csl_driver.specs.declared.rendered.RenderedCitation.{RenderedCitation
 module _ {E P : Type 0} (eq : E → E → Bool) where
   -- the place in its request of the first cite of an entry; 0 where no cite cites it
   abbrev pub first_place : List (Request E P) → E → ℕ
-  first_place requests e = elim (find (λ c. eq e c.entry) (cites_of requests)) [ None ↦ 0 | Some c ↦ c.place ]
+  first_place requests e = unwrap_or (option_map (λ c. c.place) (find (λ c. eq e c.entry) (cites_of requests))) 0
 
   -- an entry's properties are those of its first cite, without the locator
   abbrev pub entry_properties : List (Request E P) → List E → ℕ → E → Properties P

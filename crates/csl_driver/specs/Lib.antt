@@ -5,6 +5,7 @@ pub mod Entries
 pub mod CiteTree
 pub mod Assembly
 pub mod Answer
+pub mod FirstPlaces
 pub mod StandaloneCitation
 pub mod Laws
 pub mod DriverView

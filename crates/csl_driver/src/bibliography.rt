@@ -1,16 +1,16 @@
 //! The bibliography of an answer.
-ghost use Rattle.std.specs.Prelude.{◌≡◌, ◌+◌, ◌<◌, ◌^◌, IfOk, find, length, map, option_map};
+ghost use Rattle.std.specs.Prelude.{◌≡◌, ◌+◌, ◌<◌, ◌^◌, IfOk, length, map, option_map};
 ghost use Rattle.csl_base.specs.Ring.{HasNoRing};
 ghost use Rattle.csl_base.specs.StyleView.{bibliography_view, style_view};
 ghost use Rattle.csl_writing.specs.PropertiesView.{properties_view};
 ghost use Rattle.csl_writing.specs.SourceView.{source_view};
-ghost use Rattle.csl_driver.specs.Answer.{bibliography_item, entry_properties, first_place, rendered_bibliography};
+ghost use Rattle.csl_driver.specs.Answer.{bibliography_item, entry_properties, rendered_bibliography};
 ghost use Rattle.csl_driver.specs.Request.{wanted_source};
-ghost use Rattle.csl_driver.specs.RequestView.{cites_view, entries_view, requests_view, wanted_view};
+ghost use Rattle.csl_driver.specs.RequestView.{entries_view, requests_view, wanted_view};
 
 use crate::cites::cite_properties;
 use crate::entries::place_of;
-use crate::item::CitationItem;
+use crate::first_places::{first_places, place_in};
 use crate::rendered::{BibliographyItem, RenderedBibliography};
 use crate::request::{BibliographyRequest, CitationRequest};
 use csl_base::elem::ElemChildren;
@@ -22,31 +22,8 @@ use csl_base::text::Text;
 use csl_writing::counter::Renders;
 use csl_writing::lookup::StyleContext;
 use csl_writing::properties::CiteProperties;
+use indexmap::IndexSet;
 use std::alloc::{AllocError, Global};
-
-/// The place of the first of these items that cites the entry.
-fn place_in_items<T: EntryLike, P>(items: &[CitationItem<'_, T, P>], entry: &T) -> Option<usize>
-    ensures { result ≡ option_map (λ c. c.place) (find (λ c. T.eq entry.now c.entry) (cites_view items.now)) }
-{
-    for item in items {
-        if *entry == *item.entry {
-            return Some(item.initial_idx);
-        }
-    }
-    None
-}
-
-/// The place in its request of the first item that cites the entry.
-fn first_place<T: EntryLike, P>(requests: &[CitationRequest<'_, T, P>], entry: &T) -> usize
-    ensures { result ≡ first_place T.eq (requests_view requests.now) entry.now }
-{
-    for request in requests {
-        if let Some(place) = place_in_items(&request.items, entry) {
-            return place;
-        }
-    }
-    0
-}
 
 fn bibliography_item<T: EntryLike, P>(
     alloc: Global,
@@ -74,21 +51,23 @@ fn bibliography_items<'a, T: EntryLike, P: Drop>(
     alloc: Global,
     wanted: &BibliographyRequest<'_, 'a, T>,
     requests: &[CitationRequest<'a, T, P>],
-    entries: &[&'a T],
+    entries: &IndexSet<&'a T>,
     offset: usize,
     renders: &mut Renders,
 ) -> Result<Vec<BibliographyItem>, AllocError>
-    requires fits { offset + length entries.now < 2 ^ 64 }
+    requires fits { offset + length entries.now.keys < 2 ^ 64 }
     requires no_ring { HasNoRing (style_view wanted.now.style.now).macros }
     ensures { IfOk result (λ items. items.items
-        ≡ map (λ e. bibliography_item T.answers (wanted_source (wanted_view wanted.now)) (entry_properties T.eq (requests_view requests.now) (entries_view entries.now) offset e) e) (entries_view entries.now)) }
+        ≡ map (λ e. bibliography_item T.answers (wanted_source (wanted_view wanted.now)) (entry_properties T.eq (requests_view requests.now) (entries_view entries.now.keys) offset e) e) (entries_view entries.now.keys)) }
 {
     let locale = wanted.locale.as_ref();
     let context = StyleContext::new(wanted.style, locale, wanted.locale_files);
     let mut items = Vec::new(alloc);
-    for entry in entries {
+    let places = first_places(alloc, requests)?;
+    for entry in entries.as_slice() {
         let number = offset + place_of(entries, *entry);
-        let properties = cite_properties::<P>(&None, number, first_place(requests, *entry))?;
+        let place = place_in(&places, *entry);
+        let properties = cite_properties::<P>(&None, number, place)?;
         items.push(bibliography_item(alloc, &context, locale, *entry, &properties, renders)?)?;
     }
     Ok(items)
@@ -99,14 +78,14 @@ fn rendered_bibliography<'a, T: EntryLike, P: Drop>(
     bibliography: &Bibliography,
     wanted: &BibliographyRequest<'_, 'a, T>,
     requests: &[CitationRequest<'a, T, P>],
-    entries: &[&'a T],
+    entries: &IndexSet<&'a T>,
     offset: usize,
     renders: &mut Renders,
 ) -> Result<RenderedBibliography, AllocError>
-    requires fits { offset + length entries.now < 2 ^ 64 }
+    requires fits { offset + length entries.now.keys < 2 ^ 64 }
     requires no_ring { HasNoRing (style_view wanted.now.style.now).macros }
     ensures { IfOk result
-        (λ r. r ≡ rendered_bibliography T.eq T.answers (wanted_source (wanted_view wanted.now)) (requests_view requests.now) (entries_view entries.now) offset (bibliography_view bibliography.now)) }
+        (λ r. r ≡ rendered_bibliography T.eq T.answers (wanted_source (wanted_view wanted.now)) (requests_view requests.now) (entries_view entries.now.keys) offset (bibliography_view bibliography.now)) }
 {
     let items = bibliography_items(alloc, wanted, requests, entries, offset, renders)?;
     Ok(RenderedBibliography {
@@ -123,14 +102,14 @@ pub(crate) fn wanted_bibliography<'a, T: EntryLike, P: Drop>(
     alloc: Global,
     wanted: &BibliographyRequest<'_, 'a, T>,
     requests: &[CitationRequest<'a, T, P>],
-    entries: &[&'a T],
+    entries: &IndexSet<&'a T>,
     offset: usize,
     renders: &mut Renders,
 ) -> Result<Option<RenderedBibliography>, AllocError>
-    requires fits { offset + length entries.now < 2 ^ 64 }
+    requires fits { offset + length entries.now.keys < 2 ^ 64 }
     requires no_ring { HasNoRing (style_view wanted.now.style.now).macros }
     ensures { IfOk result
-        (λ r. r ≡ option_map (rendered_bibliography T.eq T.answers (wanted_source (wanted_view wanted.now)) (requests_view requests.now) (entries_view entries.now) offset) (style_view wanted.now.style.now).bibliography) }
+        (λ r. r ≡ option_map (rendered_bibliography T.eq T.answers (wanted_source (wanted_view wanted.now)) (requests_view requests.now) (entries_view entries.now.keys) offset) (style_view wanted.now.style.now).bibliography) }
 {
     match &wanted.style.bibliography {
         Some(bibliography) => Ok(Some(rendered_bibliography(

@@ -22,6 +22,7 @@ use csl_base::entry::EntryLike;
 use csl_base::locale::LocaleCode;
 use csl_writing::counter::Renders;
 use csl_writing::lookup::StyleContext;
+use indexmap::IndexSet;
 use std::alloc::{AllocError, Global};
 
 /// Whether no cite is written for a purpose of its own.
@@ -63,14 +64,14 @@ fn marked_cite<T: EntryLike, P: Drop>(
 fn shown_cites<'a, T: EntryLike, P: Drop>(
     alloc: Global,
     request: &CitationRequest<'a, T, P>,
-    entries: &[&'a T],
+    entries: &IndexSet<&'a T>,
     offset: usize,
     renders: &mut Renders,
 ) -> Result<Vec<ElemChildren>, AllocError>
-    requires fits { offset + length entries.now < 2 ^ 64 }
+    requires fits { offset + length entries.now.keys < 2 ^ 64 }
     requires no_ring { HasNoRing (style_view request.now.style.now).macros }
     ensures { IfOk result (λ cites. cites.items
-        ≡ map (marked (numbered_tree T.eq T.answers (source_of (request_view request.now)) (entries_view entries.now) offset)) (shown (request_view request.now).cites)) }
+        ≡ map (marked (numbered_tree T.eq T.answers (source_of (request_view request.now)) (entries_view entries.now.keys) offset)) (shown (request_view request.now).cites)) }
 {
     let context = request_context(request);
     let locale = request.locale.as_ref();
@@ -88,14 +89,14 @@ fn shown_cites<'a, T: EntryLike, P: Drop>(
 fn citation_tree<'a, T: EntryLike, P: Drop>(
     alloc: Global,
     request: &CitationRequest<'a, T, P>,
-    entries: &[&'a T],
+    entries: &IndexSet<&'a T>,
     offset: usize,
     renders: &mut Renders,
 ) -> Result<ElemChildren, AllocError>
-    requires fits { offset + length entries.now < 2 ^ 64 }
+    requires fits { offset + length entries.now.keys < 2 ^ 64 }
     requires no_ring { HasNoRing (style_view request.now.style.now).macros }
     ensures { IfOk result (λ tree. tree
-        ≡ citation_tree (numbered_tree T.eq T.answers (source_of (request_view request.now)) (entries_view entries.now) offset) (request_view request.now)) }
+        ≡ citation_tree (numbered_tree T.eq T.answers (source_of (request_view request.now)) (entries_view entries.now.keys) offset) (request_view request.now)) }
 {
     let cites = shown_cites(alloc, request, entries, offset, renders)?;
     let layout = &request.style.citation.layout;
@@ -107,13 +108,13 @@ fn citation_tree<'a, T: EntryLike, P: Drop>(
 pub(crate) fn rendered_citations<'a, T: EntryLike, P: Drop>(
     alloc: Global,
     requests: &[CitationRequest<'a, T, P>],
-    entries: &[&'a T],
+    entries: &IndexSet<&'a T>,
     offset: usize,
     renders: &mut Renders,
 ) -> Result<Vec<RenderedCitation>, AllocError>
-    requires fits { offset + length entries.now < 2 ^ 64 }
+    requires fits { offset + length entries.now.keys < 2 ^ 64 }
     requires no_ring { NoRingIn (requests_view requests.now) }
-    ensures { IfOk result (λ citations. citations.items ≡ map (rendered_citation T.eq T.answers (entries_view entries.now) offset) (requests_view requests.now)) }
+    ensures { IfOk result (λ citations. citations.items ≡ map (rendered_citation T.eq T.answers (entries_view entries.now.keys) offset) (requests_view requests.now)) }
 {
     let mut citations = Vec::new(alloc);
     for request in requests {

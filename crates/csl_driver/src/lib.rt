@@ -19,6 +19,7 @@ pub mod driver;
 mod entries;
 pub mod error;
 mod finish;
+mod first_places;
 pub mod item;
 pub mod laws;
 pub mod rendered;

@@ -1,18 +1,9 @@
 use Rattle.std.proofs.Common.{◌≡◌, ◌<◌, ◌∙◌, ◌+◌, ◌-◌, ◌≤◌, ℕ, List, [], Vec, Global, map, sym, ap, subst, length, get_or, arith}
 use Rattle.std.proofs.lemmas.List.{length-map, get_or-map}
 use Rattle.csl_base.specs.Places.{Places, steps_from, IsWithin, IsClosed, add_each}
+use Rattle.csl_base.proofs.Rows.{rows_of, row_read, row_within}
 use Rattle.csl_base.proofs.Reached.{left, IsReached, reached-start, reached-more, next_within, falls, mark_read, on_round}
 use Rattle.csl_base.proofs.graph.is_on_round.Goals as goal
-
-abbrev rows_of : List (Vec ℕ Global) → List Places
-rows_of = map (λ row. row.items)
-
-row_read : (rows : List (Vec ℕ Global)) (i : ℕ) (row : Vec ℕ Global) → i < length rows → row ≡ get_or rows i row → row.items ≡ steps_from (rows_of rows) i
-row_read rows i row h e = ap (λ (r : Vec ℕ Global). r.items) e ∙ sym (get_or-map (λ (r : Vec ℕ Global). r.items) rows i row [] h)
-
-row_within : (rows : List (Vec ℕ Global)) (i : ℕ) (row : Vec ℕ Global) → IsClosed (rows_of rows) → i < length rows → row ≡ get_or rows i row → IsWithin (length rows) row.items
-row_within rows i row closed h e =
-    subst (λ n. IsWithin n row.items) (length-map rows (λ (r : Vec ℕ Global). r.items)) (subst (IsWithin (length (rows_of rows))) (sym (row_read rows i row h e)) (closed i))
 
 pub add_places-requires-clause-within : goal.add_places-requires-clause-within
 add_places-requires-clause-within c =

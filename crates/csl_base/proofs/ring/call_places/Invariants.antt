@@ -1,10 +1,13 @@
 use Rattle.std.proofs.Common.{◌≡◌, ◌++◌, map, drop}
+use Rattle.std.specs.List.{filter_map}
 use Rattle.csl_base.specs.Calls.{calls_of_all}
-use Rattle.csl_base.specs.Ring.{places_of, call_places}
+use Rattle.csl_base.specs.Element.{Macro}
+use Rattle.csl_base.specs.Places.{Places}
+use Rattle.csl_base.specs.NamedPlaces.{place_named}
 use Rattle.csl_base.specs.ElementView.{macros_view}
 use Rattle.csl_base.proofs.ring.call_places.Given as goal
 
 abbrev pub invariant-loop-each : goal.invariant-loop-each
 invariant-loop-each l =
-    let macros = macros_view l.macros.items in
-    map (λ row. row.items) l.rows.items ++ map (λ m. places_of macros (calls_of_all m.children)) (macros_view (drop l.each-index l.each-items)) ≡ call_places macros
+    let row : Macro → Places = λ m. filter_map (place_named l.places) (calls_of_all m.children) in
+    map (λ row. row.items) l.rows.items ++ map row (macros_view (drop l.each-index l.each-items)) ≡ map row (macros_view l.each-items)

@@ -6,4 +6,4 @@ use Rattle.csl_driver.proofs.citation.rendered_citations.Given as goal
 abbrev pub invariant-loop-request : goal.invariant-loop-request
 invariant-loop-request g l =
     l.citations.items
-    ≡ map (rendered_citation g.T.PartialEq.eq g.T.EntryLike.answers (entries_view l.entries) l.offset) (requests_view (take l.request-index l.requests))
+    ≡ map (rendered_citation g.T.PartialEq.eq g.T.EntryLike.answers (entries_view l.entries.keys) l.offset) (requests_view (take l.request-index l.requests))

@@ -8,5 +8,5 @@ use Rattle.csl_driver.proofs.citation.shown_cites.Given as goal
 abbrev pub invariant-loop-item : goal.invariant-loop-item
 invariant-loop-item g l =
     l.cites.items
-    ++ map (marked (numbered_tree g.T.PartialEq.eq g.T.EntryLike.answers (source_of (request_view l.request)) (entries_view l.entries) l.offset)) (shown (cites_view (drop l.item-index l.item-items)))
-    ≡ map (marked (numbered_tree g.T.PartialEq.eq g.T.EntryLike.answers (source_of (request_view l.request)) (entries_view l.entries) l.offset)) (shown (cites_view l.item-items))
+    ++ map (marked (numbered_tree g.T.PartialEq.eq g.T.EntryLike.answers (source_of (request_view l.request)) (entries_view l.entries.keys) l.offset)) (shown (cites_view (drop l.item-index l.item-items)))
+    ≡ map (marked (numbered_tree g.T.PartialEq.eq g.T.EntryLike.answers (source_of (request_view l.request)) (entries_view l.entries.keys) l.offset)) (shown (cites_view l.item-items))

@@ -5,5 +5,5 @@ use Rattle.csl_driver.proofs.entries.add_entries.Given as goal
 
 abbrev pub invariant-loop-e : goal.invariant-loop-e
 invariant-loop-e g l =
-    entries_view l.entries.items
-    ≡ with_all_new g.T.PartialEq.eq (entries_view l.fn.entries.items) (entries_view (take l.e-index l.more))
+    entries_view l.entries.keys
+    ≡ with_all_new g.T.PartialEq.eq (entries_view l.fn.entries.keys) (entries_view (take l.e-index l.more))

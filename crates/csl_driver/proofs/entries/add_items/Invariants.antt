@@ -6,5 +6,5 @@ use Rattle.csl_driver.proofs.entries.add_items.Given as goal
 
 abbrev pub invariant-loop-item : goal.invariant-loop-item
 invariant-loop-item g l =
-    entries_view l.entries.items
-    ≡ with_all_new g.T.PartialEq.eq (entries_view l.fn.entries.items) (entries_of (cites_view (take l.item-index l.items)))
+    entries_view l.entries.keys
+    ≡ with_all_new g.T.PartialEq.eq (entries_view l.fn.entries.keys) (entries_of (cites_view (take l.item-index l.items)))

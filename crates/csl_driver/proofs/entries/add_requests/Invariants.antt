@@ -6,5 +6,5 @@ use Rattle.csl_driver.proofs.entries.add_requests.Given as goal
 
 abbrev pub invariant-loop-request : goal.invariant-loop-request
 invariant-loop-request g l =
-    entries_view l.entries.items
-    ≡ with_all_new g.T.PartialEq.eq (entries_view l.fn.entries.items) (cited (requests_view (take l.request-index l.requests)))
+    entries_view l.entries.keys
+    ≡ with_all_new g.T.PartialEq.eq (entries_view l.fn.entries.keys) (cited (requests_view (take l.request-index l.requests)))

@@ -5,5 +5,5 @@ use Rattle.csl_driver.proofs.entries.cited_entries.Goals as goal
 
 pub returns : goal.returns
 returns g c =
-    rw (c.in_ok-add_requests.ensures, c.new-cited.ensures.items)
+    rw (c.in_ok-add_requests.ensures, c.new-cited.ensures.empty)
     (all_new_is_distinct g.T.PartialEq.eq g.met.T.Eq.laws (cited (requests_view c.args.requests.now)))

@@ -1,0 +1,16 @@
+use Rattle.std.proofs.Common.{◌≡◌, ◌∙◌, ◌<◌, ℕ, Vec, Global, map, sym, ap, subst, length, get_or, arith}
+use Rattle.std.proofs.lemmas.List.{length-set}
+use Rattle.csl_base.specs.Places.{IsWithin}
+use Rattle.csl_base.proofs.Rows.{rows_of, row_read, row_within, next_place, one_more, rises, no_round}
+use Rattle.csl_base.proofs.Reached.{place_within}
+use Rattle.csl_base.proofs.order.count_steps.Goals as goal
+
+pub index-requires : goal.index-requires
+index-requires c =
+    let l = c.loop-place in
+    omega (arith, next_place (length c.args.counts.now.items) _ _ l.place-index c.deref-place-items.ensures.value c.requires c.loop-place-test.true, l.invariant, l.counts.ok.0)
+
+pub index_mut-requires : goal.index_mut-requires
+index_mut-requires c =
+    let l = c.loop-place in
+    omega (arith, next_place (length c.args.counts.now.items) _ _ l.place-index c.deref-place-items.ensures.value c.requires c.loop-place-test.true, l.invariant, l.counts.ok.0)

@@ -1,0 +1,7 @@
+use Rattle.std.proofs.Common.{◌≡◌, ◌<◌, ◌≤◌, ℕ, length, map, take, drop, get_or, true}
+use Rattle.csl_base.specs.Places.{has_place, steps_from, IsWithin}
+use Rattle.csl_base.proofs.order.ranks.Given as goal
+
+abbrev pub invariant-loop-at : goal.invariant-loop-at
+invariant-loop-at l =
+    (length l.counts.items ≡ length l.rows.items) × (length l.ranks.items ≡ length l.rows.items) × IsWithin (length l.rows.items) l.free.items
