@@ -100,12 +100,15 @@ impl ElemChildren {
         self.0.is_empty()
     }
 
-    /// Adds a child at the end.
+    /// Adds a child at the end. Where the room is used up it is doubled, and begins with that for one.
     ///
     /// Fails where memory is refused.
     pub fn push(&mut self, child: ElemChild) -> Result<(), AllocError>
         ensures { OnOk result (self.new ≡ self.old ++ child_view child ∷ []) }
     {
+        if self.0.len() == self.0.capacity() {
+            self.0.reserve_exact(self.0.len().max(1))?;
+        }
         self.0.push(child)?;
         Ok(())
     }

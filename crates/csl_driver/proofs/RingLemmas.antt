@@ -7,19 +7,10 @@ use Rattle.std.proofs.lemmas.Option.{slice_get-get_or}
 use Rattle.csl_base.specs.Ring.{HasNoRing, IsFirstRing}
 use Rattle.csl_base.specs.Style.{StyleValue}
 use Rattle.csl_driver.specs.Request.{Request}
-use Rattle.csl_driver.specs.Rings.{NoRingIn, IsFirstRingOf, RefusesRing, Refuses}
-use Rattle.csl_driver.specs.declared.error.DriverError.{DriverError}
-use Rattle.csl_driver.specs.declared.error.DriverError.TheVariants as errors
+use Rattle.csl_driver.specs.Rings.{NoRingIn, IsFirstRingOf}
 use Rattle.csl_driver.specs.declared.error.RingPlace.TheVariants as places
 
 module _ {E P : Type 0} where
-  -- a refusal for a ring is one of the driver's
-  pub refuses_ring : (eq : E → E → Bool) (requests : List (Request E P)) (style : StyleValue) (offset : ℕ) (e : DriverError)
-      → RefusesRing requests style e → Refuses eq requests style offset e
-  refuses_ring eq requests style offset (errors.MacroRing place i) h = h
-  refuses_ring eq requests style offset errors.NumberOverflow h = absurd h
-  refuses_ring eq requests style offset (errors.OutOfMemory a) h = h
-
   module _ {X : Type 0} (view : X → Request E P) (xs : List X) (k : ℕ) (x : X) (within : k < length xs) (here : x ≡ get_or xs k x) where
     at_view : get_or (map view xs) k (view x) ≡ view x
     at_view = get_or-map view xs k x ∙ ap view (sym here)

@@ -25,7 +25,7 @@ module _ {E P : Type 0} where
       (r : Request E P) × (slice_get requests k ≡ Some r) × NoRingIn (take k requests) × IsFirstRing r.style.macros (Some i)
   IsFirstRingOf requests style places.Bibliography i = NoRingIn requests × IsFirstRing style.macros (Some i)
 
-  -- for the code: a refusal for a ring names the first one, and none is for the numbers
+  -- a refusal for a ring names the first one, and none is for the numbers; memory may run out anywhere
   abbrev pub RefusesRing : List (Request E P) → StyleValue → DriverError → Type 0
   RefusesRing requests style (errors.MacroRing place i) = IsFirstRingOf requests style place i
   RefusesRing requests style errors.NumberOverflow = ⊥
@@ -35,11 +35,10 @@ module _ {E P : Type 0} where
   abbrev pub Overflows : (E → E → Bool) → List (Request E P) → ℕ → Type 0
   Overflows eq requests offset = 2 ^ 64 ≤ offset + length (distinct eq (cited requests))
 
-  -- each refusal has its reason: the first ring, or, where no style has one, too large a number; memory may run out anywhere
+  -- each refusal has its reason: too large a number where no style has a ring, and otherwise a ring or memory
   abbrev pub Refuses : (E → E → Bool) → List (Request E P) → StyleValue → ℕ → DriverError → Type 0
-  Refuses eq requests style offset (errors.MacroRing place i) = IsFirstRingOf requests style place i
   Refuses eq requests style offset errors.NumberOverflow = NoRingAtAll requests style × Overflows eq requests offset
-  Refuses eq requests style offset (errors.OutOfMemory a) = Unit {0}
+  Refuses eq requests style offset refusal = RefusesRing requests style refusal
 
 -- a citation that stands for itself is refused for the first macro on a ring, at the place of a first request, and for nothing else
 -- but want of memory

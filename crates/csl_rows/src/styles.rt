@@ -26,10 +26,17 @@ fn no_options() -> InheritableNameOptions {
     }
 }
 
-fn no_formatting() -> StyleFormatting {
+pub fn no_formatting() -> StyleFormatting {
     StyleFormatting {
         font_style: None,
         font_weight: None,
+    }
+}
+
+pub fn no_affixes() -> Affixes {
+    Affixes {
+        prefix: None,
+        suffix: None,
     }
 }
 
@@ -43,25 +50,19 @@ fn value(alloc: Global, value: &str) -> Result<LayoutRenderingElement, AllocErro
         target: TextTarget::Value(String::from_str(alloc, value)?),
         quotes: false,
         strip_periods: false,
-        affixes: Affixes {
-            prefix: None,
-            suffix: None,
-        },
+        affixes: no_affixes(),
         formatting: no_formatting(),
         display: None,
     })
 }
 
 /// A text element that calls the macro of this name.
-fn call(alloc: Global, name: &str) -> Result<LayoutRenderingElement, AllocError> {
+pub fn call(alloc: Global, name: &str) -> Result<LayoutRenderingElement, AllocError> {
     Ok(LayoutRenderingElement::Text {
         target: TextTarget::Macro(String::from_str(alloc, name)?),
         quotes: false,
         strip_periods: false,
-        affixes: Affixes {
-            prefix: None,
-            suffix: None,
-        },
+        affixes: no_affixes(),
         formatting: no_formatting(),
         display: None,
     })
@@ -162,7 +163,7 @@ fn layout_of(alloc: Global, element: LayoutRenderingElement) -> Result<Layout, A
     })
 }
 
-fn citation_of(layout: Layout) -> Citation {
+pub fn citation_of(layout: Layout) -> Citation {
     Citation {
         layout,
         disambiguate_add_givenname: false,
@@ -191,7 +192,7 @@ fn bibliography_of(layout: Layout) -> Bibliography {
     }
 }
 
-fn style_of(
+pub fn style_of(
     alloc: Global,
     class: StyleClass,
     citation: Citation,
@@ -215,13 +216,7 @@ fn style_of(
 
 /// An in-text style of citation numbers in brackets, whose bibliography writes them so too.
 pub fn numeric(alloc: Global) -> Result<IndependentStyle, AllocError> {
-    let mut layout = layout_of(
-        alloc,
-        citation_number(Affixes {
-            prefix: None,
-            suffix: None,
-        }),
-    )?;
+    let mut layout = layout_of(alloc, citation_number(no_affixes()))?;
     layout.prefix = text(alloc, "[")?;
     layout.suffix = text(alloc, "]")?;
     layout.delimiter = text(alloc, ", ")?;
