@@ -101,7 +101,8 @@ fn citation_tree<'a, T: EntryLike, P: Drop>(
     let cites = shown_cites(alloc, request, entries, offset, renders)?;
     let layout = &request.style.citation.layout;
     let delimiter = optional_str(&layout.delimiter);
-    assembled(alloc, layout, delimiter, cites, has_no_purpose(&request.items))
+    let encloses = has_no_purpose(&request.items);
+    assembled(alloc, layout, delimiter, cites, encloses)
 }
 
 /// The citation of each request.

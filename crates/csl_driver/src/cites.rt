@@ -20,9 +20,7 @@ use csl_writing::purpose::CitePurpose;
 use std::alloc::{AllocError, Global};
 
 /// The style of a request, with its locales.
-pub(crate) fn request_context<'r, T, P>(
-    request: &'r CitationRequest<'_, T, P>,
-) -> StyleContext<'r>
+pub(crate) fn request_context<'r, T, P>(request: &'r CitationRequest<'_, T, P>) -> StyleContext<'r>
     ensures { source_view result ≡ source_of (request_view request.now) }
 {
     StyleContext::new(request.style, request.locale.as_ref(), request.locale_files)

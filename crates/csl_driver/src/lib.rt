@@ -7,9 +7,7 @@
 pub use csl_base::{
     elem, element, entry, formatting, initials, locale, names, seq, stack, style, taxonomy, text,
 };
-pub use csl_writing::{
-    brackets, counter, locator, lookup, properties, purpose, state, year,
-};
+pub use csl_writing::{brackets, counter, locator, lookup, properties, purpose, state, year};
 
 mod assemble;
 mod bibliography;

@@ -23,11 +23,7 @@ fn cites<'a>(
     Ok(CitationRequest::from_items(items, style, &[]))
 }
 
-fn shown(
-    alloc: Global,
-    style: &IndependentStyle,
-    entries: &[PlainEntry],
-) -> Result<String, Fail> {
+fn shown(alloc: Global, style: &IndependentStyle, entries: &[PlainEntry]) -> Result<String, Fail> {
     let tree = standalone_citation(alloc, cites(alloc, style, entries)?)?;
     let mut text = String::new(alloc);
     tree.write_plain(&mut text)?;
@@ -42,7 +38,10 @@ fn standalone(rt: HostRuntime) -> Result<(), Fail> {
     entries.push(dated(alloc, "Doe", 1999)?)?;
     entries.push(dated(alloc, "Roe", 2000)?)?;
     entries.push(dated(alloc, "Poe", 2001)?)?;
-    assert_eq!(rt; shown(alloc, &style, &entries)?.as_str(), "(Roe 2000; Poe 2001)");
+    assert_eq!(rt;
+        shown(alloc, &style, &entries)?.as_str(),
+        "(Roe 2000; Poe 2001)"
+    );
     assert_eq!(rt; shown(alloc, &style, &[])?.as_str(), "");
     Ok(())
 }

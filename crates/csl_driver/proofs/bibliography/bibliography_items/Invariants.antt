@@ -8,4 +8,4 @@ abbrev pub invariant-loop-entry : goal.invariant-loop-entry
 invariant-loop-entry g l =
     l.items.items
     ≡ map (λ e. bibliography_item g.T.EntryLike.answers (wanted_source (wanted_view l.wanted)) (entry_properties g.T.PartialEq.eq (requests_view l.requests) (entries_view l.entries.keys) l.offset e) e)
-      (entries_view (take l.entry-index l.entry-items))
+    (entries_view (take l.entry-index l.entry-items))
