@@ -6,3 +6,4 @@ pub mod RingLemmas
 pub mod Noted
 pub mod Answered
 mod Sets
+pub mod Items

@@ -1,5 +1,5 @@
 -- For the code: a map that knows where entries are cited first.
-use Rattle.std.specs.Prelude.{◌≡◌, ℕ, Bool, List, Option, Some, None, find, option_map}
+use Rattle.std.specs.Prelude.{◌≡◌, ℕ, Bool, List, Option, find, option_map, unwrap_or}
 use Rattle.std.specs.Borrow.{Bor}
 use Rattle.std.specs.Option.{option_or}
 use Rattle.indexmap.specs.IndexMap.{IndexMap, get}
@@ -16,7 +16,7 @@ module _ {E : Type 0} (eq : E → E → Bool) where
     noted m e = get (λ x y. eq x.now y.now) m e
 
     abbrev pub noted_place : IndexMap (Bor E) ℕ S → Bor E → ℕ
-    noted_place m e = elim (noted m e) [ None ↦ 0 | Some place ↦ place ]
+    noted_place m e = unwrap_or (noted m e) 0
 
     -- n notes the first places among these cites, and elsewhere what m does
     abbrev pub NotesPlaces : {P : Type 0} → IndexMap (Bor E) ℕ S → IndexMap (Bor E) ℕ S → List (Cite E P) → Type 0

@@ -8,7 +8,7 @@ ghost use Rattle.csl_driver.specs.Answer.{bibliography_item, entry_properties, r
 ghost use Rattle.csl_driver.specs.Request.{wanted_source};
 ghost use Rattle.csl_driver.specs.RequestView.{entries_view, requests_view, wanted_view};
 
-use crate::cites::cite_properties;
+use crate::cites::{cite_properties, wanted_context};
 use crate::entries::place_of;
 use crate::first_places::{first_places, place_in};
 use crate::rendered::{BibliographyItem, RenderedBibliography};
@@ -60,8 +60,8 @@ fn bibliography_items<'a, T: EntryLike, P: Drop>(
     ensures { IfOk result (λ items. items.items
         ≡ map (λ e. bibliography_item T.answers (wanted_source (wanted_view wanted.now)) (entry_properties T.eq (requests_view requests.now) (entries_view entries.now.keys) offset e) e) (entries_view entries.now.keys)) }
 {
+    let context = wanted_context(wanted);
     let locale = wanted.locale.as_ref();
-    let context = StyleContext::new(wanted.style, locale, wanted.locale_files);
     let mut items = Vec::new(alloc);
     let places = first_places(alloc, requests)?;
     for entry in entries.as_slice() {

@@ -4,11 +4,11 @@ ghost use Rattle.csl_base.specs.Ring.{HasNoRing};
 ghost use Rattle.csl_writing.specs.PropertiesView.{locator_view, properties_view};
 ghost use Rattle.csl_writing.specs.SourceView.{source_view};
 ghost use Rattle.csl_driver.specs.CiteTree.{cite_tree, is_for_year, properties_of};
-ghost use Rattle.csl_driver.specs.Request.{source_of};
-ghost use Rattle.csl_driver.specs.RequestView.{cite_view, request_view};
+ghost use Rattle.csl_driver.specs.Request.{source_of, wanted_source};
+ghost use Rattle.csl_driver.specs.RequestView.{cite_view, request_view, wanted_view};
 
 use crate::item::CitationItem;
-use crate::request::CitationRequest;
+use crate::request::{BibliographyRequest, CitationRequest};
 use csl_base::elem::ElemChildren;
 use csl_base::entry::EntryLike;
 use csl_base::locale::LocaleCode;
@@ -24,6 +24,13 @@ pub(crate) fn request_context<'r, T, P>(request: &'r CitationRequest<'_, T, P>) 
     ensures { source_view result ≡ source_of (request_view request.now) }
 {
     StyleContext::new(request.style, request.locale.as_ref(), request.locale_files)
+}
+
+/// The style of a request for a bibliography, with its locales.
+pub(crate) fn wanted_context<'w, T>(wanted: &'w BibliographyRequest<'_, '_, T>) -> StyleContext<'w>
+    ensures { source_view result ≡ wanted_source (wanted_view wanted.now) }
+{
+    StyleContext::new(wanted.style, wanted.locale.as_ref(), wanted.locale_files)
 }
 
 /// The properties of a cite that stands for itself.

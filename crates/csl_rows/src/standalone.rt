@@ -1,30 +1,26 @@
 //! Citations that stand for themselves.
-use crate::styles::{author_date, dated, numeric_with_macros};
+use crate::styles::{author_date, dated, entry, numeric_with_macros};
 use csl_driver::entry::PlainEntry;
 use csl_driver::error::{DriverError, RingPlace};
 use csl_driver::item::CitationItem;
+use csl_driver::purpose::CitePurpose;
 use csl_driver::request::CitationRequest;
 use csl_driver::standalone::standalone_citation;
 use csl_driver::style::IndependentStyle;
-use std::alloc::{AllocError, Global};
+use std::alloc::Global;
 use std::convert::Infallible;
 use std::test::Fail;
 
-/// A request that cites these entries, of which the first is hidden.
-fn cites<'a>(
+type Item<'a> = CitationItem<'a, PlainEntry, Infallible>;
+
+/// The plain text of a citation of these items.
+fn shown<'a>(
     alloc: Global,
     style: &'a IndependentStyle,
-    entries: &'a [PlainEntry],
-) -> Result<CitationRequest<'a, PlainEntry, Infallible>, AllocError> {
-    let mut items = Vec::new(alloc);
-    for (k, entry) in entries.iter().enumerate() {
-        items.push(CitationItem::new(entry, None, None, k == 0, None))?;
-    }
-    Ok(CitationRequest::from_items(items, style, &[]))
-}
-
-fn shown(alloc: Global, style: &IndependentStyle, entries: &[PlainEntry]) -> Result<String, Fail> {
-    let tree = standalone_citation(alloc, cites(alloc, style, entries)?)?;
+    items: Vec<Item<'a>>,
+) -> Result<String, Fail> {
+    let request = CitationRequest::from_items(items, style, &[]);
+    let tree = standalone_citation(alloc, request)?;
     let mut text = String::new(alloc);
     tree.write_plain(&mut text)?;
     Ok(text)
@@ -34,15 +30,37 @@ fn shown(alloc: Global, style: &IndependentStyle, entries: &[PlainEntry]) -> Res
 fn standalone(rt: HostRuntime) -> Result<(), Fail> {
     let alloc = rt.alloc();
     let style = author_date(alloc)?;
-    let mut entries = Vec::new(alloc);
-    entries.push(dated(alloc, "Doe", 1999)?)?;
-    entries.push(dated(alloc, "Roe", 2000)?)?;
-    entries.push(dated(alloc, "Poe", 2001)?)?;
+    let doe = dated(alloc, "Doe", 1999)?;
+    let roe = dated(alloc, "Roe", 2000)?;
+    let poe = dated(alloc, "Poe", 2001)?;
+    let hidden: Item = CitationItem::new(&doe, None, None, true, None);
+    let items = vec![in alloc;
+        hidden,
+        CitationItem::with_entry(&roe),
+        CitationItem::with_entry(&poe),
+    ]?;
     assert_eq!(rt;
-        shown(alloc, &style, &entries)?.as_str(),
+        shown(alloc, &style, items)?.as_str(),
         "(Roe 2000; Poe 2001)"
     );
-    assert_eq!(rt; shown(alloc, &style, &[])?.as_str(), "");
+    assert_eq!(rt; shown(alloc, &style, Vec::new(alloc))?.as_str(), "");
+    Ok(())
+}
+
+#[test]
+fn standalone_year_and_nothing(rt: HostRuntime) -> Result<(), Fail> {
+    let alloc = rt.alloc();
+    let style = author_date(alloc)?;
+    let roe = dated(alloc, "Roe", 2000)?;
+    let empty = entry(alloc, "empty")?;
+    let poe = dated(alloc, "Poe", 2001)?;
+    let year: Item = CitationItem::with_entry(&poe).kind(CitePurpose::Year);
+    let items = vec![in alloc;
+        CitationItem::with_entry(&roe),
+        CitationItem::with_entry(&empty),
+        year,
+    ]?;
+    assert_eq!(rt; shown(alloc, &style, items)?.as_str(), "(Roe 2000; 2001)");
     Ok(())
 }
 
@@ -50,14 +68,13 @@ fn standalone(rt: HostRuntime) -> Result<(), Fail> {
 fn standalone_ring(rt: HostRuntime) -> Result<(), Fail> {
     let alloc = rt.alloc();
     let style = numeric_with_macros(alloc, &[("p", "p")])?;
-    let refusal = standalone_citation(alloc, cites(alloc, &style, &[])?).err();
-    let place = RingPlace::Request(0);
-    assert!(rt;
-        refusal
-            == Some(DriverError::MacroRing {
-                place,
-                macro_idx: 0
-            })
-    );
-    Ok(())
+    let items: Vec<Item> = Vec::new(alloc);
+    match standalone_citation(alloc, CitationRequest::from_items(items, &style, &[])) {
+        Err(DriverError::MacroRing { place, macro_idx }) => {
+            assert_eq!(rt; place, RingPlace::Request(0));
+            assert_eq!(rt; macro_idx, 0);
+            Ok(())
+        }
+        _ => Err(Fail::new("the ring was let through")),
+    }
 }
