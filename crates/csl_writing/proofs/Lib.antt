@@ -2,3 +2,4 @@ pub mod Greater
 pub mod StateOrder
 pub mod FirstAnswers
 pub mod Letters
+pub mod Copies

@@ -48,11 +48,11 @@ impl<'a> StyleContext<'a> {
         }
     }
 
-    /// The first answer that the closure gives of the locales that are asked, which are in order: of
+    /// The first answer that the closure gives of the locales that are asked, in this order: of
     /// the style's own the first of the locale in use, of its base language, and of no language;
     /// then of the files the first of the locale in use, of its primary dialect, and of `en-US`.
-    /// `None` where it answers `None` of each. The closure has to accept any locale. It takes no
-    /// memory.
+    /// `None` where it answers `None` of each. The closure has to accept any locale. The look-up
+    /// takes no memory.
     pub fn lookup_locale<F: Fn(&'a Locale) -> Option<R> + Drop, R>(&self, f: F) -> Option<R>
         requires { F.IsAlwaysCallable f }
         ensures { FirstAnswer (Gives F.Fn f) (found.asked (lookup_view self.now)) result }

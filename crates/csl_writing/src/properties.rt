@@ -46,8 +46,8 @@ pub struct CiteProperties<'a, P> {
 }
 
 impl<'a, P> SpeculativeCiteProperties<'a, P> {
-    /// What is taken to hold of a cite before it was written: nothing tells its entry apart yet, and
-    /// no identifier was written.
+    /// What is taken to hold of a cite before it was written: nothing tells its entry apart yet,
+    /// and no identifier was written.
     pub fn speculate(
         locator: Option<SpecificLocator<'a, P>>,
         citation_number: usize,
