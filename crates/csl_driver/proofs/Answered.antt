@@ -1,5 +1,5 @@
 -- The whole answer from its parts.
-use Rattle.std.proofs.Common.{◌≡◌, ℕ, Bool, List, Option, map, refl, ◌∙◌}
+use Rattle.std.proofs.Common.{◌≡◌, ℕ, Bool, List, Option, map, refl}
 use Rattle.std.specs.Prelude.{option_map}
 use Rattle.csl_base.specs.Answers.{Answers}
 use Rattle.csl_driver.specs.Answer.{rendered, rendered_bibliography, rendered_citation}

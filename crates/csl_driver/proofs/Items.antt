@@ -1,6 +1,6 @@
 -- The items of a bibliography, made one after another.
 use Rattle.std.proofs.Common.{◌≡◌, ℕ, ◌+◌, ◌<◌, ◌≤◌, Bool, List, [], ◌∷◌, ◌++◌, length, map, take, get_or, refl, ap, sym, ◌∙◌}
-use Rattle.std.specs.Prelude.{unwrap_or, None}
+use Rattle.std.specs.Prelude.{None}
 use Rattle.std.proofs.lemmas.List.{take_all, take_more, map-append}
 use Rattle.csl_base.specs.Answers.{Answers}
 use Rattle.csl_writing.specs.Lookup.{Source}

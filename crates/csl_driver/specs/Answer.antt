@@ -1,5 +1,5 @@
 -- The whole answer, from the whole list of requests.
-use Rattle.std.specs.Prelude.{ℕ, Bool, List, [], map, find, Option, Some, None, option_map, unwrap_or}
+use Rattle.std.specs.Prelude.{ℕ, Bool, List, [], map, find, None, option_map, unwrap_or}
 use Rattle.csl_base.specs.Answers.{Answers}
 use Rattle.csl_base.specs.Child.{Child}
 use Rattle.csl_base.specs.Style.{BibliographyValue}

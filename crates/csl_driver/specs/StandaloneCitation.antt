@@ -1,5 +1,5 @@
 -- A citation that stands for itself.
-use Rattle.std.specs.Prelude.{ℕ, true, List, map, filter, Option, Some, unwrap_or, codes}
+use Rattle.std.specs.Prelude.{true, List, map, filter, Some, unwrap_or, codes}
 use Rattle.csl_base.specs.Answers.{Answers}
 use Rattle.csl_base.specs.Child.{Child}
 use Rattle.csl_base.specs.Tree.{has_content}

@@ -59,8 +59,10 @@ fn answer<'a, T: EntryLike, P: Drop>(
 impl<'a, T: EntryLike, P: Drop> BibliographyDriver<'a, T, P> {
     /// Answers all requests: a citation for each, and the bibliography, where its style has one.
     ///
-    /// The entries of the bibliography are those of the handed order that are cited, and then all
-    /// that are cited, each once. Their numbers begin at the offset.
+    /// Each shown cite is rendered once, for its purpose, by its locator and its number; a cite of the
+    /// year alone is its date text. The entries of the bibliography are those of the handed order
+    /// that are cited, and then all that are cited, each rendered once. Their numbers begin at the
+    /// offset.
     ///
     /// # Errors
     /// `MacroRing` exactly where a style has macros that call each other in a ring; `NumberOverflow`
