@@ -20,7 +20,7 @@ module _ {K : Type 0} {cmp : K → K → Ordering} (order : IsValueOrder cmp) wh
     self = λ xs. (Equal-is (slice_cmp cmp xs xs)).0 (sym (lists_ties cmp (λ x y. refl) xs xs) ∙ (lists_find ties_find).self xs);
   }
 
-forms_in_order : IsValueOrder form_cmp
+pub forms_in_order : IsValueOrder form_cmp
 forms_in_order = search rules
 
 pub forms_by_extent : (a b : DisambiguatedNameForm) → form_cmp a b ≡ nat_cmp (extent a) (extent b)

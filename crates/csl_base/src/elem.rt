@@ -100,7 +100,8 @@ impl ElemChildren {
         self.0.is_empty()
     }
 
-    /// Adds a child at the end. Where the room is used up it is doubled, and begins with that for one.
+    /// Adds a child at the end. Where the room is used up it is doubled, and it begins with that for
+    /// one.
     ///
     /// Fails where memory is refused.
     pub fn push(&mut self, child: ElemChild) -> Result<(), AllocError>
@@ -222,8 +223,8 @@ impl ElemChild {
         }
     }
 
-    /// Whether there is something to see in this child: markup, a link, a `Transparent`, or a text that is
-    /// not all white space, at any depth.
+    /// Whether there is something to see in this child: markup, a link, a `Transparent`, or a text
+    /// that is not all white space, at any depth.
     #[cycle(has_content)]
     pub fn has_content(&self) -> bool
         ensures { result ≡ child_has_content (child_view self.now) }

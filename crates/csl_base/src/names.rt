@@ -66,7 +66,6 @@ impl NameDisambiguationProperties {
 
 /// A law: forms are ordered by how much of a name they write, and the forms of several names by the
 /// first that differs. Both are total orders, in which only equal values are equal.
-#[tactic(auto, using(crate::proofs::Orders::properties_in_order, crate::proofs::Orders::forms_by_extent))]
 pub fn forms_are_in_order()
     ensures extents { (a : DisambiguatedNameForm) → (b : DisambiguatedNameForm) → form_cmp a b ≡ nat_cmp (extent a) (extent b) }
     ensures first_difference { (a : NameDisambiguationProperties) → (b : NameDisambiguationProperties) → properties_cmp a b ≡ slice_cmp form_cmp a.forms b.forms }

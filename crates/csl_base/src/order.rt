@@ -61,8 +61,9 @@ fn take_away(
     Ok(())
 }
 
-// Ranks the places in the order in which they are taken away: first those to which no step leads, then
-// those to which none from the others does. Places that steps lead round are never taken, and stay at 0.
+// Ranks the places in the order in which they are taken away: first those to which no step leads,
+// then those to which none from the others does. Places that steps lead round are never taken, and
+// stay at 0.
 fn ranks(alloc: Global, rows: &Vec<Vec<usize>>) -> Result<Vec<usize>, AllocError>
     requires { IsClosed (map (λ row. row.items) rows.now.items) }
     ensures { IfOk result (λ ranks. length ranks.items ≡ length rows.now.items) }

@@ -322,31 +322,6 @@ fn note_numbers_are_dropped_in_text(rt: HostRuntime) -> Result<(), Fail> {
 }
 
 #[test]
-fn requests_are_equal_where_their_parts_are(rt: HostRuntime) -> Result<(), Fail> {
-    let alloc = rt.alloc();
-    let style = numeric(alloc)?;
-    let (a, b, same) = (entry(alloc, "a")?, entry(alloc, "b")?, entry(alloc, "a")?);
-    let item: Item = CitationItem::with_entry(&a);
-    assert!(rt; item == CitationItem::with_entry(&same));
-    assert!(rt; item != CitationItem::with_entry(&b));
-    let request = cites(alloc, &style, &[&a], false)?;
-    assert!(rt; request == cites(alloc, &style, &[&same], false)?);
-    assert!(rt; request != cites(alloc, &style, &[&a], true)?);
-    assert!(rt; Order(&[&a, &b]) == Order(&[&same, &b]));
-    assert!(rt; Order(&[&a]) != Order(&[&b]));
-    Ok(())
-}
-
-#[test]
-fn answers_are_equal_where_their_parts_are(rt: HostRuntime) -> Result<(), Fail> {
-    let answer = noted(rt.alloc(), StyleClass::Note, "T")?;
-    assert!(rt; answer == noted(rt.alloc(), StyleClass::Note, "T")?);
-    assert!(rt; answer != noted(rt.alloc(), StyleClass::InText, "T")?);
-    assert!(rt; answer != noted(rt.alloc(), StyleClass::Note, "U")?);
-    Ok(())
-}
-
-#[test]
 fn locators_are_equal_where_their_payloads_are(rt: HostRuntime) -> Result<(), Fail> {
     let alloc = rt.alloc();
     let one = TransparentLocator::new(alloc, 7u32)?;

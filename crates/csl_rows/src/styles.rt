@@ -26,17 +26,10 @@ fn no_options() -> InheritableNameOptions {
     }
 }
 
-pub fn no_formatting() -> StyleFormatting {
+fn no_formatting() -> StyleFormatting {
     StyleFormatting {
         font_style: None,
         font_weight: None,
-    }
-}
-
-pub fn no_affixes() -> Affixes {
-    Affixes {
-        prefix: None,
-        suffix: None,
     }
 }
 
@@ -50,19 +43,25 @@ fn value(alloc: Global, value: &str) -> Result<LayoutRenderingElement, AllocErro
         target: TextTarget::Value(String::from_str(alloc, value)?),
         quotes: false,
         strip_periods: false,
-        affixes: no_affixes(),
+        affixes: Affixes {
+            prefix: None,
+            suffix: None,
+        },
         formatting: no_formatting(),
         display: None,
     })
 }
 
 /// A text element that calls the macro of this name.
-pub fn call(alloc: Global, name: &str) -> Result<LayoutRenderingElement, AllocError> {
+fn call(alloc: Global, name: &str) -> Result<LayoutRenderingElement, AllocError> {
     Ok(LayoutRenderingElement::Text {
         target: TextTarget::Macro(String::from_str(alloc, name)?),
         quotes: false,
         strip_periods: false,
-        affixes: no_affixes(),
+        affixes: Affixes {
+            prefix: None,
+            suffix: None,
+        },
         formatting: no_formatting(),
         display: None,
     })
@@ -163,7 +162,7 @@ fn layout_of(alloc: Global, element: LayoutRenderingElement) -> Result<Layout, A
     })
 }
 
-pub fn citation_of(layout: Layout) -> Citation {
+fn citation_of(layout: Layout) -> Citation {
     Citation {
         layout,
         disambiguate_add_givenname: false,
@@ -192,7 +191,7 @@ fn bibliography_of(layout: Layout) -> Bibliography {
     }
 }
 
-pub fn style_of(
+fn style_of(
     alloc: Global,
     class: StyleClass,
     citation: Citation,
@@ -216,7 +215,13 @@ pub fn style_of(
 
 /// An in-text style of citation numbers in brackets, whose bibliography writes them so too.
 pub fn numeric(alloc: Global) -> Result<IndependentStyle, AllocError> {
-    let mut layout = layout_of(alloc, citation_number(no_affixes()))?;
+    let mut layout = layout_of(
+        alloc,
+        citation_number(Affixes {
+            prefix: None,
+            suffix: None,
+        }),
+    )?;
     layout.prefix = text(alloc, "[")?;
     layout.suffix = text(alloc, "]")?;
     layout.delimiter = text(alloc, ", ")?;

@@ -8,7 +8,6 @@ use csl_base::seq::Seq;
 use csl_base::taxonomy::NameVariable;
 use csl_base::text::Text;
 use std::alloc::AllocError;
-use std::collections::HashMap;
 use std::test::Fail;
 
 fn plain(rt: &HostRuntime, bytes: &str) -> Result<Formatted, AllocError> {
@@ -175,23 +174,6 @@ fn copies_are_equal(rt: HostRuntime) -> Result<(), Fail> {
     assert!(rt; !(other == block(alone(&rt, "a")?)), "another meta");
     let last = tree.last_text().ok_or("no last text")?;
     assert!(rt; *last == plain(&rt, "!")?);
-    Ok(())
-}
-
-#[test]
-fn elements_are_copied_written_and_found_by_hash(rt: HostRuntime) -> Result<(), Fail> {
-    let elem = block(each_kind(&rt)?);
-    let copy = elem.clone()?;
-    let mut seen = HashMap::new(rt.alloc());
-    seen.insert(elem, 7)?;
-    assert!(rt; seen.get(&copy) == Some(&7));
-    assert!(rt; seen.get(&block(alone(&rt, "a")?)).is_none());
-    let child: ElemChild = copy.into();
-    assert!(rt; child.clone()? == child);
-    assert!(rt; child.has_content());
-    let mut written = String::new(rt.alloc());
-    child.write_plain(&mut written)?;
-    assert_eq!(rt; written.as_str(), "See Doesite<br>!");
     Ok(())
 }
 
