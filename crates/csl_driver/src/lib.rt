@@ -7,17 +7,20 @@
 pub use csl_base::{
     elem, element, entry, formatting, initials, locale, names, seq, stack, style, taxonomy, text,
 };
-pub use csl_writing::{brackets, locator, lookup, properties, purpose, state, year};
+pub use csl_writing::{brackets, counter, locator, lookup, properties, purpose, state, year};
 
 mod assemble;
 mod bibliography;
+mod citation;
+mod cites;
 pub mod driver;
 mod entries;
 pub mod error;
 mod finish;
+mod first_places;
 pub mod item;
 pub mod laws;
 pub mod rendered;
 pub mod request;
 mod rings;
-mod thin;
+pub mod standalone;

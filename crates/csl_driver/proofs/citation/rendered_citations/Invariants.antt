@@ -1,7 +1,7 @@
 use Rattle.std.proofs.Common.{◌≡◌, map, take}
 use Rattle.csl_driver.specs.Answer.{rendered_citation}
 use Rattle.csl_driver.specs.RequestView.{entries_view, requests_view}
-use Rattle.csl_driver.proofs.bibliography.rendered_citations.Given as goal
+use Rattle.csl_driver.proofs.citation.rendered_citations.Given as goal
 
 abbrev pub invariant-loop-request : goal.invariant-loop-request
 invariant-loop-request g l =
