@@ -12,17 +12,17 @@ use Rattle.csl_driver.specs.declared.error.DriverError.TheVariants.{NumberOverfl
 use Rattle.csl_driver.specs.declared.rendered.Rendered.{Rendered}
 use Rattle.cite_run.specs.Form.{Document}
 use Rattle.cite_run.specs.Print.{print}
-use Rattle.cite_run.specs.Run.{same_entry, accepted, answer, HasAnswer, HasTooLargeNumbers}
+use Rattle.cite_run.specs.Run.{same_entry, accepted, wanted_of, answer, HasAnswer, HasTooLargeNumbers}
 
 module _ (v : Driver PlainEntry Infallible) (d : Document) (p : v ≡ record { requests = accepted d.requests; offset = d.offset }) where
   pub has_answer : NoRingAtAll v.requests d.style → v.offset + length (distinct same_entry (cited v.requests)) < 2 ^ 64 → HasAnswer d
   has_answer a b = subst (λ w. NoRingAtAll w.requests d.style × (w.offset + length (distinct same_entry (cited w.requests)) < 2 ^ 64)) p (a, b)
 
   pub is_answer : (o : Option (List PlainEntry)) (r : Rendered) (text : List ℕ) → o ≡ d.order
-      → r ≡ rendered same_entry plain_answers d.style o v.requests v.offset → text ≡ print r → text ≡ print (answer d)
+      → r ≡ rendered same_entry plain_answers (record (wanted_of d) { order = o }) v.requests v.offset → text ≡ print r → text ≡ print (answer d)
   is_answer o r text q e t =
-      t ∙ ap print (e ∙ ap (λ o. rendered same_entry plain_answers d.style o v.requests v.offset) q
-      ∙ ap (λ w. rendered same_entry plain_answers d.style d.order w.requests w.offset) p)
+      t ∙ ap print (e ∙ ap (λ o. rendered same_entry plain_answers (record (wanted_of d) { order = o }) v.requests v.offset) q
+      ∙ ap (λ w. rendered same_entry plain_answers (wanted_of d) w.requests w.offset) p)
 
   pub too_large : (e : DriverError) → e ≡ NumberOverflow → Refuses same_entry v.requests d.style v.offset e → HasTooLargeNumbers d
   too_large e q h =

@@ -7,7 +7,7 @@ use Rattle.csl_base.specs.declared.entry.PlainEntry.{PlainEntry}
 use Rattle.csl_base.specs.contracts.entry.PlainEntryPartialEq.TheImpl as plain_entry_eq
 use Rattle.csl_driver.specs.Answer.{rendered}
 use Rattle.csl_driver.specs.Entries.{distinct}
-use Rattle.csl_driver.specs.Request.{Request, cited, with_places}
+use Rattle.csl_driver.specs.Request.{Request, Wanted, cited, with_places}
 use Rattle.csl_driver.specs.Rings.{NoRingAtAll, IsFirstRingOf, Overflows}
 use Rattle.csl_driver.specs.declared.error.RingPlace.{RingPlace}
 use Rattle.csl_driver.specs.declared.rendered.Rendered.{Rendered}
@@ -24,9 +24,13 @@ same_entry = (plain_entry_eq.ghosts).eq
 abbrev pub accepted : List (Request PlainEntry Infallible) → List (Request PlainEntry Infallible)
 accepted = map with_places
 
+-- the bibliography that a document asks for
+abbrev pub wanted_of : Document → Wanted PlainEntry
+wanted_of d = record { style = d.style; locale = d.locale; locales = d.locales; order = d.order }
+
 -- the whole answer to a document
 abbrev pub answer : Document → Rendered
-answer d = rendered same_entry plain_answers d.style d.order (accepted d.requests) d.offset
+answer d = rendered same_entry plain_answers (wanted_of d) (accepted d.requests) d.offset
 
 -- the first ring of a document's styles: the style's place, and that of its first macro on a ring
 abbrev pub HasFirstRing : RingPlace → ℕ → Document → Type 0
