@@ -1,0 +1,2 @@
+pub mod Greater
+pub mod StateOrder

@@ -1,5 +1,9 @@
 pub mod Properties
 pub mod PropertiesView
+pub mod NoProperties
+pub mod States
+pub mod ValueLaws
+pub mod BracketPairs
 pub mod Lookup
 pub mod SourceView
 pub mod Notes
@@ -14,3 +18,4 @@ pub mod Options
 pub mod Names
 pub mod Pick
 pub mod InputView
+pub mod Counted

@@ -2,9 +2,9 @@
 #![tactic(auto)]
 
 pub mod brackets;
-mod choices;
-mod held;
+pub mod counter;
 mod input;
+pub mod laws;
 pub mod locator;
 pub mod lookup;
 mod notes;
@@ -12,4 +12,3 @@ mod pieces;
 pub mod properties;
 pub mod purpose;
 pub mod state;
-mod variables;

@@ -1,4 +1,8 @@
 //! What is known of a cite when it is written, beside its entry.
+ghost use Rattle.std.specs.Prelude.{◌≡◌, None, option_map};
+ghost use Rattle.csl_writing.specs.PropertiesView.{locator_view, speculative_view, properties_view};
+ghost use Rattle.csl_writing.specs.NoProperties.{nothing_certain, speculated};
+
 use crate::locator::SpecificLocator;
 use crate::state::{DisambiguateState, IbidState, IdentifierUsage};
 
@@ -39,4 +43,57 @@ pub struct SpeculativeCiteProperties<'a, P> {
 pub struct CiteProperties<'a, P> {
     pub certain: CertainCiteProperties,
     pub speculative: SpeculativeCiteProperties<'a, P>,
+}
+
+impl<'a, P> SpeculativeCiteProperties<'a, P> {
+    /// What is taken to hold of a cite before it was written: nothing tells its entry apart yet, and
+    /// no identifier was written.
+    pub fn speculate(
+        locator: Option<SpecificLocator<'a, P>>,
+        citation_number: usize,
+        ibid: IbidState,
+    ) -> SpeculativeCiteProperties<'a, P>
+        ensures { speculative_view result ≡ speculated (option_map locator_view locator.entry) citation_number ibid }
+    {
+        SpeculativeCiteProperties {
+            locator,
+            citation_number,
+            ibid,
+            disambiguation: DisambiguateState::None,
+            identifier_usage: IdentifierUsage::None,
+        }
+    }
+}
+
+impl<'a, P: Drop> SpeculativeCiteProperties<'a, P> {
+    /// The same without the locator, which an entry of a bibliography has none of.
+    pub fn for_bibliography(self) -> SpeculativeCiteProperties<'a, P>
+        ensures { speculative_view result ≡ record (speculative_view self.entry) { locator = None } }
+    {
+        SpeculativeCiteProperties {
+            locator: None,
+            ..self
+        }
+    }
+}
+
+impl<'a, P> CiteProperties<'a, P> {
+    /// The properties of a cite that stands for itself: in no note, neither near another nor first,
+    /// at place 0, and repeating none.
+    pub fn for_sorting(
+        locator: Option<SpecificLocator<'a, P>>,
+        citation_number: usize,
+    ) -> CiteProperties<'a, P>
+        ensures { properties_view result
+            ≡ record { certain = nothing_certain; speculative = speculated (option_map locator_view locator.entry) citation_number IbidState.Different } }
+    {
+        CiteProperties {
+            certain: CertainCiteProperties::default(),
+            speculative: SpeculativeCiteProperties::speculate(
+                locator,
+                citation_number,
+                IbidState::Different,
+            ),
+        }
+    }
 }

@@ -1,0 +1,26 @@
+//! Laws of the small values, each on a call of its own.
+ghost use Rattle.std.specs.Prelude.{◌≡◌};
+ghost use Rattle.csl_base.specs.Ordered.{IsValueOrder};
+ghost use Rattle.csl_writing.specs.States.{with_label, with_number, state_cmp, greater};
+ghost use Rattle.csl_writing.specs.ValueLaws.{IsCommutative, IsAssociative, IsIdempotent, IsNeverBelow, IsOnce, Commute};
+
+use csl_base::names::forms_are_in_order;
+
+/// A law: what was written counts once, in whatever order.
+pub fn usage_counts_once()
+    ensures label { IsOnce with_label }
+    ensures number { IsOnce with_number }
+    ensures any_order { Commute with_label with_number }
+{}
+
+/// A law: states are in a total order in which only equal states are equal, and of several states
+/// there is one greatest, however they are taken together.
+pub fn states_have_a_greatest()
+    ensures in_order { IsValueOrder state_cmp }
+    ensures any_order { IsCommutative greater }
+    ensures any_grouping { IsAssociative greater }
+    ensures once { IsIdempotent greater }
+    ensures never_below { IsNeverBelow state_cmp greater }
+{
+    forms_are_in_order();
+}
