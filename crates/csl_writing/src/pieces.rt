@@ -1,6 +1,6 @@
 //! What a layout picks: one flat list of openings, leaves and closings.
-use csl_base::elem::ElemMeta;
 use csl_base::element::Affixes;
+use csl_base::elem::ElemMeta;
 use csl_base::entry::ChunkedString;
 use csl_base::formatting::{Display, StyleFormatting};
 use csl_base::text::Text;
@@ -17,7 +17,11 @@ pub(crate) enum Leaf<'a> {
     /// The letters of a year suffix; 0 is `a`.
     Suffix(usize),
     /// A year, and what is written behind it after Christ and before.
-    Year { year: i32, ad: &'a str, bc: &'a str },
+    Year {
+        year: i32,
+        ad: &'a str,
+        bc: &'a str,
+    },
     Chunked(&'a ChunkedString),
     /// A link of a text to itself.
     Link(&'a ChunkedString),
