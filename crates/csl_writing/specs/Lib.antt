@@ -19,3 +19,7 @@ pub mod Names
 pub mod Pick
 pub mod InputView
 pub mod Counted
+pub mod ExplicitSuffix
+pub mod Subject
+pub mod Sections
+pub mod Plans

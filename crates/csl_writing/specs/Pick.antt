@@ -1,5 +1,5 @@
 -- What a layout picks: one definition a kind of element, from left to right.
-use Rattle.std.specs.Prelude.{ℕ, zero, suc, List, [], Bool, true, false, Option, Some, None}
+use Rattle.std.specs.Prelude.{ℕ, zero, suc, List, [], length, Bool, true, false, Option, Some, None}
 use Rattle.std.specs.Bool.{if◌then◌else◌}
 use Rattle.csl_base.specs.declared.taxonomy.Variable.{Variable}
 use Rattle.csl_base.specs.Element.{Name, Look, Target, value_target, standard_target, macro_target, term_target, Element, text_element, number_element, date_element, names_element, group_element, choose_element, Elements, no_elements, element, Branches, otherwise, branch, Macro}
@@ -69,3 +69,7 @@ picks_all env macros depth es n = pick_all_with env (called_macro env macros dep
 
 abbrev pub picks_first : Env → List Macro → ℕ → Branches → Notes → Picked
 picks_first env macros depth bs n = pick_first_with env (called_macro env macros depth) bs n
+
+-- what a layout's elements give: macros that don't lie on a ring nest no deeper than there are macros
+abbrev pub pick_layout : Env → List Macro → Elements → Notes → Picked
+pick_layout env macros es n = picks_all env macros (length macros) es n

@@ -1,0 +1,105 @@
+-- What of a layout is written for a cite.
+use Rattle.std.specs.Prelude.{◌∷◌, List, [], Bool, true, false, Option, None, Some}
+use Rattle.std.specs.Bool.{if◌then◌else◌}
+use Rattle.csl_base.specs.Answers.{Answers}
+use Rattle.csl_base.specs.Element.{NameOptions, Affix, Look}
+use Rattle.csl_base.specs.Style.{LayoutValue, CitationValue, BibliographyValue}
+use Rattle.csl_base.specs.declared.formatting.StyleFormatting.{StyleFormatting}
+use Rattle.csl_base.specs.declared.taxonomy.NameVariable.{NameVariable}
+use Rattle.csl_base.specs.declared.taxonomy.Variable.{Variable}
+use Rattle.csl_base.specs.declared.entry.Person.{Person}
+use Rattle.csl_writing.specs.declared.notes.Form.{Form}
+use Rattle.csl_writing.specs.declared.notes.Notes.{Notes}
+use Rattle.csl_writing.specs.declared.state.CollapseVerdict.{CollapseVerdict}
+use Rattle.csl_writing.specs.Conditions.{is_repeated}
+use Rattle.csl_writing.specs.Names.{pick_names, author_variable}
+use Rattle.csl_writing.specs.Pick.{pick_layout}
+use Rattle.csl_writing.specs.Picked.{Picked, nothing}
+use Rattle.csl_writing.specs.Subject.{Subject, env, as_different}
+
+-- what is picked, and the formatting in which it is written
+pub record Section : Type 0 where
+  pub formatting : StyleFormatting
+  pub picked : Picked
+
+abbrev pub unformatted : StyleFormatting
+unformatted = record { font_style = None; font_weight = None }
+
+abbrev pub no_section : Notes → Section
+no_section n = record { formatting = unformatted; picked = nothing n }
+
+-- the citation's layout, under the citation's name options
+abbrev pub citation_section : Subject → Form → Notes → Section
+citation_section s form n =
+    let citation = s.source.style.citation in
+    record {
+      formatting = citation.layout.formatting;
+      picked = pick_layout (env s citation.name_options form false) s.source.style.macros citation.layout.elements n;
+    }
+
+-- the same as if the cite repeated no other, where it repeats one
+abbrev pub citation_anew : Subject → Form → Notes → Section
+citation_anew s form n = if is_repeated s.cite.ibid then citation_section (as_different s) form n else no_section n
+
+-- a bibliography's layout, under its name options
+abbrev pub item_section : Subject → BibliographyValue → Form → Bool → Notes → Section
+item_section s bibliography form is_bibliography n = record {
+  formatting = bibliography.layout.formatting;
+  picked = pick_layout (env s bibliography.name_options form is_bibliography) s.source.style.macros bibliography.layout.elements n;
+}
+
+-- the bibliography's layout in a citation, where the style has a bibliography
+abbrev pub bibliography_section : Subject → Form → Notes → Section
+bibliography_section s form n =
+    elim s.source.style.bibliography [ None ↦ no_section n | Some bibliography ↦ item_section s bibliography form false n ]
+
+abbrev pub no_options : NameOptions
+no_options = record {
+  and = None;
+  name_delimiter = None;
+  names_delimiter = None;
+  et_al_min = None;
+  et_al_use_first = None;
+  name_form = None;
+  initialize_with = None;
+}
+
+abbrev pub no_look : Look
+no_look = record { affixes = record { prefix = None; suffix = None }; formatting = unformatted; display = None }
+
+-- the author's names alone, as the citation would write them
+abbrev pub names_section : Subject → Form → Notes → Section
+names_section s form n =
+    let citation = s.source.style.citation in
+    record {
+      formatting = citation.layout.formatting;
+      picked = pick_names (env s citation.name_options form false) (NameVariable.Author ∷ []) [] no_options no_look n;
+    }
+
+-- a section that gives a part, else another one
+abbrev pub shown_or : Section → Section → Section
+shown_or a b = elim a.picked.parts [ [] ↦ b | p ∷ ps ↦ a ]
+
+-- only what names the author; the editor, where the entry has editors and no author
+abbrev pub author_form : Subject → Form
+author_form s = Form.VarOnly (Variable.Name (author_variable s.answers))
+
+-- the author's names: as the citation writes them, else as it would where the cite repeated no other, else as the
+-- bibliography writes them, else alone
+abbrev pub author_section : Subject → Notes → Section
+author_section s n =
+    let form = author_form s in
+    shown_or (citation_section s form n) (
+    shown_or (citation_anew s form n) (
+    shown_or (bibliography_section s form n) (
+    names_section s form n)))
+
+-- the form of a cite that is collapsed
+abbrev pub verdict_form : Option CollapseVerdict → Form
+verdict_form None = Form.Full
+verdict_form (Some CollapseVerdict.First) = Form.OnlyFirstDate
+verdict_form (Some CollapseVerdict.YearSuffix) = Form.OnlyYearSuffix
+
+-- the citation's layout as it is used without a purpose
+abbrev pub regular_section : Subject → Option CollapseVerdict → Notes → Section
+regular_section s verdict n = citation_section s (verdict_form verdict) n
