@@ -100,8 +100,8 @@ impl<T> NonEmptyStack<T> {
         }
     }
 
-    // The item at a place, for writing.
-    fn item_mut(&mut self, place: usize) -> &mut T
+    /// The item at a place, counted from the bottom, for writing.
+    pub fn item_mut(&mut self, place: usize) -> &mut T
         requires { place < length self.old }
         ensures* writes_back { sem 𝓛 (LendsItem T.row self.entry place result) }
         ensures value { slice_get self.old place ≡ Some result.now }

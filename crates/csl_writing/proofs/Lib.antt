@@ -1,2 +1,4 @@
+pub mod TextSteps
 pub mod Greater
 pub mod StateOrder
+pub mod FrameSteps

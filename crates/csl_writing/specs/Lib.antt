@@ -1,5 +1,7 @@
 pub mod Properties
 pub mod PropertiesView
+pub mod Steps
+pub mod Quotes
 pub mod NoProperties
 pub mod States
 pub mod ValueLaws
@@ -23,3 +25,5 @@ pub mod ExplicitSuffix
 pub mod Subject
 pub mod Sections
 pub mod Plans
+pub mod OpenFrames
+pub mod Edits

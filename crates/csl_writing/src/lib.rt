@@ -3,6 +3,7 @@
 
 pub mod brackets;
 pub mod counter;
+mod frames;
 mod input;
 pub mod laws;
 pub mod locator;
@@ -12,3 +13,4 @@ mod pieces;
 pub mod properties;
 pub mod purpose;
 pub mod state;
+pub mod text;
