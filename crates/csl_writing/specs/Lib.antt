@@ -27,3 +27,4 @@ pub mod Sections
 pub mod Plans
 pub mod OpenFrames
 pub mod Edits
+pub mod HeldView

@@ -2,8 +2,10 @@
 #![tactic(auto)]
 
 pub mod brackets;
+mod choices;
 pub mod counter;
 mod frames;
+mod held;
 mod input;
 pub mod laws;
 pub mod locator;
@@ -14,3 +16,4 @@ pub mod properties;
 pub mod purpose;
 pub mod state;
 pub mod text;
+mod variables;
