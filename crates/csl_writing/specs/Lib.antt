@@ -28,3 +28,4 @@ pub mod Plans
 pub mod OpenFrames
 pub mod Edits
 pub mod HeldView
+pub mod PickLayout

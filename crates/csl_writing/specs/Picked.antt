@@ -1,9 +1,5 @@
 -- What a part of a layout gives.
-<<<<<<< HEAD
-use Rattle.std.specs.Prelude.{ℕ, List, [], ◌∷◌, ◌++◌, Bool, Option, Some, None}
-=======
 use Rattle.std.specs.Prelude.{ℕ, List, [], ◌∷◌, ◌++◌, Bool, true, false}
->>>>>>> 3454878c543c348fba20c8db1310212b54fda348
 use Rattle.csl_writing.specs.declared.notes.Called.{Called}
 use Rattle.csl_writing.specs.declared.notes.Notes.{Notes}
 use Rattle.csl_writing.specs.Notes.{joined}
@@ -28,12 +24,6 @@ without_content n = record { parts = []; called = Called.Empty; noted = n }
 abbrev pub followed : Picked → Picked → Picked
 followed a b = record { parts = a.parts ++ b.parts; called = joined a.called b.called; noted = b.noted }
 
-<<<<<<< HEAD
--- a variable has content where it gives a part
-abbrev pub called_with : List Part → Called
-called_with [] = Called.Empty
-called_with (p ∷ ps) = Called.Filled
-=======
 -- whether there are parts
 abbrev pub gives : List Part → Bool
 gives [] = false
@@ -43,7 +33,6 @@ gives (p ∷ ps) = true
 abbrev pub called_with : Bool → Called
 called_with true = Called.Filled
 called_with false = Called.Empty
->>>>>>> 3454878c543c348fba20c8db1310212b54fda348
 
 -- a group gives nothing where it calls variables and none has content
 abbrev pub group_parts : Called → NodeValue → List Part → List Part

@@ -1,10 +1,7 @@
 //! What a picking only reads.
 
-<<<<<<< HEAD
-=======
 
 
->>>>>>> 3454878c543c348fba20c8db1310212b54fda348
 use crate::lookup::StyleContext;
 use crate::notes::Form;
 use crate::state::{DisambiguateState, IbidState, IdentifierUsage};

@@ -4,6 +4,7 @@
 pub mod brackets;
 mod choices;
 pub mod counter;
+mod date_probe;
 mod frames;
 mod held;
 mod input;

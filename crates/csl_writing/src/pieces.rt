@@ -1,21 +1,15 @@
 //! What a layout picks: one flat list of openings, leaves and closings.
-<<<<<<< HEAD
-=======
 ghost use Rattle.std.specs.Prelude.{◌≡◌, ◌++◌, OnOk, IfOk, option_map};
 ghost use Rattle.csl_writing.specs.Pieces.{tokens, node_of, leaves_of, plain_node};
 ghost use Rattle.csl_writing.specs.Picked.{gives};
 ghost use Rattle.csl_writing.specs.PiecesView.{leaf_view, node_view, shape_look, tokens_of};
 
->>>>>>> 3454878c543c348fba20c8db1310212b54fda348
 use csl_base::element::Affixes;
 use csl_base::elem::ElemMeta;
 use csl_base::entry::ChunkedString;
 use csl_base::formatting::{Display, StyleFormatting};
 use csl_base::text::Text;
-<<<<<<< HEAD
-=======
 use std::alloc::AllocError;
->>>>>>> 3454878c543c348fba20c8db1310212b54fda348
 
 /// What is written at one place, and has nothing inside. What can be borrowed from the style or
 /// the entry is borrowed.
@@ -62,8 +56,6 @@ pub(crate) enum Piece<'a> {
     Leaf(Leaf<'a>),
     Close,
 }
-<<<<<<< HEAD
-=======
 
 /// How an element is written.
 #[derive(Clone, Copy)]
@@ -116,4 +108,3 @@ pub(crate) fn add_node<'a>(
     pieces.push(Piece::Close)?;
     Ok(true)
 }
->>>>>>> 3454878c543c348fba20c8db1310212b54fda348
