@@ -2,3 +2,4 @@ pub mod TextSteps
 pub mod Greater
 pub mod StateOrder
 pub mod FrameSteps
+pub mod FirstAnswers

@@ -7,6 +7,7 @@ pub mod States
 pub mod ValueLaws
 pub mod BracketPairs
 pub mod Lookup
+pub mod FirstAnswer
 pub mod SourceView
 pub mod Notes
 pub mod Pieces
