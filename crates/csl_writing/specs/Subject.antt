@@ -1,5 +1,5 @@
 -- What is rendered: a cite of an entry, in a style with its locales.
-use Rattle.std.specs.Prelude.{Bool, Option, None, Some, option_map}
+use Rattle.std.specs.Prelude.{ℕ, List, Bool, Option, None, Some, option_map}
 use Rattle.csl_base.specs.Answers.{Answers}
 use Rattle.csl_base.specs.Element.{NameOptions}
 use Rattle.csl_writing.specs.declared.notes.Form.{Form}

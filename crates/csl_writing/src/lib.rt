@@ -4,7 +4,7 @@
 pub mod brackets;
 mod choices;
 pub mod counter;
-mod date_probe;
+mod facts;
 mod frames;
 mod held;
 mod input;
