@@ -30,3 +30,4 @@ pub mod OpenFrames
 pub mod Edits
 pub mod HeldView
 pub mod PickLayout
+pub mod FirstField

@@ -5,6 +5,7 @@ pub mod brackets;
 mod choices;
 pub mod counter;
 mod facts;
+mod first_field;
 mod frames;
 mod held;
 mod input;
