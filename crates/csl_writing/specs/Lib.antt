@@ -31,3 +31,4 @@ pub mod Edits
 pub mod HeldView
 pub mod PickLayout
 pub mod FirstField
+pub mod WritingState

@@ -18,4 +18,6 @@ pub mod properties;
 pub mod purpose;
 pub mod state;
 pub mod text;
+pub mod token;
 mod variables;
+pub mod writing;
