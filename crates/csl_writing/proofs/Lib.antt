@@ -3,3 +3,4 @@ pub mod Greater
 pub mod StateOrder
 pub mod FrameSteps
 pub mod FirstAnswers
+mod Letters

@@ -32,3 +32,6 @@ pub mod HeldView
 pub mod PickLayout
 pub mod FirstField
 pub mod WritingState
+pub mod Years
+pub mod SuffixLetters
+pub mod DateText

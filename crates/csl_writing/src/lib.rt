@@ -4,6 +4,7 @@
 pub mod brackets;
 mod choices;
 pub mod counter;
+mod date;
 mod facts;
 mod first_field;
 mod frames;
@@ -20,4 +21,5 @@ pub mod state;
 pub mod text;
 pub mod token;
 mod variables;
+pub mod year;
 pub mod writing;
