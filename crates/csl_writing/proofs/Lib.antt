@@ -4,3 +4,4 @@ pub mod StateOrder
 pub mod FrameSteps
 pub mod FirstAnswers
 mod Letters
+pub mod Letters

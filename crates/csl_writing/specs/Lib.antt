@@ -6,6 +6,8 @@ pub mod NoProperties
 pub mod States
 pub mod ValueLaws
 pub mod BracketPairs
+pub mod Years
+pub mod SuffixLetters
 pub mod Lookup
 pub mod FirstAnswer
 pub mod SourceView
@@ -32,6 +34,4 @@ pub mod HeldView
 pub mod PickLayout
 pub mod FirstField
 pub mod WritingState
-pub mod Years
-pub mod SuffixLetters
 pub mod DateText

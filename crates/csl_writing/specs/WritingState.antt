@@ -117,20 +117,21 @@ unpulled a = record a { pulling = false }
 abbrev pub quoted_text : State → Option (List ℕ)
 quoted_text a = if is_saved a then option_and_then end_sole_text (filled a.frames) else Some a.buffer
 
--- the first character of s is pulled into the quotes before it
-abbrev pub pulls : ClosingQuotes → List ℕ → State → Bool
-pulls q s a = a.pulling && opens_with_mark s && option_map_or (ends_quoted q) (quoted_text a) false
+-- s begins with a mark that may be pulled in
+abbrev pub may_pull : List ℕ → State → Bool
+may_pull s a = a.pulling && opens_with_mark s
 
--- a mark before the closing quote of that text
+-- that text changed by f
 abbrev pub on_quoted_text : (List ℕ → List ℕ) → State → State
 on_quoted_text f a = if is_saved a then record a { frames = on_filled (on_end_sole_text f) a.frames } else record a { buffer = f a.buffer }
 
+-- the mark before the closing quote of that text, where it has one
 abbrev pub after_pull : ClosingQuotes → List ℕ → State → State
-after_pull q s a = if pulls q s a then on_quoted_text (pulled q (take 1 s)) a else a
+after_pull q s a = if may_pull s a then on_quoted_text (pulled q (take 1 s)) a else a
 
--- what is left of s
+-- what is left of s then
 abbrev pub left_by_pull : ClosingQuotes → List ℕ → State → List ℕ
-left_by_pull q s a = if pulls q s a then drop 1 s else s
+left_by_pull q s a = if may_pull s a && option_map_or (ends_quoted q) (quoted_text a) false then drop 1 s else s
 
 -- s written where nothing is pulled
 abbrev pub written : List ℕ → State → State

@@ -63,7 +63,8 @@ fn edit_last_text(alloc: Global, tree: &mut ElemChildren, edit: &Edit<'_>)
 
 /// Edits the last text of the topmost frame that has children.
 pub(crate) fn edit_filled(alloc: Global, frames: &mut NonEmptyStack<ElemChildren>, edit: &Edit<'_>)
-    ensures { frames.new ≡ on_filled (on_last_text (edited edit.now)) frames.old }
+    ensures done { frames.new ≡ on_filled (on_last_text (edited edit.now)) frames.old }
+    ensures height { length frames.new ≡ length frames.old }
 {
     if let Some(frame) = frames.last_mut_predicate(|frame| !frame.is_empty()) {
         edit_last_text(alloc, frame, edit);

@@ -2,6 +2,7 @@
 ghost use Rattle.std.specs.Prelude.{◌≡◌};
 ghost use Rattle.csl_base.specs.Ordered.{IsValueOrder};
 ghost use Rattle.csl_writing.specs.States.{with_label, with_number, state_cmp, greater};
+ghost use Rattle.csl_writing.specs.SuffixLetters.{SuffixesDiffer};
 ghost use Rattle.csl_writing.specs.ValueLaws.{IsCommutative, IsAssociative, IsIdempotent, IsNeverBelow, IsOnce, Commute};
 
 use csl_base::names::forms_are_in_order;
@@ -24,3 +25,9 @@ pub fn states_have_a_greatest()
 {
     forms_are_in_order();
 }
+
+/// A law: the letters of suffixes are `a` to `z`, and say which suffix it is: they are its number and
+/// one more, written with these letters for 1 to 26. So different suffixes have different letters.
+pub fn suffixes_differ()
+    ensures { SuffixesDiffer }
+{}

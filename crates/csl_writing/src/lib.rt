@@ -21,5 +21,5 @@ pub mod state;
 pub mod text;
 pub mod token;
 mod variables;
-pub mod year;
 pub mod writing;
+pub mod year;
