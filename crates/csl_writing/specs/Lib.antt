@@ -35,3 +35,6 @@ pub mod PickLayout
 pub mod FirstField
 pub mod WritingState
 pub mod DateText
+pub mod Written
+pub mod WriterView
+pub mod SubjectView

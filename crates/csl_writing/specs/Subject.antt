@@ -15,6 +15,8 @@ pub record Subject : Type 0 where
   -- what the entry answers
   pub answers : Answers
   pub cite : Cite
+  -- a year-suffix text stands in a layout of the style
+  pub explicit_suffix : Bool
 
 module _ {P : Type 0} where
   -- the text of a locator, where it isn't the caller's own
@@ -39,6 +41,14 @@ module _ {P : Type 0} where
     usage = p.speculative.identifier_usage;
   }
 
+  abbrev pub subject : Source → Answers → Properties P → Subject
+  subject source answers props = record {
+    source = source;
+    answers = answers;
+    cite = cite_of props;
+    explicit_suffix = has_suffix_text source.style;
+  }
+
 -- what a picking reads, under these name options and in this form, and whether it is an item of the
 -- bibliography
 abbrev pub env : Subject → NameOptions → Form → Bool → Env
@@ -47,7 +57,7 @@ env s options form is_bibliography = record {
   cite = s.cite;
   form = form;
   term = term_of (lookup s.source) (option_map (λ l. l.kind) s.cite.locator);
-  explicit_suffix = has_suffix_text s.source.style;
+  explicit_suffix = s.explicit_suffix;
   is_bibliography = is_bibliography;
   options = applied_options s.source.style.options options;
 }

@@ -32,8 +32,10 @@ impl<'a> StyleContext<'a> {
     fn long_term(&self, name: OtherTerm, words: &'a str) -> &'a str
         ensures { result.now ≡ text.long_term (source_view self.now) name words.now }
     {
-        self.term(None, Term::Other(name), TermForm::Long, false)
-            .unwrap_or(words)
+        match self.term(None, Term::Other(name), TermForm::Long, false) {
+            Some(found) => found,
+            None => words,
+        }
     }
 
     // The year of the date, or what stands for it.
@@ -42,12 +44,14 @@ impl<'a> StyleContext<'a> {
     {
         match date {
             Some(date) => {
-                let ad = self.long_term(OtherTerm::Ad, " AD");
-                let bc = self.long_term(OtherTerm::Bc, " BC");
+                let (after, before) = (" AD", " BC");
+                let ad = self.long_term(OtherTerm::Ad, after);
+                let bc = self.long_term(OtherTerm::Bc, before);
                 year_in_words(alloc, date.year, false, ad, bc)
             }
             None => {
-                let words = self.long_term(OtherTerm::NoDate, "n.d.");
+                let undated = "n.d.";
+                let words = self.long_term(OtherTerm::NoDate, undated);
                 String::from_str(alloc, words)
             }
         }
