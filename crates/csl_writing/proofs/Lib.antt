@@ -5,3 +5,4 @@ pub mod FrameSteps
 pub mod FirstAnswers
 mod Letters
 pub mod Letters
+pub mod SectionSteps

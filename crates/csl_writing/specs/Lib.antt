@@ -38,3 +38,4 @@ pub mod DateText
 pub mod Written
 pub mod WriterView
 pub mod SubjectView
+pub mod SectionView

@@ -15,7 +15,7 @@ use Rattle.csl_writing.specs.declared.state.CollapseVerdict.{CollapseVerdict}
 use Rattle.csl_writing.specs.Pieces.{Part}
 use Rattle.csl_writing.specs.Steps.{first_is}
 use Rattle.csl_writing.specs.Subject.{Subject}
-use Rattle.csl_writing.specs.Sections.{Section, citation_section, bibliography_section, item_section, author_section, regular_section}
+use Rattle.csl_writing.specs.Sections.{Section, citation_section, author_section, regular_section, full_section}
 
 pub data Step : Type 0 where
   -- parts in a formatting
@@ -80,11 +80,6 @@ prose_plan s verdict n =
         ++ step_of rest ∷ text_steps (enclosing style layout.suffix (41 ∷ [])));
       noted = rest.picked.noted;
     }
-
--- a cite as the bibliography's layout writes it, without its affixes; as without a purpose where there is no bibliography
-abbrev pub full_section : Subject → Option CollapseVerdict → Notes → Section
-full_section s verdict n =
-    elim s.source.style.bibliography [ None ↦ regular_section s verdict n | Some bibliography ↦ item_section s bibliography Form.Full false n ]
 
 -- a cite by what it is written for
 abbrev pub cite_plan : Subject → Option CitePurpose → Option CollapseVerdict → Notes → Plan

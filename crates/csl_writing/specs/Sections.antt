@@ -1,20 +1,19 @@
 -- What of a layout is written for a cite.
 use Rattle.std.specs.Prelude.{◌∷◌, List, [], Bool, true, false, Option, None, Some}
 use Rattle.std.specs.Bool.{if◌then◌else◌}
-use Rattle.csl_base.specs.Answers.{Answers}
-use Rattle.csl_base.specs.Element.{NameOptions, Affix, Look}
-use Rattle.csl_base.specs.Style.{LayoutValue, CitationValue, BibliographyValue}
+use Rattle.csl_base.specs.Element.{NameOptions, Look, Macro, names_element, Elements, no_elements, element}
+use Rattle.csl_base.specs.Style.{BibliographyValue}
 use Rattle.csl_base.specs.declared.formatting.StyleFormatting.{StyleFormatting}
 use Rattle.csl_base.specs.declared.taxonomy.NameVariable.{NameVariable}
 use Rattle.csl_base.specs.declared.taxonomy.Variable.{Variable}
-use Rattle.csl_base.specs.declared.entry.Person.{Person}
 use Rattle.csl_writing.specs.declared.notes.Form.{Form}
 use Rattle.csl_writing.specs.declared.notes.Notes.{Notes}
 use Rattle.csl_writing.specs.declared.state.CollapseVerdict.{CollapseVerdict}
 use Rattle.csl_writing.specs.Conditions.{is_repeated}
-use Rattle.csl_writing.specs.Names.{pick_names}
 use Rattle.csl_writing.specs.PickLayout.{pick_layout, author_variable}
 use Rattle.csl_writing.specs.Picked.{Picked, nothing}
+use Rattle.csl_writing.specs.Pieces.{Part}
+use Rattle.csl_writing.specs.Env.{Env}
 use Rattle.csl_writing.specs.Subject.{Subject, env, as_different}
 
 -- what is picked, and the formatting in which it is written
@@ -25,6 +24,10 @@ pub record Section : Type 0 where
 abbrev pub unformatted : StyleFormatting
 unformatted = record { font_style = None; font_weight = None }
 
+-- what such elements give under what a picking reads, in that formatting
+abbrev pub picked_section : StyleFormatting → Env → List Macro → Elements → Notes → Section
+picked_section f env macros es n = record { formatting = f; picked = pick_layout env macros es n }
+
 abbrev pub no_section : Notes → Section
 no_section n = record { formatting = unformatted; picked = nothing n }
 
@@ -32,10 +35,7 @@ no_section n = record { formatting = unformatted; picked = nothing n }
 abbrev pub citation_section : Subject → Form → Notes → Section
 citation_section s form n =
     let citation = s.source.style.citation in
-    record {
-      formatting = citation.layout.formatting;
-      picked = pick_layout (env s citation.name_options form false) s.source.style.macros citation.layout.elements n;
-    }
+    picked_section citation.layout.formatting (env s citation.name_options form false) s.source.style.macros citation.layout.elements n
 
 -- the same as if the cite repeated no other, where it repeats one
 abbrev pub citation_anew : Subject → Form → Notes → Section
@@ -43,10 +43,9 @@ citation_anew s form n = if is_repeated s.cite.ibid then citation_section (as_di
 
 -- a bibliography's layout, under its name options
 abbrev pub item_section : Subject → BibliographyValue → Form → Bool → Notes → Section
-item_section s bibliography form is_bibliography n = record {
-  formatting = bibliography.layout.formatting;
-  picked = pick_layout (env s bibliography.name_options form is_bibliography) s.source.style.macros bibliography.layout.elements n;
-}
+item_section s bibliography form is_bibliography n =
+    let layout = bibliography.layout in
+    picked_section layout.formatting (env s bibliography.name_options form is_bibliography) s.source.style.macros layout.elements n
 
 -- the bibliography's layout in a citation, where the style has a bibliography
 abbrev pub bibliography_section : Subject → Form → Notes → Section
@@ -67,18 +66,23 @@ no_options = record {
 abbrev pub no_look : Look
 no_look = record { affixes = record { prefix = None; suffix = None }; formatting = unformatted; display = None }
 
--- the author's names alone, as the citation would write them
+-- a layout's elements: the author's names and nothing else
+abbrev pub names_alone : Elements
+names_alone = element (names_element (NameVariable.Author ∷ []) [] no_options no_look) no_elements
+
+-- the author's names alone, under the citation's name options and in its formatting
 abbrev pub names_section : Subject → Form → Notes → Section
 names_section s form n =
     let citation = s.source.style.citation in
-    record {
-      formatting = citation.layout.formatting;
-      picked = pick_names (env s citation.name_options form false) (NameVariable.Author ∷ []) [] no_options no_look n;
-    }
+    picked_section citation.layout.formatting (env s citation.name_options form false) s.source.style.macros names_alone n
+
+abbrev pub has_parts : List Part → Bool
+has_parts [] = false
+has_parts (p ∷ ps) = true
 
 -- a section that gives a part, else another one
 abbrev pub shown_or : Section → Section → Section
-shown_or a b = elim a.picked.parts [ [] ↦ b | p ∷ ps ↦ a ]
+shown_or a b = if has_parts a.picked.parts then a else b
 
 -- only what names the author; the editor, where the entry has editors and no author
 abbrev pub author_form : Subject → Form
@@ -103,3 +107,8 @@ verdict_form (Some CollapseVerdict.YearSuffix) = Form.OnlyYearSuffix
 -- the citation's layout as it is used without a purpose
 abbrev pub regular_section : Subject → Option CollapseVerdict → Notes → Section
 regular_section s verdict n = citation_section s (verdict_form verdict) n
+
+-- a cite as the bibliography's layout writes it, without its affixes; as without a purpose where there is no bibliography
+abbrev pub full_section : Subject → Option CollapseVerdict → Notes → Section
+full_section s verdict n =
+    elim s.source.style.bibliography [ None ↦ regular_section s verdict n | Some bibliography ↦ item_section s bibliography Form.Full false n ]

@@ -45,13 +45,13 @@ impl<'a> StyleContext<'a> {
         match date {
             Some(date) => {
                 let (after, before) = (" AD", " BC");
-                let ad = self.long_term(OtherTerm::Ad, after);
-                let bc = self.long_term(OtherTerm::Bc, before);
+                let ad: &'a str = self.long_term(OtherTerm::Ad, after);
+                let bc: &'a str = self.long_term(OtherTerm::Bc, before);
                 year_in_words(alloc, date.year, false, ad, bc)
             }
             None => {
                 let undated = "n.d.";
-                let words = self.long_term(OtherTerm::NoDate, undated);
+                let words: &'a str = self.long_term(OtherTerm::NoDate, undated);
                 String::from_str(alloc, words)
             }
         }

@@ -52,6 +52,7 @@ pub(crate) fn cite_facts<'a, P>(props: &'a CiteProperties<'_, P>) -> CiteFacts<'
 }
 
 /// A cite of an entry, in a style with its locales.
+#[derive(Drop)]
 pub(crate) struct Subject<'a, T> {
     pub(crate) entry: &'a T,
     pub(crate) context: StyleContext<'a>,
