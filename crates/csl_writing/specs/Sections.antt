@@ -88,15 +88,17 @@ shown_or a b = if has_parts a.picked.parts then a else b
 abbrev pub author_form : Subject → Form
 author_form s = Form.VarOnly (Variable.Name (author_variable s.answers))
 
--- the author's names: as the citation writes them, else as it would where the cite repeated no other, else as the
--- bibliography writes them, else alone
+-- what names the author, as the bibliography writes it, else the names alone
+abbrev pub author_listed : Subject → Form → Notes → Section
+author_listed s form n = shown_or (bibliography_section s form n) (names_section s form n)
+
+-- the same, but first as the citation would write it where the cite repeated no other
+abbrev pub author_anew : Subject → Form → Notes → Section
+author_anew s form n = shown_or (citation_anew s form n) (author_listed s form n)
+
+-- what names the author: as the citation writes it, else in these ways
 abbrev pub author_section : Subject → Notes → Section
-author_section s n =
-    let form = author_form s in
-    shown_or (citation_section s form n) (
-    shown_or (citation_anew s form n) (
-    shown_or (bibliography_section s form n) (
-    names_section s form n)))
+author_section s n = shown_or (citation_section s (author_form s) n) (author_anew s (author_form s) n)
 
 -- the form of a cite that is collapsed
 abbrev pub verdict_form : Option CollapseVerdict → Form

@@ -2,6 +2,7 @@
 ghost use Rattle.std.specs.Prelude.{◌≡◌, IfOk};
 ghost use Rattle.csl_base.specs.ElementView.{elements_view};
 ghost use Rattle.csl_base.specs.StyleView.{bibliography_view};
+ghost use Rattle.csl_writing.specs.Conditions.{is_repeated};
 ghost use Rattle.csl_writing.specs.InputView.{env_of, macros_of};
 ghost use Rattle.csl_writing.specs.Notes.{first_notes};
 ghost use Rattle.csl_writing.specs.SectionView.{IsSection};
@@ -147,7 +148,18 @@ impl<'a, T: EntryLike> Subject<'a, T> {
         }
     }
 
-    /// The citation's layout as if the cite repeated no other, where it repeats one.
+    // Whether the cite repeats the one before it.
+    fn is_repeated(&self) -> bool
+        ensures { result ≡ is_repeated (subject_view T.answers self.now).cite.ibid }
+    {
+        match self.cite.ibid {
+            IbidState::Different => false,
+            IbidState::IbidWithLocator => true,
+            IbidState::Ibid => true,
+        }
+    }
+
+    // The citation's layout as if the cite repeated no other, where it repeats one.
     fn citation_anew(
         &self,
         alloc: Global,
@@ -156,13 +168,14 @@ impl<'a, T: EntryLike> Subject<'a, T> {
     ) -> Result<Section<'a>, AllocError>
         ensures { IfOk result (λ s. IsSection s (sections.citation_anew (subject_view T.answers self.now) form notes)) }
     {
-        if self.cite.ibid == IbidState::Different {
-            return Ok(no_section(alloc, notes));
+        if self.is_repeated() {
+            let different = self.as_different();
+            return different.citation_section(alloc, form, notes);
         }
-        self.as_different().citation_section(alloc, form, notes)
+        Ok(no_section(alloc, notes))
     }
 
-    /// The bibliography's layout, where the style has a bibliography.
+    // The bibliography's layout, where the style has a bibliography.
     fn bibliography_section(
         &self,
         alloc: Global,
@@ -177,31 +190,79 @@ impl<'a, T: EntryLike> Subject<'a, T> {
         }
     }
 
-    /// The author's names alone; `alone` has the element of these names.
+    // The author's names alone, behind the first notes; `alone` has the element of these names.
     fn names_section(
         &self,
         alloc: Global,
         alone: &'a Vec<LayoutRenderingElement>,
         form: Form,
-        notes: Notes,
     ) -> Result<Section<'a>, AllocError>
         requires { elements_view alone.now.items ≡ sections.names_alone }
-        ensures { IfOk result (λ s. IsSection s (sections.names_section (subject_view T.answers self.now) form notes)) }
+        ensures { IfOk result (λ s. IsSection s (sections.names_section (subject_view T.answers self.now) form (first_notes self.now.cite.usage))) }
     {
         let citation = &self.context.style.citation;
         let input = self.input(form, &citation.name_options, false);
+        let notes = first_notes(self.cite.usage);
         pick_section(alloc, &input, citation.layout.formatting, alone, notes)
     }
 
-    /// The form that writes the author's names alone.
-    fn author_form(&self) -> Form
-        ensures { result ≡ sections.author_form (subject_view T.answers self.now) }
+    // What names the author, as the bibliography writes it, else the names alone.
+    fn author_listed(
+        &self,
+        alloc: Global,
+        alone: &'a Vec<LayoutRenderingElement>,
+        form: Form,
+    ) -> Result<Section<'a>, AllocError>
+        requires { elements_view alone.now.items ≡ sections.names_alone }
+        ensures { IfOk result (λ s. IsSection s (sections.author_listed (subject_view T.answers self.now) form (first_notes self.now.cite.usage))) }
     {
-        Form::VarOnly(Variable::Name(author_variable(self.entry)))
+        let notes = first_notes(self.cite.usage);
+        let listed = self.bibliography_section(alloc, form, notes)?;
+        if listed.has_parts() {
+            return Ok(listed);
+        }
+        self.names_section(alloc, alone, form)
     }
 
-    /// The author's names: as the citation writes them, else as it would where the cite repeated no
-    /// other, else as the bibliography does, else alone.
+    // The same, but first as the citation would write it where the cite repeated no other.
+    fn author_anew(
+        &self,
+        alloc: Global,
+        alone: &'a Vec<LayoutRenderingElement>,
+        form: Form,
+    ) -> Result<Section<'a>, AllocError>
+        requires { elements_view alone.now.items ≡ sections.names_alone }
+        ensures { IfOk result (λ s. IsSection s (sections.author_anew (subject_view T.answers self.now) form (first_notes self.now.cite.usage))) }
+    {
+        let notes = first_notes(self.cite.usage);
+        let anew = self.citation_anew(alloc, form, notes)?;
+        if anew.has_parts() {
+            return Ok(anew);
+        }
+        self.author_listed(alloc, alone, form)
+    }
+
+    // What names the author: as the citation writes it in this form, else in these ways.
+    fn author_in_form(
+        &self,
+        alloc: Global,
+        alone: &'a Vec<LayoutRenderingElement>,
+        form: Form,
+    ) -> Result<Section<'a>, AllocError>
+        requires names { elements_view alone.now.items ≡ sections.names_alone }
+        requires form { form ≡ sections.author_form (subject_view T.answers self.now) }
+        ensures { IfOk result (λ s. IsSection s (sections.author_section (subject_view T.answers self.now) (first_notes self.now.cite.usage))) }
+    {
+        let notes = first_notes(self.cite.usage);
+        let usual = self.citation_section(alloc, form, notes)?;
+        if usual.has_parts() {
+            return Ok(usual);
+        }
+        self.author_anew(alloc, alone, form)
+    }
+
+    /// What names the author, behind the first notes; `alone` has the element of the author's
+    /// names.
     pub(crate) fn author_section(
         &self,
         alloc: Global,
@@ -210,20 +271,8 @@ impl<'a, T: EntryLike> Subject<'a, T> {
         requires { elements_view alone.now.items ≡ sections.names_alone }
         ensures { IfOk result (λ s. IsSection s (sections.author_section (subject_view T.answers self.now) (first_notes self.now.cite.usage))) }
     {
-        let (form, usage) = (self.author_form(), self.cite.usage);
-        let usual = self.citation_section(alloc, form, first_notes(usage))?;
-        if usual.has_parts() {
-            return Ok(usual);
-        }
-        let anew = self.citation_anew(alloc, form, first_notes(usage))?;
-        if anew.has_parts() {
-            return Ok(anew);
-        }
-        let listed = self.bibliography_section(alloc, form, first_notes(usage))?;
-        if listed.has_parts() {
-            return Ok(listed);
-        }
-        self.names_section(alloc, alone, form, first_notes(usage))
+        let form = Form::VarOnly(Variable::Name(author_variable(self.entry)));
+        self.author_in_form(alloc, alone, form)
     }
 }
 
