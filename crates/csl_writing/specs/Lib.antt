@@ -15,6 +15,7 @@ pub mod Notes
 pub mod Pieces
 pub mod PiecesView
 pub mod Picked
+pub mod Nodes
 pub mod Env
 pub mod Suffix
 pub mod Conditions
@@ -39,3 +40,5 @@ pub mod Written
 pub mod WriterView
 pub mod SubjectView
 pub mod SectionView
+pub mod SuffixText
+pub mod Gathered

@@ -1,9 +1,9 @@
 -- What a layout picks: one definition a kind of element, from left to right.
-use Rattle.std.specs.Prelude.{ℕ, zero, suc, List, [], Bool, true, false, Option, Some, None}
+use Rattle.std.specs.Prelude.{◌≡◌, ℕ, zero, suc, List, length, Bool, true, false, Option, Some, None}
 use Rattle.std.specs.Bool.{if◌then◌else◌}
 use Rattle.csl_base.specs.declared.taxonomy.Variable.{Variable}
 use Rattle.csl_base.specs.Element.{Name, Look, Target, value_target, standard_target, macro_target, term_target, Element, text_element, number_element, date_element, names_element, group_element, choose_element, Elements, no_elements, element, Branches, otherwise, branch, Macro}
-use Rattle.csl_base.specs.Ring.{body_of}
+use Rattle.csl_base.specs.Ring.{body_of, HasNoRing}
 use Rattle.csl_writing.specs.declared.notes.Notes.{Notes}
 use Rattle.csl_writing.specs.Env.{Env}
 use Rattle.csl_writing.specs.Pieces.{NodeValue, plain_node}
@@ -69,3 +69,18 @@ picks_all env macros depth es n = pick_all_with env (called_macro env macros dep
 
 abbrev pub picks_first : Env → List Macro → ℕ → Branches → Notes → Picked
 picks_first env macros depth bs n = pick_first_with env (called_macro env macros depth) bs n
+
+-- what a layout of a style with these macros gives; that macros are followed so deep is never
+-- felt, as the law below says
+abbrev pub pick_layout : Env → List Macro → Elements → Notes → Picked
+pick_layout env macros es n = picks_all env macros (length macros) es n
+
+-- a call of a macro means the first macro of its name: it gives what that one's children give
+abbrev pub call_of : Env → List Macro → Call
+call_of env macros name node n = body_picked (pick_layout env macros) (body_of name macros) node n
+
+-- a layout is picked element by element, with that meaning of calls
+abbrev pub MacrosUnfold : Type 0
+MacrosUnfold =
+    (env : Env) (macros : List Macro) → HasNoRing macros → (es : Elements) (n : Notes)
+    → pick_layout env macros es n ≡ pick_all_with env (call_of env macros) es n
