@@ -1,5 +1,5 @@
 -- What is rendered: a cite of an entry, in a style with its locales.
-use Rattle.std.specs.Prelude.{ℕ, List, Bool, Option, None, Some, option_map}
+use Rattle.std.specs.Prelude.{ℕ, List, Bool, Option, None, Some, option_map, is_some, ◌&&◌}
 use Rattle.csl_base.specs.Answers.{Answers}
 use Rattle.csl_base.specs.Element.{NameOptions}
 use Rattle.csl_writing.specs.declared.notes.Form.{Form}
@@ -8,14 +8,15 @@ use Rattle.csl_writing.specs.Lookup.{Source, lookup, term_of}
 use Rattle.csl_writing.specs.Properties.{Payload, text_payload, own_payload, LocatorValue, Properties}
 use Rattle.csl_writing.specs.Env.{CiteLocator, Cite, Env}
 use Rattle.csl_writing.specs.Options.{applied_options}
-use Rattle.csl_writing.specs.ExplicitSuffix.{has_suffix_text}
+use Rattle.csl_writing.specs.Suffix.{suffix_of}
+use Rattle.csl_writing.specs.SuffixText.{explicit_suffix}
 
 pub record Subject : Type 0 where
   pub source : Source
   -- what the entry answers
   pub answers : Answers
   pub cite : Cite
-  -- a year-suffix text stands in a layout of the style
+  -- the cite has a year suffix, and a text that writes it stands in a layout of the style
   pub explicit_suffix : Bool
 
 module _ {P : Type 0} where
@@ -46,7 +47,7 @@ module _ {P : Type 0} where
     source = source;
     answers = answers;
     cite = cite_of props;
-    explicit_suffix = has_suffix_text source.style;
+    explicit_suffix = is_some (suffix_of props.speculative.disambiguation) && explicit_suffix source.style;
   }
 
 -- what a picking reads, under these name options and in this form, and whether it is an item of the
