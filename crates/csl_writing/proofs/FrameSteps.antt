@@ -1,6 +1,8 @@
 -- Steps on open frames.
 use Rattle.std.proofs.Common.{◌≡◌, ℕ, ◌+◌, ◌-◌, ◌≤◌, ◌<◌, Bool, false, List, [], ◌∷◌, ◌++◌, length, take, Some, None, slice_set, refl, sym, ap, ◌∙◌, arith}
-use Rattle.std.specs.Prelude.{Option, IfSome}
+use Rattle.std.specs.Prelude.{Option, IfSome, ◌||◌, drop}
+use Rattle.std.specs.List.{list_any}
+use Rattle.csl_base.specs.Tree.{child_has_content, has_content}
 use Rattle.std.specs.Option.{option_map_or}
 use Rattle.std.specs.List.{slice_get}
 use Rattle.std.proofs.lemmas.Option.{slice_get_within, get_or_from_slice_get, slice_get-get_or}
@@ -19,7 +21,7 @@ use Rattle.csl_base.specs.Stack.{topmost, put_topmost}
 use Rattle.csl_base.specs.declared.elem.ElemChild.{ElemChild}
 use Rattle.csl_base.specs.declared.formatting.Display.{Display}
 use Rattle.csl_base.specs.declared.elem.ElemMeta.{ElemMeta}
-use Rattle.csl_writing.specs.OpenFrames.{Frames, sole_text, on_sole_text, kids_sole_text, kids_on_sole_text, end_sole_text, on_end_sole_text, closed, committed}
+use Rattle.csl_writing.specs.OpenFrames.{Frames, sole_text, on_sole_text, kids_sole_text, kids_on_sole_text, end_sole_text, on_end_sole_text, is_filled, filled, on_filled, closed, committed, child_shows, shows}
 
 -- a tree that has not one child alone has no sole text
 pub no_sole_text : (q : List ℕ → Bool) (cs : List Child) → (length cs ≡ 1 → ⊥) → false ≡ option_map_or q (kids_sole_text (kids_of cs)) false
@@ -108,3 +110,23 @@ length_put p xs w (Some i) e = rw e (length-set xs i w)
 -- a write at the topmost item that passes a test keeps the height
 pub length-put_topmost : {T : Type 0} (p : T → Bool) (xs : List T) (w : T) → length (put_topmost p xs w) ≡ length xs
 length-put_topmost p xs w = length_put p xs w (topmost p xs) refl
+
+has_content_along : (xs : List ElemChild) → list_any (λ c. child_has_content (child_view c)) xs ≡ has_content (map child_view xs)
+has_content_along [] = refl
+has_content_along (x ∷ xs) = ap (λ b. child_has_content (child_view x) || b) (has_content_along xs)
+
+-- where the first child shows nothing, the others decide
+pub shows_later : (n : ℕ) (xs : List ElemChild) (cs : List Child) (x : ElemChild) (r : Bool) → map child_view xs ≡ cs → 0 < length xs → x ≡ get_or xs 0 x → child_shows n (child_view x) ≡ false → r ≡ list_any (λ c. child_has_content (child_view c)) (drop 1 xs) → r ≡ shows n cs
+shows_later n [] cs x r v l g f h = absurd (omega (arith, l))
+shows_later n (y ∷ xs) cs x r v l g f h =
+    let here : child_shows n (child_view y) ≡ false = ap (λ z. child_shows n (child_view z)) (sym g) ∙ f in
+    h ∙ has_content_along xs ∙ ap (λ b. b || has_content (map child_view xs)) (sym here) ∙ ap (shows n) v
+
+-- a write at the topmost frame that has children
+pub filled_changed : (f : List Child → List Child) (F left : Frames) (frame w : List Child) → Some frame ≡ filled F → left ≡ put_topmost is_filled F w → w ≡ f frame → left ≡ on_filled f F
+filled_changed f F left frame w s l h =
+    l ∙ ap (put_topmost is_filled F) h ∙ ap (λ o. option_map_or (λ x. put_topmost is_filled F (f x)) o F) s
+
+pub filled_changed_ok : (r : Result Bool AllocError) (f : List Child → List Child) (F left : Frames) (frame w : List Child) → Some frame ≡ filled F → left ≡ put_topmost is_filled F w → OnOk r (w ≡ f frame) → OnOk r (left ≡ on_filled f F)
+filled_changed_ok (Err e) f F left frame w s l h = tt
+filled_changed_ok (Ok b) f F left frame w s l h = filled_changed f F left frame w s l h

@@ -1,14 +1,16 @@
 -- The frames of a writing context: trees that are still open, the outermost first.
-use Rattle.std.specs.Prelude.{ℕ, ◌-◌, Bool, not, List, [], ◌∷◌, ◌++◌, length, take, slice_get, slice_set, Option, None, Some}
+use Rattle.std.specs.Prelude.{ℕ, ◌-◌, Bool, false, not, ◌||◌, List, [], ◌∷◌, ◌++◌, length, take, slice_get, slice_set, Option, None, Some}
 use Rattle.std.specs.Option.{option_and_then, option_map_or}
 use Rattle.csl_base.specs.Child.{Child, text, elem, markup, link, transparent, Kids, no_kids, kid, kids_of}
-use Rattle.csl_base.specs.Tree.{last_text, no_children}
+use Rattle.std.specs.Str.{chars}
+use Rattle.csl_base.specs.Tree.{last_text, no_children, child_has_content, has_content}
 use Rattle.csl_base.specs.LastText.{put_last_text}
 use Rattle.csl_base.specs.LastTextStep.{last_child, put_last}
 use Rattle.csl_base.specs.Stack.{topmost, put_topmost}
 use Rattle.csl_base.specs.declared.formatting.Formatted.{Formatted}
 use Rattle.csl_base.specs.declared.formatting.Display.{Display}
 use Rattle.csl_base.specs.declared.elem.ElemMeta.{ElemMeta}
+use Rattle.csl_writing.specs.Steps.{visible_from}
 
 abbrev pub Frames : Type 0
 Frames = List (List Child)
@@ -82,3 +84,13 @@ closed d m cs = elem (kids_of cs) d m ∷ []
 -- the frames with the top one closed into the one below
 abbrev pub committed : Option Display → Option ElemMeta → Frames → Frames
 committed d m frames = option_map_or (λ frame. on_top (λ cs. cs ++ closed d m frame) (below frames)) (top frames) frames
+
+-- a child shows something behind n bytes of its text
+abbrev pub child_shows : ℕ → Child → Bool
+child_shows n (text t) = visible_from n (chars t.text)
+child_shows n c = child_has_content c
+
+-- some child does, the first one behind a prefix of n bytes
+abbrev pub shows : ℕ → List Child → Bool
+shows n [] = false
+shows n (c ∷ cs) = child_shows n c || has_content cs

@@ -4,7 +4,10 @@ use Rattle.std.specs.Prelude.{ℕ, ◌-◌, ◌+◌, ◌^◌, Bool, true, false,
 use Rattle.std.specs.Option.{option_map_or, option_and_then}
 use Rattle.std.specs.Str.{chars, trim_end}
 use Rattle.csl_base.specs.Child.{Child, text, elem, markup, link, transparent}
-use Rattle.csl_base.specs.Tree.{child_has_content, has_content}
+use Rattle.std.specs.List.{ends_with}
+use Rattle.std.specs.Prelude.{nat_eq}
+use Rattle.csl_base.specs.Tree.{last_text}
+use Rattle.csl_base.specs.declared.formatting.Formatted.{Formatted}
 use Rattle.csl_base.specs.Simplify.{join_last}
 use Rattle.csl_base.specs.Formatting.{normal, applied}
 use Rattle.csl_base.specs.Element.{NameOptions}
@@ -15,7 +18,7 @@ use Rattle.csl_base.specs.declared.formatting.Display.{Display}
 use Rattle.csl_base.specs.declared.elem.ElemMeta.{ElemMeta}
 use Rattle.csl_writing.specs.declared.writing.WritingContext.{WritingContext}
 use Rattle.csl_writing.specs.Steps.{ClosingQuotes, opens_tight, opens_with_mark, has_letter, without_ending, without_periods, spaced, visible_from, term_text, ends_quoted, pulled}
-use Rattle.csl_writing.specs.OpenFrames.{Frames, on_last_text, end_sole_text, on_end_sole_text, filled, on_filled, top, on_top, below, committed}
+use Rattle.csl_writing.specs.OpenFrames.{Frames, on_last_text, end_sole_text, on_end_sole_text, filled, on_filled, top, on_top, below, committed, shows}
 
 pub record State : Type 0 where
   -- the text that is not yet in a frame
@@ -181,18 +184,24 @@ nothing_asked = record { font_style = None; font_weight = None }
 abbrev pub prefixed : Option (List ℕ) → State → State
 prefixed prefix a = let b = opened nothing_asked a in record b { buffer = b.buffer ++ term_text prefix }
 
--- the first child shows something behind a prefix of n bytes
-abbrev pub child_shows : ℕ → Child → Bool
-child_shows n (text t) = visible_from n (chars t.text)
-child_shows n c = child_has_content c
-
-abbrev pub shows : ℕ → List Child → Bool
-shows n [] = false
-shows n (c ∷ cs) = child_shows n c || has_content cs
-
--- the top frame does, once the buffer is saved
+-- the top frame shows something behind a prefix of n bytes, once the buffer is saved
 abbrev pub has_content_since : ℕ → State → Bool
 has_content_since n a = option_map_or (shows n) (top (saved a).frames) false
+
+-- the last text of the top frame ends with s
+abbrev pub ends_so : List ℕ → State → Bool
+ends_so s a = option_map_or (λ (t : Formatted). ends_with nat_eq t.text s) (option_and_then last_text (top a.frames)) false
+
+-- FLAGS AND FURTHER STACKS
+
+abbrev pub pulling : State → State
+pulling a = record a { pulling = true }
+
+abbrev pub stripping : Bool → State → State
+stripping asked a = if asked then record a { stripping = true } else a
+
+abbrev pub not_stripping : State → State
+not_stripping a = record a { stripping = false }
 
 abbrev pub delimited : Option (List ℕ) → State → State
 delimited d a = record a { delimiters = a.delimiters ++ d ∷ [] }
@@ -213,3 +222,7 @@ deeper a = record a { quote_depth = min (a.quote_depth + 1) (2 ^ 64 - 1) }
 -- one less; none stays none
 abbrev pub less_deep : State → State
 less_deep a = record a { quote_depth = a.quote_depth - 1 }
+
+-- what was written into the bottom frame
+abbrev pub flushed : State → Option (List Child)
+flushed a = slice_get (saved a).frames 0

@@ -4,12 +4,14 @@ ghost use Rattle.std.specs.Option.{option_map_or, option_and_then};
 ghost use Rattle.csl_base.specs.Child.{kids_of};
 ghost use Rattle.csl_base.specs.ChildView.{child_view};
 ghost use Rattle.csl_base.specs.Simplify.{join_last};
+ghost use Rattle.csl_base.specs.Tree.{child_has_content};
+ghost use Rattle.std.specs.List.{list_any};
 ghost use Rattle.csl_writing.specs.Steps.{ends_quoted, pulled, spaced};
 ghost use Rattle.csl_writing.specs.Quotes.{quotes_view};
-ghost use Rattle.csl_writing.specs.OpenFrames.{on_last_text, sole_text, kids_sole_text, on_sole_text, kids_on_sole_text, end_sole_text, on_end_sole_text, filled, on_filled, on_top, closed, committed};
+ghost use Rattle.csl_writing.specs.OpenFrames.{on_last_text, sole_text, kids_sole_text, on_sole_text, kids_on_sole_text, end_sole_text, on_end_sole_text, filled, on_filled, on_top, closed, committed, child_shows, shows};
 ghost use Rattle.csl_writing.specs.Edits.{edited};
 
-use crate::text::{ClosingQuotes, add_space, pull, take_ending, trim_end};
+use crate::text::{ClosingQuotes, add_space, is_visible_from, pull, take_ending, trim_end};
 use csl_base::elem::{Elem, ElemChild, ElemChildren, ElemMeta};
 use csl_base::formatting::Display;
 use csl_base::simplify::append;
@@ -245,4 +247,35 @@ pub(crate) fn commit(
     push_closed(frames.item_mut(height - 1), children, display, meta)?;
     frames.pop();
     Ok(())
+}
+
+// Whether a child shows something behind the first `offset` bytes of its text.
+fn child_shows(child: &ElemChild, offset: usize) -> bool
+    ensures { result ≡ child_shows offset (child_view child.now) }
+{
+    match child {
+        ElemChild::Text(text) => is_visible_from(text.text.as_str(), offset),
+        ElemChild::Elem(elem) => elem.children.has_content(),
+        ElemChild::Markup(_) => true,
+        ElemChild::Link { .. } => true,
+        ElemChild::Transparent { .. } => true,
+    }
+}
+
+fn any_has_content(children: &[ElemChild]) -> bool
+    ensures { result ≡ list_any (λ c. child_has_content (child_view c)) children.now }
+{
+    children.iter().any(|child| child.has_content())
+}
+
+/// Whether some child shows something, the first one behind `offset` bytes of its text.
+pub(crate) fn shows(tree: &ElemChildren, offset: usize) -> bool
+    ensures { result ≡ shows offset tree.now }
+{
+    let children = tree.0.as_slice();
+    if children.len() == 0 {
+        return false;
+    }
+    let (_, later) = children.split_at(1);
+    child_shows(&children[0], offset) || any_has_content(later)
 }

@@ -7,14 +7,15 @@ ghost use Rattle.csl_writing.specs.Edits.{edited};
 ghost use Rattle.csl_writing.specs.Quotes.{quotes_view};
 ghost use Rattle.std.specs.Bool.{OnTrue};
 ghost use Rattle.std.specs.Option.{option_map_or};
-ghost use Rattle.csl_writing.specs.Steps.{ends_quoted, pulled};
-ghost use Rattle.csl_writing.specs.WritingState.{state, heights, begun, is_saved, saved, on_text_before, trimmed_for, unrepeated_for, appended, quoted_text, on_quoted_text, may_pull, after_pull, left_by_pull, written, with_child, formatting, after_push_str, verbatim, with_space, asks_nothing, formatted, unformatted, opened, closed_elem, discarded, prefixed, has_content_since, shows, delimited, undelimited, with_options, without_options};
+ghost use Rattle.csl_writing.specs.Steps.{ends_quoted, pulled, term_text};
+ghost use Rattle.csl_writing.specs.WritingState.{state, heights, begun, is_saved, saved, on_text_before, trimmed_for, unrepeated_for, appended, quoted_text, on_quoted_text, may_pull, after_pull, left_by_pull, written, with_child, formatting, after_push_str, verbatim, with_space, asks_nothing, formatted, unformatted, opened, closed_elem, discarded, prefixed, has_content_since, ends_so, pulling, stripping, not_stripping, deeper, less_deep, delimited, undelimited, with_options, without_options, flushed};
 
 use crate::frames::{
-    Edit, commit, edit_filled, join_child, pull_in_filled, push_child, space_last_text,
+    Edit, commit, edit_filled, join_child, pull_in_filled, push_child, shows, space_last_text,
 };
 use crate::text::{
-    ClosingQuotes, add_space, has_letter, opens_tight, opens_with_mark, pull, push_without_periods,
+    ClosingQuotes, add_space, ends_with, has_letter, opens_tight, opens_with_mark, pull,
+    push_without_periods,
 };
 use crate::token::{DelimiterIdx, DisplayLoc, FormatIdx};
 use csl_base::elem::{ElemChild, ElemChildren, ElemMeta};
@@ -43,6 +44,11 @@ pub struct WritingContext<'a> {
     // How many quotes are open.
     quote_depth: usize,
 }
+
+const NOTHING_ASKED: StyleFormatting = StyleFormatting {
+    font_style: None,
+    font_weight: None,
+};
 
 impl<'a> WritingContext<'a> {
     /// A context in which nothing is written, under these name options.
@@ -167,8 +173,12 @@ impl<'a> WritingContext<'a> {
         self.pulling && opens_with_mark(s)
     }
 
-    // Writes `s` where nothing is pulled.
-    fn write(&mut self, s: &str) -> Result<(), AllocError>
+    /// Writes `s` where nothing is pulled.
+    ///
+    /// # Errors
+    ///
+    /// Where memory is refused.
+    pub(crate) fn write(&mut self, s: &str) -> Result<(), AllocError>
         ensures done { OnOk result (state self.new ≡ written s.now (state self.old)) }
         ensures heights { heights (state self.new) ≡ heights (state self.old) }
     {
@@ -340,6 +350,107 @@ impl<'a> WritingContext<'a> {
         Ok(())
     }
 
+    /// Opens a frame that begins with the prefix, as it stands. Gives the frame's token and the length of
+    /// the prefix in bytes, 0 where there is none.
+    ///
+    /// # Errors
+    ///
+    /// Where memory is refused; the stacks are as high as before.
+    pub fn apply_prefix(&mut self, affixes: &Affixes) -> Result<(DisplayLoc, usize), AllocError>
+        ensures frames { IfOk result (λ prefix. prefix.0.frames ≡ length (state self.old).frames) }
+        ensures formats { IfOk result (λ prefix. prefix.0.formats ≡ length (state self.old).formats) }
+        ensures offset { IfOk result (λ prefix. prefix.1 ≡ length (term_text (affixes_view affixes.now).prefix)) }
+        ensures done { OnOk result (state self.new ≡ prefixed (affixes_view affixes.now).prefix (state self.old)) }
+        ensures refused { OnErr result (heights (state self.new) ≡ heights (state self.old)) }
+    {
+        let loc = self.push_elem(NOTHING_ASKED)?;
+        let prefix = match &affixes.prefix {
+            Some(prefix) => prefix.as_str(),
+            None => "",
+        };
+        if self.buf.push_str(prefix).is_err() {
+            self.frames.cut(loc.frames);
+            return Err(AllocError);
+        }
+        Ok((loc, prefix.len()))
+    }
+
+    /// Whether the top frame, which `apply_prefix` opened, shows anything behind its prefix: a character
+    /// of its first text that begins behind the prefix and is not white space, or another child with
+    /// content.
+    ///
+    /// # Errors
+    ///
+    /// Where memory is refused; the stacks are as high as before.
+    pub fn has_content_since(&mut self, prefix: &(DisplayLoc, usize)) -> Result<bool, AllocError>
+        requires { prefix.now.0.frames + 1 ≡ length (state self.old).frames }
+        ensures shown { IfOk result (λ shown. shown ≡ has_content_since prefix.now.1 (state self.old)) }
+        ensures done { OnOk result (state self.new ≡ saved (state self.old)) }
+        ensures heights { heights (state self.new) ≡ heights (state self.old) }
+    {
+        self.save()?;
+        Ok(shows(self.frames.last(), prefix.1))
+    }
+
+    /// Whether the last text of the top frame ends so.
+    pub(crate) fn ends_so(&self, ending: &str) -> bool
+        ensures { result ≡ ends_so ending.now (state self.now) }
+    {
+        match self.frames.last().last_text() {
+            Some(last) => ends_with(last.text.as_str(), ending),
+            None => false,
+        }
+    }
+
+    /// Lets closing quotes pull punctuation in, if there is any next.
+    pub(crate) fn let_pull(&mut self)
+        ensures { state self.new ≡ pulling (state self.old) }
+    {
+        self.pulling = true;
+    }
+
+    /// Leaves periods out from here on, where that is asked for.
+    pub(crate) fn may_strip_periods(&mut self, asked: bool)
+        ensures { state self.new ≡ stripping asked (state self.old) }
+    {
+        if asked {
+            self.stripping = true;
+        }
+    }
+
+    /// Leaves no period out from here on.
+    pub(crate) fn stop_stripping_periods(&mut self)
+        ensures { state self.new ≡ not_stripping (state self.old) }
+    {
+        self.stripping = false;
+    }
+
+    /// How many quotes are open.
+    pub(crate) fn quote_depth(&self) -> usize
+        ensures { result ≡ (state self.now).quote_depth }
+    {
+        self.quote_depth
+    }
+
+    /// One more quote is open. The count stays at its greatest value.
+    pub(crate) fn deepen(&mut self)
+        ensures { state self.new ≡ deeper (state self.old) }
+    {
+        self.quote_depth = self.quote_depth.saturating_add(1);
+    }
+
+    /// One quote less is open, if there is one.
+    pub(crate) fn rise(&mut self)
+        ensures { state self.new ≡ less_deep (state self.old) }
+    {
+        self.quote_depth = self.quote_depth.saturating_sub(1);
+    }
+
+    /// What this context takes memory from.
+    pub(crate) fn alloc(&self) -> Global {
+        self.alloc
+    }
+
     /// Pushes a delimiter upon those before.
     ///
     /// # Errors
@@ -394,7 +505,7 @@ impl<'a> WritingContext<'a> {
     /// Where memory is refused.
     pub fn flush(mut self) -> Result<ElemChildren, AllocError>
         requires { length (state self).formats ≡ 1 }
-        ensures { IfOk result (λ tree. slice_get (saved (state self.entry)).frames 0 ≡ Some tree) }
+        ensures { IfOk result (λ tree. flushed (state self.entry) ≡ Some tree) }
     {
         self.save()?;
         Ok(self.frames.finish())
