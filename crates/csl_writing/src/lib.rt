@@ -1,6 +1,7 @@
 //! Writing of the citation driver: the properties of a cite, and what is looked up for it.
 #![tactic(auto)]
 
+mod author_stub;
 pub mod brackets;
 mod choices;
 pub mod counter;
@@ -14,7 +15,6 @@ pub mod locator;
 pub mod lookup;
 mod names;
 mod notes;
-mod author_stub;
 mod picking;
 mod pieces;
 pub mod properties;
