@@ -7,7 +7,6 @@ pub mod Weight
 pub mod Steps
 pub mod FirstAnswers
 mod Letters
-pub mod Letters
 pub mod SectionSteps
 pub mod NameLists
 pub mod Agree

@@ -34,9 +34,11 @@ pub mod HeldView
 pub mod FirstField
 pub mod WritingState
 pub mod DateText
-pub mod Written
 pub mod SubjectView
 pub mod SectionView
 pub mod SuffixText
 pub mod Gathered
 pub mod AuthorVariable
+pub mod Wording
+pub mod WrittenParts
+pub mod StepsWritten

@@ -83,17 +83,17 @@ abbrev pub formatting : State → Formatting
 formatting a = unwrap_or (slice_get a.formats (length a.formats - 1)) normal
 
 -- a child at the end of the top frame
-abbrev pub with_child : Child → State → State
+unfoldable pub with_child : Child → State → State
 with_child c a = record a { frames = on_top (λ cs. cs ++ c ∷ []) a.frames }
 
 -- the buffer as a text at the end of the top frame, joined to a text of its formatting that stands there
-abbrev pub saved : State → State
+unfoldable pub saved : State → State
 saved a =
     if is_saved a
     then a
     else record a { buffer = []; frames = on_top (λ cs. join_last cs (text (record { text = a.buffer; formatting = formatting a }))) a.frames }
 
--- PUSHING TEXT
+-- Writing text.
 
 -- the text before changed by f: the buffer, or where that is empty the last text of the topmost frame that has
 -- children
@@ -137,62 +137,62 @@ abbrev pub left_by_pull : ClosingQuotes → List ℕ → State → List ℕ
 left_by_pull q s a = if may_pull s a && option_map_or (ends_quoted q) (quoted_text a) false then drop 1 s else s
 
 -- s written where nothing is pulled
-abbrev pub written : List ℕ → State → State
+unfoldable pub written : List ℕ → State → State
 written s a = unpulled (appended s (unrepeated_for s (trimmed_for s a)))
 
-abbrev pub after_push_str : ClosingQuotes → List ℕ → State → State
+unfoldable pub after_push_str : ClosingQuotes → List ℕ → State → State
 after_push_str q s a = written (left_by_pull q s a) (after_pull q s a)
 
 -- s as it stands
-abbrev pub verbatim : List ℕ → State → State
+unfoldable pub verbatim : List ℕ → State → State
 verbatim s a = unpulled (record a { buffer = a.buffer ++ s })
 
 -- a space behind the buffer, or where that is empty behind the last text of the top frame
-abbrev pub with_space : State → State
+unfoldable pub with_space : State → State
 with_space a = if is_saved a then record a { frames = on_top (on_last_text spaced) a.frames } else record a { buffer = spaced a.buffer }
 
--- FORMATS AND FRAMES
+-- Formats and frames.
 
 abbrev pub asks_nothing : StyleFormatting → Bool
 asks_nothing f = not (is_some f.font_style) && not (is_some f.font_weight)
 
 -- a format that asks for nothing changes nothing
-abbrev pub formatted : StyleFormatting → State → State
+unfoldable pub formatted : StyleFormatting → State → State
 formatted f a = if asks_nothing f then a else (let b = saved a in record b { formats = b.formats ++ applied f (formatting b) ∷ [] })
 
 abbrev pub cut_formats : ℕ → State → State
 cut_formats height a = record a { formats = take height a.formats }
 
 -- a stack that is not higher stays
-abbrev pub unformatted : ℕ → State → State
+unfoldable pub unformatted : ℕ → State → State
 unformatted height a = if nat_lt height (length a.formats) then cut_formats height (saved a) else a
 
-abbrev pub opened : StyleFormatting → State → State
+unfoldable pub opened : StyleFormatting → State → State
 opened f a = let b = formatted f (saved a) in record b { frames = b.frames ++ [] ∷ [] }
 
 -- the top frame closed into the one below, and the formats cut back
-abbrev pub closed_elem : ℕ → Option Display → Option ElemMeta → State → State
+unfoldable pub closed_elem : ℕ → Option Display → Option ElemMeta → State → State
 closed_elem height d m a = let b = saved a in cut_formats height (record b { frames = committed d m b.frames })
 
-abbrev pub discarded : ℕ → State → State
+unfoldable pub discarded : ℕ → State → State
 discarded height a = let b = saved a in cut_formats height (record b { frames = below b.frames })
 
 abbrev pub nothing_asked : StyleFormatting
 nothing_asked = record { font_style = None; font_weight = None }
 
 -- a frame that begins with a prefix, as it stands
-abbrev pub prefixed : Option (List ℕ) → State → State
+unfoldable pub prefixed : Option (List ℕ) → State → State
 prefixed prefix a = let b = opened nothing_asked a in record b { buffer = b.buffer ++ term_text prefix }
 
 -- the top frame shows something behind a prefix of n bytes, once the buffer is saved
-abbrev pub has_content_since : ℕ → State → Bool
+unfoldable pub has_content_since : ℕ → State → Bool
 has_content_since n a = option_map_or (shows n) (top (saved a).frames) false
 
 -- the last text of the top frame ends with s
-abbrev pub ends_so : List ℕ → State → Bool
+unfoldable pub ends_so : List ℕ → State → Bool
 ends_so s a = option_map_or (λ (t : Formatted). ends_with nat_eq t.text s) (option_and_then last_text (top a.frames)) false
 
--- FLAGS AND FURTHER STACKS
+-- Flags and further stacks.
 
 abbrev pub pulling : State → State
 pulling a = record a { pulling = true }
@@ -224,5 +224,5 @@ abbrev pub less_deep : State → State
 less_deep a = record a { quote_depth = a.quote_depth - 1 }
 
 -- what was written into the bottom frame
-abbrev pub flushed : State → Option (List Child)
+unfoldable pub flushed : State → Option (List Child)
 flushed a = slice_get (saved a).frames 0

@@ -39,7 +39,7 @@ impl<'a> Section<'a> {
     }
 }
 
-fn first_notes(usage: IdentifierUsage) -> Notes
+pub(crate) fn first_notes(usage: IdentifierUsage) -> Notes
     ensures { result ≡ first_notes usage }
 {
     Notes {

@@ -8,7 +8,7 @@ ghost use Rattle.csl_writing.specs.Quotes.{quotes_view};
 ghost use Rattle.std.specs.Bool.{OnTrue};
 ghost use Rattle.std.specs.Option.{option_map_or};
 ghost use Rattle.csl_writing.specs.Steps.{ends_quoted, pulled, term_text};
-ghost use Rattle.csl_writing.specs.WritingState.{state, heights, begun, is_saved, saved, on_text_before, trimmed_for, unrepeated_for, appended, quoted_text, on_quoted_text, may_pull, after_pull, left_by_pull, written, with_child, formatting, after_push_str, verbatim, with_space, asks_nothing, formatted, unformatted, opened, closed_elem, discarded, prefixed, has_content_since, ends_so, pulling, stripping, not_stripping, deeper, less_deep, delimited, undelimited, with_options, without_options, flushed};
+ghost use Rattle.csl_writing.specs.WritingState.{state, heights, begun, is_saved, saved, on_text_before, trimmed_for, unrepeated_for, appended, quoted_text, on_quoted_text, may_pull, after_pull, left_by_pull, written, with_child, formatting, after_push_str, verbatim, with_space, asks_nothing, formatted, cut_formats, unformatted, opened, closed_elem, discarded, prefixed, has_content_since, ends_so, pulling, stripping, not_stripping, deeper, less_deep, delimited, undelimited, with_options, without_options, flushed};
 
 use crate::frames::{
     Edit, commit, edit_filled, join_child, pull_in_filled, push_child, shows, space_last_text,
@@ -83,6 +83,7 @@ impl<'a> WritingContext<'a> {
     }
 
     // Moves the buffer to the end of the top frame, joined to a text of its formatting.
+    #[tactic(auto, unfolding(crate::specs::WritingState::saved))]
     fn save(&mut self) -> Result<(), AllocError>
         ensures done { OnOk result (state self.new ≡ saved (state self.old)) }
         ensures heights { heights (state self.new) ≡ heights (state self.old) }
@@ -178,6 +179,7 @@ impl<'a> WritingContext<'a> {
     /// # Errors
     ///
     /// Where memory is refused.
+    #[tactic(auto, unfolding(crate::specs::WritingState::written))]
     pub(crate) fn write(&mut self, s: &str) -> Result<(), AllocError>
         ensures done { OnOk result (state self.new ≡ written s.now (state self.old)) }
         ensures heights { heights (state self.new) ≡ heights (state self.old) }
@@ -195,6 +197,7 @@ impl<'a> WritingContext<'a> {
     /// # Errors
     ///
     /// Where memory is refused.
+    #[tactic(auto, unfolding(crate::specs::WritingState::after_push_str))]
     pub(crate) fn push_str(&mut self, quotes: ClosingQuotes<'_>, s: &str) -> Result<(), AllocError>
         ensures done { OnOk result (state self.new ≡ after_push_str (quotes_view quotes.entry) s.now (state self.old)) }
         ensures heights { heights (state self.new) ≡ heights (state self.old) }
@@ -208,6 +211,7 @@ impl<'a> WritingContext<'a> {
     /// # Errors
     ///
     /// Where memory is refused.
+    #[tactic(auto, unfolding(crate::specs::WritingState::verbatim))]
     pub(crate) fn push_verbatim(&mut self, s: &str) -> Result<(), AllocError>
         ensures done { OnOk result (state self.new ≡ verbatim s.now (state self.old)) }
         ensures heights { heights (state self.new) ≡ heights (state self.old) }
@@ -222,6 +226,7 @@ impl<'a> WritingContext<'a> {
     /// # Errors
     ///
     /// Where memory is refused.
+    #[tactic(auto, unfolding(crate::specs::WritingState::with_child))]
     pub(crate) fn push_child(&mut self, child: ElemChild) -> Result<(), AllocError>
         ensures done { OnOk result (state self.new ≡ with_child (child_view child) (saved (state self.old))) }
         ensures heights { heights (state self.new) ≡ heights (state self.old) }
@@ -243,6 +248,7 @@ impl<'a> WritingContext<'a> {
     /// # Errors
     ///
     /// Where memory is refused.
+    #[tactic(auto, unfolding(crate::specs::WritingState::with_space))]
     pub fn ensure_space(&mut self) -> Result<(), AllocError>
         ensures done { OnOk result (state self.new ≡ with_space (state self.old)) }
         ensures heights { heights (state self.new) ≡ heights (state self.old) }
@@ -260,10 +266,12 @@ impl<'a> WritingContext<'a> {
     /// # Errors
     ///
     /// Where memory is refused; the stacks are as high as before.
+    #[tactic(auto, unfolding(crate::specs::WritingState::formatted))]
     pub fn push_format(&mut self, format: StyleFormatting) -> Result<FormatIdx, AllocError>
         ensures token { IfOk result (λ token. token.height ≡ length (state self.old).formats) }
         ensures done { OnOk result (state self.new ≡ formatted format (state self.old)) }
         ensures refused { OnErr result (heights (state self.new) ≡ heights (state self.old)) }
+        ensures cut_back { heights (cut_formats (length (state self.old).formats) (state self.new)) ≡ heights (state self.old) }
     {
         let height = self.formats.len();
         if asks_nothing(format) {
@@ -280,6 +288,7 @@ impl<'a> WritingContext<'a> {
     /// # Errors
     ///
     /// Where memory is refused; the stacks are as high as before.
+    #[tactic(auto, unfolding(crate::specs::WritingState::unformatted))]
     pub fn pop_format(&mut self, token: FormatIdx) -> Result<(), AllocError>
         ensures done { OnOk result (state self.new ≡ unformatted token.height (state self.old)) }
         ensures refused { OnErr result (heights (state self.new) ≡ heights (state self.old)) }
@@ -296,6 +305,7 @@ impl<'a> WritingContext<'a> {
     /// # Errors
     ///
     /// Where memory is refused; the stacks are as high as before.
+    #[tactic(auto, unfolding(crate::specs::WritingState::opened, crate::specs::WritingState::formatted))]
     pub fn push_elem(&mut self, format: StyleFormatting) -> Result<DisplayLoc, AllocError>
         ensures frames { IfOk result (λ loc. loc.frames ≡ length (state self.old).frames) }
         ensures formats { IfOk result (λ loc. loc.formats ≡ length (state self.old).formats) }
@@ -318,6 +328,7 @@ impl<'a> WritingContext<'a> {
     /// # Errors
     ///
     /// Where memory is refused; the stacks are as high as before.
+    #[tactic(auto, unfolding(crate::specs::WritingState::closed_elem))]
     pub fn commit_elem(
         &mut self,
         loc: DisplayLoc,
@@ -339,6 +350,7 @@ impl<'a> WritingContext<'a> {
     /// # Errors
     ///
     /// Where memory is refused; the stacks are as high as before.
+    #[tactic(auto, unfolding(crate::specs::WritingState::discarded))]
     pub fn discard_elem(&mut self, loc: DisplayLoc) -> Result<(), AllocError>
         requires { loc.frames + 1 ≡ length (state self.old).frames }
         ensures done { OnOk result (state self.new ≡ discarded loc.formats (state self.old)) }
@@ -356,6 +368,7 @@ impl<'a> WritingContext<'a> {
     /// # Errors
     ///
     /// Where memory is refused; the stacks are as high as before.
+    #[tactic(auto, unfolding(crate::specs::WritingState::prefixed, crate::specs::WritingState::opened, crate::specs::WritingState::formatted, crate::specs::WritingState::saved))]
     pub fn apply_prefix(&mut self, affixes: &Affixes) -> Result<(DisplayLoc, usize), AllocError>
         ensures frames { IfOk result (λ prefix. prefix.0.frames ≡ length (state self.old).frames) }
         ensures formats { IfOk result (λ prefix. prefix.0.formats ≡ length (state self.old).formats) }
@@ -382,6 +395,7 @@ impl<'a> WritingContext<'a> {
     /// # Errors
     ///
     /// Where memory is refused; the stacks are as high as before.
+    #[tactic(auto, unfolding(crate::specs::WritingState::has_content_since))]
     pub fn has_content_since(&mut self, prefix: &(DisplayLoc, usize)) -> Result<bool, AllocError>
         requires { prefix.now.0.frames + 1 ≡ length (state self.old).frames }
         ensures shown { IfOk result (λ shown. shown ≡ has_content_since prefix.now.1 (state self.old)) }
@@ -393,6 +407,7 @@ impl<'a> WritingContext<'a> {
     }
 
     /// Whether the last text of the top frame ends so.
+    #[tactic(auto, unfolding(crate::specs::WritingState::ends_so))]
     pub(crate) fn ends_so(&self, ending: &str) -> bool
         ensures { result ≡ ends_so ending.now (state self.now) }
     {
@@ -503,6 +518,7 @@ impl<'a> WritingContext<'a> {
     /// # Errors
     ///
     /// Where memory is refused.
+    #[tactic(auto, unfolding(crate::specs::WritingState::flushed))]
     pub fn flush(mut self) -> Result<ElemChildren, AllocError>
         requires { length (state self).formats ≡ 1 }
         ensures { IfOk result (λ tree. flushed (state self.entry) ≡ Some tree) }

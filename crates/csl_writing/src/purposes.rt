@@ -1,0 +1,128 @@
+//! A cite by what it is written for.
+ghost use Rattle.std.specs.Prelude.{◌≡◌, IfOk, OnOk, OnErr, length};
+ghost use Rattle.csl_base.specs.ElementView.{text_view};
+ghost use Rattle.csl_base.specs.StyleView.{layout_view, style_view};
+ghost use Rattle.csl_writing.specs.Notes.{first_notes};
+ghost use Rattle.csl_writing.specs.Plans as plans;
+ghost use Rattle.csl_writing.specs.SectionView.{IsSection};
+ghost use Rattle.csl_writing.specs.Sections as sections;
+ghost use Rattle.csl_writing.specs.SourceView.{lookup_view};
+ghost use Rattle.csl_writing.specs.StepsWritten.{IsCarriedOut, IsWritten};
+ghost use Rattle.csl_writing.specs.SubjectView.{subject_view};
+ghost use Rattle.csl_writing.specs.WritingState.{state};
+
+use crate::held::Picking;
+use crate::lookup::StyleContext;
+use crate::notes::{Form, Notes};
+use crate::purpose::CitePurpose;
+use crate::section::{Section, first_notes, names_alone};
+use crate::state::CollapseVerdict;
+use crate::subject::Subject;
+use crate::wording::push_str;
+use crate::write_stub::write_pieces;
+use crate::writing::WritingContext;
+use csl_base::entry::EntryLike;
+use csl_base::style::{CitationFormat, IndependentStyle, Layout, StyleCategory};
+use std::alloc::{AllocError, Global};
+
+/// Writes a section in its formatting.
+pub(crate) fn write_section(
+    style: &StyleContext<'_>,
+    writing: &mut WritingContext<'_>,
+    section: &Section<'_>,
+) -> Result<(), AllocError>
+    ensures { (value : sections.Section) → IsSection section.now value → OnOk result (IsWritten (lookup_view style.now) (plans.plan_of value).steps (state writing.old) (state writing.new)) }
+{
+    let mark = writing.push_format(section.formatting)?;
+    write_pieces(style, writing, &section.picking.pieces)?;
+    writing.pop_format(mark)
+}
+
+/// Writes a section and nothing else, and hands its notes on.
+fn write_alone(
+    style: &StyleContext<'_>,
+    writing: &mut WritingContext<'_>,
+    section: Section<'_>,
+) -> Result<Notes, AllocError>
+    ensures { (value : sections.Section) → IsSection section.entry value → IfOk result (IsCarriedOut (lookup_view style.now) (plans.plan_of value) (state writing.old) (state writing.new)) }
+{
+    write_section(style, writing, &section)?;
+    Ok(section.picking.notes)
+}
+
+/// Whether cites of the style are labels or numbers.
+fn has_labels(style: &IndependentStyle) -> bool
+    ensures { result ≡ plans.has_labels (style_view style.now) }
+{
+    style.info.category.iter().any(|category| match category {
+        StyleCategory::CitationFormat {
+            format: CitationFormat::Label | CitationFormat::Numeric,
+        } => true,
+        _ => false,
+    })
+}
+
+/// Whether the text begins with white space.
+fn opens_with_space(text: &Option<String>) -> bool
+    ensures { result ≡ plans.opens_with_space (text_view text.now) }
+{
+    match text {
+        Some(text) => match text.as_str().chars().next() {
+            Some(c) => c.is_whitespace(),
+            None => false,
+        },
+        None => false,
+    }
+}
+
+/// A space between the author and the rest, unless the layout's prefix begins with one.
+fn write_gap(
+    style: &StyleContext<'_>,
+    writing: &mut WritingContext<'_>,
+    layout: &Layout,
+) -> Result<(), AllocError>
+    ensures { OnOk result (IsWritten (lookup_view style.now) (plans.gap_steps (layout_view layout.now)) (state writing.old) (state writing.new)) }
+{
+    if opens_with_space(&layout.prefix) {
+        return Ok(());
+    }
+    writing.ensure_space()
+}
+
+/// What encloses the rest on one side: the layout's own affix, else the bracket, but where cites
+/// are labels or numbers.
+fn write_enclosing(
+    style: &StyleContext<'_>,
+    writing: &mut WritingContext<'_>,
+    affix: &Option<String>,
+    bracket: &str,
+) -> Result<(), AllocError>
+    ensures { OnOk result (IsWritten (lookup_view style.now) (plans.text_steps (plans.enclosing (style_view style.now.style.now) (text_view affix.now) bracket.now)) (state writing.old) (state writing.new)) }
+{
+    match affix {
+        Some(affix) => push_str(style, writing, affix.as_str()),
+        None => {
+            if has_labels(style.style) {
+                return Ok(());
+            }
+            push_str(style, writing, bracket)
+        }
+    }
+}
+
+impl<'a, T: EntryLike> Subject<'a, T> {
+    /// The rest of a cite in a sentence.
+    fn rest_section(
+        &self,
+        alloc: Global,
+        verdict: Option<CollapseVerdict>,
+        notes: Notes,
+    ) -> Result<Section<'a>, AllocError>
+        ensures { IfOk result (λ s. IsSection s (plans.rest_section (subject_view T.answers self.now) verdict notes)) }
+    {
+        if has_labels(self.context.style) {
+            return self.regular_section(alloc, verdict, notes);
+        }
+        self.citation_section(alloc, Form::SuppressAuthor, notes)
+    }
+}
