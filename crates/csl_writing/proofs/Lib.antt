@@ -14,3 +14,5 @@ pub mod Settled
 pub mod Nesting
 pub mod Gathering
 pub mod Suffixes
+pub mod WordingSteps
+pub mod Copies

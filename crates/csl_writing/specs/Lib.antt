@@ -40,5 +40,6 @@ pub mod SuffixText
 pub mod Gathered
 pub mod AuthorVariable
 pub mod Wording
-pub mod WrittenParts
+pub mod PartsWritten
 pub mod StepsWritten
+pub mod ContextView

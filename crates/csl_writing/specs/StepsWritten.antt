@@ -7,7 +7,7 @@ use Rattle.csl_writing.specs.Lookup.{Source, Lookup, lookup}
 use Rattle.csl_writing.specs.Pieces.{Part}
 use Rattle.csl_writing.specs.Plans.{Step, section_step, text_step, space_step, Plan}
 use Rattle.csl_writing.specs.Wording.{pushed}
-use Rattle.csl_writing.specs.WrittenParts.{parts_written}
+use Rattle.csl_writing.specs.PartsWritten.{parts_written}
 use Rattle.csl_writing.specs.WritingState.{State, begun, formatted, unformatted, with_space, flushed}
 
 -- parts in a formatting, which holds for them alone

@@ -4,6 +4,7 @@
 mod author_stub;
 pub mod brackets;
 mod choices;
+pub mod context;
 pub mod counter;
 mod date;
 mod first_field;

@@ -3,7 +3,7 @@ ghost use Rattle.std.specs.Prelude.{◌≡◌, List, OnOk};
 ghost use Rattle.csl_writing.specs.Pieces.{Part, tokens};
 ghost use Rattle.csl_writing.specs.PiecesView.{tokens_of};
 ghost use Rattle.csl_writing.specs.SourceView.{lookup_view};
-ghost use Rattle.csl_writing.specs.WrittenParts.{parts_written};
+ghost use Rattle.csl_writing.specs.PartsWritten.{parts_written};
 ghost use Rattle.csl_writing.specs.WritingState.{state, heights};
 
 use crate::lookup::StyleContext;

@@ -9,6 +9,6 @@ abbrev pub invariant-loop-chunk : goal.invariant-loop-chunk
 invariant-loop-chunk l =
     record {
       rest : chunks_pushed (lookup_view l.style) (drop l.chunk-index l.chunk-items) (state l.writing)
-        ≡ chunks_pushed (lookup_view l.style) l.chunk-items (state l.initial.writing);
+          ≡ chunks_pushed (lookup_view l.style) l.chunk-items (state l.initial.writing);
       heights : heights (state l.writing) ≡ heights (state l.initial.writing);
     }
