@@ -16,3 +16,5 @@ pub mod Gathering
 pub mod Suffixes
 pub mod WordingSteps
 pub mod Copies
+pub mod FormatHeights
+pub mod PlanSteps

@@ -1,5 +1,6 @@
 -- In which steps a cite is written for a purpose.
-use Rattle.std.specs.Prelude.{ℕ, ◌∷◌, ◌++◌, List, [], Bool, true, false, ◌||◌, Option, None, Some, chars, unwrap_or}
+use Rattle.std.specs.Prelude.{ℕ, ◌∷◌, ◌++◌, List, [], Bool, true, false, ◌||◌, Option, None, Some}
+use Rattle.std.specs.Str.{chars}
 use Rattle.std.specs.Bool.{if◌then◌else◌}
 use Rattle.std.specs.List.{list_any}
 use Rattle.std.specs.Char.{is_whitespace}
@@ -64,9 +65,10 @@ abbrev pub rest_section : Subject → Option CollapseVerdict → Notes → Secti
 rest_section s verdict n =
     if has_labels s.source.style then regular_section s verdict n else citation_section s Form.SuppressAuthor n
 
--- what encloses the rest: the layout's own affix, or brackets where it has none and no label or number is enclosed
+-- what encloses the rest on one side: the layout's own affix, else the bracket, but where cites are labels or numbers
 abbrev pub enclosing : StyleValue → Option (List ℕ) → List ℕ → Option (List ℕ)
-enclosing style affix bracket = if has_labels style then affix else Some (unwrap_or affix bracket)
+enclosing style (Some affix) bracket = Some affix
+enclosing style None bracket = if has_labels style then None else Some bracket
 
 -- a cite in a sentence: the author, then the rest, enclosed
 abbrev pub prose_plan : Subject → Option CollapseVerdict → Notes → Plan

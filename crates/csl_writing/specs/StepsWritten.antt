@@ -32,13 +32,15 @@ finished a = unwrap_or (flushed a) []
 abbrev pub tree_of : Source → List Step → List Child
 tree_of source steps = finished (steps_written (lookup source) steps (begun source.style.options))
 
--- for the code: a plan was carried out from a to b; formats are as before
+-- for the code: a plan was carried out from a to b; the stacks are as high as before
 pub record IsCarriedOut (k : Lookup) (plan : Plan) (a b : State) (notes : Notes) : Type 0 where
   pub written : b ≡ steps_written k plan.steps a
   pub noted : notes ≡ plan.noted
   pub formats : length b.formats ≡ length a.formats
+  pub frames : length b.frames ≡ length a.frames
 
--- for the code: steps were written from a to b; formats are as before
+-- for the code: steps were written from a to b; the stacks are as high as before
 pub record IsWritten (k : Lookup) (steps : List Step) (a b : State) : Type 0 where
   pub written : b ≡ steps_written k steps a
   pub formats : length b.formats ≡ length a.formats
+  pub frames : length b.frames ≡ length a.frames

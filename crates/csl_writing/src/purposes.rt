@@ -11,7 +11,6 @@ ghost use Rattle.csl_writing.specs.StepsWritten.{IsCarriedOut, IsWritten};
 ghost use Rattle.csl_writing.specs.SubjectView.{subject_view};
 ghost use Rattle.csl_writing.specs.WritingState.{state};
 
-use crate::held::Picking;
 use crate::lookup::StyleContext;
 use crate::notes::{Form, Notes};
 use crate::purpose::CitePurpose;
@@ -124,5 +123,91 @@ impl<'a, T: EntryLike> Subject<'a, T> {
             return self.regular_section(alloc, verdict, notes);
         }
         self.citation_section(alloc, Form::SuppressAuthor, notes)
+    }
+
+    /// The author alone: the names that the style shows of it.
+    fn write_author(
+        &self,
+        alloc: Global,
+        writing: &mut WritingContext<'_>,
+    ) -> Result<Notes, AllocError>
+        ensures { IfOk result (IsCarriedOut (lookup_view self.now.context) (plans.plan_of (sections.author_section (subject_view T.answers self.now) (first_notes self.now.cite.usage))) (state writing.old) (state writing.new)) }
+    {
+        let alone = names_alone(alloc)?;
+        let subject = Subject {
+            entry: self.entry,
+            context: self.context,
+            cite: self.cite,
+            explicit_suffix: self.explicit_suffix,
+        };
+        let section = subject.author_section(alloc, &alone)?;
+        write_alone(&self.context, writing, section)
+    }
+
+    /// A cite in a sentence: the author, then the rest, enclosed.
+    fn write_prose(
+        &self,
+        alloc: Global,
+        verdict: Option<CollapseVerdict>,
+        writing: &mut WritingContext<'_>,
+    ) -> Result<Notes, AllocError>
+        ensures { IfOk result (IsCarriedOut (lookup_view self.now.context) (plans.prose_plan (subject_view T.answers self.now) verdict (first_notes self.now.cite.usage)) (state writing.old) (state writing.new)) }
+    {
+        let style = &self.context;
+        let layout = &style.style.citation.layout;
+        let notes = self.write_author(alloc, writing)?;
+        write_gap(style, writing, layout)?;
+        write_enclosing(style, writing, &layout.prefix, "(")?;
+        let rest = self.rest_section(alloc, verdict, notes)?;
+        write_section(style, writing, &rest)?;
+        write_enclosing(style, writing, &layout.suffix, ")")?;
+        Ok(rest.picking.notes)
+    }
+
+    /// A cite as its item of the bibliography.
+    fn write_full(
+        &self,
+        alloc: Global,
+        verdict: Option<CollapseVerdict>,
+        writing: &mut WritingContext<'_>,
+    ) -> Result<Notes, AllocError>
+        ensures { IfOk result (IsCarriedOut (lookup_view self.now.context) (plans.plan_of (sections.full_section (subject_view T.answers self.now) verdict (first_notes self.now.cite.usage))) (state writing.old) (state writing.new)) }
+    {
+        let notes = first_notes(self.cite.usage);
+        let section = self.full_section(alloc, verdict, notes)?;
+        write_alone(&self.context, writing, section)
+    }
+
+    /// A cite without a purpose.
+    fn write_regular(
+        &self,
+        alloc: Global,
+        verdict: Option<CollapseVerdict>,
+        writing: &mut WritingContext<'_>,
+    ) -> Result<Notes, AllocError>
+        ensures { IfOk result (IsCarriedOut (lookup_view self.now.context) (plans.plan_of (sections.regular_section (subject_view T.answers self.now) verdict (first_notes self.now.cite.usage))) (state writing.old) (state writing.new)) }
+    {
+        let notes = first_notes(self.cite.usage);
+        let section = self.regular_section(alloc, verdict, notes)?;
+        write_alone(&self.context, writing, section)
+    }
+
+    /// A cite by what it is written for. Gives what is noted of it.
+    pub(crate) fn write_cite(
+        &self,
+        alloc: Global,
+        purpose: Option<CitePurpose>,
+        verdict: Option<CollapseVerdict>,
+        writing: &mut WritingContext<'_>,
+    ) -> Result<Notes, AllocError>
+        ensures { IfOk result (IsCarriedOut (lookup_view self.now.context) (plans.cite_plan (subject_view T.answers self.now) purpose verdict (first_notes self.now.cite.usage)) (state writing.old) (state writing.new)) }
+    {
+        match purpose {
+            Some(CitePurpose::Author) => self.write_author(alloc, writing),
+            Some(CitePurpose::Prose) => self.write_prose(alloc, verdict, writing),
+            Some(CitePurpose::Full) => self.write_full(alloc, verdict, writing),
+            Some(CitePurpose::Year) => self.write_regular(alloc, verdict, writing),
+            None => self.write_regular(alloc, verdict, writing),
+        }
     }
 }
