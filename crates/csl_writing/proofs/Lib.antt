@@ -8,13 +8,13 @@ pub mod Steps
 pub mod FirstAnswers
 mod Letters
 pub mod SectionSteps
+pub mod WordingSteps
+pub mod Copies
 pub mod NameLists
 pub mod Agree
 pub mod Settled
 pub mod Nesting
 pub mod Gathering
 pub mod Suffixes
-pub mod WordingSteps
-pub mod Copies
 pub mod FormatHeights
 pub mod PlanSteps

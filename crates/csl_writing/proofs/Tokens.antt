@@ -97,20 +97,23 @@ macro-closed node inner s =
 pub group-closed : (node : NodeValue) (inner : Picked) (s : Held) → group_closed (opened s) (added inner (inside node s)) ≡ added (grouped node inner) s
 group-closed node inner s =
     by inner.called inner.parts where
-    n : Notes
-    n = inner.noted
-    all : Called → List Part → Picked
-    all c ps = record { parts = ps; called = c; noted = n }
-    chosen : Called → List Part → Bool → Held
-    chosen c ps b =
-        let h = added (all c ps) (inside node s) in
-        cond b (cut_back (opened s) h) (closed_as Called.Filled (opened s) h)
-    by : (c : Called) (ps : List Part) → group_closed (opened s) (added (all c ps) (inside node s)) ≡ added (grouped node (all c ps)) s
-    by Called.Empty ps = λ i. record { tokens = (cut s.tokens node (tokens ps) ∙ sym (append-nil s.tokens)) i; called = joined s.called Called.Empty; noted = n }
-    by Called.None [] = ap (chosen Called.None []) (is_empty s.tokens node) ∙ emptied node Called.None n s
-    by Called.Filled [] = ap (chosen Called.Filled []) (is_empty s.tokens node) ∙ emptied node Called.Filled n s
-    by Called.None (p ∷ ps) = ap (chosen Called.None (p ∷ ps)) (is_filled s.tokens node p ps) ∙ filled node p ps Called.Filled Called.None n s
-    by Called.Filled (p ∷ ps) = ap (chosen Called.Filled (p ∷ ps)) (is_filled s.tokens node p ps) ∙ filled node p ps Called.Filled Called.Filled n s
+      n : Notes
+      n = inner.noted
+
+      all : Called → List Part → Picked
+      all c ps = record { parts = ps; called = c; noted = n }
+
+      chosen : Called → List Part → Bool → Held
+      chosen c ps b =
+          let h = added (all c ps) (inside node s) in
+          cond b (cut_back (opened s) h) (closed_as Called.Filled (opened s) h)
+
+      by : (c : Called) (ps : List Part) → group_closed (opened s) (added (all c ps) (inside node s)) ≡ added (grouped node (all c ps)) s
+      by Called.Empty ps = λ i. record { tokens = (cut s.tokens node (tokens ps) ∙ sym (append-nil s.tokens)) i; called = joined s.called Called.Empty; noted = n }
+      by Called.None [] = ap (chosen Called.None []) (is_empty s.tokens node) ∙ emptied node Called.None n s
+      by Called.Filled [] = ap (chosen Called.Filled []) (is_empty s.tokens node) ∙ emptied node Called.Filled n s
+      by Called.None (p ∷ ps) = ap (chosen Called.None (p ∷ ps)) (is_filled s.tokens node p ps) ∙ filled node p ps Called.Filled Called.None n s
+      by Called.Filled (p ∷ ps) = ap (chosen Called.Filled (p ∷ ps)) (is_filled s.tokens node p ps) ∙ filled node p ps Called.Filled Called.Filled n s
 
 -- a node, and what is picked inside it, where `picks` says what that is
 pub group_step : (picks : Notes → Picked) (node seen : NodeValue) (s now then after : Held) (o : Opened)

@@ -124,7 +124,7 @@ abbrev pub pick_variable : Env → Variable → Look → Bool → Bool → Notes
 pick_variable env v look quotes strip n =
     if writes env.form v
     then (let ps = node_of (plain_node look quotes strip (variable_meta v)) (leaves_of (variable_leaf env v) (suffix_behind env v n)) in
-      record { parts = ps; called = called_with (gives ps); noted = noted_behind env.is_bibliography v (gives ps) n })
+    record { parts = ps; called = called_with (gives ps); noted = noted_behind env.is_bibliography v (gives ps) n })
     else without_content n
 
 -- a text that names no variable

@@ -11,7 +11,7 @@ use crate::lookup::StyleContext;
 use crate::properties::CiteProperties;
 use crate::token::DisplayLoc;
 use crate::wording;
-use crate::writing::WritingContext;
+use crate::writing::{WritingContext, text_of};
 use csl_base::element::{Affixes, InheritableNameOptions};
 use csl_base::entry::ChunkedString;
 use csl_base::taxonomy::{Term, TermForm};
@@ -204,10 +204,16 @@ impl<'a, T, P> Context<'a, T, P> {
     ) -> Result<(), AllocError>
         requires { prefix.0.frames + 1 ≡ length (state self.old.writing).frames }
         ensures done { OnOk result (state self.new.writing ≡ suffixed (words_of self.old) (affixes_view affixes.now).suffix prefix.0.formats prefix.1 (state self.old.writing)) }
+        ensures height { OnOk result (length (state self.new.writing).frames ≡ prefix.0.frames) }
         ensures refused { OnErr result (heights (state self.new.writing) ≡ heights (state self.old.writing)) }
         ensures same { IsOfSameCite self.old self.new }
     {
-        wording::apply_suffix(&self.style, &mut self.writing, affixes, prefix)
+        wording::apply_suffix(
+            &self.style,
+            &mut self.writing,
+            text_of(&affixes.suffix),
+            prefix,
+        )
     }
 }
 

@@ -1,7 +1,5 @@
 //! What a picking only reads.
 
-
-
 use crate::lookup::StyleContext;
 use crate::notes::Form;
 use crate::state::{DisambiguateState, IbidState, IdentifierUsage};

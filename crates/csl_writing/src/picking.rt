@@ -121,7 +121,12 @@ fn pick_element<'a, T: EntryLike>(
             affixes,
             formatting,
             display,
-        } => pick_date(input, *variable, plain_shape(affixes, *formatting, *display), picking),
+        } => pick_date(
+            input,
+            *variable,
+            plain_shape(affixes, *formatting, *display),
+            picking,
+        ),
         LayoutRenderingElement::Names {
             variables,
             substitute,
@@ -232,5 +237,10 @@ pub(crate) fn pick_layout<'a, T: EntryLike>(
     ensures { let env = env_of (T.answers input.now.entry.now) input.now.setting in
         OnOk result (held picking.new ≡ added (pick_layout env (macros_of input.now.setting) (elements_view elements.now.items) (held picking.old).noted) (held picking.old)) }
 {
-    pick_all(input, elements, input.setting.context.style.macros.len(), picking)
+    pick_all(
+        input,
+        elements,
+        input.setting.context.style.macros.len(),
+        picking,
+    )
 }

@@ -4,8 +4,8 @@ ghost use Rattle.csl_writing.specs.Pieces.{tokens, node_of, leaves_of, plain_nod
 ghost use Rattle.csl_writing.specs.Picked.{gives};
 ghost use Rattle.csl_writing.specs.PiecesView.{leaf_view, node_view, shape_look, tokens_of};
 
-use csl_base::element::Affixes;
 use csl_base::elem::ElemMeta;
+use csl_base::element::Affixes;
 use csl_base::entry::ChunkedString;
 use csl_base::formatting::{Display, StyleFormatting};
 use csl_base::text::Text;
@@ -23,11 +23,7 @@ pub(crate) enum Leaf<'a> {
     /// The letters of a year suffix; 0 is `a`.
     Suffix(usize),
     /// A year, and what is written behind it after Christ and before.
-    Year {
-        year: i32,
-        ad: &'a str,
-        bc: &'a str,
-    },
+    Year { year: i32, ad: &'a str, bc: &'a str },
     Chunked(&'a ChunkedString),
     /// A link of a text to itself.
     Link(&'a ChunkedString),

@@ -154,10 +154,7 @@ fn locator_leaf<'a>(setting: &Setting<'a>) -> Option<Leaf<'a>>
 }
 
 // What a variable's text or number gives.
-fn variable_leaf<'a, T: EntryLike>(
-    input: &Input<'a, T>,
-    variable: Variable,
-) -> Option<Leaf<'a>>
+fn variable_leaf<'a, T: EntryLike>(input: &Input<'a, T>, variable: Variable) -> Option<Leaf<'a>>
     ensures { option_map leaf_view result ≡ variable_leaf (env_of (T.answers input.now.entry.now) input.now.setting) variable }
 {
     let (entry, setting) = (input.entry, &input.setting);
@@ -223,11 +220,7 @@ impl<'a> Setting<'a> {
 }
 
 // The suffix behind a label that the entry has.
-fn suffix_behind<T: EntryLike>(
-    input: &Input<T>,
-    variable: Variable,
-    notes: &Notes,
-) -> Option<usize>
+fn suffix_behind<T: EntryLike>(input: &Input<T>, variable: Variable, notes: &Notes) -> Option<usize>
     ensures { result ≡ suffix_behind (env_of (T.answers input.now.entry.now) input.now.setting) variable notes.now }
 {
     match variable {
@@ -297,10 +290,8 @@ pub(crate) fn meant(setting: &Setting, variable: Variable) -> Variable
             IdentifierUsage::OnlyCitationNumber,
             Variable::Standard(StandardVariable::CitationLabel),
         ) => Variable::Number(NumberVariable::CitationNumber),
-        (
-            IdentifierUsage::OnlyCitationLabel,
-            Variable::Number(NumberVariable::CitationNumber),
-        ) => Variable::Standard(StandardVariable::CitationLabel),
+        (IdentifierUsage::OnlyCitationLabel, Variable::Number(NumberVariable::CitationNumber)) =>
+            Variable::Standard(StandardVariable::CitationLabel),
         _ => variable,
     }
 }
@@ -346,7 +337,12 @@ pub(crate) fn pick_words<'a>(
         ≡ added (pick_words setting.now.form (option_map (λ t. t.now) words.entry) (shape_look shape.entry) shape.entry.quotes shape.entry.strip_periods picking.old.notes) (held picking.old)) }
 {
     if setting.form.is_plain() {
-        add_node(&mut picking.pieces, shape.node(None), text_leaf(words), None)?;
+        add_node(
+            &mut picking.pieces,
+            shape.node(None),
+            text_leaf(words),
+            None,
+        )?;
     }
     Ok(())
 }

@@ -1,6 +1,5 @@
 //! Calls of a writing context that ask the style's locales for terms.
 ghost use Rattle.std.specs.Prelude.{◌≡◌, ◌+◌, OnOk, OnErr, IfOk, length, string_bytes, option_map};
-ghost use Rattle.csl_base.specs.ElementView.{affixes_view, text_view};
 ghost use Rattle.csl_writing.specs.Quotes.{quotes_view};
 ghost use Rattle.csl_writing.specs.SourceView.{lookup_view};
 ghost use Rattle.csl_writing.specs.WritingState.{state, heights};
@@ -11,7 +10,6 @@ use crate::text::ClosingQuotes;
 use crate::token::DisplayLoc;
 use crate::writing::WritingContext;
 use csl_base::elem::ElemChild;
-use csl_base::element::Affixes;
 use csl_base::entry::{Chunk, ChunkKind, ChunkedString};
 use csl_base::taxonomy::{OtherTerm, Term, TermForm};
 use csl_base::text::Text;
@@ -225,17 +223,17 @@ pub(crate) fn push_transparent(
 fn push_suffix(
     style: &StyleContext<'_>,
     writing: &mut WritingContext<'_>,
-    suffix: &Option<String>,
+    suffix: Option<&str>,
 ) -> Result<(), AllocError>
-    ensures done { OnOk result (state writing.new ≡ with_suffix (lookup_view style.now) (text_view suffix.now) (state writing.old)) }
+    ensures done { OnOk result (state writing.new ≡ with_suffix (lookup_view style.now) (option_map (λ s. s.now) suffix.entry) (state writing.old)) }
     ensures heights { heights (state writing.new) ≡ heights (state writing.old) }
 {
     match suffix {
         Some(suffix) => {
-            if writing.ends_so(suffix.as_str()) {
+            if writing.ends_so(suffix) {
                 return Ok(());
             }
-            push_str(style, writing, suffix.as_str())
+            push_str(style, writing, suffix)
         }
         None => Ok(()),
     }
@@ -251,16 +249,17 @@ fn push_suffix(
 pub(crate) fn apply_suffix(
     style: &StyleContext<'_>,
     writing: &mut WritingContext<'_>,
-    affixes: &Affixes,
+    suffix: Option<&str>,
     prefix: (DisplayLoc, usize),
 ) -> Result<(), AllocError>
     requires { prefix.0.frames + 1 ≡ length (state writing.old).frames }
-    ensures done { OnOk result (state writing.new ≡ suffixed (lookup_view style.now) (affixes_view affixes.now).suffix prefix.0.formats prefix.1 (state writing.old)) }
+    ensures done { OnOk result (state writing.new ≡ suffixed (lookup_view style.now) (option_map (λ s. s.now) suffix.entry) prefix.0.formats prefix.1 (state writing.old)) }
+    ensures height { OnOk result (length (state writing.new).frames ≡ prefix.0.frames) }
     ensures refused { OnErr result (heights (state writing.new) ≡ heights (state writing.old)) }
 {
     if !writing.has_content_since(&prefix)? {
         return writing.discard_elem(prefix.0);
     }
-    push_suffix(style, writing, &affixes.suffix)?;
+    push_suffix(style, writing, suffix)?;
     writing.commit_elem(prefix.0, None, None)
 }

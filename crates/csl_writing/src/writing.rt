@@ -2,7 +2,7 @@
 ghost use Rattle.std.specs.Prelude.{◌≡◌, ◌+◌, ◌<◌, OnOk, OnErr, IfOk, length, slice_get, Some, false, option_map};
 ghost use Rattle.std.specs.Str.{IsCharBoundary};
 ghost use Rattle.csl_base.specs.ChildView.{child_view};
-ghost use Rattle.csl_base.specs.ElementView.{affixes_view, options_view};
+ghost use Rattle.csl_base.specs.ElementView.{affixes_view, options_view, text_view};
 ghost use Rattle.csl_writing.specs.Edits.{edited};
 ghost use Rattle.csl_writing.specs.Quotes.{quotes_view};
 ghost use Rattle.std.specs.Bool.{OnTrue};
@@ -310,6 +310,7 @@ impl<'a> WritingContext<'a> {
         ensures frames { IfOk result (λ loc. loc.frames ≡ length (state self.old).frames) }
         ensures formats { IfOk result (λ loc. loc.formats ≡ length (state self.old).formats) }
         ensures done { OnOk result (state self.new ≡ opened format (state self.old)) }
+        ensures height { OnOk result (length (state self.new).frames ≡ length (state self.old).frames + 1) }
         ensures refused { OnErr result (heights (state self.new) ≡ heights (state self.old)) }
     {
         self.save()?;
@@ -337,6 +338,7 @@ impl<'a> WritingContext<'a> {
     ) -> Result<(), AllocError>
         requires { loc.frames + 1 ≡ length (state self.old).frames }
         ensures done { OnOk result (state self.new ≡ closed_elem loc.formats display meta (state self.old)) }
+        ensures height { OnOk result (length (state self.new).frames ≡ loc.frames) }
         ensures refused { OnErr result (heights (state self.new) ≡ heights (state self.old)) }
     {
         self.save()?;
@@ -354,6 +356,7 @@ impl<'a> WritingContext<'a> {
     pub fn discard_elem(&mut self, loc: DisplayLoc) -> Result<(), AllocError>
         requires { loc.frames + 1 ≡ length (state self.old).frames }
         ensures done { OnOk result (state self.new ≡ discarded loc.formats (state self.old)) }
+        ensures height { OnOk result (length (state self.new).frames ≡ loc.frames) }
         ensures refused { OnErr result (heights (state self.new) ≡ heights (state self.old)) }
     {
         self.save()?;
@@ -368,7 +371,6 @@ impl<'a> WritingContext<'a> {
     /// # Errors
     ///
     /// Where memory is refused; the stacks are as high as before.
-    #[tactic(auto, unfolding(crate::specs::WritingState::prefixed, crate::specs::WritingState::opened, crate::specs::WritingState::formatted, crate::specs::WritingState::saved))]
     pub fn apply_prefix(&mut self, affixes: &Affixes) -> Result<(DisplayLoc, usize), AllocError>
         ensures frames { IfOk result (λ prefix. prefix.0.frames ≡ length (state self.old).frames) }
         ensures formats { IfOk result (λ prefix. prefix.0.formats ≡ length (state self.old).formats) }
@@ -376,11 +378,29 @@ impl<'a> WritingContext<'a> {
         ensures done { OnOk result (state self.new ≡ prefixed (affixes_view affixes.now).prefix (state self.old)) }
         ensures refused { OnErr result (heights (state self.new) ≡ heights (state self.old)) }
     {
+        self.begin_prefix(text_of(&affixes.prefix))
+    }
+
+    /// Opens a frame that begins with this text, as it stands; as `apply_prefix`.
+    ///
+    /// # Errors
+    ///
+    /// Where memory is refused; the stacks are as high as before.
+    #[tactic(auto, unfolding(crate::specs::WritingState::prefixed, crate::specs::WritingState::opened, crate::specs::WritingState::formatted, crate::specs::WritingState::saved))]
+    pub(crate) fn begin_prefix(
+        &mut self,
+        prefix: Option<&str>,
+    ) -> Result<(DisplayLoc, usize), AllocError>
+        ensures frames { IfOk result (λ begun. begun.0.frames ≡ length (state self.old).frames) }
+        ensures formats { IfOk result (λ begun. begun.0.formats ≡ length (state self.old).formats) }
+        ensures offset { IfOk result (λ begun. begun.1 ≡ length (term_text (option_map (λ s. s.now) prefix.entry))) }
+        ensures done { OnOk result (state self.new ≡ prefixed (option_map (λ s. s.now) prefix.entry) (state self.old)) }
+        ensures height { OnOk result (length (state self.new).frames ≡ length (state self.old).frames + 1) }
+        ensures same_formats { OnOk result (length (state self.new).formats ≡ length (state self.old).formats) }
+        ensures refused { OnErr result (heights (state self.new) ≡ heights (state self.old)) }
+    {
         let loc = self.push_elem(NOTHING_ASKED)?;
-        let prefix = match &affixes.prefix {
-            Some(prefix) => prefix.as_str(),
-            None => "",
-        };
+        let prefix = prefix.unwrap_or("");
         if self.buf.push_str(prefix).is_err() {
             self.frames.cut(loc.frames);
             return Err(AllocError);
@@ -532,4 +552,14 @@ fn asks_nothing(format: StyleFormatting) -> bool
     ensures { result ≡ asks_nothing format }
 {
     format.font_style.is_none() && format.font_weight.is_none()
+}
+
+/// The text, if there is one.
+pub(crate) fn text_of(text: &Option<String>) -> Option<&str>
+    ensures { option_map (λ s. s.now) result ≡ text_view text.now }
+{
+    match text {
+        Some(text) => Some(text.as_str()),
+        None => None,
+    }
 }
