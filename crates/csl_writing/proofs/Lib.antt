@@ -18,3 +18,8 @@ pub mod Gathering
 pub mod Suffixes
 pub mod FormatHeights
 pub mod PlanSteps
+pub mod InitialsLeft
+pub mod WrittenNames
+pub mod NameParts
+pub mod FormsLength
+pub mod NameBlocks

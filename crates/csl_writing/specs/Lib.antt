@@ -26,7 +26,11 @@ pub mod Suffix
 pub mod Conditions
 pub mod Variables
 pub mod Options
+pub mod NameRules
+pub mod NameRulesView
+pub mod NameText
 pub mod Names
+pub mod NamesView
 pub mod Pick
 pub mod InputView
 pub mod Counted

@@ -14,6 +14,8 @@ mod input;
 pub mod laws;
 pub mod locator;
 pub mod lookup;
+mod name_rules;
+mod name_text;
 mod names;
 mod notes;
 mod picking;

@@ -92,7 +92,7 @@ fn has_content(text: &str) -> bool
 }
 
 // A text that isn't blank.
-fn text_leaf<'a>(text: Option<&'a str>) -> Option<Leaf<'a>>
+pub(crate) fn text_leaf<'a>(text: Option<&'a str>) -> Option<Leaf<'a>>
     ensures { option_map leaf_view result ≡ text_leaves (option_map (λ t. t.now) text.entry) }
 {
     match text {
@@ -297,7 +297,7 @@ pub(crate) fn meant(setting: &Setting, variable: Variable) -> Variable
 }
 
 // What the call of a variable counts as, which may have given a piece.
-fn called_with(given: bool) -> Called
+pub(crate) fn called_with(given: bool) -> Called
     ensures { result ≡ called_with given }
 {
     if given { Called::Filled } else { Called::Empty }
