@@ -1,5 +1,5 @@
 -- How high the stacks are before and behind parts in a formatting.
-use Rattle.std.proofs.Common.{◌≡◌, ℕ, ◌+◌, ◌≤◌, ◌-◌, ◌∷◌, ◌++◌, [], Bool, true, false, cond, List, length, take, Option, None, Some, refl, ap, sym, subst, ◌∙◌, arith, length-append}
+use Rattle.std.proofs.Common.{◌≡◌, ℕ, ◌+◌, ◌≤◌, ◌-◌, ◌∷◌, ◌++◌, [], Bool, true, false, cond, List, length, Option, None, Some, refl, ap, sym, subst, ◌∙◌, arith, length-append}
 use Rattle.std.proofs.lemmas.Bool.{ltb-false}
 use Rattle.std.proofs.lemmas.List.{length-take-le, length-set}
 use Rattle.std.specs.Prelude.{slice_set, nat_lt}
@@ -11,7 +11,7 @@ use Rattle.csl_base.specs.declared.formatting.StyleFormatting.{StyleFormatting}
 use Rattle.csl_writing.specs.OpenFrames.{Frames, on_top, top}
 use Rattle.csl_writing.specs.WritingState.{State, is_saved, saved, formatting, formatted, unformatted, cut_formats, asks_nothing}
 
-either_has : (P : State → Type 0) (b : Bool) (x y : State) → P x → P y → P (cond b x y)
+pub either_has : (P : State → Type 0) (b : Bool) (x y : State) → P x → P y → P (cond b x y)
 either_has P true x y p q = p
 either_has P false x y p q = q
 
@@ -21,7 +21,7 @@ length-on_top f frames =
       [ None ↦ refl | Some frame ↦ length-set frames (length frames - 1) (f frame) ]
 
 -- saving keeps the formats, and how many frames there are
-formats-saved : (a : State) → (saved a).formats ≡ a.formats
+pub formats-saved : (a : State) → (saved a).formats ≡ a.formats
 unfolding saved
 formats-saved a = either_has (λ x. x.formats ≡ a.formats) (is_saved a) _ _ refl refl
 

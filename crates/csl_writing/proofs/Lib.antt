@@ -23,3 +23,5 @@ pub mod WrittenNames
 pub mod NameParts
 pub mod FormsLength
 pub mod NameBlocks
+pub mod CiteSteps
+pub mod ItemSteps

@@ -24,5 +24,5 @@ date_words source None = long_term source OtherTerm.NoDate (codes "n.d.")
 date_words source (Some d) = year_text d.year false (long_term source OtherTerm.Ad (codes " AD")) (long_term source OtherTerm.Bc (codes " BC"))
 
 -- the date text of an entry: one text without formatting
-abbrev pub date_text : Source → Answers → List Child
+unfoldable pub date_text : Source → Answers → List Child
 date_text source answers = text (record { text = date_words source (date_of_entry answers); formatting = normal }) ∷ []

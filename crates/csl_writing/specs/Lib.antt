@@ -44,7 +44,7 @@ pub mod SubjectView
 pub mod SectionView
 pub mod SuffixText
 pub mod Gathered
-pub mod AuthorVariable
 pub mod PartsWritten
 pub mod StepsWritten
 pub mod PieceRun
+pub mod CiteText

@@ -11,7 +11,7 @@ use Rattle.csl_writing.specs.declared.notes.Notes.{Notes}
 use Rattle.csl_writing.specs.declared.state.CollapseVerdict.{CollapseVerdict}
 use Rattle.csl_writing.specs.Conditions.{is_repeated}
 use Rattle.csl_writing.specs.Pick.{pick_layout}
-use Rattle.csl_writing.specs.AuthorVariable.{author_variable}
+use Rattle.csl_writing.specs.Names.{author_variable}
 use Rattle.csl_writing.specs.Picked.{Picked, nothing}
 use Rattle.csl_writing.specs.Pieces.{Part}
 use Rattle.csl_writing.specs.Env.{Env}

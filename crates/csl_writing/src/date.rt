@@ -61,6 +61,7 @@ impl<'a> StyleContext<'a> {
 /// The date text of an entry, as one text without formatting.
 ///
 /// Fails where memory is refused.
+#[tactic(auto, unfolding(crate::specs::DateText::date_text))]
 pub(crate) fn date_text<T: EntryLike>(
     context: &StyleContext<'_>,
     alloc: Global,

@@ -1,9 +1,9 @@
 //! Writing of the citation driver: the properties of a cite, and what is looked up for it.
 #![tactic(auto)]
 
-mod author_stub;
 pub mod brackets;
 mod choices;
+pub mod cite;
 pub mod context;
 pub mod counter;
 mod date;
@@ -23,6 +23,7 @@ mod pieces;
 pub mod properties;
 pub mod purpose;
 mod purposes;
+mod render;
 mod section;
 pub mod state;
 mod subject;

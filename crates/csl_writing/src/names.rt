@@ -109,7 +109,7 @@ fn blocks_of<T: EntryLike>(
 }
 
 // The variable that holds the author.
-fn author_variable<T: EntryLike>(entry: &T) -> NameVariable
+pub(crate) fn author_variable<T: EntryLike>(entry: &T) -> NameVariable
     ensures { result ≡ author_variable (T.answers entry.now) }
 {
     if !entry.resolve_name_variable(NameVariable::Editor).is_empty()
