@@ -15,7 +15,7 @@ pub either_has : (P : State → Type 0) (b : Bool) (x y : State) → P x → P y
 either_has P true x y p q = p
 either_has P false x y p q = q
 
-length-on_top : (f : List Child → List Child) (frames : Frames) → length (on_top f frames) ≡ length frames
+pub length-on_top : (f : List Child → List Child) (frames : Frames) → length (on_top f frames) ≡ length frames
 length-on_top f frames =
     elim (top frames) as (λ t. length (option_map_or (λ frame. slice_set frames (length frames - 1) (f frame)) t frames) ≡ length frames)
       [ None ↦ refl | Some frame ↦ length-set frames (length frames - 1) (f frame) ]
@@ -25,7 +25,7 @@ pub formats-saved : (a : State) → (saved a).formats ≡ a.formats
 unfolding saved
 formats-saved a = either_has (λ x. x.formats ≡ a.formats) (is_saved a) _ _ refl refl
 
-frames-saved : (a : State) → length (saved a).frames ≡ length a.frames
+pub frames-saved : (a : State) → length (saved a).frames ≡ length a.frames
 unfolding saved
 frames-saved a = either_has (λ x. length x.frames ≡ length a.frames) (is_saved a) _ _ refl (length-on_top _ a.frames)
 

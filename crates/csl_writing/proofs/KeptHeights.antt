@@ -118,3 +118,139 @@ delimiter_keeps : (k : Lookup) (d : Option (List ℕ)) (a : State) → Keeps a (
 unfolding delimiter_pushed
 delimiter_keeps k None a = keeps a
 delimiter_keeps k (Some s) a = pushed_keeps k s a
+
+suffix_keeps : (k : Lookup) (suffix : Option (List ℕ)) (a : State) → Keeps a (with_suffix k suffix a)
+unfolding with_suffix
+suffix_keeps k None a = keeps a
+suffix_keeps k (Some s) a = either_has (λ x. Keeps a x) (ends_so s a) _ _ (keeps a) (pushed_keeps k s a)
+
+-- n more frames, and no fewer formats
+record Opens (n : ℕ) (a b : State) : Type 0 where
+  formats : length a.formats ≤ length b.formats
+  frames : length b.frames ≡ length a.frames + n
+
+opened_opens : (f : StyleFormatting) (a : State) → Opens 1 a (opened f a)
+unfolding opened
+opened_opens f a =
+    let kept = saved_keeps a in
+    let b = formatted f (saved a) in
+    let more : length (saved a).formats ≤ length b.formats = formats-formatted f (saved a) in
+    let same : length b.frames ≡ length (saved a).frames = frames-formatted f (saved a) in
+    let one : length (b.frames ++ [] ∷ []) ≡ length b.frames + 1 = length-append b.frames ([] ∷ []) in
+    record { formats = omega (arith, kept.formats); frames = omega (arith, kept.frames) }
+
+prefixed_opens : (prefix : Option (List ℕ)) (a : State) → Opens 1 a (prefixed prefix a)
+unfolding prefixed
+prefixed_opens prefix a = let h = opened_opens nothing_asked a in record { formats = h.formats; frames = h.frames }
+
+node_opens : (k : Lookup) (node : NodeValue) (a : State) → Opens 2 a (node_begun k node a)
+unfolding node_begun
+node_opens k node a =
+    let p = prefixed node.look.affixes.prefix a in
+    let b = opened node.look.formatting p in
+    let first = prefixed_opens node.look.affixes.prefix a in
+    let second = opened_opens node.look.formatting p in
+    let c = cond node.quotes (quotes_opened k b) b in
+    let third = either_has (λ x. Keeps b x) node.quotes _ _ (opened_quotes_keep k b) (keeps b) in
+    let fourth : Keeps c (stripping node.strip_periods c) = either_has (λ x. Keeps c x) node.strip_periods _ _ (record { formats = refl; frames = refl }) (keeps c) in
+    record {
+      formats = omega (arith, first.formats, second.formats, third.formats, fourth.formats);
+      frames = omega (arith, first.frames, second.frames, third.frames, fourth.frames);
+    }
+
+-- h formats, and one frame less
+record Closes (h : ℕ) (a b : State) : Type 0 where
+  formats : length b.formats ≡ h
+  frames : length b.frames + 1 ≡ length a.frames
+
+length-below : (F : Frames) → 0 < length F → length (below F) + 1 ≡ length F
+length-below F some =
+    let less : length F - 1 ≤ length F = omega arith in
+    let e : length (below F) ≡ length F - 1 = length-take-le (length F - 1) F less in
+    omega arith
+
+length-committed : (d : Option Display) (m : Option ElemMeta) (F : Frames) → 0 < length F → length (committed d m F) + 1 ≡ length F
+length-committed d m F some =
+    let last : length F - 1 < length F = omega arith in
+    subst (λ t. length (option_map_or (λ frame. on_top (λ cs. cs ++ closed d m frame) (below F)) t F) + 1 ≡ length F) (sym (slice_get-get_or F (length F - 1) [] last))
+      (ap (λ n. n + 1) (length-on_top _ (below F)) ∙ length-below F some)
+
+cut_saved : (h : ℕ) (a : State) → h ≤ length a.formats → length (take h (saved a).formats) ≡ h
+cut_saved h a le = length-take-le h (saved a).formats (subst (λ l. h ≤ length l) (sym (formats-saved a)) le)
+
+elem_closes : (h : ℕ) (d : Option Display) (m : Option ElemMeta) (a : State) → h ≤ length a.formats → 0 < length a.frames → Closes h a (closed_elem h d m a)
+unfolding closed_elem
+elem_closes h d m a le some =
+    let some_saved : 0 < length (saved a).frames = omega (arith, frames-saved a) in
+    record { formats = cut_saved h a le; frames = length-committed d m (saved a).frames some_saved ∙ frames-saved a }
+
+discard_closes : (h : ℕ) (a : State) → h ≤ length a.formats → 0 < length a.frames → Closes h a (discarded h a)
+unfolding discarded
+discard_closes h a le some =
+    let some_saved : 0 < length (saved a).frames = omega (arith, frames-saved a) in
+    record { formats = cut_saved h a le; frames = length-below (saved a).frames some_saved ∙ frames-saved a }
+
+-- seen from a state that keeps the heights
+closes_from : (h : ℕ) (a b c : State) → Keeps a b → Closes h b c → Closes h a c
+closes_from h a b c p q = record { formats = q.formats; frames = q.frames ∙ p.frames }
+
+suffix_closes : (k : Lookup) (suffix : Option (List ℕ)) (h n : ℕ) (a : State) → h ≤ length a.formats → 0 < length a.frames → Closes h a (suffixed k suffix h n a)
+unfolding suffixed
+suffix_closes k suffix h n a le some =
+    let kept = saved_keeps a in
+    let b = with_suffix k suffix (saved a) in
+    let all = both a (saved a) b kept (suffix_keeps k suffix (saved a)) in
+    let le_b : h ≤ length b.formats = omega (arith, all.formats) in
+    let some_b : 0 < length b.frames = omega (arith, all.frames) in
+    let le_s : h ≤ length (saved a).formats = omega (arith, kept.formats) in
+    let some_s : 0 < length (saved a).frames = omega (arith, kept.frames) in
+    either_has (λ x. Closes h a x) (has_content_since n a) _ _
+      (closes_from h a b _ all (elem_closes h None None b le_b some_b))
+      (closes_from h a (saved a) _ kept (discard_closes h (saved a) le_s some_s))
+
+-- a node closes both of its frames
+node_closes : (k : Lookup) (node : NodeValue) (h : ℕ) (a : State) → h ≤ length a.formats → 1 < length a.frames
+  → (length (node_ended k node h a).formats ≡ h) × (length (node_ended k node h a).frames + 2 ≡ length a.frames)
+unfolding node_ended
+node_closes k node h a le some =
+    let b = cond node.strip_periods (not_stripping a) a in
+    let first : Keeps a b = either_has (λ x. Keeps a x) node.strip_periods _ _ (record { formats = refl; frames = refl }) (keeps a) in
+    let c = cond node.quotes (pulling_if_asked k (quotes_closed k b)) b in
+    let second : Keeps b c = either_has (λ x. Keeps b x) node.quotes _ _ (both b (quotes_closed k b) _ (closed_quotes_keep k b) (pulling_keeps k (quotes_closed k b))) (keeps b) in
+    let le_c : h ≤ length c.formats = omega (arith, first.formats, second.formats) in
+    let some_c : 0 < length c.frames = omega (arith, first.frames, second.frames) in
+    let third = elem_closes h node.look.display node.meta c le_c some_c in
+    let d = closed_elem h node.look.display node.meta c in
+    let le_d : h ≤ length d.formats = omega (arith, third.formats) in
+    let some_d : 0 < length d.frames = omega (arith, first.frames, second.frames, third.frames) in
+    let fourth = suffix_closes k node.look.affixes.suffix h (length (term_text node.look.affixes.prefix)) d le_d some_d in
+    (fourth.formats, omega (arith, first.frames, second.frames, third.frames, fourth.frames))
+
+node_keeps : (k : Lookup) (node : NodeValue) (a b : State) → Keeps (node_begun k node a) b → Keeps a (node_ended k node (length a.formats) b)
+node_keeps k node a b inside =
+    let opens = node_opens k node a in
+    let le : length a.formats ≤ length b.formats = omega (arith, opens.formats, inside.formats) in
+    let some : 1 < length b.frames = omega (arith, opens.frames, inside.frames) in
+    let ends = node_closes k node (length a.formats) b le some in
+    record { formats = ends.0; frames = omega (arith, opens.frames, inside.frames, ends.1) }
+
+mutual
+  part_keeps : (k : Lookup) (p : Part) (a : State) → Keeps a (part_written k p a)
+  part_keeps k (leaf_part leaf) a = leaf_keeps k leaf a
+  part_keeps k (node_part node ps) a = node_keeps k node a _ (joined_keep k node.delimiter ps (node_begun k node a))
+
+  joined_keep : (k : Lookup) (d : Option (List ℕ)) (ps : Parts) (a : State) → Keeps a (joined_written k d ps a)
+  joined_keep k d no_parts a = keeps a
+  joined_keep k d (part p ps) a = both a (part_written k p a) _ (part_keeps k p a) (rest_keep k d ps (part_written k p a))
+
+  rest_keep : (k : Lookup) (d : Option (List ℕ)) (ps : Parts) (a : State) → Keeps a (rest_written k d ps a)
+  rest_keep k d no_parts a = keeps a
+  rest_keep k d (part p ps) a =
+      let b = delimiter_pushed k d a in
+      let c = part_written k p b in
+      both a b _ (delimiter_keeps k d a) (both b c _ (part_keeps k p b) (rest_keep k d ps c))
+
+-- writing a layout's parts leaves as many formats and frames as there were
+pub parts_keep : (k : Lookup) (ps : List Part) (a : State) → Keeps a (parts_written k ps a)
+unfolding parts_written
+parts_keep k ps a = joined_keep k None (parts_of ps) a

@@ -25,3 +25,4 @@ pub mod FormsLength
 pub mod NameBlocks
 pub mod CiteSteps
 pub mod ItemSteps
+pub mod KeptHeights
