@@ -26,3 +26,5 @@ pub mod NameBlocks
 pub mod CiteSteps
 pub mod ItemSteps
 pub mod KeptHeights
+pub mod PieceSteps
+pub mod NestedNodes

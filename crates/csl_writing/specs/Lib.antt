@@ -48,3 +48,4 @@ pub mod PartsWritten
 pub mod StepsWritten
 pub mod PieceRun
 pub mod CiteText
+pub mod OpenNodes

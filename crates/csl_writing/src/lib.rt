@@ -18,6 +18,8 @@ mod name_rules;
 mod name_text;
 mod names;
 mod notes;
+mod open_node;
+mod parts;
 mod picking;
 mod pieces;
 pub mod properties;

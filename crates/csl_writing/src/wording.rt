@@ -127,7 +127,8 @@ pub(crate) fn pop_quotes(
 /// Lets closing quotes pull punctuation in, where the locale has it inside quotes.
 #[tactic(auto, unfolding(crate::specs::Wording::pulling_if_asked))]
 pub(crate) fn may_pull_punctuation(style: &StyleContext<'_>, writing: &mut WritingContext<'_>)
-    ensures { state writing.new ≡ pulling_if_asked (lookup_view style.now) (state writing.old) }
+    ensures done { state writing.new ≡ pulling_if_asked (lookup_view style.now) (state writing.old) }
+    ensures heights { heights (state writing.new) ≡ heights (state writing.old) }
 {
     if style.punctuation_in_quotes() {
         writing.let_pull();
@@ -169,7 +170,7 @@ pub(crate) fn push_chunked(
     Ok(())
 }
 
-fn joined_values(alloc: Global, text: &ChunkedString) -> Result<String, AllocError>
+pub(crate) fn joined_values(alloc: Global, text: &ChunkedString) -> Result<String, AllocError>
     ensures { IfOk result (λ joined. string_bytes joined ≡ joined_values text.now.0) }
 {
     let mut joined = String::new(alloc);
