@@ -17,7 +17,7 @@ use Rattle.csl_writing.specs.Plans.{Step, step_of, plan_of}
 use Rattle.csl_writing.specs.SectionView.{IsSection}
 use Rattle.csl_writing.specs.Sections.{Section, item_section}
 use Rattle.csl_writing.specs.Steps.{ClosingQuotes, term_text, opens_tight, has_letter, without_ending, pulled}
-use Rattle.csl_writing.specs.StepsWritten.{steps_written, finished, IsWritten}
+use Rattle.csl_writing.specs.StepsWritten.{steps_written, finished, IsCarriedOut}
 use Rattle.csl_writing.specs.Subject.{Subject}
 use Rattle.csl_writing.specs.Wording.{closing_quotes, pushed, with_suffix, suffixed}
 use Rattle.csl_writing.specs.WritingState.{State, is_saved, saved, on_text_before, trimmed_for, unrepeated_for, may_pull, on_quoted_text, after_pull, left_by_pull, written, after_push_str, begun, prefixed, ends_so, closed_elem, discarded, has_content_since, flushed}
@@ -67,14 +67,14 @@ formats-suffixed k suffix h n a le =
       (length-take-le h (saved b).formats (subst (λ l. h ≤ length l) (sym shown) le))
       (length-take-le h (saved (saved a)).formats (subst (λ l. h ≤ length l) (sym dropped) le))
 
-pub item_rendered : (s : Subject) (bibliography : BibliographyValue) (section : declared.Section) (a b c d : State) (h n : ℕ) (m : Notes) (tree : List Child)
+pub item_rendered : (s : Subject) (bibliography : BibliographyValue) (section : declared.Section) (a b c d : State) (h n : ℕ) (m o : Notes) (tree : List Child)
   → a ≡ begun s.source.style.options → m ≡ first_notes s.cite.usage
   → IsSection section (item_section s bibliography Form.Full true m)
   → h ≡ length a.formats → n ≡ length (term_text bibliography.layout.prefix) → b ≡ prefixed bibliography.layout.prefix a
-  → ((value : Section) → IsSection section value → IsWritten (lookup s.source) (plan_of value).steps b c)
+  → ((value : Section) → IsSection section value → IsCarriedOut (lookup s.source) (plan_of value) b c o)
   → d ≡ suffixed (lookup s.source) bibliography.layout.suffix h n c → flushed d ≡ Some tree
   → tree ≡ rendered_item s bibliography
-item_rendered s bibliography section a b c d h n m tree start e is high long opened inside closed out =
+item_rendered s bibliography section a b c d h n m o tree start e is high long opened inside closed out =
     let k = lookup s.source in
     let layout = bibliography.layout in
     let value = item_section s bibliography Form.Full true (first_notes s.cite.usage) in

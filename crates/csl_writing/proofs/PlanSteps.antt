@@ -1,7 +1,6 @@
 -- Carrying out a plan step by step.
 use Rattle.std.proofs.Common.{◌≡◌, ℕ, ◌≤◌, ◌∷◌, ◌++◌, [], List, length, refl, ap, sym, subst, ◌∙◌, arith}
-use Rattle.std.proofs.lemmas.Result.{on_ok_weaker}
-use Rattle.std.specs.Prelude.{Result, IfOk, OnOk, Option}
+use Rattle.std.specs.Prelude.{Result, IfOk, Option}
 use Rattle.std.specs.declared.alloc.AllocError.{AllocError}
 use Rattle.csl_writing.specs.declared.notes.Notes.{Notes}
 use Rattle.csl_writing.specs.declared.section.Section as declared
@@ -15,33 +14,31 @@ use Rattle.csl_writing.specs.SectionView.{IsSection}
 use Rattle.csl_writing.specs.Sections.{Section, author_section}
 use Rattle.csl_writing.specs.StepsWritten.{steps_written, IsCarriedOut, IsWritten}
 use Rattle.csl_writing.specs.Subject.{Subject}
-use Rattle.csl_writing.specs.WritingState.{State, Heights, heights, formatted, unformatted}
+use Rattle.csl_writing.specs.WritingState.{State, formatted, unformatted}
+use Rattle.csl_writing.proofs.KeptHeights.{parts_keep}
 use Rattle.csl_writing.proofs.FormatHeights.{formats-formatted, frames-formatted, formats-unformatted, frames-unformatted}
 
 -- a format, the pieces, and the formats cut back
-section_done : (k : Lookup) (s : declared.Section) (value : Section) (h : ℕ) (a b c d : State)
-  → IsSection s value → h ≡ length a.formats → b ≡ formatted s.formatting a
-  → c ≡ parts_written k value.picked.parts b → heights c ≡ heights b → d ≡ unformatted h c
-  → IsWritten k (step_of value ∷ []) a d
-section_done k s value h a b c d is e begun done same cut =
-    let formats : length c.formats ≡ length b.formats = ap (λ x. x.formats) same in
-    let frames : length c.frames ≡ length b.frames = ap (λ x. x.frames) same in
+pub section_carried : (k : Lookup) (s : declared.Section) (h : ℕ) (a b c d : State)
+  → h ≡ length a.formats → b ≡ formatted s.formatting a
+  → ((ps : List Part) → tokens_of s.picking.pieces.items ≡ tokens ps → c ≡ parts_written k ps b)
+  → d ≡ unformatted h c
+  → (value : Section) → IsSection s value → IsCarriedOut k (plan_of value) a d s.picking.notes
+section_carried k s h a b c d e begun done cut value is =
+    let ps = value.picked.parts in
+    let all : c ≡ parts_written k ps b = done ps is.pieces in
+    let kept = parts_keep k ps b in
+    let formats : length c.formats ≡ length b.formats = ap (λ x. length x.formats) all ∙ kept.formats in
+    let frames : length c.frames ≡ length b.frames = ap (λ x. length x.frames) all ∙ kept.frames in
     let grown : length a.formats ≤ length b.formats = subst (λ x. length a.formats ≤ length x.formats) (sym begun) (formats-formatted s.formatting a) in
     let high : h ≤ length c.formats = omega arith in
     record {
       written = cut ∙ ap (λ x. unformatted x c) e
-        ∙ ap (λ x. unformatted (length a.formats) x) (done ∙ ap (λ x. parts_written k value.picked.parts x) (begun ∙ ap (λ f. formatted f a) is.formatting));
+        ∙ ap (λ x. unformatted (length a.formats) x) (all ∙ ap (λ x. parts_written k ps x) (begun ∙ ap (λ f. formatted f a) is.formatting));
+      noted = is.notes;
       formats = ap (λ x. length x.formats) cut ∙ formats-unformatted h c high ∙ e;
       frames = ap (λ x. length x.frames) cut ∙ frames-unformatted h c ∙ frames ∙ ap (λ x. length x.frames) begun ∙ frames-formatted s.formatting a;
     }
-
-pub section_steps : (k : Lookup) (s : declared.Section) (r : Result (Unit {0}) AllocError) (h : ℕ) (a b c d : State)
-  → h ≡ length a.formats → b ≡ formatted s.formatting a
-  → ((ps : List Part) → tokens_of s.picking.pieces.items ≡ tokens ps → c ≡ parts_written k ps b) → heights c ≡ heights b
-  → OnOk r (d ≡ unformatted h c)
-  → (value : Section) → IsSection s value → OnOk r (IsWritten k (plan_of value).steps a d)
-section_steps k s r h a b c d e begun done same cut value is =
-    on_ok_weaker r (section_done k s value h a b c d is e begun (done value.picked.parts is.pieces) same) cut
 
 steps_written-append : (k : Lookup) (xs ys : List Step) (a : State) → steps_written k (xs ++ ys) a ≡ steps_written k ys (steps_written k xs a)
 steps_written-append k [] ys a = refl
@@ -63,19 +60,21 @@ pub alone_carried : (k : Lookup) (f : Notes → Section) (s : declared.Section) 
 alone_carried k f s r m n a b e is done = done (f n) (subst (λ x. IsSection s (f x)) e is)
 
 -- the author, what stands between, what encloses the rest, and the rest
-pub prose_carried : (k : Lookup) (cite : Subject) (verdict : Option CollapseVerdict) (n m : Notes) (s : declared.Section) (a b c d e f : State)
+pub prose_carried : (k : Lookup) (cite : Subject) (verdict : Option CollapseVerdict) (n m o : Notes) (s : declared.Section) (a b c d e f : State)
   → IsCarriedOut k (plan_of (author_section cite n)) a b m
   → IsWritten k (gap_steps cite.source.style.citation.layout) b c
   → IsWritten k (text_steps (enclosing cite.source.style cite.source.style.citation.layout.prefix (40 ∷ []))) c d
   → IsSection s (rest_section cite verdict m)
-  → ((value : Section) → IsSection s value → IsWritten k (plan_of value).steps d e)
+  → ((value : Section) → IsSection s value → IsCarriedOut k (plan_of value) d e o)
   → IsWritten k (text_steps (enclosing cite.source.style cite.source.style.citation.layout.suffix (41 ∷ []))) e f
-  → IsCarriedOut k (prose_plan cite verdict n) a f s.picking.notes
-prose_carried k cite verdict n m s a b c d e f author gap before is rest after =
+  → IsCarriedOut k (prose_plan cite verdict n) a f o
+prose_carried k cite verdict n m o s a b c d e f author gap before is rest after =
     let section = rest_section cite verdict (author_section cite n).picked.noted in
     let here : IsSection s section = subst (λ x. IsSection s (rest_section cite verdict x)) author.noted is in
     let first : IsWritten k (plan_of (author_section cite n)).steps a b = record { written = author.written; formats = author.formats; frames = author.frames } in
-    let tail = followed_by k (plan_of section).steps _ d e f (rest section here) after in
+    let last = rest section here in
+    let second : IsWritten k (plan_of section).steps d e = record { written = last.written; formats = last.formats; frames = last.frames } in
+    let tail = followed_by k (plan_of section).steps _ d e f second after in
     let middle = followed_by k _ _ b d f (followed_by k _ _ b c d gap before) tail in
     let all = followed_by k (plan_of (author_section cite n)).steps _ a b f first middle in
-    record { written = all.written; noted = here.notes; formats = all.formats; frames = all.frames }
+    record { written = all.written; noted = last.noted; formats = all.formats; frames = all.frames }

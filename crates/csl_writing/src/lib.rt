@@ -34,6 +34,5 @@ pub mod text;
 pub mod token;
 mod variables;
 mod wording;
-mod write_stub;
 pub mod writing;
 pub mod year;

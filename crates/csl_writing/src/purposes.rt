@@ -11,42 +11,41 @@ ghost use Rattle.csl_writing.specs.StepsWritten.{IsCarriedOut, IsWritten};
 ghost use Rattle.csl_writing.specs.SubjectView.{subject_view};
 ghost use Rattle.csl_writing.specs.WritingState.{state};
 
+use crate::held::Picking;
 use crate::lookup::StyleContext;
 use crate::notes::{Form, Notes};
+use crate::parts::write_pieces;
 use crate::purpose::CitePurpose;
 use crate::section::{Section, first_notes, names_alone};
 use crate::state::CollapseVerdict;
 use crate::subject::Subject;
 use crate::wording::push_str;
-use crate::write_stub::write_pieces;
 use crate::writing::WritingContext;
 use csl_base::entry::EntryLike;
 use csl_base::style::{CitationFormat, IndependentStyle, Layout, StyleCategory};
 use std::alloc::{AllocError, Global};
 
-/// Writes a section in its formatting.
+/// Writes a section in its formatting, and hands its notes on.
 pub(crate) fn write_section(
-    style: &StyleContext<'_>,
-    writing: &mut WritingContext<'_>,
-    section: &Section<'_>,
-) -> Result<(), AllocError>
-    ensures { (value : sections.Section) → IsSection section.now value → OnOk result (IsWritten (lookup_view style.now) (plans.plan_of value).steps (state writing.old) (state writing.new)) }
-{
-    let mark = writing.push_format(section.formatting)?;
-    write_pieces(style, writing, &section.picking.pieces)?;
-    writing.pop_format(mark)
-}
-
-/// Writes a section and nothing else, and hands its notes on.
-fn write_alone(
     style: &StyleContext<'_>,
     writing: &mut WritingContext<'_>,
     section: Section<'_>,
 ) -> Result<Notes, AllocError>
     ensures { (value : sections.Section) → IsSection section.entry value → IfOk result (IsCarriedOut (lookup_view style.now) (plans.plan_of value) (state writing.old) (state writing.new)) }
 {
-    write_section(style, writing, &section)?;
-    Ok(section.picking.notes)
+    let Section {
+        formatting,
+        picking,
+    } = section;
+    let Picking {
+        pieces,
+        called: _,
+        notes,
+    } = picking;
+    let mark = writing.push_format(formatting)?;
+    write_pieces(style, writing, pieces)?;
+    writing.pop_format(mark)?;
+    Ok(notes)
 }
 
 /// Whether cites of the style are labels or numbers.
@@ -141,7 +140,7 @@ impl<'a, T: EntryLike> Subject<'a, T> {
             explicit_suffix: self.explicit_suffix,
         };
         let section = subject.author_section(alloc, &alone)?;
-        write_alone(&self.context, writing, section)
+        write_section(&self.context, writing, section)
     }
 
     /// A cite in a sentence: the author, then the rest, enclosed.
@@ -159,9 +158,9 @@ impl<'a, T: EntryLike> Subject<'a, T> {
         write_gap(style, writing, layout)?;
         write_enclosing(style, writing, &layout.prefix, "(")?;
         let rest = self.rest_section(alloc, verdict, notes)?;
-        write_section(style, writing, &rest)?;
+        let noted = write_section(style, writing, rest)?;
         write_enclosing(style, writing, &layout.suffix, ")")?;
-        Ok(rest.picking.notes)
+        Ok(noted)
     }
 
     /// A cite as its item of the bibliography.
@@ -175,7 +174,7 @@ impl<'a, T: EntryLike> Subject<'a, T> {
     {
         let notes = first_notes(self.cite.usage);
         let section = self.full_section(alloc, verdict, notes)?;
-        write_alone(&self.context, writing, section)
+        write_section(&self.context, writing, section)
     }
 
     /// A cite without a purpose.
@@ -189,7 +188,7 @@ impl<'a, T: EntryLike> Subject<'a, T> {
     {
         let notes = first_notes(self.cite.usage);
         let section = self.regular_section(alloc, verdict, notes)?;
-        write_alone(&self.context, writing, section)
+        write_section(&self.context, writing, section)
     }
 
     /// A cite by what it is written for. Gives what is noted of it.

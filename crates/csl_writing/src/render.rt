@@ -101,7 +101,7 @@ fn render_item<'a, T: EntryLike>(
     let behind = text_of(&layout.suffix);
     let mut writing = WritingContext::new(alloc, &style.style.settings.options)?;
     let prefix = writing.begin_prefix(before)?;
-    write_section(style, &mut writing, &section)?;
+    let _noted = write_section(style, &mut writing, section)?;
     apply_suffix(style, &mut writing, behind, prefix)?;
     let tree = writing.flush()?;
     Ok(tree)
