@@ -18,7 +18,7 @@ either_has P false x y p q = q
 pub length-on_top : (f : List Child → List Child) (frames : Frames) → length (on_top f frames) ≡ length frames
 length-on_top f frames =
     elim (top frames) as (λ t. length (option_map_or (λ frame. slice_set frames (length frames - 1) (f frame)) t frames) ≡ length frames)
-      [ None ↦ refl | Some frame ↦ length-set frames (length frames - 1) (f frame) ]
+    [ None ↦ refl | Some frame ↦ length-set frames (length frames - 1) (f frame) ]
 
 -- saving keeps the formats, and how many frames there are
 pub formats-saved : (a : State) → (saved a).formats ≡ a.formats
@@ -43,7 +43,7 @@ frames-formatted f a = either_has (λ x. length x.frames ≡ length a.frames) (a
 
 -- cut back to a height that the formats have, they have it
 cut_at : (h : ℕ) (a : State) → h ≤ length a.formats → (t : Bool) → nat_lt h (length a.formats) ≡ t
-  → length (cond t (cut_formats h (saved a)) a).formats ≡ h
+    → length (cond t (cut_formats h (saved a)) a).formats ≡ h
 cut_at h a le true e = length-take-le h (saved a).formats (subst (λ l. h ≤ length l) (sym (formats-saved a)) le)
 cut_at h a le false e = let most : length a.formats ≤ h = ltb-false h (length a.formats) e in omega arith
 

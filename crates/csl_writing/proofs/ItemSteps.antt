@@ -57,23 +57,23 @@ formats-with_suffix k (Some s) a = either_has (λ x. x.formats ≡ a.formats) (e
 
 -- a frame that is closed with its suffix, or dropped, cuts the formats back
 pub formats-suffixed : (k : Lookup) (suffix : Option (List ℕ)) (h n : ℕ) (a : State)
-  → h ≤ length a.formats → length (suffixed k suffix h n a).formats ≡ h
+    → h ≤ length a.formats → length (suffixed k suffix h n a).formats ≡ h
 unfolding suffixed closed_elem discarded
 formats-suffixed k suffix h n a le =
     let b = with_suffix k suffix (saved a) in
     let shown : (saved b).formats ≡ a.formats = formats-saved b ∙ formats-with_suffix k suffix (saved a) ∙ formats-saved a in
     let dropped : (saved (saved a)).formats ≡ a.formats = formats-saved (saved a) ∙ formats-saved a in
     either_has (λ x. length x.formats ≡ h) (has_content_since n a) _ _
-      (length-take-le h (saved b).formats (subst (λ l. h ≤ length l) (sym shown) le))
-      (length-take-le h (saved (saved a)).formats (subst (λ l. h ≤ length l) (sym dropped) le))
+    (length-take-le h (saved b).formats (subst (λ l. h ≤ length l) (sym shown) le))
+    (length-take-le h (saved (saved a)).formats (subst (λ l. h ≤ length l) (sym dropped) le))
 
 pub item_rendered : (s : Subject) (bibliography : BibliographyValue) (section : declared.Section) (a b c d : State) (h n : ℕ) (m o : Notes) (tree : List Child)
-  → a ≡ begun s.source.style.options → m ≡ first_notes s.cite.usage
-  → IsSection section (item_section s bibliography Form.Full true m)
-  → h ≡ length a.formats → n ≡ length (term_text bibliography.layout.prefix) → b ≡ prefixed bibliography.layout.prefix a
-  → ((value : Section) → IsSection section value → IsCarriedOut (lookup s.source) (plan_of value) b c o)
-  → d ≡ suffixed (lookup s.source) bibliography.layout.suffix h n c → flushed d ≡ Some tree
-  → tree ≡ rendered_item s bibliography
+    → a ≡ begun s.source.style.options → m ≡ first_notes s.cite.usage
+    → IsSection section (item_section s bibliography Form.Full true m)
+    → h ≡ length a.formats → n ≡ length (term_text bibliography.layout.prefix) → b ≡ prefixed bibliography.layout.prefix a
+    → ((value : Section) → IsSection section value → IsCarriedOut (lookup s.source) (plan_of value) b c o)
+    → d ≡ suffixed (lookup s.source) bibliography.layout.suffix h n c → flushed d ≡ Some tree
+    → tree ≡ rendered_item s bibliography
 item_rendered s bibliography section a b c d h n m o tree start e is high long opened inside closed out =
     let k = lookup s.source in
     let layout = bibliography.layout in
@@ -82,15 +82,15 @@ item_rendered s bibliography section a b c d h n m o tree start e is high long o
     let here : IsSection section value = subst (λ x. IsSection section (item_section s bibliography Form.Full true x)) e is in
     let inner : c ≡ steps_written k steps (prefixed layout.prefix a) = (inside value here).written ∙ ap (λ x. steps_written k steps x) opened in
     let whole : d ≡ enclosed k (layout_affixes layout) steps a =
-      closed ∙ ap (λ x. suffixed k layout.suffix x n c) high
-        ∙ ap (λ x. suffixed k layout.suffix (length a.formats) x c) long
-        ∙ ap (λ x. suffixed k layout.suffix (length a.formats) (length (term_text layout.prefix)) x) inner in
+    closed ∙ ap (λ x. suffixed k layout.suffix x n c) high
+    ∙ ap (λ x. suffixed k layout.suffix (length a.formats) x c) long
+    ∙ ap (λ x. suffixed k layout.suffix (length a.formats) (length (term_text layout.prefix)) x) inner in
     tree_finished d tree out ∙ ap finished (whole ∙ ap (λ x. enclosed k (layout_affixes layout) steps x) start)
 
 -- behind an item's suffix the formats are as few as before
 pub item_flushes : (k : Lookup) (suffix : Option (List ℕ)) (options : NameOptions) (h n : ℕ) (a b c d : State)
-  → a ≡ begun options → h ≡ length a.formats → length b.formats ≡ length a.formats → length c.formats ≡ length b.formats
-  → d ≡ suffixed k suffix h n c → length d.formats ≡ 1
+    → a ≡ begun options → h ≡ length a.formats → length b.formats ≡ length a.formats → length c.formats ≡ length b.formats
+    → d ≡ suffixed k suffix h n c → length d.formats ≡ 1
 item_flushes k suffix options h n a b c d start high opened inside closed =
     let one : length a.formats ≡ 1 = ap (λ x. length x.formats) start in
     let le : h ≤ length c.formats = omega arith in

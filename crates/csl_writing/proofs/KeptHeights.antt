@@ -39,7 +39,7 @@ length-put (Some i) F w e = rw e (length-set F i w)
 length-on_filled : (f : List Child → List Child) (F : Frames) → length (on_filled f F) ≡ length F
 length-on_filled f F =
     elim (filled F) as (λ t. length (option_map_or (λ frame. put_topmost is_filled F (f frame)) t F) ≡ length F)
-      [ None ↦ refl | Some frame ↦ length-put (topmost is_filled F) F (f frame) refl ]
+    [ None ↦ refl | Some frame ↦ length-put (topmost is_filled F) F (f frame) refl ]
 
 saved_keeps : (a : State) → Keeps a (saved a)
 saved_keeps a = record { formats = ap length (formats-saved a); frames = frames-saved a }
@@ -173,7 +173,7 @@ length-committed : (d : Option Display) (m : Option ElemMeta) (F : Frames) → 0
 length-committed d m F some =
     let last : length F - 1 < length F = omega arith in
     subst (λ t. length (option_map_or (λ frame. on_top (λ cs. cs ++ closed d m frame) (below F)) t F) + 1 ≡ length F) (sym (slice_get-get_or F (length F - 1) [] last))
-      (ap (λ n. n + 1) (length-on_top _ (below F)) ∙ length-below F some)
+    (ap (λ n. n + 1) (length-on_top _ (below F)) ∙ length-below F some)
 
 cut_saved : (h : ℕ) (a : State) → h ≤ length a.formats → length (take h (saved a).formats) ≡ h
 cut_saved h a le = length-take-le h (saved a).formats (subst (λ l. h ≤ length l) (sym (formats-saved a)) le)
@@ -205,12 +205,12 @@ suffix_closes k suffix h n a le some =
     let le_s : h ≤ length (saved a).formats = omega (arith, kept.formats) in
     let some_s : 0 < length (saved a).frames = omega (arith, kept.frames) in
     either_has (λ x. Closes h a x) (has_content_since n a) _ _
-      (closes_from h a b _ all (elem_closes h None None b le_b some_b))
-      (closes_from h a (saved a) _ kept (discard_closes h (saved a) le_s some_s))
+    (closes_from h a b _ all (elem_closes h None None b le_b some_b))
+    (closes_from h a (saved a) _ kept (discard_closes h (saved a) le_s some_s))
 
 -- a node closes both of its frames
 node_closes : (k : Lookup) (node : NodeValue) (h : ℕ) (a : State) → h ≤ length a.formats → 1 < length a.frames
-  → (length (node_ended k node h a).formats ≡ h) × (length (node_ended k node h a).frames + 2 ≡ length a.frames)
+    → (length (node_ended k node h a).formats ≡ h) × (length (node_ended k node h a).frames + 2 ≡ length a.frames)
 unfolding node_ended
 node_closes k node h a le some =
     let b = cond node.strip_periods (not_stripping a) a in

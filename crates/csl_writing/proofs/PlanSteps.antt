@@ -20,10 +20,10 @@ use Rattle.csl_writing.proofs.FormatHeights.{formats-formatted, frames-formatted
 
 -- a format, the pieces, and the formats cut back
 pub section_carried : (k : Lookup) (s : declared.Section) (h : ℕ) (a b c d : State)
-  → h ≡ length a.formats → b ≡ formatted s.formatting a
-  → ((ps : List Part) → tokens_of s.picking.pieces.items ≡ tokens ps → c ≡ parts_written k ps b)
-  → d ≡ unformatted h c
-  → (value : Section) → IsSection s value → IsCarriedOut k (plan_of value) a d s.picking.notes
+    → h ≡ length a.formats → b ≡ formatted s.formatting a
+    → ((ps : List Part) → tokens_of s.picking.pieces.items ≡ tokens ps → c ≡ parts_written k ps b)
+    → d ≡ unformatted h c
+    → (value : Section) → IsSection s value → IsCarriedOut k (plan_of value) a d s.picking.notes
 section_carried k s h a b c d e begun done cut value is =
     let ps = value.picked.parts in
     let all : c ≡ parts_written k ps b = done ps is.pieces in
@@ -34,7 +34,7 @@ section_carried k s h a b c d e begun done cut value is =
     let high : h ≤ length c.formats = omega arith in
     record {
       written = cut ∙ ap (λ x. unformatted x c) e
-        ∙ ap (λ x. unformatted (length a.formats) x) (all ∙ ap (λ x. parts_written k ps x) (begun ∙ ap (λ f. formatted f a) is.formatting));
+          ∙ ap (λ x. unformatted (length a.formats) x) (all ∙ ap (λ x. parts_written k ps x) (begun ∙ ap (λ f. formatted f a) is.formatting));
       noted = is.notes;
       formats = ap (λ x. length x.formats) cut ∙ formats-unformatted h c high ∙ e;
       frames = ap (λ x. length x.frames) cut ∙ frames-unformatted h c ∙ frames ∙ ap (λ x. length x.frames) begun ∙ frames-formatted s.formatting a;
@@ -54,20 +54,20 @@ followed_by k xs ys a b c first then = record {
 
 -- one section and nothing else
 pub alone_carried : (k : Lookup) (f : Notes → Section) (s : declared.Section) (r : Result Notes AllocError) (m n : Notes) (a b : State)
-  → m ≡ n → IsSection s (f m)
-  → ((value : Section) → IsSection s value → IfOk r (IsCarriedOut k (plan_of value) a b))
-  → IfOk r (IsCarriedOut k (plan_of (f n)) a b)
+    → m ≡ n → IsSection s (f m)
+    → ((value : Section) → IsSection s value → IfOk r (IsCarriedOut k (plan_of value) a b))
+    → IfOk r (IsCarriedOut k (plan_of (f n)) a b)
 alone_carried k f s r m n a b e is done = done (f n) (subst (λ x. IsSection s (f x)) e is)
 
 -- the author, what stands between, what encloses the rest, and the rest
 pub prose_carried : (k : Lookup) (cite : Subject) (verdict : Option CollapseVerdict) (n m o : Notes) (s : declared.Section) (a b c d e f : State)
-  → IsCarriedOut k (plan_of (author_section cite n)) a b m
-  → IsWritten k (gap_steps cite.source.style.citation.layout) b c
-  → IsWritten k (text_steps (enclosing cite.source.style cite.source.style.citation.layout.prefix (40 ∷ []))) c d
-  → IsSection s (rest_section cite verdict m)
-  → ((value : Section) → IsSection s value → IsCarriedOut k (plan_of value) d e o)
-  → IsWritten k (text_steps (enclosing cite.source.style cite.source.style.citation.layout.suffix (41 ∷ []))) e f
-  → IsCarriedOut k (prose_plan cite verdict n) a f o
+    → IsCarriedOut k (plan_of (author_section cite n)) a b m
+    → IsWritten k (gap_steps cite.source.style.citation.layout) b c
+    → IsWritten k (text_steps (enclosing cite.source.style cite.source.style.citation.layout.prefix (40 ∷ []))) c d
+    → IsSection s (rest_section cite verdict m)
+    → ((value : Section) → IsSection s value → IsCarriedOut k (plan_of value) d e o)
+    → IsWritten k (text_steps (enclosing cite.source.style cite.source.style.citation.layout.suffix (41 ∷ []))) e f
+    → IsCarriedOut k (prose_plan cite verdict n) a f o
 prose_carried k cite verdict n m o s a b c d e f author gap before is rest after =
     let section = rest_section cite verdict (author_section cite n).picked.noted in
     let here : IsSection s section = subst (λ x. IsSection s (rest_section cite verdict x)) author.noted is in

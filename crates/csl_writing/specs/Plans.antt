@@ -79,7 +79,7 @@ prose_plan s verdict n =
     let rest = rest_section s verdict author.picked.noted in
     record {
       steps = step_of author ∷ (gap_steps layout ++ text_steps (enclosing style layout.prefix (40 ∷ []))
-        ++ step_of rest ∷ text_steps (enclosing style layout.suffix (41 ∷ [])));
+          ++ step_of rest ∷ text_steps (enclosing style layout.suffix (41 ∷ [])));
       noted = rest.picked.noted;
     }
 

@@ -16,10 +16,7 @@ fn add_space(tree: &mut ElemChildren) -> Result<(), AllocError>
 }
 
 // The children of both trees, one behind the other.
-fn followed_by(
-    mut first: ElemChildren,
-    mut rest: ElemChildren,
-) -> Result<ElemChildren, AllocError>
+fn followed_by(mut first: ElemChildren, mut rest: ElemChildren) -> Result<ElemChildren, AllocError>
     ensures { IfOk result (λ tree. tree ≡ first ++ rest) }
 {
     first.0.append(&mut rest.0)?;

@@ -109,11 +109,7 @@ fn render_item<'a, T: EntryLike>(
 
 impl<'a> StyleContext<'a> {
     // Whether the cite has a year suffix, and a text that writes it stands in a layout of the style.
-    fn writes_suffix(
-        &self,
-        alloc: Global,
-        state: &DisambiguateState,
-    ) -> Result<bool, AllocError>
+    fn writes_suffix(&self, alloc: Global, state: &DisambiguateState) -> Result<bool, AllocError>
         requires { HasNoRing (source_view self.now).style.macros }
         ensures { IfOk result (λ b. b ≡ (is_some (suffix_of state.now) && suffixes.explicit_suffix (source_view self.now).style)) }
     {

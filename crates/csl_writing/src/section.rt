@@ -11,8 +11,8 @@ ghost use Rattle.csl_writing.specs.SubjectView.{subject_view};
 
 use crate::held::Picking;
 use crate::input::Input;
-use crate::notes::{Called, Form, Notes, Suppressed};
 use crate::names::author_variable;
+use crate::notes::{Called, Form, Notes, Suppressed};
 use crate::picking::pick_layout;
 use crate::state::{CollapseVerdict, IbidState, IdentifierUsage};
 use crate::subject::Subject;
