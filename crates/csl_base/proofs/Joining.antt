@@ -1,36 +1,12 @@
 -- Joining neighbours of one level, from either end.
 use Rattle.std.proofs.Common.{◌≡◌, Bool, true, false, cond, ◌&&◌, List, [], ◌∷◌, ◌++◌, map, refl, sym, ap, ◌∙◌, append_assoc, true≢false}
 use Rattle.csl_base.specs.Child.{Child, text, elem, markup, link, transparent}
-use Rattle.csl_base.specs.Simplify.{same_style, same_weight, same_formatting, joins, joined, join_first, join_last, level_joined, child_simple, simplified}
-use Rattle.csl_base.specs.declared.formatting.Formatting.{Formatting}
-use Rattle.csl_base.specs.declared.formatting.FontStyle.{FontStyle}
-use Rattle.csl_base.specs.declared.formatting.FontStyle.TheVariants as style
-use Rattle.csl_base.specs.declared.formatting.FontWeight.{FontWeight}
-use Rattle.csl_base.specs.declared.formatting.FontWeight.TheVariants as weight
-
-style_equal : (a b : FontStyle) → same_style a b ≡ true → a ≡ b
-style_equal style.Normal style.Normal e = refl
-style_equal style.Italic style.Italic e = refl
-style_equal _ _ e = absurd (true≢false (sym e))
-
-weight_equal : (a b : FontWeight) → same_weight a b ≡ true → a ≡ b
-weight_equal weight.Normal weight.Normal e = refl
-weight_equal weight.Bold weight.Bold e = refl
-weight_equal _ _ e = absurd (true≢false (sym e))
-
-both_so : (a b : Bool) → a && b ≡ true → (a ≡ true) × (b ≡ true)
-both_so true b e = (refl, e)
-both_so false b e = absurd (true≢false (sym e))
-
--- the test of equal formatting finds equal formatting
-pub formatting_equal : (a b : Formatting) → same_formatting a b ≡ true → a ≡ b
-formatting_equal a b e =
-    let p = both_so (same_style a.font_style b.font_style) (same_weight a.font_weight b.font_weight) e in
-    λ i. record { font_style = style_equal a.font_style b.font_style p.0 i; font_weight = weight_equal a.font_weight b.font_weight p.1 i }
+use Rattle.csl_base.specs.EqualTrees.{formattings_find}
+use Rattle.csl_base.specs.Simplify.{same_formatting, joins, joined, join_first, join_last, level_joined, child_simple, simplified}
 
 -- the text of two neighbours joins what the second one joins
 pub joined-joins : (c d e : Child) → joins c d ≡ true → joins (joined c d) e ≡ joins d e
-joined-joins (text f) (text g) (text h) p = ap (λ a. same_formatting a h.formatting) (formatting_equal f.formatting g.formatting p)
+joined-joins (text f) (text g) (text h) p = ap (λ a. same_formatting a h.formatting) (formattings_find.equal f.formatting g.formatting p)
 joined-joins (text f) (text g) (elem ks d m) p = refl
 joined-joins (text f) (text g) (markup s) p = refl
 joined-joins (text f) (text g) (link h s) p = refl

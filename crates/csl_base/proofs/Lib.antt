@@ -1,5 +1,6 @@
 -- The proofs of this crate.
 pub mod Trees
+pub mod Accepted
 pub mod Compare
 pub mod Joining
 pub mod Simplifying

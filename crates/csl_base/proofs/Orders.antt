@@ -1,11 +1,12 @@
 -- Total orders that tell all values apart, and the order of lists by them.
-use Rattle.std.proofs.Common.{sym, ap, ◌∙◌, rules, is_eq, refl}
-use Rattle.std.specs.Ordering.{eq_by_cmp}
+use Rattle.std.proofs.Common.{◌≡◌, sym, ap, ◌∙◌, rules, is_eq, refl}
+use Rattle.std.specs.Ordering.{eq_by_cmp, nat_cmp}
 use Rattle.std.specs.Cmp.{Equal-is, on_total}
 use Rattle.std.specs.Cmp.Lexicographic.{slice_cmp, lists_total, lists_ties}
 use Rattle.std.specs.declared.cmp.Ordering.{Ordering}
 use Rattle.csl_base.specs.Finds.{Finds, lists_find}
-use Rattle.csl_base.specs.Ordered.{IsValueOrder, form_cmp, properties_cmp}
+use Rattle.csl_base.specs.Ordered.{IsValueOrder, extent, form_cmp, properties_cmp}
+use Rattle.csl_base.specs.declared.names.DisambiguatedNameForm.{DisambiguatedNameForm}
 use Rattle.csl_base.specs.declared.names.NameDisambiguationProperties.{NameDisambiguationProperties}
 
 module _ {K : Type 0} {cmp : K → K → Ordering} (order : IsValueOrder cmp) where
@@ -21,6 +22,24 @@ module _ {K : Type 0} {cmp : K → K → Ordering} (order : IsValueOrder cmp) wh
 
 forms_in_order : IsValueOrder form_cmp
 forms_in_order = search rules
+
+pub forms_by_extent : (a b : DisambiguatedNameForm) → form_cmp a b ≡ nat_cmp (extent a) (extent b)
+forms_by_extent DisambiguatedNameForm.Count DisambiguatedNameForm.Count = refl
+forms_by_extent DisambiguatedNameForm.Count DisambiguatedNameForm.Short = refl
+forms_by_extent DisambiguatedNameForm.Count DisambiguatedNameForm.LongInitialized = refl
+forms_by_extent DisambiguatedNameForm.Count DisambiguatedNameForm.LongFull = refl
+forms_by_extent DisambiguatedNameForm.Short DisambiguatedNameForm.Count = refl
+forms_by_extent DisambiguatedNameForm.Short DisambiguatedNameForm.Short = refl
+forms_by_extent DisambiguatedNameForm.Short DisambiguatedNameForm.LongInitialized = refl
+forms_by_extent DisambiguatedNameForm.Short DisambiguatedNameForm.LongFull = refl
+forms_by_extent DisambiguatedNameForm.LongInitialized DisambiguatedNameForm.Count = refl
+forms_by_extent DisambiguatedNameForm.LongInitialized DisambiguatedNameForm.Short = refl
+forms_by_extent DisambiguatedNameForm.LongInitialized DisambiguatedNameForm.LongInitialized = refl
+forms_by_extent DisambiguatedNameForm.LongInitialized DisambiguatedNameForm.LongFull = refl
+forms_by_extent DisambiguatedNameForm.LongFull DisambiguatedNameForm.Count = refl
+forms_by_extent DisambiguatedNameForm.LongFull DisambiguatedNameForm.Short = refl
+forms_by_extent DisambiguatedNameForm.LongFull DisambiguatedNameForm.LongInitialized = refl
+forms_by_extent DisambiguatedNameForm.LongFull DisambiguatedNameForm.LongFull = refl
 
 pub properties_in_order : IsValueOrder properties_cmp
 properties_in_order =

@@ -2,13 +2,14 @@
 use Rattle.std.proofs.Common.{◌≡◌, ℕ, zero, suc, ◌<◌, ◌≤◌, List, [], ◌∷◌, length, take, get_or, slice_get, cond, ◌||◌, eqb, Bool, true, false, Option, Some, None, is_some, inl, inr, map, sym, ap, ◌∙◌, refl, subst, arith, option_map}
 use Rattle.std.proofs.lemmas.List.{length-map}
 use Rattle.std.specs.Cmp.Lexicographic.{same_text}
+use Rattle.std.specs.Prelude.{bytes_eq}
 use Rattle.std.specs.List.{cons_option}
 use Rattle.std.proofs.lemmas.Cmp.{nat_list_eq_equiv}
 use Rattle.std.proofs.lemmas.Bool.{eqb-true, eq-eqb}
 use Rattle.std.proofs.lemmas.Option.{same_Some, slice_get-map, get_or_from_slice_get, slice_get_within}
 use Rattle.csl_base.specs.Element.{Name, Elements, Macro}
 use Rattle.csl_base.specs.Calls.{Names, calls_of_all}
-use Rattle.csl_base.specs.Ring.{has_name, body_of, body_calls, macro_calls, Calls, IsWalk, IsOnRing, HasNoRing, IsRingAt, name_eq, place_of, places_of, call_places}
+use Rattle.csl_base.specs.Ring.{has_name, body_of, body_calls, macro_calls, Calls, IsWalk, IsOnRing, HasNoRing, IsRingAt, place_of, places_of, call_places}
 use Rattle.csl_base.specs.Places.{Places, has_place, steps_from, IsPath, IsOnRound, IsWithin, IsClosed}
 use Rattle.csl_base.proofs.Reached.{or-left, or-right, or-either}
 
@@ -20,15 +21,15 @@ after_suc (Some j) i e = (j, refl, same_Some (suc j) i e)
 place_at : (b : Name) (ms : List Macro) (i : ℕ) → place_of b ms ≡ Some i → (m : Macro) × (slice_get ms i ≡ Some m) × (body_of b ms ≡ Some m.children) × (m.name ≡ b)
 place_at b [] i e = cc
 place_at b (m ∷ ms) i e =
-    let by : (t : Bool) → t ≡ name_eq m.name b → cond t (Some 0) (option_map (λ k. suc k) (place_of b ms)) ≡ Some i → (k : Macro) × (slice_get (m ∷ ms) i ≡ Some k) × (cond t (Some m.children) (body_of b ms) ≡ Some k.children) × (k.name ≡ b) = λ t.
-    elim t as (λ t. t ≡ name_eq m.name b → cond t (Some 0) (option_map (λ k. suc k) (place_of b ms)) ≡ Some i → (k : Macro) × (slice_get (m ∷ ms) i ≡ Some k) × (cond t (Some m.children) (body_of b ms) ≡ Some k.children) × (k.name ≡ b)) [
+    let by : (t : Bool) → t ≡ bytes_eq m.name b → cond t (Some 0) (option_map (λ k. suc k) (place_of b ms)) ≡ Some i → (k : Macro) × (slice_get (m ∷ ms) i ≡ Some k) × (cond t (Some m.children) (body_of b ms) ≡ Some k.children) × (k.name ≡ b) = λ t.
+    elim t as (λ t. t ≡ bytes_eq m.name b → cond t (Some 0) (option_map (λ k. suc k) (place_of b ms)) ≡ Some i → (k : Macro) × (slice_get (m ∷ ms) i ≡ Some k) × (cond t (Some m.children) (body_of b ms) ≡ Some k.children) × (k.name ≡ b)) [
       | true ↦ λ q z. (m, subst (λ j. slice_get (m ∷ ms) j ≡ Some m) (same_Some 0 i z) refl, refl, same_text m.name b q)
       | false ↦ λ q z.
           let o = after_suc (place_of b ms) i z in
           let p = place_at b ms o.0 o.1 in
           (p.0, subst (λ j. slice_get (m ∷ ms) j ≡ Some p.0) o.2 p.1, p.2, p.3)
     ] in
-    by (name_eq m.name b) refl e
+    by (bytes_eq m.name b) refl e
 
 -- a name with a macro has a place
 some_place : (b : Name) (ms : List Macro) → is_some (body_of b ms) ≡ true → (i : ℕ) × (place_of b ms ≡ Some i)
@@ -39,7 +40,7 @@ some_place b (m ∷ ms) e =
       | true ↦ λ _. (0, refl)
       | false ↦ λ h. let p = some_place b ms h in (suc p.0, ap (option_map (λ k. suc k)) p.1)
     ] in
-    by (name_eq m.name b) e
+    by (bytes_eq m.name b) e
 
 not_either : (b c : Bool) → (b || c) ≡ false → (b ≡ false) × (c ≡ false)
 not_either true c e = cc
@@ -49,10 +50,10 @@ not_either false c e = (refl, e)
 pub place_found : (ms : List Macro) (i : ℕ) (m : Macro) → slice_get ms i ≡ Some m → has_name m.name (map (λ m. m.name) (take i ms)) ≡ false → place_of m.name ms ≡ Some i
 place_found [] i m e out = cc
 place_found (x ∷ xs) zero m e out =
-    let same : true ≡ name_eq x.name m.name = sym (ap (λ (y : Macro). name_eq x.name y.name) (sym (same_Some x m e)) ∙ nat_list_eq_equiv.refl x.name) in
+    let same : true ≡ bytes_eq x.name m.name = sym (ap (λ (y : Macro). bytes_eq x.name y.name) (sym (same_Some x m e)) ∙ nat_list_eq_equiv.refl x.name) in
     ap (λ t. cond t (Some 0) (option_map (λ k. suc k) (place_of m.name xs))) (sym same)
 place_found (x ∷ xs) (suc i) m e out =
-    let h = not_either (name_eq x.name m.name) _ out in
+    let h = not_either (bytes_eq x.name m.name) _ out in
     ap (λ t. cond t (Some 0) (option_map (λ k. suc k) (place_of m.name xs))) h.0 ∙ ap (option_map (λ k. suc k)) (place_found xs i m e h.1)
 
 keeps : (j : ℕ) (o : Option ℕ) (rest : Places) → has_place j rest ≡ true → has_place j (cons_option o rest) ≡ true
@@ -63,7 +64,7 @@ keeps j (Some k) rest h = or-right (eqb k j) _ h
 place_among : (ms : List Macro) (c : Name) (bs : Names) (j : ℕ) → has_name c bs ≡ true → place_of c ms ≡ Some j → has_place j (places_of ms bs) ≡ true
 place_among ms c [] j h e = cc
 place_among ms c (b ∷ bs) j h e =
-    elim (or-either (name_eq b c) _ h) [
+    elim (or-either (bytes_eq b c) _ h) [
       | inl q ↦
           let is : Some j ≡ place_of b ms = sym (ap (λ x. place_of x ms) (same_text b c (sym q)) ∙ e) in
           subst (λ o. has_place j (cons_option o (places_of ms bs)) ≡ true) is (or-left (eqb j j) _ (eq-eqb j j refl))
@@ -75,12 +76,12 @@ among_place : (ms : List Macro) (bs : Names) (j : ℕ) → has_place j (places_o
 among_place ms [] j h = cc
 among_place ms (b ∷ bs) j h =
     let later : has_place j (places_of ms bs) ≡ true → (c : Name) × (has_name c (b ∷ bs) ≡ true) × (place_of c ms ≡ Some j) = λ k.
-    let r = among_place ms bs j k in (r.0, or-right (name_eq b r.0) _ r.1, r.2) in
+    let r = among_place ms bs j k in (r.0, or-right (bytes_eq b r.0) _ r.1, r.2) in
     let by : (o : Option ℕ) → place_of b ms ≡ o → has_place j (cons_option o (places_of ms bs)) ≡ true → (c : Name) × (has_name c (b ∷ bs) ≡ true) × (place_of c ms ≡ Some j) = λ o.
     elim o as (λ o. place_of b ms ≡ o → has_place j (cons_option o (places_of ms bs)) ≡ true → (c : Name) × (has_name c (b ∷ bs) ≡ true) × (place_of c ms ≡ Some j)) [
       | None ↦ λ _ k. later k
       | Some i ↦ λ q k. elim (or-either (eqb i j) _ k) [
-        | inl t ↦ (b, or-left (name_eq b b) _ (nat_list_eq_equiv.refl b), q ∙ ap (λ x. Some x) (eqb-true i j t))
+        | inl t ↦ (b, or-left (bytes_eq b b) _ (nat_list_eq_equiv.refl b), q ∙ ap (λ x. Some x) (eqb-true i j t))
         | inr t ↦ later t
       ]
     ] in
@@ -157,16 +158,16 @@ first_place name [] e = cc
 first_place name (m ∷ ms) e =
     let n = m.name in
     let Place : Type 0 = (i : ℕ) × (k : Macro) × (slice_get (m ∷ ms) i ≡ Some k) × (has_name (k.name) (map (λ m. m.name) (take i (m ∷ ms))) ≡ false) × (k.name ≡ name) in
-    let by : (b : Bool) → b ≡ name_eq n name → is_some (cond b (Some m.children) (body_of name ms)) ≡ true → Place = λ b.
-    elim b as (λ b. b ≡ name_eq n name → is_some (cond b (Some m.children) (body_of name ms)) ≡ true → Place) [
+    let by : (b : Bool) → b ≡ bytes_eq n name → is_some (cond b (Some m.children) (body_of name ms)) ≡ true → Place = λ b.
+    elim b as (λ b. b ≡ bytes_eq n name → is_some (cond b (Some m.children) (body_of name ms)) ≡ true → Place) [
       | true ↦ λ q _. (0, m, refl, refl, same_text n name q)
       | false ↦ λ q k.
           let p = first_place name ms k in
           let out : has_name (p.1.name) (n ∷ map (λ m. m.name) (take p.0 ms)) ≡ false =
-          subst (λ b. (b || has_name (p.1.name) (map (λ m. m.name) (take p.0 ms))) ≡ false) (subst (λ x. false ≡ name_eq n x) (sym p.4) q) p.3 in
+          subst (λ b. (b || has_name (p.1.name) (map (λ m. m.name) (take p.0 ms))) ≡ false) (subst (λ x. false ≡ bytes_eq n x) (sym p.4) q) p.3 in
           (suc p.0, p.1, p.2, out, p.4)
     ] in
-    by (name_eq n name) refl e
+    by (bytes_eq n name) refl e
 
 -- a style none of whose places lies on a ring has no ring
 pub no_ring : (ms : List Macro) → ((i : ℕ) → IsRingAt ms i → ⊥) → HasNoRing ms

@@ -1,5 +1,5 @@
 -- The derived tests of equality on trees and what they hold decide equality.
-use Rattle.std.specs.Prelude.{◌≡◌, true, refl}
+use Rattle.std.specs.Prelude.{◌≡◌, Bool, true, refl}
 use Rattle.std.specs.Bool.{Decides}
 use Rattle.std.specs.Cmp.{unsigned_Decides}
 use Rattle.std.proofs.Common.{ap, sym, true≢false}
@@ -98,8 +98,15 @@ children_find = record { equal = equal; self = self }
     self (v.Link f s) = and-true _ _ (formatted_find.self f) (texts_find.self s)
     self (v.Transparent m f) = and-true _ _ ((unsigned_Decides m m).1 refl) (formattings_find.self f)
 
-pub elem_Decides : (a b : Elem) → Decides ((elem_eq.ghosts).eq a b) (a ≡ b)
+-- equality of elements and of children, by their derived tests
+abbrev pub same_elem : Elem → Elem → Bool
+same_elem = (elem_eq.ghosts).eq
+
+abbrev pub same_child : ElemChild → ElemChild → Bool
+same_child = (child_eq.ghosts).eq
+
+pub elem_Decides : (a b : Elem) → Decides (same_elem a b) (a ≡ b)
 elem_Decides = decides elems_find
 
-pub child_Decides : (a b : ElemChild) → Decides ((child_eq.ghosts).eq a b) (a ≡ b)
+pub child_Decides : (a b : ElemChild) → Decides (same_child a b) (a ≡ b)
 child_Decides = decides children_find

@@ -15,7 +15,9 @@ pub mod Falls
 pub mod Tree
 pub mod Simplify
 pub mod SameTree
+pub mod TreeHash
 pub mod EqualTrees
+pub mod Elements
 pub mod Nested
 pub mod LastText
 pub mod LastTextStep

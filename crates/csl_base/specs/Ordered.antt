@@ -1,5 +1,5 @@
 -- The orders of name forms and of lists of them.
-use Rattle.std.specs.Prelude.{◌≡◌}
+use Rattle.std.specs.Prelude.{◌≡◌, ℕ}
 use Rattle.std.specs.Cmp.{IsTotalOrder}
 use Rattle.std.specs.declared.cmp.Ordering.{Ordering}
 use Rattle.std.specs.declared.cmp.Ordering.TheVariants.{Equal}
@@ -7,6 +7,13 @@ use Rattle.csl_base.specs.declared.names.DisambiguatedNameForm.{DisambiguatedNam
 use Rattle.csl_base.specs.declared.names.NameDisambiguationProperties.{NameDisambiguationProperties}
 use Rattle.csl_base.specs.contracts.names.DisambiguatedNameFormOrd.TheImpl as form_ord
 use Rattle.csl_base.specs.contracts.names.NameDisambiguationPropertiesOrd.TheImpl as properties_ord
+
+-- how much of a name a form writes, from the least on
+abbrev pub extent : DisambiguatedNameForm → ℕ
+extent DisambiguatedNameForm.Count = 0
+extent DisambiguatedNameForm.Short = 1
+extent DisambiguatedNameForm.LongInitialized = 2
+extent DisambiguatedNameForm.LongFull = 3
 
 -- a total order that tells all values apart
 pub record IsValueOrder {K : Type 0} (cmp : K → K → Ordering) : Type 0 where

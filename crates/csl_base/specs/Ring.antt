@@ -1,23 +1,19 @@
 -- Which macros lie on a ring of calls.
-use Rattle.std.specs.Prelude.{◌≡◌, ℕ, suc, ◌<◌, List, [], ◌∷◌, map, take, slice_get, Bool, true, false, ◌||◌, ◌==◌, Option, Some, None, option_map}
+use Rattle.std.specs.Prelude.{◌≡◌, ℕ, suc, ◌<◌, List, [], ◌∷◌, map, take, slice_get, Bool, true, false, ◌||◌, bytes_eq, Option, Some, None, option_map}
 use Rattle.std.specs.Bool.{if◌then◌else◌}
 use Rattle.std.specs.List.{filter_map}
-use lib.Pointwise.{pointwise}
 use Rattle.csl_base.specs.Element.{Name, Elements, Macro}
 use Rattle.csl_base.specs.Calls.{Names, calls_of_all}
 use Rattle.csl_base.specs.Places.{Places}
 
-abbrev pub name_eq : Name → Name → Bool
-name_eq = pointwise ◌==◌
-
 abbrev pub has_name : Name → Names → Bool
 has_name a [] = false
-has_name a (b ∷ bs) = name_eq b a || has_name a bs
+has_name a (b ∷ bs) = bytes_eq b a || has_name a bs
 
 -- the children of the first macro of a name
 abbrev pub body_of : Name → List Macro → Option Elements
 body_of name [] = None
-body_of name (m ∷ ms) = if name_eq m.name name then Some m.children else body_of name ms
+body_of name (m ∷ ms) = if bytes_eq m.name name then Some m.children else body_of name ms
 
 abbrev pub body_calls : Option Elements → Names
 body_calls None = []
@@ -55,7 +51,7 @@ IsFirstRing macros (Some i) = IsRingAt macros i × ((k : ℕ) → k < i → IsRi
 -- the place of the first macro of a name
 abbrev pub place_of : Name → List Macro → Option ℕ
 place_of name [] = None
-place_of name (m ∷ ms) = if name_eq m.name name then Some 0 else option_map (λ i. suc i) (place_of name ms)
+place_of name (m ∷ ms) = if bytes_eq m.name name then Some 0 else option_map (λ i. suc i) (place_of name ms)
 
 -- the places of the macros of these names, without the names that have none
 abbrev pub places_of : List Macro → Names → Places

@@ -1,27 +1,12 @@
 -- Adjacent texts of equal formatting, joined.
-use Rattle.std.specs.Prelude.{◌≡◌, Bool, true, false, cond, ◌&&◌, List, [], ◌∷◌, ◌++◌}
+use Rattle.std.specs.Prelude.{◌≡◌, Bool, true, false, cond, List, [], ◌∷◌, ◌++◌}
 use Rattle.csl_base.specs.Child.{Child, text, elem, markup, link, transparent, Kids, no_kids, kid, kids_of}
 use Rattle.csl_base.specs.declared.formatting.Formatting.{Formatting}
-use Rattle.csl_base.specs.declared.formatting.FontStyle.{FontStyle}
-use Rattle.csl_base.specs.declared.formatting.FontStyle.TheVariants as style
-use Rattle.csl_base.specs.declared.formatting.FontWeight.{FontWeight}
-use Rattle.csl_base.specs.declared.formatting.FontWeight.TheVariants as weight
+use Rattle.csl_base.specs.contracts.formatting.FormattingPartialEq.TheImpl as formatting_eq
 
--- equal slant
-abbrev pub same_style : FontStyle → FontStyle → Bool
-same_style style.Normal style.Normal = true
-same_style style.Italic style.Italic = true
-same_style _ _ = false
-
--- equal weight
-abbrev pub same_weight : FontWeight → FontWeight → Bool
-same_weight weight.Normal weight.Normal = true
-same_weight weight.Bold weight.Bold = true
-same_weight _ _ = false
-
--- equal formatting
+-- equal formatting, by its derived test
 abbrev pub same_formatting : Formatting → Formatting → Bool
-same_formatting a b = same_style a.font_style b.font_style && same_weight a.font_weight b.font_weight
+same_formatting = (formatting_eq.ghosts).eq
 
 -- two neighbours that are to be one: both are texts, of equal formatting
 abbrev pub joins : Child → Child → Bool

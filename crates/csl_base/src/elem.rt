@@ -11,6 +11,7 @@ use crate::taxonomy::NameVariable;
 use crate::text::Text;
 use std::alloc::{AllocError, Global};
 use std::fmt;
+use std::hash::{Hash, Hasher};
 use std::marker::Model;
 
 /// How a tree is written.
@@ -40,7 +41,7 @@ pub enum ElemMeta {
 pub struct ElemChildren(pub Vec<ElemChild>);
 
 /// A child of an element.
-#[derive(PartialEq, Eq, Drop)]
+#[derive(PartialEq, Eq, Hash, Drop)]
 #[cycle(tree)]
 pub enum ElemChild {
     /// A text in its formatting.
@@ -56,7 +57,7 @@ pub enum ElemChild {
 }
 
 /// An element: children, and how they are set off and what they stand for.
-#[derive(PartialEq, Eq, Drop)]
+#[derive(PartialEq, Eq, Hash, Drop)]
 #[cycle(tree)]
 pub struct Elem {
     pub children: ElemChildren,
@@ -218,8 +219,10 @@ impl ElemChild {
         }
     }
 
+    /// Whether there is something to see in this child: markup, a link, a `Transparent`, or a text that is
+    /// not all white space, at any depth.
     #[cycle(has_content)]
-    fn has_content(&self) -> bool
+    pub fn has_content(&self) -> bool
         ensures { result ≡ child_has_content (child_view self.now) }
     {
         match self {
@@ -250,6 +253,22 @@ impl Clone for ElemChildren {
     }
 }
 
+impl Clone for ElemChild {
+    ghost is_clone = { λ a b. b ≡ a };
+
+    fn clone(&self) -> Result<ElemChild, AllocError> {
+        copy_child(self)
+    }
+}
+
+impl Clone for Elem {
+    ghost is_clone = { λ a b. b ≡ a };
+
+    fn clone(&self) -> Result<Elem, AllocError> {
+        copy_elem(self)
+    }
+}
+
 #[cycle(copy)]
 fn copy_children(children: &ElemChildren) -> Result<ElemChildren, AllocError>
     ensures { IfOk result (λ c. c ≡ children.now) }
@@ -267,11 +286,7 @@ fn copy_child(child: &ElemChild) -> Result<ElemChild, AllocError>
 {
     match child {
         ElemChild::Text(f) => Ok(ElemChild::Text(f.clone()?)),
-        ElemChild::Elem(e) => Ok(ElemChild::Elem(Elem {
-            children: copy_children(&e.children)?,
-            display: e.display,
-            meta: e.meta.clone()?,
-        })),
+        ElemChild::Elem(e) => Ok(ElemChild::Elem(copy_elem(e)?)),
         ElemChild::Markup(s) => Ok(ElemChild::Markup(s.clone()?)),
         ElemChild::Link { text, url } => Ok(ElemChild::Link {
             text: text.clone()?,
@@ -282,6 +297,17 @@ fn copy_child(child: &ElemChild) -> Result<ElemChild, AllocError>
             format: *format,
         }),
     }
+}
+
+#[cycle(copy)]
+fn copy_elem(elem: &Elem) -> Result<Elem, AllocError>
+    ensures { IfOk result (λ e. e ≡ elem.now) }
+{
+    Ok(Elem {
+        children: copy_children(&elem.children)?,
+        display: elem.display,
+        meta: elem.meta.clone()?,
+    })
 }
 
 impl PartialEq for ElemChildren {
@@ -310,6 +336,40 @@ impl Eq for ElemChildren {
     ghost use Rattle.csl_base.specs.SameTree.{same_trees-laws};
 
     ghost laws = { same_trees-laws };
+}
+
+/// Feeds the texts in preorder: equal trees have equal texts.
+impl Hash for ElemChildren {
+    ghost use Rattle.csl_base.specs.TreeHash.{tree_fed, tree_fed-alike};
+
+    ghost hash_input = { tree_fed };
+
+    ghost respects_eq = { tree_fed-alike };
+
+    #[cycle(hash)]
+    fn hash<H: Hasher>(&self, state: &mut H) {
+        for child in &self.0 {
+            child.feed(state);
+        }
+    }
+}
+
+impl ElemChild {
+    ghost use Rattle.std.specs.Prelude.{fold};
+    ghost use Rattle.csl_base.specs.TreeHash.{child_fed};
+
+    #[cycle(hash)]
+    fn feed<H: Hasher>(&self, state: &mut H)
+        ensures { state.new ≡ fold H.write state.old (child_fed (child_view self.now)) }
+    {
+        match self {
+            ElemChild::Text(f) => f.text.hash(state),
+            ElemChild::Elem(e) => e.children.hash(state),
+            ElemChild::Markup(s) => s.hash(state),
+            ElemChild::Link { text, .. } => text.text.hash(state),
+            ElemChild::Transparent { .. } => {}
+        }
+    }
 }
 
 impl From<Formatted> for ElemChild {

@@ -3,6 +3,7 @@ ghost use Rattle.std.specs.Prelude.{◌≡◌, Bool, option_map};
 ghost use Rattle.std.specs.Borrow.{Bor};
 ghost use Rattle.std.specs.List.{find, position, position_or_len, remove};
 ghost use Rattle.csl_base.specs.ChildView.{child_view};
+ghost use Rattle.csl_base.specs.Elements.{child_elements, elements, IsFirstAccepted};
 ghost use Rattle.csl_base.specs.Tree.{find_elem, child_find};
 ghost use Rattle.csl_base.specs.Metas.{has_meta, child_has_any_meta};
 ghost use Rattle.csl_base.specs.declared.elem.Elem.{Elem};
@@ -12,10 +13,11 @@ use crate::elem::{Elem, ElemChild, ElemChildren, ElemMeta};
 impl ElemChildren {
     /// The first element in preorder that the test accepts: an element comes before those in it, and
     /// those in it before those after it. `None` where it accepts none. The test has to accept any
-    /// element as its argument; the answer is told for tests that answer equal elements alike.
+    /// element as its argument. `found` tells the answer of tests that answer equal elements alike.
     pub fn find_elem_by<F: Fn(&Elem) -> bool>(&self, test: F) -> Option<&Elem>
         requires { F.IsAlwaysCallable test }
-        ensures { (p : Elem → Bool) → ((e : Bor Elem) (b : Bool) → F.post test e b → b ≡ p e.now) → option_map (λ e. e.now) result ≡ find_elem p self.now }
+        ensures found { (p : Elem → Bool) → ((e : Bor Elem) (b : Bool) → F.post test e b → b ≡ p e.now) → option_map (λ e. e.now) result ≡ find_elem p self.now }
+        ensures accepted { IsFirstAccepted (F.post test) (elements self.now) (option_map (λ e. e.now) result) }
     {
         find_in_tree(self, &test)
     }
@@ -43,7 +45,8 @@ impl ElemChildren {
 #[cycle(find)]
 fn find_in_tree<'a, F: Fn(&Elem) -> bool>(tree: &'a ElemChildren, test: &F) -> Option<&'a Elem>
     requires { F.IsAlwaysCallable test.now }
-    ensures { (p : Elem → Bool) → ((e : Bor Elem) (b : Bool) → F.post test.now e b → b ≡ p e.now) → option_map (λ e. e.now) result ≡ find_elem p tree.now }
+    ensures found { (p : Elem → Bool) → ((e : Bor Elem) (b : Bool) → F.post test.now e b → b ≡ p e.now) → option_map (λ e. e.now) result ≡ find_elem p tree.now }
+    ensures accepted { IsFirstAccepted (F.post test.now) (elements tree.now) (option_map (λ e. e.now) result) }
 {
     for child in &tree.0 {
         if let Some(elem) = find_in_child(child, test) {
@@ -56,7 +59,8 @@ fn find_in_tree<'a, F: Fn(&Elem) -> bool>(tree: &'a ElemChildren, test: &F) -> O
 #[cycle(find)]
 fn find_in_child<'a, F: Fn(&Elem) -> bool>(child: &'a ElemChild, test: &F) -> Option<&'a Elem>
     requires { F.IsAlwaysCallable test.now }
-    ensures { (p : Elem → Bool) → ((e : Bor Elem) (b : Bool) → F.post test.now e b → b ≡ p e.now) → option_map (λ e. e.now) result ≡ child_find p (child_view child.now) }
+    ensures found { (p : Elem → Bool) → ((e : Bor Elem) (b : Bool) → F.post test.now e b → b ≡ p e.now) → option_map (λ e. e.now) result ≡ child_find p (child_view child.now) }
+    ensures accepted { IsFirstAccepted (F.post test.now) (child_elements (child_view child.now)) (option_map (λ e. e.now) result) }
 {
     match child {
         ElemChild::Elem(elem) => {

@@ -8,6 +8,7 @@ pub mod calls;
 pub mod elem;
 pub mod element;
 pub mod entry;
+pub mod equality;
 pub mod find;
 pub mod first_names;
 pub mod formatting;

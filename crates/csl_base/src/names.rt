@@ -2,7 +2,11 @@
 ghost use Rattle.std.specs.Prelude.{◌≡◌, option_map, slice_get};
 ghost use Rattle.std.specs.Borrow.{sem};
 ghost use Rattle.csl_base.specs.Forms.{written, add_name, LendsForm};
-ghost use Rattle.csl_base.specs.Ordered.{IsValueOrder, form_cmp, properties_cmp};
+ghost use Rattle.std.specs.Cmp.Lexicographic.{slice_cmp};
+ghost use Rattle.std.specs.Ordering.{nat_cmp};
+ghost use Rattle.csl_base.specs.Ordered.{IsValueOrder, extent, form_cmp, properties_cmp};
+ghost use Rattle.csl_base.specs.declared.names.DisambiguatedNameForm.{DisambiguatedNameForm};
+ghost use Rattle.csl_base.specs.declared.names.NameDisambiguationProperties.{NameDisambiguationProperties};
 
 use crate::seq::Seq;
 
@@ -60,10 +64,12 @@ impl NameDisambiguationProperties {
     }
 }
 
-/// A law: forms, and the forms of several names, are in a total order, in which only equal values
-/// are equal.
-#[tactic(auto, using(crate::proofs::Orders::properties_in_order))]
+/// A law: forms are ordered by how much of a name they write, and the forms of several names by the
+/// first that differs. Both are total orders, in which only equal values are equal.
+#[tactic(auto, using(crate::proofs::Orders::properties_in_order, crate::proofs::Orders::forms_by_extent))]
 pub fn forms_are_in_order()
+    ensures extents { (a : DisambiguatedNameForm) → (b : DisambiguatedNameForm) → form_cmp a b ≡ nat_cmp (extent a) (extent b) }
+    ensures first_difference { (a : NameDisambiguationProperties) → (b : NameDisambiguationProperties) → properties_cmp a b ≡ slice_cmp form_cmp a.forms b.forms }
     ensures forms { IsValueOrder form_cmp }
     ensures properties { IsValueOrder properties_cmp }
 {}

@@ -30,6 +30,27 @@ impl ElemChildren {
     }
 }
 
+/// Writes the plain text of this child and those inside it.
+impl fmt::Display for ElemChild {
+    ghost output = { λ child. Some (child_plain (child_view child)) };
+
+    fn fmt<W: fmt::Write>(&self, f: &mut fmt::Formatter<W>) -> fmt::Result {
+        print_child(self, f)
+    }
+}
+
+impl ElemChild {
+    /// Appends the plain text of this child and those inside it to `text`.
+    ///
+    /// Fails where memory is refused. What `text` holds then is not told.
+    pub fn write_plain(&self, text: &mut String) -> Result<(), AllocError>
+        ensures { OnOk result (string_bytes text.new ≡ string_bytes text.old ++ child_plain (child_view self.now)) }
+    {
+        write!(text, "{}", self)?;
+        Ok(())
+    }
+}
+
 #[cycle(print)]
 fn print_children<W: fmt::Write>(children: &ElemChildren, f: &mut fmt::Formatter<W>) -> fmt::Result
     ensures { WritesOnOk W.write_str_gives f.old result (plain children.now) f.new }

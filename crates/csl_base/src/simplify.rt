@@ -76,7 +76,9 @@ fn join_adjacent(children: &mut ElemChildren) -> Result<(), AllocError>
 }
 
 /// Adds a child at the end, joined to the last where both are texts of equal formatting.
-fn append(children: &mut ElemChildren, child: ElemChild) -> Result<(), AllocError>
+///
+/// Fails where memory is refused; the last child may be lost then.
+pub fn append(children: &mut ElemChildren, child: ElemChild) -> Result<(), AllocError>
     ensures { OnOk result (children.new ≡ join_last children.old (child_view child)) }
 {
     match children.0.pop() {

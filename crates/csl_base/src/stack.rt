@@ -1,7 +1,7 @@
 //! A stack that always has a bottom.
-ghost use Rattle.std.specs.Prelude.{◌≡◌, ◌+◌, ◌-◌, ◌<◌, List, [], ◌∷◌, ◌++◌, length, take, slice_get, Some, None, IfOk, IfSome, OnOk, OnErr, Bool, option_map, option_and_then};
+ghost use Rattle.std.specs.Prelude.{◌≡◌, ℕ, false, All, ◌+◌, ◌-◌, ◌<◌, List, [], ◌∷◌, ◌++◌, length, take, slice_get, Some, None, IfOk, IfSome, OnOk, OnErr, IfErr, Bool, option_map, option_and_then};
 ghost use Rattle.std.specs.Borrow.{sem};
-ghost use Rattle.csl_base.specs.Stack.{topmost, AnswersAs, LendsItem, LendsTopmost};
+ghost use Rattle.csl_base.specs.Stack.{topmost, AnswersAs, Gave, IsTopmostAccepted, LendsItem, LendsTopmost};
 
 use std::alloc::{AllocError, AllocFailed, Global};
 use std::marker::Model;
@@ -55,6 +55,7 @@ impl<T> NonEmptyStack<T> {
     pub fn push(&mut self, item: T) -> Result<(), AllocFailed<T>>
         ensures pushed { OnOk result (self.new ≡ self.old ++ item ∷ []) }
         ensures refused { OnErr result (self.new ≡ self.old) }
+        ensures handed_back { IfErr result (λ e. e.value ≡ item) }
     {
         self.items.push(item)
     }
@@ -62,9 +63,9 @@ impl<T> NonEmptyStack<T> {
     /// Takes the top off, if it isn't the bottom too. The last item stays.
     pub fn pop(&mut self) -> Option<T>
         ensures popped { IfSome result (λ item. self.old ≡ self.new ++ item ∷ []) }
-        ensures alone { result ≡ None → self.new ≡ self.old }
+        ensures bottom_stays { result ≡ None → self.new ≡ self.old }
         ensures never_empty { 0 < length self.new }
-        ensures bottom_stays { result ≡ None → length self.old ≡ 1 }
+        ensures alone { result ≡ None → length self.old ≡ 1 }
     {
         if self.items.len() == 1 {
             return None;
@@ -88,11 +89,14 @@ impl<T> NonEmptyStack<T> {
         &mut self.items[top]
     }
 
-    /// The topmost item that satisfies a test, for writing; none where no item does.
+    /// The topmost item that satisfies a test, for writing; none where no item does. The other items
+    /// stay as they are. The test is asked from the top down, until it accepts an item.
     pub fn last_mut_predicate<F: Fn(&T) -> bool>(&mut self, f: F) -> Option<&mut T>
         requires { F.IsAlwaysCallable f }
         ensures* writes_back { sem 𝓛 (LendsTopmost T.row (F.post f) self.entry result) }
         ensures value { (p : T → Bool) → AnswersAs (F.post f) p → option_map (λ x. x.now) result ≡ option_and_then (slice_get self.old) (topmost p self.old) }
+        ensures accepted { IfSome result (λ x. (i : ℕ) × IsTopmostAccepted (F.post f) self.old i × (slice_get self.old i ≡ Some x.now)) }
+        ensures refused { result ≡ None → All (Gave (F.post f) false) self.old }
     {
         match topmost(&self.items, &f) {
             Some(place) => Some(self.item_mut(place)),
@@ -100,8 +104,8 @@ impl<T> NonEmptyStack<T> {
         }
     }
 
-    // The item at a place, for writing.
-    fn item_mut(&mut self, place: usize) -> &mut T
+    /// The item at a place, counted from the bottom, for writing.
+    pub fn item_mut(&mut self, place: usize) -> &mut T
         requires { place < length self.old }
         ensures* writes_back { sem 𝓛 (LendsItem T.row self.entry place result) }
         ensures value { slice_get self.old place ≡ Some result.now }
@@ -143,6 +147,8 @@ fn topmost<T, F: Fn(&T) -> bool>(items: &Vec<T>, f: &F) -> Option<usize>
     requires { F.IsAlwaysCallable f.now }
     ensures exact { (p : T → Bool) → AnswersAs (F.post f.now) p → result ≡ topmost p items.now.items }
     ensures within { IfSome result (λ place. place < length items.now.items) }
+    ensures accepted { IfSome result (IsTopmostAccepted (F.post f.now) items.now.items) }
+    ensures refused { result ≡ None → All (Gave (F.post f.now) false) items.now.items }
 {
     let mut height = items.len();
     while height > 0 {

@@ -9,6 +9,13 @@ use std::alloc::AllocError;
 use std::hash::{Hash, Hasher};
 use std::marker::Model;
 
+/// Whether some character is not white space, as Unicode has it; an empty text has none.
+pub fn has_content(text: &str) -> bool
+    ensures { result ≡ text_has_content text.now }
+{
+    text.chars().any(|c| !c.is_whitespace())
+}
+
 /// A text, which contracts see as its bytes.
 #[derive(Drop)]
 pub struct Text(String);
@@ -45,7 +52,7 @@ impl Text {
     pub fn has_content(&self) -> bool
         ensures { result ≡ text_has_content self.now }
     {
-        self.0.as_str().chars().any(|c| !c.is_whitespace())
+        has_content(self.0.as_str())
     }
 
     /// Appends `s`.

@@ -1,18 +1,9 @@
 -- Requests as plain data: no capacity and no address is seen.
 use Rattle.std.specs.Prelude.{ℕ, ◌+◌, Bool, List, [], ◌∷◌, ◌++◌, Option, map}
 use Rattle.std.specs.List.{flat_map}
-use Rattle.csl_base.specs.declared.taxonomy.Locator.{Locator}
 use Rattle.csl_base.specs.Style.{StyleValue, LocaleValue}
-use Rattle.csl_driver.specs.declared.purpose.CitePurpose.{CitePurpose}
-
--- where a locator points: a text, or a payload of the caller's own
-pub data Payload (P : Type 0) : Type 0 where
-  text_payload : List ℕ → Payload P
-  own_payload : P → Payload P
-
-pub record LocatorValue (P : Type 0) : Type 0 where
-  pub kind : Locator
-  pub payload : Payload P
+use Rattle.csl_writing.specs.declared.purpose.CitePurpose.{CitePurpose}
+use Rattle.csl_writing.specs.Properties.{LocatorValue}
 
 -- a cite: what is cited and how, and the place that it had in its request
 pub record Cite (E P : Type 0) : Type 0 where

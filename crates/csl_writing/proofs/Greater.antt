@@ -1,5 +1,5 @@
 -- The greater of two values in a total order that tells all values apart.
-use Rattle.std.proofs.Common.{◌≡◌, ◌⊎◌, inl, inr, Bool, true, false, cond, sym, ap, ◌∙◌, refl, true≢false}
+use Rattle.std.proofs.Common.{◌≡◌, ◌⊎◌, inl, inr, false, cond, sym, ap, ◌∙◌, refl, true≢false}
 use Rattle.std.specs.Ordering.{ordering_reverse, is_gt, is_lt, ord_max}
 use Rattle.std.specs.declared.cmp.Ordering.{Ordering}
 use Rattle.std.specs.declared.cmp.Ordering.TheVariants.{Less, Equal, Greater}

@@ -1,6 +1,6 @@
 -- The order of states tells all states apart.
-use Rattle.std.proofs.Common.{◌≡◌, ℕ, cond, ◌==◌, sym, ap, ◌∙◌, refl, rules}
-use Rattle.std.specs.Ordering.{nat_cmp, ordering_then, MatchOrdering, on, then_cmp}
+use Rattle.std.proofs.Common.{◌≡◌, ℕ, cond, ◌==◌, sym, ◌∙◌, refl}
+use Rattle.std.specs.Ordering.{nat_cmp, ordering_then}
 use Rattle.std.specs.declared.cmp.Ordering.{Ordering}
 use Rattle.std.specs.declared.cmp.Ordering.TheVariants.{Less, Equal, Greater}
 use Rattle.std.proofs.lemmas.Cmp.{on_total, then_total, nat_cmp_total, ranked, tied_itself}

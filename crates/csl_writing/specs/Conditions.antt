@@ -11,7 +11,7 @@ use Rattle.csl_writing.specs.declared.notes.Notes.{Notes}
 use Rattle.csl_writing.specs.declared.state.DisambiguateState.{DisambiguateState}
 use Rattle.csl_writing.specs.declared.state.DisambiguateState.TheVariants as state
 use Rattle.csl_writing.specs.declared.state.IbidState.{IbidState}
-use Rattle.csl_writing.specs.Env.{Env}
+use Rattle.csl_writing.specs.Env.{Cite, Env}
 use Rattle.csl_writing.specs.Suffix.{suffix_of}
 
 abbrev pub is_choose : DisambiguateState → Bool
@@ -42,16 +42,16 @@ abbrev pub is_repeated_elsewhere : IbidState → Bool
 is_repeated_elsewhere IbidState.IbidWithLocator = true
 is_repeated_elsewhere _ = false
 
-abbrev pub is_at : Env → TestPosition → Bool
-is_at env TestPosition.First = env.cite.is_first
-is_at env TestPosition.Subsequent = not env.cite.is_first
-is_at env TestPosition.Ibid = is_repeated env.cite.ibid
-is_at env TestPosition.IbidWithLocator = is_repeated_elsewhere env.cite.ibid
-is_at env TestPosition.NearNote = env.cite.is_near_note
+abbrev pub is_at : Cite → TestPosition → Bool
+is_at cite TestPosition.First = cite.is_first
+is_at cite TestPosition.Subsequent = not cite.is_first
+is_at cite TestPosition.Ibid = is_repeated cite.ibid
+is_at cite TestPosition.IbidWithLocator = is_repeated_elsewhere cite.ibid
+is_at cite TestPosition.NearNote = cite.is_near_note
 
 abbrev pub holds : Env → Condition → Bool
 holds env Condition.Disambiguate = is_choose env.cite.state
-holds env (Condition.Position p) = is_at env p
+holds env (Condition.Position p) = is_at env.cite p
 holds env (Condition.Variable v) = has_variable env v
 
 abbrev pub some_holds : Env → List Condition → Bool

@@ -1,5 +1,7 @@
 -- The plain data that a picking reads.
-use Rattle.std.specs.Prelude.{List, option_map}
+use Rattle.std.specs.Prelude.{ℕ, List, Bool, Option, option_map}
+use Rattle.csl_base.specs.declared.taxonomy.Term.{Term}
+use Rattle.csl_base.specs.declared.taxonomy.TermForm.{TermForm}
 use Rattle.csl_base.specs.Answers.{Answers}
 use Rattle.csl_base.specs.Element.{Macro}
 use Rattle.csl_base.specs.ElementView.{options_view, macros_view}
@@ -27,12 +29,16 @@ cite_facts c = record {
   usage = c.usage;
 }
 
+-- the words of terms, for the cite
+abbrev pub term_for : Setting → Term → TermForm → Bool → Option (List ℕ)
+term_for s = term_of (lookup_view s.context) (option_map (λ l. l.kind) s.cite.locator)
+
 abbrev pub env_of : Answers → Setting → Env
 env_of answers s = record {
   answers = answers;
   cite = cite_facts s.cite;
   form = s.form;
-  term = term_of (lookup_view s.context) (option_map (λ l. l.kind) s.cite.locator);
+  term = term_for s;
   explicit_suffix = s.explicit_suffix;
   is_bibliography = s.is_bibliography;
   options = applied_options (options_view s.context.style.now.settings.options) (options_view s.layout_options.now);

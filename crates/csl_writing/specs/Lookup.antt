@@ -1,6 +1,6 @@
 -- Look-up in locales: which are asked, in which order, and what they answer.
-use Rattle.std.specs.Prelude.{ℕ, List, [], ◌∷◌, Bool, false, ◌&&◌, ◌==◌, Option, None, Some, find, option_and_then, option_to_list, unwrap_or, bytes_eq, codes, if◌then◌else◌}
-use Rattle.std.specs.List.{before_first, flat_map}
+use Rattle.std.specs.Prelude.{ℕ, List, [], ◌∷◌, ◌++◌, Bool, false, ◌&&◌, ◌==◌, Option, None, Some, find, option_and_then, option_to_list, unwrap_or, bytes_eq, codes, if◌then◌else◌}
+use Rattle.std.specs.List.{before_first}
 use Rattle.std.specs.Option.{option_or, option_eq}
 use Rattle.csl_base.specs.declared.taxonomy.Locator.{Locator}
 use Rattle.csl_base.specs.declared.taxonomy.NumberVariable.{NumberVariable}
@@ -54,18 +54,23 @@ primary_dialect code = first_value bytes_eq code primary_dialects
 abbrev pub locale_of : Option (List ℕ) → List LocaleValue → Option LocaleValue
 locale_of language = find (λ l. option_eq bytes_eq l.lang language)
 
+-- of the style's own locales those of the code, of its base language, and of no language are asked
+abbrev pub asked_own : Lookup → List LocaleValue
+asked_own k =
+    option_to_list (locale_of (Some k.code) k.own)
+    ++ option_to_list (locale_of (Some (base_language k.code)) k.own)
+    ++ option_to_list (locale_of None k.own)
+
+-- of the files those of the code, of its primary dialect, and of American English
+abbrev pub asked_files : Lookup → List LocaleValue
+asked_files k =
+    option_to_list (locale_of (Some k.code) k.files)
+    ++ option_to_list (option_and_then (λ dialect. locale_of (Some dialect) k.files) (primary_dialect k.code))
+    ++ option_to_list (locale_of (Some en_us) k.files)
+
 -- the locales that are asked, in their order
 abbrev pub asked : Lookup → List LocaleValue
-asked k =
-    flat_map option_to_list (
-    locale_of (Some k.code) k.own
-    ∷ locale_of (Some (base_language k.code)) k.own
-    ∷ locale_of None k.own
-    ∷ locale_of (Some k.code) k.files
-    ∷ option_and_then (λ dialect. locale_of (Some dialect) k.files) (primary_dialect k.code)
-    ∷ locale_of (Some en_us) k.files
-    ∷ []
-    )
+asked k = asked_own k ++ asked_files k
 
 -- the first answer along a list
 abbrev pub first_answer : {A R : Type 0} → (A → Option R) → List A → Option R
@@ -80,13 +85,20 @@ forms_from TermForm.Verb = TermForm.Verb ∷ TermForm.Long ∷ []
 forms_from TermForm.VerbShort = TermForm.VerbShort ∷ TermForm.Verb ∷ TermForm.Long ∷ []
 forms_from TermForm.Symbol = TermForm.Symbol ∷ TermForm.Short ∷ TermForm.Long ∷ []
 
--- the first term of a locale that has this name and form
-abbrev pub term_in : Term → TermForm → LocaleValue → Option TermValue
-term_in name form l = find (λ t. (term_eq.ghosts).eq t.name name && (form_eq.ghosts).eq t.form form) l.terms
+-- the term has this name and form
+abbrev pub is_term : Term → TermForm → TermValue → Bool
+is_term name form t = (term_eq.ghosts).eq t.name name && (form_eq.ghosts).eq t.form form
 
--- the first form for which the look-up finds the term decides
+-- the first such term of a locale
+abbrev pub term_in : Term → TermForm → LocaleValue → Option TermValue
+term_in name form l = find (is_term name form) l.terms
+
+-- the first of some forms for which the look-up finds the term decides
+abbrev pub found_along : Lookup → Term → List TermForm → Option TermValue
+found_along k name = first_answer (λ form. first_answer (term_in name form) (asked k))
+
 abbrev pub found_term : Lookup → Term → TermForm → Option TermValue
-found_term k name form = first_answer (λ f. first_answer (term_in name f) (asked k)) (forms_from form)
+found_term k name form = found_along k name (forms_from form)
 
 -- the locator variable means the term of what the cite's locator counts, where it has one
 abbrev pub term_meant : Option Locator → Term → Term

@@ -1,5 +1,5 @@
 -- What a part of a layout gives.
-use Rattle.std.specs.Prelude.{ℕ, List, [], ◌∷◌, ◌++◌, Bool, Option, Some, None}
+use Rattle.std.specs.Prelude.{ℕ, List, [], ◌∷◌, ◌++◌, Bool, true, false}
 use Rattle.csl_writing.specs.declared.notes.Called.{Called}
 use Rattle.csl_writing.specs.declared.notes.Notes.{Notes}
 use Rattle.csl_writing.specs.Notes.{joined}
@@ -24,10 +24,15 @@ without_content n = record { parts = []; called = Called.Empty; noted = n }
 abbrev pub followed : Picked → Picked → Picked
 followed a b = record { parts = a.parts ++ b.parts; called = joined a.called b.called; noted = b.noted }
 
+-- whether there are parts
+abbrev pub gives : List Part → Bool
+gives [] = false
+gives (p ∷ ps) = true
+
 -- a variable has content where it gives a part
-abbrev pub called_with : List Part → Called
-called_with [] = Called.Empty
-called_with (p ∷ ps) = Called.Filled
+abbrev pub called_with : Bool → Called
+called_with true = Called.Filled
+called_with false = Called.Empty
 
 -- a group gives nothing where it calls variables and none has content
 abbrev pub group_parts : Called → NodeValue → List Part → List Part

@@ -1,6 +1,6 @@
 -- What a layout picks: leaves, and nodes with parts inside. A part is written as an opening, what
 -- stands inside, and a closing.
-use Rattle.std.specs.Prelude.{ℕ, ℤ, List, [], ◌∷◌, ◌++◌, Bool, Option}
+use Rattle.std.specs.Prelude.{ℕ, ℤ, List, [], ◌∷◌, ◌++◌, Bool, Option, Some, None}
 use Rattle.csl_base.specs.declared.entry.ChunkedString.{ChunkedString}
 use Rattle.csl_base.specs.declared.elem.ElemMeta.{ElemMeta}
 use Rattle.csl_base.specs.Element.{Look}
@@ -62,3 +62,14 @@ tokens ps = parts_tokens (parts_of ps)
 abbrev pub node_of : NodeValue → List Part → List Part
 node_of node [] = []
 node_of node (p ∷ ps) = node_part node (parts_of (p ∷ ps)) ∷ []
+
+-- a leaf and a suffix behind it, where they are there
+abbrev pub leaves_of : Option LeafValue → Option ℕ → List Part
+leaves_of None None = []
+leaves_of None (Some n) = leaf_part (suffix_leaf n) ∷ []
+leaves_of (Some leaf) None = leaf_part leaf ∷ []
+leaves_of (Some leaf) (Some n) = leaf_part leaf ∷ leaf_part (suffix_leaf n) ∷ []
+
+-- the node of an element
+abbrev pub plain_node : Look → Bool → Bool → Option ElemMeta → NodeValue
+plain_node look quotes strip m = record { look = look; quotes = quotes; strip_periods = strip; delimiter = None; meta = m }

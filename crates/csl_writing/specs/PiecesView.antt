@@ -1,13 +1,14 @@
 -- The plain data that pieces stand for.
 use Rattle.std.specs.Prelude.{List, map, Option, None, Some, option_map}
 use Rattle.std.specs.Option.{option_map_or}
-use Rattle.csl_base.specs.Element.{Affix}
-use Rattle.csl_base.specs.ElementView.{affixes_view}
+use Rattle.csl_base.specs.Element.{Affix, Look}
+use Rattle.csl_base.specs.ElementView.{affixes_view, look}
 use Rattle.csl_writing.specs.declared.pieces.Leaf.{Leaf}
 use Rattle.csl_writing.specs.declared.pieces.Leaf.TheVariants as leaves
 use Rattle.csl_writing.specs.declared.pieces.Node.{Node}
 use Rattle.csl_writing.specs.declared.pieces.Piece.{Piece}
 use Rattle.csl_writing.specs.declared.pieces.Piece.TheVariants as pieces
+use Rattle.csl_writing.specs.declared.pieces.Shape.{Shape}
 use Rattle.csl_writing.specs.Pieces.{LeafValue, text_leaf, number_leaf, suffix_leaf, year_leaf, chunked_leaf, link_leaf, mark_leaf, NodeValue, Token, opening, leaf_token, closing}
 
 abbrev pub leaf_view : Leaf → LeafValue
@@ -27,7 +28,7 @@ no_affix = record { prefix = None; suffix = None }
 abbrev pub node_view : Node → NodeValue
 node_view node = record {
   look = record {
-    affixes = option_map_or (λ a. affixes_view a.now) no_affix node.affixes;
+    affixes = option_map_or (λ a. affixes_view a.now) node.affixes no_affix;
     formatting = node.formatting;
     display = node.display;
   };
@@ -44,3 +45,6 @@ token_of pieces.Close = closing
 
 abbrev pub tokens_of : List Piece → List Token
 tokens_of = map token_of
+
+abbrev pub shape_look : Shape → Look
+shape_look s = look s.affixes.now s.formatting s.display

@@ -1,5 +1,5 @@
 -- What texts, numbers and dates give (CSL 1.0.2, text, number, date).
-use Rattle.std.specs.Prelude.{ℕ, ◌+◌, List, [], ◌∷◌, ◌++◌, map, Bool, true, false, ◌||◌, ◌&&◌, Option, Some, None, option_map, unwrap_or, string_bytes}
+use Rattle.std.specs.Prelude.{ℕ, ◌+◌, List, [], ◌∷◌, ◌++◌, map, Bool, true, false, ◌||◌, ◌&&◌, Option, Some, None, option_map, option_and_then, unwrap_or, is_some, codes}
 use Rattle.std.specs.Bool.{if◌then◌else◌}
 use Rattle.std.specs.Option.{option_or}
 use Rattle.std.specs.List.{list_any}
@@ -7,6 +7,7 @@ use Rattle.csl_base.specs.declared.taxonomy.Variable.{Variable}
 use Rattle.csl_base.specs.declared.taxonomy.DateVariable.{DateVariable}
 use Rattle.csl_base.specs.declared.taxonomy.StandardVariable.TheVariants as standard
 use Rattle.csl_base.specs.declared.taxonomy.NumberVariable.TheVariants as number
+use Rattle.csl_base.specs.declared.taxonomy.Term.{Term}
 use Rattle.csl_base.specs.declared.taxonomy.Term.TheVariants as term
 use Rattle.csl_base.specs.declared.taxonomy.OtherTerm.{OtherTerm}
 use Rattle.csl_base.specs.declared.taxonomy.TermForm.{TermForm}
@@ -22,10 +23,11 @@ use Rattle.csl_base.specs.Element.{Look}
 use Rattle.csl_writing.specs.declared.notes.Form.{Form}
 use Rattle.csl_writing.specs.declared.notes.Notes.{Notes}
 use Rattle.csl_writing.specs.declared.state.IdentifierUsage.{IdentifierUsage}
-use Rattle.csl_writing.specs.Env.{Env, CiteLocator}
+use Rattle.csl_writing.specs.States.{with_label, with_number}
+use Rattle.csl_writing.specs.Env.{Cite, Env}
 use Rattle.csl_writing.specs.Suffix.{suffix_of, implicit_suffix}
-use Rattle.csl_writing.specs.Pieces.{LeafValue, text_leaf, number_leaf, suffix_leaf, year_leaf, chunked_leaf, link_leaf, mark_leaf, NodeValue, Part, leaf_part, node_of}
-use Rattle.csl_writing.specs.Picked.{Picked, nothing, without_content, called_with}
+use Rattle.csl_writing.specs.Pieces.{LeafValue, text_leaf, number_leaf, suffix_leaf, year_leaf, chunked_leaf, link_leaf, mark_leaf, Part, node_of, leaves_of, plain_node}
+use Rattle.csl_writing.specs.Picked.{Picked, nothing, without_content, gives, called_with}
 
 -- whether two variables are equal, by their derived test
 abbrev pub same_variable : Variable → Variable → Bool
@@ -65,9 +67,12 @@ chunked_leaves None = None
 chunked_leaves (Some t) = if list_any chunk_has_content t.0 then Some (chunked_leaf t) else None
 
 -- a locator of the caller's own is marked by the cite's place
-abbrev pub locator_leaf : Env → Option CiteLocator → Option LeafValue
-locator_leaf env None = None
-locator_leaf env (Some l) = elim l.text [ None ↦ Some (mark_leaf env.cite.initial_idx) | Some t ↦ text_leaves (Some t) ]
+abbrev pub marked_text : ℕ → Option (List ℕ) → Option LeafValue
+marked_text i None = Some (mark_leaf i)
+marked_text i (Some t) = text_leaves (Some t)
+
+abbrev pub locator_leaf : Cite → Option LeafValue
+locator_leaf cite = option_and_then (λ l. marked_text cite.initial_idx l.text) cite.locator
 
 -- what a variable's text or number gives; the printed number of a cite is one more
 abbrev pub variable_leaf : Env → Variable → Option LeafValue
@@ -76,14 +81,14 @@ variable_leaf env (Variable.Standard standard.Url) = option_map link_leaf (env.a
 variable_leaf env (Variable.Standard standard.CitationLabel) = text_leaves env.answers.label
 variable_leaf env (Variable.Standard v) = chunked_leaves (env.answers.text v)
 variable_leaf env (Variable.Number number.CitationNumber) = Some (number_leaf (env.cite.citation_number + 1))
-variable_leaf env (Variable.Number number.Locator) = locator_leaf env env.cite.locator
+variable_leaf env (Variable.Number number.Locator) = locator_leaf env.cite
 variable_leaf env (Variable.Number number.FirstReferenceNoteNumber) = option_map number_leaf env.cite.first_note_number
 variable_leaf env (Variable.Number v) = text_leaves (env.answers.number v)
 variable_leaf env _ = None
 
 -- the suffix behind a label that the entry has
 abbrev pub suffix_behind : Env → Variable → Notes → Option ℕ
-suffix_behind env (Variable.Standard standard.CitationLabel) n = elim env.answers.label [ None ↦ None | Some t ↦ implicit_suffix env n ]
+suffix_behind env (Variable.Standard standard.CitationLabel) n = if is_some env.answers.label then implicit_suffix env.explicit_suffix env.cite.state n else None
 suffix_behind env _ n = None
 
 abbrev pub variable_meta : Variable → Option ElemMeta
@@ -91,77 +96,53 @@ variable_meta (Variable.Standard standard.CitationLabel) = Some meta.CitationLab
 variable_meta (Variable.Number number.CitationNumber) = Some meta.CitationNumber
 variable_meta _ = None
 
--- a leaf and a suffix behind it, where they are there
-abbrev pub leaves_of : Option LeafValue → Option ℕ → List Part
-leaves_of None None = []
-leaves_of None (Some n) = leaf_part (suffix_leaf n) ∷ []
-leaves_of (Some leaf) None = leaf_part leaf ∷ []
-leaves_of (Some leaf) (Some n) = leaf_part leaf ∷ leaf_part (suffix_leaf n) ∷ []
-
--- behind a date or a label that gives a part
-abbrev pub dated : List Part → Notes → Notes
-dated [] n = n
-dated (p ∷ ps) n = record n { first_date = false }
-
-abbrev pub with_label : IdentifierUsage → IdentifierUsage
-with_label IdentifierUsage.None = IdentifierUsage.OnlyCitationLabel
-with_label IdentifierUsage.OnlyCitationLabel = IdentifierUsage.OnlyCitationLabel
-with_label _ = IdentifierUsage.Mixed
-
-abbrev pub with_number : IdentifierUsage → IdentifierUsage
-with_number IdentifierUsage.None = IdentifierUsage.OnlyCitationNumber
-with_number IdentifierUsage.OnlyCitationNumber = IdentifierUsage.OnlyCitationNumber
-with_number _ = IdentifierUsage.Mixed
+-- behind a date or a label, which may give a part
+abbrev pub dated : Bool → Notes → Notes
+dated true n = record n { first_date = false }
+dated false n = n
 
 -- a label or a number that is reached in a form that writes it is noted, but in the bibliography
-abbrev pub noted_use : Env → Variable → Notes → Notes
-noted_use env (Variable.Standard standard.CitationLabel) n = if env.is_bibliography then n else record n { usage = with_label n.usage }
-noted_use env (Variable.Number number.CitationNumber) n = if env.is_bibliography then n else record n { usage = with_number n.usage }
-noted_use env _ n = n
+abbrev pub noted_use : Bool → Variable → Notes → Notes
+noted_use in_bibliography (Variable.Standard standard.CitationLabel) n = if in_bibliography then n else record n { usage = with_label n.usage }
+noted_use in_bibliography (Variable.Number number.CitationNumber) n = if in_bibliography then n else record n { usage = with_number n.usage }
+noted_use in_bibliography _ n = n
 
--- what is noted behind a variable that is written
-abbrev pub noted_behind : Env → Variable → List Part → Notes → Notes
-noted_behind env (Variable.Standard standard.CitationLabel) ps n = dated ps (noted_use env (Variable.Standard standard.CitationLabel) n)
-noted_behind env v ps n = noted_use env v n
+-- what is noted behind a variable that is written, and may give a part
+abbrev pub noted_behind : Bool → Variable → Bool → Notes → Notes
+noted_behind in_bibliography (Variable.Standard standard.CitationLabel) given n = dated given (noted_use in_bibliography (Variable.Standard standard.CitationLabel) n)
+noted_behind in_bibliography v given n = noted_use in_bibliography v n
 
 -- in the bibliography the label stands for the number where only the label was used, and the
 -- number for the label where only the number was
-abbrev pub meant : Env → Variable → Variable
-meant env v = if env.is_bibliography then swapped env.cite.usage v else v where
-  swapped : IdentifierUsage → Variable → Variable
-  swapped IdentifierUsage.OnlyCitationNumber (Variable.Standard standard.CitationLabel) = Variable.Number number.CitationNumber
-  swapped IdentifierUsage.OnlyCitationLabel (Variable.Number number.CitationNumber) = Variable.Standard standard.CitationLabel
-  swapped usage v = v
-
--- the node of an element
-abbrev pub plain_node : Look → Bool → Bool → Option ElemMeta → NodeValue
-plain_node look quotes strip m = record { look = look; quotes = quotes; strip_periods = strip; delimiter = None; meta = m }
+abbrev pub meant : Bool → IdentifierUsage → Variable → Variable
+meant true IdentifierUsage.OnlyCitationNumber (Variable.Standard standard.CitationLabel) = Variable.Number number.CitationNumber
+meant true IdentifierUsage.OnlyCitationLabel (Variable.Number number.CitationNumber) = Variable.Standard standard.CitationLabel
+meant in_bibliography usage v = v
 
 -- a text or a number of a variable
 abbrev pub pick_variable : Env → Variable → Look → Bool → Bool → Notes → Picked
 pick_variable env v look quotes strip n =
     if writes env.form v
     then (let ps = node_of (plain_node look quotes strip (variable_meta v)) (leaves_of (variable_leaf env v) (suffix_behind env v n)) in
-      record { parts = ps; called = called_with ps; noted = noted_behind env v ps n })
+    record { parts = ps; called = called_with (gives ps); noted = noted_behind env.is_bibliography v (gives ps) n })
     else without_content n
 
 -- a text that names no variable
-abbrev pub pick_words : Env → Option (List ℕ) → Look → Bool → Bool → Notes → Picked
-pick_words env words look quotes strip n =
-    if is_plain env.form
+abbrev pub pick_words : Form → Option (List ℕ) → Look → Bool → Bool → Notes → Picked
+pick_words form words look quotes strip n =
+    if is_plain form
     then record (nothing n) { parts = node_of (plain_node look quotes strip None) (leaves_of (text_leaves words) None) }
     else nothing n
 
 -- a term in its long form, or other words where no locale has it
-abbrev pub words_for : Env → OtherTerm → List ℕ → List ℕ
-words_for env t words = unwrap_or (env.term (term.Other t) TermForm.Long false) words
+abbrev pub words_for : (Term → TermForm → Bool → Option (List ℕ)) → OtherTerm → List ℕ → List ℕ
+words_for found t words = unwrap_or (found (term.Other t) TermForm.Long false) words
 
--- ` AD` and ` BC`
 abbrev pub ad_words : Env → List ℕ
-ad_words env = words_for env OtherTerm.Ad (32 ∷ 65 ∷ 68 ∷ [])
+ad_words env = words_for env.term OtherTerm.Ad (codes " AD")
 
 abbrev pub bc_words : Env → List ℕ
-bc_words env = words_for env OtherTerm.Bc (32 ∷ 66 ∷ 67 ∷ [])
+bc_words env = words_for env.term OtherTerm.Bc (codes " BC")
 
 -- whether the year of a date is written
 abbrev pub writes_year : Form → DateVariable → Notes → Bool
@@ -179,10 +160,10 @@ writes_suffix_alone _ = false
 abbrev pub date_leaves : Env → DateVariable → Option Date → Notes → List Part
 date_leaves env v None n = []
 date_leaves env v (Some d) n =
-    if writes_year env.form v n then leaves_of (Some (year_leaf d.year (ad_words env) (bc_words env))) (implicit_suffix env n)
-    else (if writes_suffix_alone env.form then leaves_of None (implicit_suffix env n) else [])
+    if writes_year env.form v n then leaves_of (Some (year_leaf d.year (ad_words env) (bc_words env))) (implicit_suffix env.explicit_suffix env.cite.state n)
+    else (if writes_suffix_alone env.form then leaves_of None (implicit_suffix env.explicit_suffix env.cite.state n) else [])
 
-abbrev pub pick_date : Env → DateVariable → Look → Notes → Picked
-pick_date env v look n =
-    let ps = node_of (plain_node look false false (Some meta.Date)) (date_leaves env v (env.answers.date v) n) in
-    record { parts = ps; called = called_with ps; noted = dated ps n }
+abbrev pub pick_date : Env → DateVariable → Look → Bool → Bool → Notes → Picked
+pick_date env v look quotes strip n =
+    let ps = node_of (plain_node look quotes strip (Some meta.Date)) (date_leaves env v (env.answers.date v) n) in
+    record { parts = ps; called = called_with (gives ps); noted = dated (gives ps) n }

@@ -44,6 +44,7 @@ pub(crate) struct Setting<'a> {
 }
 
 /// What a picking reads.
+#[derive(Drop)]
 pub(crate) struct Input<'a, T> {
     pub(crate) entry: &'a T,
     pub(crate) setting: Setting<'a>,

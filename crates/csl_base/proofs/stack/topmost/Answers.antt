@@ -1,6 +1,8 @@
-use Rattle.std.proofs.Common.{◌≡◌, ◌+◌, ◌-◌, ◌<◌, ◌∙◌, length, take, sym, ap, arith}
-use Rattle.csl_base.specs.Stack.{topmost}
-use Rattle.csl_base.proofs.Tops.{topmost_here, topmost_below}
+use Rattle.std.proofs.Common.{◌≡◌, ◌+◌, ◌-◌, ◌<◌, ◌∙◌, length, take, drop, false, refl, subst, sym, ap, arith}
+use Rattle.std.specs.List.{All}
+use Rattle.csl_base.specs.Stack.{topmost, Gave}
+use Rattle.csl_base.proofs.Tops.{topmost_here, topmost_below, refused_below, accepted_here}
+use Rattle.csl_base.proofs.stack.topmost.Given as given
 use Rattle.csl_base.proofs.stack.topmost.Goals as goal
 
 pub returns-then-f-clause-exact : goal.returns-then-f-clause-exact
@@ -18,7 +20,24 @@ loop-height-preserved g c =
     let xs = c.args.items.now.items in
     let i = l.height - 1 in
     let up : i + 1 ≡ l.height = omega (arith, c.loop-height-test.true) in
+    let gives = given.F-post g c.args.f.now in
     let lt : i < length xs = omega (arith, l.invariant.0, c.loop-height-test.true) in (
       omega (arith, lt),
       λ p k. sym (topmost_below p xs i c.index.result.now lt c.index.ensures (sym (k _ _ c.f.ensures) ∙ c.if-f.false)) ∙ ap (λ n. topmost p (take n xs)) up ∙ l.invariant.1 p k,
+      refused_below gives xs i l.height c.index.result.now up lt c.index.ensures (_, refl, subst (gives _) c.if-f.false c.f.ensures) l.invariant.2,
     )
+
+pub returns-then-f-clause-accepted : goal.returns-then-f-clause-accepted
+returns-then-f-clause-accepted g c =
+    let l = c.loop-height in
+    let gives = given.F-post g c.args.f.now in
+    let xs = c.args.items.now.items in
+    let i = l.height - 1 in
+    let up : i + 1 ≡ l.height = omega (arith, c.loop-height-test.true) in
+    let lt : i < length xs = omega (arith, l.invariant.0, c.loop-height-test.true) in
+    accepted_here gives xs i l.height c.index.result.now up lt c.index.ensures (_, refl, subst (gives _) c.if-f.true c.f.ensures) l.invariant.2
+
+pub returns-clause-refused : goal.returns-clause-refused
+returns-clause-refused g c =
+    λ none. let bottom : c.loop-height.height ≡ 0 = omega (arith, c.loop-height-test.false) in
+    subst (λ n. All (Gave (given.F-post g c.args.f.now) false) (drop n c.args.items.now.items)) bottom c.loop-height.invariant.2

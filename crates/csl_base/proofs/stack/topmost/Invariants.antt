@@ -1,11 +1,13 @@
-use Rattle.std.proofs.Common.{◌≡◌, ◌≤◌, Bool, take, length}
-use Rattle.csl_base.specs.Stack.{topmost, AnswersAs}
+use Rattle.std.proofs.Common.{◌≡◌, ◌≤◌, Bool, false, take, drop, length}
+use Rattle.std.specs.List.{All}
+use Rattle.csl_base.specs.Stack.{topmost, AnswersAs, Gave}
 use Rattle.csl_base.proofs.stack.topmost.Given as goal
 
 abbrev pub invariant-loop-height : goal.invariant-loop-height
 invariant-loop-height g l =
     (l.height ≤ length l.items.items)
     × ((p : g.row.T.Denot → Bool) → AnswersAs (goal.F-post g l.f) p → topmost p (take l.height l.items.items) ≡ topmost p l.items.items)
+    × All (Gave (goal.F-post g l.f) false) (drop l.height l.items.items)
 
 abbrev pub decreases-loop-height : goal.decreases-loop-height
 decreases-loop-height g l = l.height

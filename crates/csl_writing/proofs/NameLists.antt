@@ -1,0 +1,84 @@
+-- Lists of names, and the macros that a list leaves.
+use Rattle.std.proofs.Common.{◌≡◌, ℕ, ◌+◌, ◌≤◌, List, [], ◌∷◌, ◌++◌, length, Bool, true, false, ◌||◌, cond, Some, is_some, ◌⊎◌, inl, inr, sym, ap, ◌∙◌, refl, arith}
+use Rattle.std.specs.Prelude.{bytes_eq}
+use Rattle.std.specs.Cmp.Lexicographic.{same_text}
+use Rattle.std.proofs.lemmas.Cmp.{nat_list_eq_equiv}
+use Rattle.csl_base.specs.Element.{Name, Macro}
+use Rattle.csl_base.specs.Calls.{Names}
+use Rattle.csl_base.specs.Ring.{has_name, body_of}
+
+pub or-left : (b c : Bool) → b ≡ true → (b || c) ≡ true
+or-left true c e = refl
+or-left false c e = cc
+
+pub or-right : (b c : Bool) → c ≡ true → (b || c) ≡ true
+or-right true c e = refl
+or-right false c e = e
+
+pub or-either : (b c : Bool) → (b || c) ≡ true → (b ≡ true) ⊎ (c ≡ true)
+or-either true c e = inl refl
+or-either false c e = inr e
+
+pub has_name-left : (a : Name) (xs ys : Names) → has_name a xs ≡ true → has_name a (xs ++ ys) ≡ true
+has_name-left a [] ys e = cc
+has_name-left a (x ∷ xs) ys e =
+    elim (or-either (bytes_eq x a) _ e) [ inl h ↦ or-left _ _ h | inr h ↦ or-right (bytes_eq x a) _ (has_name-left a xs ys h) ]
+
+pub has_name-right : (a : Name) (xs ys : Names) → has_name a ys ≡ true → has_name a (xs ++ ys) ≡ true
+has_name-right a [] ys e = e
+has_name-right a (x ∷ xs) ys e = or-right (bytes_eq x a) _ (has_name-right a xs ys e)
+
+pub has_name-either : (a : Name) (xs ys : Names) → has_name a (xs ++ ys) ≡ true → (has_name a xs ≡ true) ⊎ (has_name a ys ≡ true)
+has_name-either a [] ys e = inr e
+has_name-either a (x ∷ xs) ys e =
+    elim (or-either (bytes_eq x a) _ e) [
+      | inl h ↦ inl (or-left _ _ h)
+      | inr h ↦ elim (has_name-either a xs ys h) [ inl k ↦ inl (or-right (bytes_eq x a) _ k) | inr k ↦ inr k ]
+    ]
+
+pub has_name-one : (a : Name) → has_name a (a ∷ []) ≡ true
+has_name-one a = or-left (bytes_eq a a) false (nat_list_eq_equiv.refl a)
+
+pub has_name-same : (a b : Name) → has_name a (b ∷ []) ≡ true → b ≡ a
+has_name-same a b e = elim (or-either (bytes_eq b a) false e) [ inl h ↦ same_text b a (sym h) | inr h ↦ cc ]
+
+abbrev one_unless : Bool → ℕ
+one_unless true = 0
+one_unless false = 1
+
+-- how many macros are not of these names
+abbrev pub left : Names → List Macro → ℕ
+left names [] = 0
+left names (m ∷ ms) = one_unless (has_name m.name names) + left names ms
+
+-- more names leave fewer macros
+pub left-le : (xs ys : Names) (ms : List Macro) → ((b : Name) → has_name b xs ≡ true → has_name b ys ≡ true) → left ys ms ≤ left xs ms
+left-le xs ys [] h = omega arith
+left-le xs ys (m ∷ ms) h =
+    let here : (b c : Bool) → (b ≡ true → c ≡ true) → one_unless c ≤ one_unless b = λ b c.
+    elim b as (λ b. (b ≡ true → c ≡ true) → one_unless c ≤ one_unless b) [
+      | true ↦ λ k. omega (arith, ap one_unless (k refl))
+      | false ↦ λ _. elim c as (λ c. one_unless c ≤ 1) [ true ↦ omega arith | false ↦ omega arith ]
+    ] in
+    omega (arith, left-le xs ys ms h, here (has_name m.name xs) (has_name m.name ys) (h m.name))
+
+-- and a new one that has a macro leaves less
+pub left-lt : (a : Name) (xs ys : Names) (ms : List Macro) → is_some (body_of a ms) ≡ true → has_name a xs ≡ false → ((b : Name) → has_name b xs ≡ true → has_name b ys ≡ true) → has_name a ys ≡ true → left ys ms + 1 ≤ left xs ms
+left-lt a xs ys [] e out h in_ys = cc
+left-lt a xs ys (m ∷ ms) e out h in_ys =
+    let n = m.name in
+    let by : (b : Bool) → b ≡ bytes_eq n a → is_some (cond b (Some m.children) (body_of a ms)) ≡ true → left ys (m ∷ ms) + 1 ≤ left xs (m ∷ ms) = λ b.
+    elim b as (λ b. b ≡ bytes_eq n a → is_some (cond b (Some m.children) (body_of a ms)) ≡ true → left ys (m ∷ ms) + 1 ≤ left xs (m ∷ ms)) [
+      | true ↦ λ q _.
+          let same : n ≡ a = same_text n a q in
+          let was : has_name n xs ≡ false = ap (λ x. has_name x xs) same ∙ out in
+          let is : has_name n ys ≡ true = ap (λ x. has_name x ys) same ∙ in_ys in
+          omega (arith, left-le xs ys ms h, ap one_unless was, ap one_unless is)
+      | false ↦ λ _ k.
+          omega (arith, left-lt a xs ys ms k out h in_ys, left-le xs ys (m ∷ []) h)
+    ] in
+    by (bytes_eq n a) refl e
+
+pub left-empty : (ms : List Macro) → left [] ms ≡ length ms
+left-empty [] = refl
+left-empty (m ∷ ms) = omega (arith, left-empty ms)

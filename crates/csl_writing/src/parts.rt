@@ -1,0 +1,315 @@
+//! Writing of what a layout picks.
+ghost use Rattle.std.specs.Prelude.{◌≡◌, ◌+◌, OnOk, IfOk, length, option_map, if◌then◌else◌, string_bytes, List, true, false};
+ghost use Rattle.std.specs.Fmt.{decimal};
+ghost use Rattle.csl_writing.specs.SourceView.{lookup_view};
+ghost use Rattle.csl_writing.specs.Pieces.{Part, tokens};
+ghost use Rattle.csl_writing.specs.PiecesView.{leaf_view, node_view, token_of, tokens_of};
+ghost use Rattle.csl_writing.specs.WritingState.{state};
+ghost use Rattle.csl_writing.specs.Wording.{quotes_opened, quotes_closed, pulling_if_asked, linked, joined_values};
+ghost use Rattle.csl_writing.specs.PartsWritten.{leaf_written, node_begun, node_ended, delimiter_pushed, parts_written};
+ghost use Rattle.csl_writing.specs.PieceRun.{innermost, delimiter_of, separated, after_leaf, after_opening, closed_run, after_token, after_tokens};
+ghost use Rattle.csl_writing.specs.OpenNodes.{open_view, open_views, IsNested, run_of};
+
+use crate::lookup::StyleContext;
+use crate::open_node::OpenNode;
+use crate::pieces::{Leaf, Node, Piece};
+use crate::wording::{
+    apply_suffix, joined_values, may_pull_punctuation, pop_quotes, push_chunked, push_link,
+    push_quotes, push_str, push_transparent,
+};
+use crate::writing::{WritingContext, text_of};
+use crate::year::{letters_of_suffix, year_in_words};
+use csl_base::entry::ChunkedString;
+use std::alloc::{AllocError, Global};
+
+fn prefix_of<'a>(node: &Node<'a>) -> Option<&'a str>
+    ensures { option_map (λ s. s.now) result ≡ (node_view node.now).look.affixes.prefix }
+{
+    match node.affixes {
+        Some(affixes) => text_of(&affixes.prefix),
+        None => None,
+    }
+}
+
+fn suffix_of<'a>(node: &Node<'a>) -> Option<&'a str>
+    ensures { option_map (λ s. s.now) result ≡ (node_view node.now).look.affixes.suffix }
+{
+    match node.affixes {
+        Some(affixes) => text_of(&affixes.suffix),
+        None => None,
+    }
+}
+
+fn open_quotes(
+    style: &StyleContext<'_>,
+    writing: &mut WritingContext<'_>,
+    asked: bool,
+) -> Result<(), AllocError>
+    ensures done { OnOk result (state writing.new ≡ (if asked then quotes_opened (lookup_view style.now) (state writing.old) else state writing.old)) }
+    ensures height { length (state writing.new).frames ≡ length (state writing.old).frames }
+{
+    if asked {
+        return push_quotes(style, writing);
+    }
+    Ok(())
+}
+
+fn close_quotes(
+    style: &StyleContext<'_>,
+    writing: &mut WritingContext<'_>,
+    asked: bool,
+) -> Result<(), AllocError>
+    ensures done { OnOk result (state writing.new ≡ (if asked then pulling_if_asked (lookup_view style.now) (quotes_closed (lookup_view style.now) (state writing.old)) else state writing.old)) }
+    ensures height { length (state writing.new).frames ≡ length (state writing.old).frames }
+{
+    if asked {
+        pop_quotes(style, writing)?;
+        may_pull_punctuation(style, writing);
+    }
+    Ok(())
+}
+
+// What comes before the parts of a node.
+#[tactic(auto, unfolding(crate::specs::PartsWritten::node_begun))]
+fn begin_node<'a>(
+    style: &StyleContext<'_>,
+    writing: &mut WritingContext<'_>,
+    node: Node<'a>,
+) -> Result<OpenNode<'a>, AllocError>
+    ensures done { OnOk result (state writing.new ≡ node_begun (lookup_view style.now) (node_view node.entry) (state writing.old)) }
+    ensures node { IfOk result (λ begun. open_view begun ≡ record { node = node_view node.entry; formats = length (state writing.old).formats }) }
+    ensures frame { IfOk result (λ begun. begun.prefix.0.frames ≡ length (state writing.old).frames) }
+    ensures height { OnOk result (length (state writing.new).frames ≡ length (state writing.old).frames + 2) }
+{
+    let prefix = writing.begin_prefix(prefix_of(&node))?;
+    let elem = writing.push_elem(node.formatting)?;
+    open_quotes(style, writing, node.quotes)?;
+    writing.may_strip_periods(node.strip_periods);
+    Ok(OpenNode { node, prefix, elem })
+}
+
+// What comes behind the parts of a node.
+#[tactic(auto, unfolding(crate::specs::PartsWritten::node_ended))]
+fn end_node(
+    style: &StyleContext<'_>,
+    writing: &mut WritingContext<'_>,
+    ended: OpenNode<'_>,
+) -> Result<(), AllocError>
+    requires { ended.elem.frames + 1 ≡ length (state writing.old).frames }
+    ensures done { OnOk result (state writing.new ≡ node_ended (lookup_view style.now) (node_view ended.entry.node) ended.entry.elem.formats (state writing.old)) }
+    ensures height { OnOk result (length (state writing.new).frames ≡ ended.entry.prefix.0.frames) }
+{
+    let OpenNode { node, prefix, elem } = ended;
+    let suffix = suffix_of(&node);
+    if node.strip_periods {
+        writing.stop_stripping_periods();
+    }
+    close_quotes(style, writing, node.quotes)?;
+    writing.commit_elem(elem, node.display, node.meta)?;
+    apply_suffix(style, writing, suffix, prefix)
+}
+
+// A number is wider than any that is counted, so that one more can be printed.
+fn decimal_text(alloc: Global, number: u128) -> Result<String, AllocError>
+    ensures { IfOk result (λ text. string_bytes text ≡ decimal number) }
+{
+    format!(in alloc; "{number}")
+}
+
+fn push_link_to_itself(
+    writing: &mut WritingContext<'_>,
+    text: &ChunkedString,
+) -> Result<(), AllocError>
+    ensures done { OnOk result (state writing.new ≡ linked text.now.0 (joined_values text.now.0) (state writing.old)) }
+    ensures height { length (state writing.new).frames ≡ length (state writing.old).frames }
+{
+    let url = joined_values(writing.alloc(), text)?;
+    push_link(writing, text, url)
+}
+
+#[tactic(auto, unfolding(crate::specs::PartsWritten::leaf_written))]
+fn push_leaf(
+    style: &StyleContext<'_>,
+    writing: &mut WritingContext<'_>,
+    leaf: &Leaf<'_>,
+) -> Result<(), AllocError>
+    ensures done { OnOk result (state writing.new ≡ leaf_written (lookup_view style.now) (leaf_view leaf.now) (state writing.old)) }
+    ensures height { length (state writing.new).frames ≡ length (state writing.old).frames }
+{
+    let alloc = writing.alloc();
+    match leaf {
+        Leaf::Text(text) => push_str(style, writing, text),
+        Leaf::Owned(text) => push_str(style, writing, text.as_str()),
+        Leaf::Number(number) => {
+            let text = decimal_text(alloc, *number)?;
+            push_str(style, writing, text.as_str())
+        }
+        Leaf::Suffix(suffix) => {
+            let text = letters_of_suffix(alloc, *suffix)?;
+            push_str(style, writing, text.as_str())
+        }
+        Leaf::Year { year, ad, bc } => {
+            let text = year_in_words(alloc, *year, false, ad, bc)?;
+            push_str(style, writing, text.as_str())
+        }
+        Leaf::Chunked(text) => push_chunked(style, writing, text),
+        Leaf::Link(text) => push_link_to_itself(writing, text),
+        Leaf::Mark(cite) => push_transparent(writing, *cite),
+    }
+}
+
+#[tactic(auto, unfolding(crate::specs::PartsWritten::delimiter_pushed))]
+fn push_delimiter(
+    style: &StyleContext<'_>,
+    writing: &mut WritingContext<'_>,
+    delimiter: Option<&str>,
+) -> Result<(), AllocError>
+    ensures done { OnOk result (state writing.new ≡ delimiter_pushed (lookup_view style.now) (option_map (λ s. s.now) delimiter.entry) (state writing.old)) }
+    ensures height { length (state writing.new).frames ≡ length (state writing.old).frames }
+{
+    match delimiter {
+        Some(delimiter) => push_str(style, writing, delimiter),
+        None => Ok(()),
+    }
+}
+
+// What stands between two parts of the innermost node.
+fn innermost_delimiter<'a>(nodes: &[OpenNode<'a>]) -> Option<&'a str>
+    ensures { option_map (λ s. s.now) result ≡ delimiter_of (open_views nodes.now) }
+{
+    match nodes.last() {
+        Some(innermost) => innermost.node.delimiter,
+        None => None,
+    }
+}
+
+// Writes the delimiter of the innermost node, where a part stands before.
+#[tactic(auto, unfolding(crate::specs::PieceRun::separated, crate::specs::PartsWritten::delimiter_pushed))]
+fn separate(
+    style: &StyleContext<'_>,
+    writing: &mut WritingContext<'_>,
+    nodes: &[OpenNode<'_>],
+    after_part: bool,
+) -> Result<(), AllocError>
+    ensures done { OnOk result (state writing.new ≡ separated (lookup_view style.now) (run_of nodes.now after_part writing.old)) }
+    ensures height { length (state writing.new).frames ≡ length (state writing.old).frames }
+{
+    if after_part {
+        return push_delimiter(style, writing, innermost_delimiter(nodes));
+    }
+    Ok(())
+}
+
+#[tactic(auto, unfolding(crate::specs::PieceRun::after_leaf))]
+fn write_leaf(
+    style: &StyleContext<'_>,
+    writing: &mut WritingContext<'_>,
+    nodes: &[OpenNode<'_>],
+    after_part: bool,
+    leaf: &Leaf<'_>,
+) -> Result<(), AllocError>
+    ensures done { OnOk result (run_of nodes.now true writing.new ≡ after_leaf (lookup_view style.now) (leaf_view leaf.now) (run_of nodes.now after_part writing.old)) }
+    ensures height { length (state writing.new).frames ≡ length (state writing.old).frames }
+{
+    separate(style, writing, nodes, after_part)?;
+    push_leaf(style, writing, leaf)
+}
+
+#[tactic(auto, unfolding(crate::specs::PieceRun::after_opening))]
+fn open_node<'a>(
+    style: &StyleContext<'_>,
+    writing: &mut WritingContext<'_>,
+    nodes: &mut Vec<OpenNode<'a>>,
+    after_part: bool,
+    node: Node<'a>,
+) -> Result<(), AllocError>
+    requires { IsNested nodes.old.items (length (state writing.old).frames) }
+    ensures done { OnOk result (run_of nodes.new.items false writing.new ≡ after_opening (lookup_view style.now) (node_view node.entry) (run_of nodes.old.items after_part writing.old)) }
+    ensures nested { OnOk result (IsNested nodes.new.items (length (state writing.new).frames)) }
+{
+    separate(style, writing, nodes, after_part)?;
+    let begun = begin_node(style, writing, node)?;
+    nodes.push(begun)?;
+    Ok(())
+}
+
+// A closing without an opening writes nothing.
+#[tactic(auto, unfolding(crate::specs::PieceRun::closed_run))]
+fn close_node(
+    style: &StyleContext<'_>,
+    writing: &mut WritingContext<'_>,
+    nodes: &mut Vec<OpenNode<'_>>,
+    after_part: bool,
+) -> Result<(), AllocError>
+    requires { IsNested nodes.old.items (length (state writing.old).frames) }
+    ensures done { OnOk result (run_of nodes.new.items true writing.new ≡ closed_run (lookup_view style.now) (innermost (open_views nodes.old.items)) (run_of nodes.old.items after_part writing.old)) }
+    ensures nested { OnOk result (IsNested nodes.new.items (length (state writing.new).frames)) }
+{
+    match nodes.pop() {
+        Some(ended) => end_node(style, writing, ended),
+        None => Ok(()),
+    }
+}
+
+// Writes one piece. Tells whether it ends a part of the innermost node.
+#[tactic(auto, unfolding(crate::specs::PieceRun::after_token))]
+fn write_piece<'a>(
+    style: &StyleContext<'_>,
+    writing: &mut WritingContext<'_>,
+    nodes: &mut Vec<OpenNode<'a>>,
+    after_part: bool,
+    piece: Piece<'a>,
+) -> Result<bool, AllocError>
+    requires { IsNested nodes.old.items (length (state writing.old).frames) }
+    ensures done { IfOk result (λ after. run_of nodes.new.items after writing.new ≡ after_token (lookup_view style.now) (token_of piece.entry) (run_of nodes.old.items after_part writing.old)) }
+    ensures nested { OnOk result (IsNested nodes.new.items (length (state writing.new).frames)) }
+{
+    match piece {
+        Piece::Leaf(leaf) => {
+            write_leaf(style, writing, nodes, after_part, &leaf)?;
+            Ok(true)
+        }
+        Piece::Open(node) => {
+            open_node(style, writing, nodes, after_part, node)?;
+            Ok(false)
+        }
+        Piece::Close => {
+            close_node(style, writing, nodes, after_part)?;
+            Ok(true)
+        }
+    }
+}
+
+// Writes the pieces one behind the other. Tells whether they end a part of the innermost node.
+fn write_all<'a>(
+    style: &StyleContext<'_>,
+    writing: &mut WritingContext<'_>,
+    nodes: &mut Vec<OpenNode<'a>>,
+    pieces: Vec<Piece<'a>>,
+) -> Result<bool, AllocError>
+    requires { IsNested nodes.old.items (length (state writing.old).frames) }
+    ensures { IfOk result (λ after. run_of nodes.new.items after writing.new ≡ after_tokens (lookup_view style.now) (tokens_of pieces.entry.items) (run_of nodes.old.items false writing.old)) }
+{
+    let mut after_part = false;
+    for piece in pieces {
+        after_part = write_piece(style, writing, nodes, after_part, piece)?;
+    }
+    Ok(after_part)
+}
+
+/// Writes what a layout picks: a list of openings, leaves and closings, in one go over it.
+///
+/// # Errors
+///
+/// Where memory is refused.
+pub(crate) fn write_pieces<'a>(
+    style: &StyleContext<'_>,
+    writing: &mut WritingContext<'_>,
+    pieces: Vec<Piece<'a>>,
+) -> Result<(), AllocError>
+    ensures { (parts : List Part) → tokens_of pieces.entry.items ≡ tokens parts → OnOk result (state writing.new ≡ parts_written (lookup_view style.now) parts (state writing.old)) }
+{
+    let mut nodes = Vec::new(writing.alloc());
+    write_all(style, writing, &mut nodes, pieces)?;
+    Ok(())
+}

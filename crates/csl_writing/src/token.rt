@@ -1,0 +1,25 @@
+//! What tells how high a stack was before something was put on it.
+ghost use Rattle.std.specs.Prelude.{◌<◌};
+
+/// Where a frame was opened: how many frames and how many formats there were before.
+#[derive(Clone, Copy)]
+pub struct DisplayLoc {
+    pub(crate) frames: usize,
+    pub(crate) formats: usize,
+    ghost some_frame: { 0 < frames },
+    ghost some_format: { 0 < formats },
+}
+
+/// Where a format was pushed: how many there were before.
+#[derive(Clone, Copy)]
+pub struct FormatIdx {
+    pub(crate) height: usize,
+    ghost some_format: { 0 < height },
+}
+
+/// Where a delimiter was pushed: how many there were before.
+#[derive(Clone, Copy)]
+pub struct DelimiterIdx {
+    pub(crate) height: usize,
+    ghost some_delimiter: { 0 < height },
+}
