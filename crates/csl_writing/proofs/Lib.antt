@@ -23,3 +23,9 @@ pub mod WorkSteps
 pub mod TextView
 pub mod PieceSteps
 pub mod NestedNodes
+pub mod SectionSteps
+pub mod FormatHeights
+pub mod PlanSteps
+pub mod CiteSteps
+pub mod ItemSteps
+pub mod KeptHeights

@@ -40,3 +40,13 @@ pub mod Gathered
 pub mod PartsWritten
 pub mod PieceRun
 pub mod OpenNodes
+pub mod Counted
+pub mod Subject
+pub mod Sections
+pub mod Plans
+pub mod FirstField
+pub mod DateText
+pub mod SubjectView
+pub mod SectionView
+pub mod StepsWritten
+pub mod CiteText

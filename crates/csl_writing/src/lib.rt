@@ -3,7 +3,11 @@
 
 pub mod brackets;
 mod choices;
+pub mod cite;
 pub mod context;
+pub mod counter;
+mod date;
+mod first_field;
 mod frames;
 mod held;
 mod input;
@@ -20,7 +24,11 @@ pub mod picking;
 mod pieces;
 pub mod properties;
 pub mod purpose;
+mod purposes;
+mod render;
+mod section;
 pub mod state;
+mod subject;
 mod suffix_text;
 pub mod text;
 pub mod token;

@@ -1,0 +1,28 @@
+-- The date text: the year of an entry alone.
+use Rattle.std.specs.Prelude.{◌∷◌, [], List, ℕ, Option, None, Some, false, codes}
+use Rattle.csl_base.specs.Answers.{Answers}
+use Rattle.csl_base.specs.Child.{Child, text}
+use Rattle.csl_base.specs.Formatting.{normal}
+use Rattle.csl_base.specs.declared.entry.Date.{Date}
+use Rattle.csl_base.specs.declared.taxonomy.DateVariable.{DateVariable}
+use Rattle.csl_base.specs.declared.taxonomy.OtherTerm.{OtherTerm}
+use Rattle.csl_writing.specs.Lookup.{Source, lookup, term_of, first_answer}
+use Rattle.csl_writing.specs.Variables.{words_for}
+use Rattle.csl_writing.specs.Years.{year_text}
+
+-- the first that an entry has of the dates that stand for it
+abbrev pub date_of_entry : Answers → Option Date
+date_of_entry answers =
+    first_answer answers.date (DateVariable.Issued ∷ DateVariable.EventDate ∷ DateVariable.Submitted ∷ DateVariable.OriginalDate ∷ [])
+
+-- a term in its long form, or these words where no locale has it
+abbrev pub long_term : Source → OtherTerm → List ℕ → List ℕ
+long_term source = words_for (term_of (lookup source) None)
+
+abbrev pub date_words : Source → Option Date → List ℕ
+date_words source None = long_term source OtherTerm.NoDate (codes "n.d.")
+date_words source (Some d) = year_text d.year false (long_term source OtherTerm.Ad (codes " AD")) (long_term source OtherTerm.Bc (codes " BC"))
+
+-- the date text of an entry: one text without formatting
+unfoldable pub date_text : Source → Answers → List Child
+date_text source answers = text (record { text = date_words source (date_of_entry answers); formatting = normal }) ∷ []

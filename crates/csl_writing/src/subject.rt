@@ -1,0 +1,102 @@
+//! What is rendered: a cite of an entry, in a style with its locales.
+ghost use Rattle.std.specs.Prelude.{◌≡◌, IfOk};
+ghost use Rattle.csl_base.specs.ElementView.{options_view};
+ghost use Rattle.csl_base.specs.StyleView.{style_view};
+ghost use Rattle.csl_writing.specs.InputView as input;
+ghost use Rattle.csl_writing.specs.PropertiesView.{locator_view, properties_view};
+ghost use Rattle.csl_writing.specs.SourceView.{source_view};
+ghost use Rattle.csl_writing.specs.Subject as plain;
+ghost use Rattle.csl_writing.specs.SubjectView.{subject_view};
+
+use crate::input::{CiteFacts, Input, LocatorFacts, Setting};
+use crate::locator::{LocatorPayload, SpecificLocator};
+use crate::lookup::StyleContext;
+use crate::notes::Form;
+use crate::properties::CiteProperties;
+use crate::state::IbidState;
+use csl_base::element::InheritableNameOptions;
+use csl_base::entry::EntryLike;
+
+fn locator_facts<'a, P>(locator: &'a SpecificLocator<'_, P>) -> LocatorFacts<'a>
+    ensures { input.locator_facts result ≡ plain.locator_read (locator_view locator.now) }
+{
+    LocatorFacts {
+        kind: locator.0,
+        text: match &locator.1 {
+            LocatorPayload::Str(text) => Some(*text),
+            LocatorPayload::Transparent(_) => None,
+        },
+    }
+}
+
+/// What of the properties is read.
+pub(crate) fn cite_facts<'a, P>(props: &'a CiteProperties<'_, P>) -> CiteFacts<'a>
+    ensures { input.cite_facts result ≡ plain.cite_of (properties_view props.now) }
+{
+    let certain = &props.certain;
+    let speculative = &props.speculative;
+    CiteFacts {
+        citation_number: speculative.citation_number,
+        first_note_number: certain.first_note_number,
+        is_first: certain.is_first,
+        is_near_note: certain.is_near_note,
+        initial_idx: certain.initial_idx,
+        ibid: speculative.ibid,
+        locator: match &speculative.locator {
+            Some(locator) => Some(locator_facts(locator)),
+            None => None,
+        },
+        state: &speculative.disambiguation,
+        usage: speculative.identifier_usage,
+    }
+}
+
+/// A cite of an entry, in a style with its locales.
+#[derive(Drop)]
+pub(crate) struct Subject<'a, T> {
+    pub(crate) entry: &'a T,
+    pub(crate) context: StyleContext<'a>,
+    pub(crate) cite: CiteFacts<'a>,
+    /// Whether a year-suffix text stands in a layout of the style.
+    pub(crate) explicit_suffix: bool,
+}
+
+impl<'a, T: EntryLike> Subject<'a, T> {
+    /// The cite as if it repeated no other.
+    pub(crate) fn as_different(&self) -> Subject<'a, T>
+        ensures { subject_view T.answers result ≡ plain.as_different (subject_view T.answers self.now) }
+    {
+        Subject {
+            entry: self.entry,
+            context: self.context,
+            cite: CiteFacts {
+                ibid: IbidState::Different,
+                ..self.cite
+            },
+            explicit_suffix: self.explicit_suffix,
+        }
+    }
+
+    /// What a picking reads, in this form and under these name options.
+    pub(crate) fn input(
+        &self,
+        form: Form,
+        layout_options: &'a InheritableNameOptions,
+        is_bibliography: bool,
+    ) -> Input<'a, T>
+        ensures env { input.env_of (T.answers result.entry.now) result.setting ≡ plain.env (subject_view T.answers self.now) (options_view layout_options.now) form is_bibliography }
+        ensures macros { input.macros_of result.setting ≡ (subject_view T.answers self.now).source.style.macros }
+    {
+        Input {
+            entry: self.entry,
+            setting: Setting {
+                context: self.context,
+                cite: self.cite,
+                form,
+                explicit_suffix: self.explicit_suffix,
+                is_bibliography,
+                layout_options,
+            },
+        }
+    }
+}
