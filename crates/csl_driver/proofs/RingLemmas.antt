@@ -1,5 +1,5 @@
 -- Requests that are looked at for rings, one after another.
-use Rattle.std.proofs.Common.{◌≡◌, ℕ, ◌+◌, ◌<◌, ◌≤◌, List, length, take, map, get_or, Some, Bool, ap, sym, subst, ◌∙◌}
+use Rattle.std.proofs.Common.{◌≡◌, ℕ, ◌+◌, ◌<◌, ◌≤◌, List, length, take, map, get_or, Some, ap, sym, subst, ◌∙◌}
 use Rattle.std.proofs.Math.ListN.{get_or-map, length-map}
 use Rattle.std.proofs.lemmas.List.{take_all}
 use Rattle.std.proofs.lemmas.List.Elements.{All-more}
@@ -22,6 +22,10 @@ module _ {E P : Type 0} where
     pub no_ring-more : HasNoRing (view x).style.macros → NoRingIn (take k (map view xs)) → NoRingIn (take (k + 1) (map view xs))
     no_ring-more h before =
         All-more (λ r. HasNoRing r.style.macros) (map view xs) k (view x) within_view before (subst (λ r. HasNoRing r.style.macros) (sym at_view) h)
+
+    -- where no request has a ring, this one has none
+    pub no_ring-at : NoRingIn (map view xs) → HasNoRing (view x).style.macros
+    no_ring-at h = subst (λ r. HasNoRing r.style.macros) at_view (h k (view x) within_view)
 
     -- the first request that has a ring
     pub first_ring : (style : StyleValue) (i : ℕ) → IsFirstRing (view x).style.macros (Some i) → NoRingIn (take k (map view xs))

@@ -1,60 +1,65 @@
 -- The whole answer, from the whole list of requests.
-use Rattle.std.specs.Prelude.{ℕ, Bool, List, map, Option, None, option_map}
+use Rattle.std.specs.Prelude.{ℕ, Bool, List, [], map, find, None, option_map, unwrap_or}
 use Rattle.csl_base.specs.Answers.{Answers}
 use Rattle.csl_base.specs.Child.{Child}
-use Rattle.csl_base.specs.Style.{LayoutValue, BibliographyValue, StyleValue}
+use Rattle.csl_base.specs.Style.{BibliographyValue}
 use Rattle.csl_base.specs.Simplify.{simplified}
-use Rattle.csl_driver.specs.Assembly.{layout_formatting, citation_tree}
+use Rattle.csl_writing.specs.CiteText.{bibliography_text}
+use Rattle.csl_writing.specs.Lookup.{Source}
+use Rattle.csl_writing.specs.Properties.{Properties}
+use Rattle.csl_driver.specs.Assembly.{citation_tree}
+use Rattle.csl_driver.specs.CiteTree.{properties_of, cite_tree_at}
 use Rattle.csl_driver.specs.Entries.{used_order, bibliography_order, number}
-use Rattle.csl_driver.specs.Request.{Cite, Request, cited}
-use Rattle.csl_driver.specs.Thin.{thin_layout}
+use Rattle.csl_driver.specs.Request.{Cite, Request, Wanted, cited, cites_of, source_of, wanted_source}
 use Rattle.csl_driver.specs.declared.rendered.BibliographyItem.{BibliographyItem}
 use Rattle.csl_driver.specs.declared.rendered.Rendered.{Rendered}
 use Rattle.csl_driver.specs.declared.rendered.RenderedBibliography.{RenderedBibliography}
 use Rattle.csl_driver.specs.declared.rendered.RenderedCitation.{RenderedCitation}
 
--- the tree that a layout gives for the number n
-abbrev pub layout_tree : LayoutValue → ℕ → List Child
-layout_tree layout n = thin_layout (layout_formatting layout) n layout.elements
+module _ {E P : Type 0} (eq : E → E → Bool) where
+  -- the place in its request of the first cite of an entry; 0 where no cite cites it
+  abbrev pub first_place : List (Request E P) → E → ℕ
+  first_place requests e = unwrap_or (option_map (λ c. c.place) (find (λ c. eq e c.entry) (cites_of requests))) 0
 
--- the tree of a cite, where the entries have their numbers by their places
-abbrev pub cite_tree : {E P : Type 0} → (E → E → Bool) → LayoutValue → List E → ℕ → Cite E P → List Child
-cite_tree eq layout entries offset c = layout_tree layout (number eq offset entries c.entry)
+  -- an entry's properties are those of its first cite, without the locator
+  abbrev pub entry_properties : List (Request E P) → List E → ℕ → E → Properties P
+  entry_properties requests entries offset e = properties_of None (number eq offset entries e) (first_place requests e)
 
-module _ {E : Type 0} (eq : E → E → Bool) (answers : E → Answers) where
+-- the item of an entry
+abbrev pub bibliography_item : {E P : Type 0} → (E → Answers) → Source → Properties P → E → BibliographyItem
+bibliography_item answers source properties e = record {
+  key = (answers e).key;
+  first_field = None;
+  content = simplified (unwrap_or (bibliography_text source (answers e) properties) []);
+}
+
+module _ {E P : Type 0} (eq : E → E → Bool) (answers : E → Answers) where
+  -- the tree of a cite with its number
+  abbrev pub numbered_tree : Source → List E → ℕ → Cite E P → List Child
+  numbered_tree source entries offset c = cite_tree_at answers source (number eq offset entries c.entry) c
+
   -- the answer to one request
-  abbrev pub rendered_citation : {P : Type 0} → List E → ℕ → Request E P → RenderedCitation
+  abbrev pub rendered_citation : List E → ℕ → Request E P → RenderedCitation
   rendered_citation entries offset request = record {
     note_number = request.note_number;
-    citation = citation_tree (cite_tree eq request.style.citation.layout entries offset) request;
-  }
-
-  abbrev pub bibliography_item : LayoutValue → List E → ℕ → E → BibliographyItem
-  bibliography_item layout entries offset e = record {
-    key = (answers e).key;
-    first_field = None;
-    content = simplified (layout_tree layout (number eq offset entries e));
+    citation = citation_tree (numbered_tree (source_of request) entries offset) request;
   }
 
   -- the bibliography: one item for each entry, in their order
-  abbrev pub rendered_bibliography : List E → ℕ → BibliographyValue → RenderedBibliography
-  rendered_bibliography entries offset bibliography = record {
+  abbrev pub rendered_bibliography : Source → List (Request E P) → List E → ℕ → BibliographyValue → RenderedBibliography
+  rendered_bibliography source requests entries offset bibliography = record {
     hanging_indent = bibliography.hanging_indent;
     second_field_align = bibliography.second_field_align;
     line_spacing = bibliography.line_spacing;
     entry_spacing = bibliography.entry_spacing;
-    items = map (bibliography_item bibliography.layout entries offset) entries;
+    items = map (λ e. bibliography_item answers source (entry_properties eq requests entries offset e) e) entries;
   }
 
-  -- one citation for each request, and the bibliography where the style has one; it goes by the order, if there is one
-  abbrev pub rendered_by : {P : Type 0} → StyleValue → Option (List E) → List (Request E P) → ℕ → Rendered
-  rendered_by style order requests offset =
-      let entries = bibliography_order eq order (cited requests) in
+  -- the whole answer: one citation for each request, and the bibliography where the style that was asked for has one
+  abbrev pub rendered : Wanted E → List (Request E P) → ℕ → Rendered
+  rendered wanted requests offset =
+      let entries = bibliography_order eq (used_order wanted.style wanted.order) (cited requests) in
       record {
-        bibliography = option_map (rendered_bibliography entries offset) style.bibliography;
+        bibliography = option_map (rendered_bibliography (wanted_source wanted) requests entries offset) wanted.style.bibliography;
         citations = map (rendered_citation entries offset) requests;
       }
-
-  -- the whole answer: the handed order is used only where the style that was asked for has a bibliography
-  abbrev pub rendered : {P : Type 0} → StyleValue → Option (List E) → List (Request E P) → ℕ → Rendered
-  rendered style order requests offset = rendered_by style (used_order style order) requests offset

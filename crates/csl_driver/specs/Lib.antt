@@ -2,9 +2,11 @@ pub mod Class
 pub mod Request
 pub mod RequestView
 pub mod Entries
-pub mod Thin
+pub mod CiteTree
 pub mod Assembly
 pub mod Answer
+pub mod FirstPlaces
+pub mod StandaloneCitation
 pub mod Laws
 pub mod DriverView
 pub mod Rings

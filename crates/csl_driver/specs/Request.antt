@@ -1,18 +1,10 @@
 -- Requests as plain data: no capacity and no address is seen.
 use Rattle.std.specs.Prelude.{ℕ, ◌+◌, Bool, List, [], ◌∷◌, ◌++◌, Option, map}
 use Rattle.std.specs.List.{flat_map}
-use Rattle.csl_base.specs.declared.taxonomy.Locator.{Locator}
 use Rattle.csl_base.specs.Style.{StyleValue, LocaleValue}
-use Rattle.csl_driver.specs.declared.purpose.CitePurpose.{CitePurpose}
-
--- where a locator points: a text, or a payload of the caller's own
-pub data Payload (P : Type 0) : Type 0 where
-  text_payload : List ℕ → Payload P
-  own_payload : P → Payload P
-
-pub record LocatorValue (P : Type 0) : Type 0 where
-  pub kind : Locator
-  pub payload : Payload P
+use Rattle.csl_writing.specs.Lookup.{Source}
+use Rattle.csl_writing.specs.Properties.{LocatorValue}
+use Rattle.csl_writing.specs.declared.purpose.CitePurpose.{CitePurpose}
 
 -- a cite: what is cited and how, and the place that it had in its request
 pub record Cite (E P : Type 0) : Type 0 where
@@ -29,6 +21,13 @@ pub record Request (E P : Type 0) : Type 0 where
   pub locale : Option (List ℕ)
   pub locales : List LocaleValue
   pub note_number : Option ℕ
+
+-- a request for a bibliography
+pub record Wanted (E : Type 0) : Type 0 where
+  pub style : StyleValue
+  pub locale : Option (List ℕ)
+  pub locales : List LocaleValue
+  pub order : Option (List E)
 
 -- a driver: the requests that it accepted, in order, and the number of the first entry
 pub record Driver (E P : Type 0) : Type 0 where
@@ -56,3 +55,15 @@ module _ {E P : Type 0} where
   -- the cited entries of all requests, in order
   abbrev pub cited : List (Request E P) → List E
   cited requests = flat_map (λ r. entries_of r.cites) requests
+
+  -- the cites of all requests, in order
+  abbrev pub cites_of : List (Request E P) → List (Cite E P)
+  cites_of requests = flat_map (λ r. r.cites) requests
+
+  -- the style that a request's cites are written in, with its locales
+  abbrev pub source_of : Request E P → Source
+  source_of r = record { style = r.style; locale = r.locale; files = r.locales }
+
+-- the style that a bibliography is written in, with its locales
+abbrev pub wanted_source : {E : Type 0} → Wanted E → Source
+wanted_source w = record { style = w.style; locale = w.locale; files = w.locales }

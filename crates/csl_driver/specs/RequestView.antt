@@ -2,21 +2,12 @@
 use Rattle.std.specs.Prelude.{List, Option, Some, None, map, option_map}
 use Rattle.std.specs.Borrow.{Bor}
 use Rattle.csl_base.specs.StyleView.{code_view, locale_view, style_view}
+use Rattle.csl_writing.specs.PropertiesView.{locator_view}
 use Rattle.csl_driver.specs.declared.item.CitationItem.{CitationItem}
-use Rattle.csl_driver.specs.declared.locator.LocatorPayload.{LocatorPayload}
-use Rattle.csl_driver.specs.declared.locator.LocatorPayload.TheVariants as payloads
-use Rattle.csl_driver.specs.declared.locator.SpecificLocator.{SpecificLocator}
+use Rattle.csl_driver.specs.declared.request.BibliographyRequest.{BibliographyRequest}
 use Rattle.csl_driver.specs.declared.request.CitationRequest.{CitationRequest}
 use Rattle.csl_driver.specs.declared.request.Order.{Order}
-use Rattle.csl_driver.specs.Request.{Payload, text_payload, own_payload, LocatorValue, Cite, Request}
-
-module _ {P : Type 0} where
-  abbrev pub payload_view : LocatorPayload P → Payload P
-  payload_view (payloads.Str text) = text_payload text.now
-  payload_view (payloads.Transparent locator) = own_payload locator
-
-  abbrev pub locator_view : SpecificLocator P → LocatorValue P
-  locator_view l = record { kind = l.0; payload = payload_view l.1 }
+use Rattle.csl_driver.specs.Request.{Cite, Request, Wanted}
 
 module _ {T P : Type 0} where
   abbrev pub cite_view : CitationItem T P → Cite T P
@@ -51,3 +42,11 @@ module _ {T : Type 0} where
   abbrev pub order_view : Option (Order T) → Option (List T)
   order_view None = None
   order_view (Some order) = Some (entries_view order.0.now)
+
+  abbrev pub wanted_view : BibliographyRequest T → Wanted T
+  wanted_view w = record {
+    style = style_view w.style.now;
+    locale = option_map code_view w.locale;
+    locales = map locale_view w.locale_files.now;
+    order = order_view w.order;
+  }

@@ -39,3 +39,10 @@ module _ {E P : Type 0} where
   abbrev pub Refuses : (E → E → Bool) → List (Request E P) → StyleValue → ℕ → DriverError → Type 0
   Refuses eq requests style offset errors.NumberOverflow = NoRingAtAll requests style × Overflows eq requests offset
   Refuses eq requests style offset refusal = RefusesRing requests style refusal
+
+-- a citation that stands for itself is refused for the first macro on a ring, at the place of a first request, and for nothing else
+-- but want of memory
+abbrev pub RefusesAlone : StyleValue → DriverError → Type 0
+RefusesAlone style (errors.MacroRing place i) = (place ≡ places.Request 0) × IsFirstRing style.macros (Some i)
+RefusesAlone style errors.NumberOverflow = ⊥
+RefusesAlone style (errors.OutOfMemory a) = Unit {0}

@@ -1,122 +1,90 @@
-//! How a citation is put together from its cites.
-ghost use Rattle.std.specs.Prelude.{◌≡◌, ◌+◌, ◌<◌, ◌^◌, ◌++◌, ◌∷◌, [], IfOk, OnOk, length, map, if◌then◌else◌};
-ghost use Rattle.csl_base.specs.ChildView.{child_view};
+//! How a citation is put together from the trees of its cites.
+ghost use Rattle.std.specs.Prelude.{◌≡◌, ◌++◌, Some, IfOk, OnOk, if◌then◌else◌, [], map, option_map};
 ghost use Rattle.csl_base.specs.ElementView.{text_view};
-ghost use Rattle.csl_base.specs.StyleView.{layout_view, style_view};
+ghost use Rattle.csl_base.specs.StyleView.{layout_view};
 ghost use Rattle.csl_base.specs.Tree.{last_text};
-ghost use Rattle.csl_driver.specs.Answer.{cite_tree};
-ghost use Rattle.csl_driver.specs.Assembly.{assembled, citation_tree, enclosed, has_no_purpose, joined, marked, shown, text_ends_with, with_suffix};
-ghost use Rattle.csl_driver.specs.RequestView.{cite_view, cites_view, entries_view, request_view};
-ghost use Rattle.csl_driver.specs.Thin.{text_child};
+ghost use Rattle.csl_driver.specs.Assembly.{assembled, enclosed, joined, layout_formatting, text_child, text_ends_with, with_suffix};
 
-use crate::entries::place_of;
-use crate::item::CitationItem;
-use crate::request::CitationRequest;
-use crate::thin::{layout_formatting, layout_tree, push_optional_text, push_text};
-use csl_base::elem::{Elem, ElemChild, ElemChildren, ElemMeta};
-use csl_base::entry::EntryLike;
+use csl_base::elem::{ElemChild, ElemChildren};
 use csl_base::formatting::Formatting;
 use csl_base::style::Layout;
-use indexmap::IndexSet;
 use std::alloc::{AllocError, Global};
 
-/// Whether no cite is written for a purpose of its own.
-fn has_no_purpose<T, P>(items: &[CitationItem<'_, T, P>]) -> bool
-    ensures { result ≡ has_no_purpose (cites_view items.now) }
+/// The formatting that a layout's own texts have.
+fn layout_formatting(layout: &Layout) -> Formatting
+    ensures { result ≡ layout_formatting (layout_view layout.now) }
 {
-    for item in items {
-        if item.purpose.is_some() {
-            return false;
-        }
-    }
-    true
+    Formatting::default().apply(layout.formatting)
 }
 
-/// The tree of a cite, marked with the cite's place.
-fn marked_cite<'a, T: EntryLike, P>(
+/// Adds a text; the empty text adds nothing.
+fn push_text(
     alloc: Global,
-    layout: &Layout,
-    item: &CitationItem<'a, T, P>,
-    entries: &IndexSet<&'a T>,
-    offset: usize,
-) -> Result<ElemChild, AllocError>
-    requires fits { offset + length entries.now.keys < 2 ^ 64 }
-    ensures { IfOk result (λ cite. child_view cite ≡ marked (cite_tree T.eq (layout_view layout.now) (entries_view entries.now.keys) offset) (cite_view item.now)) }
-{
-    let number = offset + place_of(entries, item.entry);
-    Ok(ElemChild::Elem(Elem {
-        children: layout_tree(alloc, layout, number)?,
-        display: None,
-        meta: Some(ElemMeta::Entry(item.initial_idx)),
-    }))
-}
-
-/// Adds the tree of a cite, unless the cite is hidden.
-fn push_shown<'a, T: EntryLike, P>(
-    alloc: Global,
-    cites: &mut Vec<ElemChild>,
-    layout: &Layout,
-    item: &CitationItem<'a, T, P>,
-    entries: &IndexSet<&'a T>,
-    offset: usize,
+    tree: &mut ElemChildren,
+    text: &str,
+    formatting: Formatting,
 ) -> Result<(), AllocError>
-    requires fits { offset + length entries.now.keys < 2 ^ 64 }
-    ensures { OnOk result (map child_view cites.new.items
-        ≡ map child_view cites.old.items
-        ++ (if item.now.hidden then [] else marked (cite_tree T.eq (layout_view layout.now) (entries_view entries.now.keys) offset) (cite_view item.now) ∷ [])) }
+    ensures { OnOk result (tree.new ≡ tree.old ++ text_child formatting (Some text.now)) }
 {
-    if !item.hidden {
-        cites.push(marked_cite(alloc, layout, item, entries, offset)?)?;
+    if text.is_empty() {
+        return Ok(());
+    }
+    let text = String::from_str(alloc, text)?;
+    tree.push(ElemChild::Text(formatting.add_text(text)))
+}
+
+/// Adds a text, if there is one.
+fn push_optional_text(
+    alloc: Global,
+    tree: &mut ElemChildren,
+    text: Option<&str>,
+    formatting: Formatting,
+) -> Result<(), AllocError>
+    ensures { OnOk result (tree.new ≡ tree.old ++ text_child formatting (option_map (λ t. t.now) text.entry)) }
+{
+    match text {
+        Some(text) => push_text(alloc, tree, text, formatting),
+        None => Ok(()),
+    }
+}
+
+/// Moves the children of another tree to the end of this one.
+fn push_children(tree: &mut ElemChildren, children: ElemChildren) -> Result<(), AllocError>
+    ensures { OnOk result (tree.new ≡ tree.old ++ children) }
+{
+    for child in children.into_vec() {
+        tree.push(child)?;
     }
     Ok(())
-}
-
-/// The trees of the shown cites, each marked with the cite's place.
-fn shown_cites<'a, T: EntryLike, P>(
-    alloc: Global,
-    layout: &Layout,
-    items: &[CitationItem<'a, T, P>],
-    entries: &IndexSet<&'a T>,
-    offset: usize,
-) -> Result<Vec<ElemChild>, AllocError>
-    requires fits { offset + length entries.now.keys < 2 ^ 64 }
-    ensures { IfOk result (λ cites. map child_view cites.items
-        ≡ map (marked (cite_tree T.eq (layout_view layout.now) (entries_view entries.now.keys) offset)) (shown (cites_view items.now))) }
-{
-    let mut cites = Vec::new(alloc);
-    for item in items {
-        push_shown(alloc, &mut cites, layout, item, entries, offset)?;
-    }
-    Ok(cites)
 }
 
 /// Adds a cite, behind the delimiter unless it is the first.
 fn push_cite(
     alloc: Global,
     tree: &mut ElemChildren,
-    cite: ElemChild,
+    cite: ElemChildren,
     is_first: bool,
-    delimiter: &Option<String>,
+    delimiter: Option<&str>,
     formatting: Formatting,
 ) -> Result<(), AllocError>
     ensures { OnOk result (tree.new
-        ≡ tree.old ++ ((if is_first then [] else text_child formatting (text_view delimiter.now)) ++ child_view cite ∷ [])) }
+        ≡ tree.old ++ ((if is_first then [] else text_child formatting (option_map (λ t. t.now) delimiter.entry)) ++ cite)) }
 {
     if !is_first {
         push_optional_text(alloc, tree, delimiter, formatting)?;
     }
-    tree.push(cite)
+    push_children(tree, cite)
 }
 
 /// Adds the cites with the delimiter before each but the first.
 fn push_cites(
     alloc: Global,
     tree: &mut ElemChildren,
-    cites: Vec<ElemChild>,
-    delimiter: &Option<String>,
+    cites: Vec<ElemChildren>,
+    delimiter: Option<&str>,
     formatting: Formatting,
 ) -> Result<(), AllocError>
-    ensures { OnOk result (tree.new ≡ tree.old ++ joined (text_child formatting (text_view delimiter.now)) (map child_view cites.items)) }
+    ensures { OnOk result (tree.new ≡ tree.old ++ joined (text_child formatting (option_map (λ t. t.now) delimiter.entry)) cites.items) }
 {
     let mut is_first = true;
     for cite in cites {
@@ -156,56 +124,52 @@ fn push_suffix(
     }
 }
 
-/// The cites joined by the layout's delimiter, between its prefix and suffix where it encloses them.
+/// A text that may be lacking, as a slice.
+pub(crate) fn optional_str(text: &Option<String>) -> Option<&str>
+    ensures { option_map (λ t. t.now) result ≡ text_view text.now }
+{
+    match text {
+        Some(text) => Some(text.as_str()),
+        None => None,
+    }
+}
+
+/// The cites joined by the delimiter, between the layout's prefix and suffix where it encloses them.
 fn enclosed(
     alloc: Global,
     layout: &Layout,
-    cites: Vec<ElemChild>,
+    delimiter: Option<&str>,
+    cites: Vec<ElemChildren>,
     encloses: bool,
 ) -> Result<ElemChildren, AllocError>
-    ensures { IfOk result (λ tree. tree ≡ enclosed encloses (layout_view layout.now) (map child_view cites.items)) }
+    ensures { IfOk result (λ tree. tree ≡ enclosed encloses (layout_view layout.now) (option_map (λ t. t.now) delimiter.entry) cites.items) }
 {
     let formatting = layout_formatting(layout);
     let mut tree = ElemChildren::new(alloc);
     if !encloses {
-        push_cites(alloc, &mut tree, cites, &layout.delimiter, formatting)?;
+        push_cites(alloc, &mut tree, cites, delimiter, formatting)?;
         return Ok(tree);
     }
-    push_optional_text(alloc, &mut tree, &layout.prefix, formatting)?;
-    push_cites(alloc, &mut tree, cites, &layout.delimiter, formatting)?;
+    push_optional_text(alloc, &mut tree, optional_str(&layout.prefix), formatting)?;
+    push_cites(alloc, &mut tree, cites, delimiter, formatting)?;
     push_suffix(alloc, &mut tree, &layout.suffix, formatting)?;
     Ok(tree)
 }
 
-/// The tree of a citation from its shown cites: empty where there is none.
-fn assembled(
+/// The tree of a citation from those of its cites: empty where there is none.
+pub(crate) fn assembled(
     alloc: Global,
     layout: &Layout,
-    cites: Vec<ElemChild>,
+    delimiter: Option<&str>,
+    cites: Vec<ElemChildren>,
     encloses: bool,
 ) -> Result<ElemChildren, AllocError>
-    ensures { IfOk result (λ tree. tree ≡ assembled encloses (layout_view layout.now) (map child_view cites.items)) }
+    ensures { IfOk result (λ tree. tree ≡ assembled encloses (layout_view layout.now) (option_map (λ t. t.now) delimiter.entry) cites.items) }
 {
     if cites.is_empty() {
         return Ok(ElemChildren::new(alloc));
     }
-    let mut tree = enclosed(alloc, layout, cites, encloses)?;
+    let mut tree = enclosed(alloc, layout, delimiter, cites, encloses)?;
     tree.simplify_children()?;
     Ok(tree)
-}
-
-/// The tree of a citation.
-pub(crate) fn citation_tree<'a, T: EntryLike, P>(
-    alloc: Global,
-    request: &CitationRequest<'a, T, P>,
-    entries: &IndexSet<&'a T>,
-    offset: usize,
-) -> Result<ElemChildren, AllocError>
-    requires fits { offset + length entries.now.keys < 2 ^ 64 }
-    ensures { let layout = (style_view request.now.style.now).citation.layout in
-        IfOk result (λ tree. tree ≡ citation_tree (cite_tree T.eq layout (entries_view entries.now.keys) offset) (request_view request.now)) }
-{
-    let layout = &request.style.citation.layout;
-    let cites = shown_cites(alloc, layout, &request.items, entries, offset)?;
-    assembled(alloc, layout, cites, has_no_purpose(&request.items))
 }

@@ -1,52 +1,43 @@
-//! The citations and the bibliography of an answer.
+//! The bibliography of an answer.
 ghost use Rattle.std.specs.Prelude.{◌≡◌, ◌+◌, ◌<◌, ◌^◌, IfOk, length, map, option_map};
-ghost use Rattle.csl_base.specs.StyleView.{bibliography_view, layout_view, style_view};
-ghost use Rattle.csl_driver.specs.Answer.{bibliography_item, rendered_bibliography, rendered_citation};
-ghost use Rattle.csl_driver.specs.RequestView.{entries_view, request_view, requests_view};
+ghost use Rattle.csl_base.specs.Ring.{HasNoRing};
+ghost use Rattle.csl_base.specs.StyleView.{bibliography_view, style_view};
+ghost use Rattle.csl_writing.specs.PropertiesView.{properties_view};
+ghost use Rattle.csl_writing.specs.SourceView.{source_view};
+ghost use Rattle.csl_driver.specs.Answer.{bibliography_item, entry_properties, rendered_bibliography};
+ghost use Rattle.csl_driver.specs.Request.{wanted_source};
+ghost use Rattle.csl_driver.specs.RequestView.{entries_view, requests_view, wanted_view};
 
-use crate::assemble::citation_tree;
+use crate::cites::{cite_properties, wanted_context};
 use crate::entries::place_of;
-use crate::rendered::{BibliographyItem, RenderedBibliography, RenderedCitation};
-use crate::request::CitationRequest;
-use crate::thin::layout_tree;
+use crate::first_places::{first_places, place_in};
+use crate::rendered::{BibliographyItem, RenderedBibliography};
+use crate::request::{BibliographyRequest, CitationRequest};
+use csl_base::elem::ElemChildren;
 use csl_base::entry::EntryLike;
+use csl_base::locale::LocaleCode;
 use csl_base::seq::Seq;
-use csl_base::style::{Bibliography, IndependentStyle, Layout};
+use csl_base::style::Bibliography;
 use csl_base::text::Text;
+use csl_writing::counter::Renders;
+use csl_writing::lookup::StyleContext;
+use csl_writing::properties::CiteProperties;
 use indexmap::IndexSet;
 use std::alloc::{AllocError, Global};
 
-/// The citation of each request.
-pub(crate) fn rendered_citations<'a, T: EntryLike, P>(
+fn bibliography_item<T: EntryLike, P>(
     alloc: Global,
-    requests: &[CitationRequest<'a, T, P>],
-    entries: &IndexSet<&'a T>,
-    offset: usize,
-) -> Result<Vec<RenderedCitation>, AllocError>
-    requires fits { offset + length entries.now.keys < 2 ^ 64 }
-    ensures { IfOk result (λ citations. citations.items ≡ map (rendered_citation T.eq T.answers (entries_view entries.now.keys) offset) (requests_view requests.now)) }
-{
-    let mut citations = Vec::new(alloc);
-    for request in requests {
-        citations.push(RenderedCitation {
-            note_number: request.note_number,
-            citation: citation_tree(alloc, request, entries, offset)?,
-        })?;
-    }
-    Ok(citations)
-}
-
-fn bibliography_item<T: EntryLike>(
-    alloc: Global,
-    layout: &Layout,
-    entries: &IndexSet<&T>,
-    offset: usize,
+    context: &StyleContext<'_>,
+    locale: Option<&LocaleCode>,
     entry: &T,
+    properties: &CiteProperties<'_, P>,
+    renders: &mut Renders,
 ) -> Result<BibliographyItem, AllocError>
-    requires fits { offset + length entries.now.keys < 2 ^ 64 }
-    ensures { IfOk result (λ item. item ≡ bibliography_item T.eq T.answers (layout_view layout.now) (entries_view entries.now.keys) offset entry.now) }
+    requires no_ring { HasNoRing (source_view context.now).style.macros }
+    ensures { IfOk result (λ item. item ≡ bibliography_item T.answers (source_view context.now) (properties_view properties.now) entry.now) }
 {
-    let mut content = layout_tree(alloc, layout, offset + place_of(entries, entry))?;
+    let text = context.bibliography(alloc, entry, properties, None, locale, renders)?;
+    let mut content = text.unwrap_or(ElemChildren::new(alloc));
     content.simplify_children()?;
     Ok(BibliographyItem {
         key: Text::new(String::from_str(alloc, entry.key())?),
@@ -56,33 +47,47 @@ fn bibliography_item<T: EntryLike>(
 }
 
 /// An item for each of the entries.
-fn bibliography_items<T: EntryLike>(
+fn bibliography_items<'a, T: EntryLike, P: Drop>(
     alloc: Global,
-    layout: &Layout,
-    entries: &IndexSet<&T>,
+    wanted: &BibliographyRequest<'_, 'a, T>,
+    requests: &[CitationRequest<'a, T, P>],
+    entries: &IndexSet<&'a T>,
     offset: usize,
+    renders: &mut Renders,
 ) -> Result<Vec<BibliographyItem>, AllocError>
     requires fits { offset + length entries.now.keys < 2 ^ 64 }
+    requires no_ring { HasNoRing (style_view wanted.now.style.now).macros }
     ensures { IfOk result (λ items. items.items
-        ≡ map (bibliography_item T.eq T.answers (layout_view layout.now) (entries_view entries.now.keys) offset) (entries_view entries.now.keys)) }
+        ≡ map (λ e. bibliography_item T.answers (wanted_source (wanted_view wanted.now)) (entry_properties T.eq (requests_view requests.now) (entries_view entries.now.keys) offset e) e) (entries_view entries.now.keys)) }
 {
+    let context = wanted_context(wanted);
+    let locale = wanted.locale.as_ref();
     let mut items = Vec::new(alloc);
+    let places = first_places(alloc, requests)?;
     for entry in entries.as_slice() {
-        items.push(bibliography_item(alloc, layout, entries, offset, *entry)?)?;
+        let number = offset + place_of(entries, *entry);
+        let place = place_in(&places, *entry);
+        let properties = cite_properties::<P>(&None, number, place)?;
+        items.push(bibliography_item(alloc, &context, locale, *entry, &properties, renders)?)?;
     }
     Ok(items)
 }
 
-fn rendered_bibliography<T: EntryLike>(
+fn rendered_bibliography<'a, T: EntryLike, P: Drop>(
     alloc: Global,
     bibliography: &Bibliography,
-    entries: &IndexSet<&T>,
+    wanted: &BibliographyRequest<'_, 'a, T>,
+    requests: &[CitationRequest<'a, T, P>],
+    entries: &IndexSet<&'a T>,
     offset: usize,
+    renders: &mut Renders,
 ) -> Result<RenderedBibliography, AllocError>
     requires fits { offset + length entries.now.keys < 2 ^ 64 }
-    ensures { IfOk result (λ r. r ≡ rendered_bibliography T.eq T.answers (entries_view entries.now.keys) offset (bibliography_view bibliography.now)) }
+    requires no_ring { HasNoRing (style_view wanted.now.style.now).macros }
+    ensures { IfOk result
+        (λ r. r ≡ rendered_bibliography T.eq T.answers (wanted_source (wanted_view wanted.now)) (requests_view requests.now) (entries_view entries.now.keys) offset (bibliography_view bibliography.now)) }
 {
-    let items = bibliography_items(alloc, &bibliography.layout, entries, offset)?;
+    let items = bibliography_items(alloc, wanted, requests, entries, offset, renders)?;
     Ok(RenderedBibliography {
         hanging_indent: bibliography.hanging_indent,
         second_field_align: bibliography.second_field_align,
@@ -92,22 +97,29 @@ fn rendered_bibliography<T: EntryLike>(
     })
 }
 
-/// The bibliography, where the style has one.
-pub(crate) fn style_bibliography<T: EntryLike>(
+/// The bibliography, where the style that was asked for has one.
+pub(crate) fn wanted_bibliography<'a, T: EntryLike, P: Drop>(
     alloc: Global,
-    style: &IndependentStyle,
-    entries: &IndexSet<&T>,
+    wanted: &BibliographyRequest<'_, 'a, T>,
+    requests: &[CitationRequest<'a, T, P>],
+    entries: &IndexSet<&'a T>,
     offset: usize,
+    renders: &mut Renders,
 ) -> Result<Option<RenderedBibliography>, AllocError>
     requires fits { offset + length entries.now.keys < 2 ^ 64 }
-    ensures { IfOk result (λ r. r ≡ option_map (rendered_bibliography T.eq T.answers (entries_view entries.now.keys) offset) (style_view style.now).bibliography) }
+    requires no_ring { HasNoRing (style_view wanted.now.style.now).macros }
+    ensures { IfOk result
+        (λ r. r ≡ option_map (rendered_bibliography T.eq T.answers (wanted_source (wanted_view wanted.now)) (requests_view requests.now) (entries_view entries.now.keys) offset) (style_view wanted.now.style.now).bibliography) }
 {
-    match &style.bibliography {
+    match &wanted.style.bibliography {
         Some(bibliography) => Ok(Some(rendered_bibliography(
             alloc,
             bibliography,
+            wanted,
+            requests,
             entries,
             offset,
+            renders,
         )?)),
         None => Ok(None),
     }

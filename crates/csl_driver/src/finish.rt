@@ -1,14 +1,15 @@
 //! The whole answer, from all requests at once.
 ghost use Rattle.std.specs.Prelude.{◌≡◌, ◌+◌, ◌<◌, ◌^◌, length, OnOk, IfOk, IfErr};
 ghost use Rattle.csl_base.specs.StyleView.{style_view};
-ghost use Rattle.csl_driver.specs.Answer.{rendered, rendered_by};
+ghost use Rattle.csl_driver.specs.Answer.{rendered};
 ghost use Rattle.csl_driver.specs.DriverView.{driver_view};
 ghost use Rattle.csl_driver.specs.Entries.{distinct, used_order};
 ghost use Rattle.csl_driver.specs.Request.{cited};
-ghost use Rattle.csl_driver.specs.RequestView.{order_view, requests_view};
+ghost use Rattle.csl_driver.specs.RequestView.{order_view, requests_view, wanted_view};
 ghost use Rattle.csl_driver.specs.Rings.{NoRingAtAll, Refuses};
 
-use crate::bibliography::{rendered_citations, style_bibliography};
+use crate::bibliography::wanted_bibliography;
+use crate::citation::rendered_citations;
 use crate::driver::{BibliographyDriver, discard};
 use crate::entries::bibliography_entries;
 use crate::error::DriverError;
@@ -17,51 +18,51 @@ use crate::request::{BibliographyRequest, CitationRequest, Order};
 use crate::rings::refuse_rings;
 use csl_base::entry::EntryLike;
 use csl_base::seq::Seq;
-use csl_base::style::IndependentStyle;
+use csl_writing::counter::Renders;
 use std::alloc::Global;
 
-/// The order that a bibliography of this style goes by, if it goes by one.
-fn used_order<'o, 'a, T>(
-    style: &IndependentStyle,
-    order: Option<Order<'o, 'a, T>>,
-) -> Option<Order<'o, 'a, T>>
-    ensures { order_view result ≡ used_order (style_view style.now) (order_view order.entry) }
+/// The order that the bibliography goes by, if its style has one and an order was handed in.
+fn used_order<'o, 'a, T>(wanted: &BibliographyRequest<'o, 'a, T>) -> Option<Order<'o, 'a, T>>
+    ensures { order_view result ≡ used_order (wanted_view wanted.now).style (wanted_view wanted.now).order }
 {
-    match &style.bibliography {
-        Some(_) => order,
-        None => None,
+    match (&wanted.style.bibliography, &wanted.order) {
+        (Some(_), Some(order)) => Some(Order(order.0)),
+        _ => None,
     }
 }
 
-/// The answer to the requests, where the bibliography goes by the handed order, if there is one.
-fn answer<'a, T: EntryLike, P>(
+/// The answer to the requests.
+fn answer<'a, T: EntryLike, P: Drop>(
     alloc: Global,
     requests: &[CitationRequest<'a, T, P>],
-    style: &IndependentStyle,
-    order: Option<Order<'_, 'a, T>>,
+    wanted: &BibliographyRequest<'_, 'a, T>,
     offset: usize,
 ) -> Result<Rendered, DriverError>
-    ensures ok { IfOk result (λ r. r ≡ rendered_by T.eq T.answers (style_view style.now) (order_view order.entry) (requests_view requests.now) offset) }
-    ensures ringless { OnOk result (NoRingAtAll (requests_view requests.now) (style_view style.now)) }
+    ensures ok { IfOk result (λ r. r ≡ rendered T.eq T.answers (wanted_view wanted.now) (requests_view requests.now) offset) }
+    ensures ringless { OnOk result (NoRingAtAll (requests_view requests.now) (style_view wanted.now.style.now)) }
     ensures fits { OnOk result (offset + length (distinct T.eq (cited (requests_view requests.now))) < 2 ^ 64) }
-    ensures refused { IfErr result (Refuses T.eq (requests_view requests.now) (style_view style.now) offset) }
+    ensures refused { IfErr result (Refuses T.eq (requests_view requests.now) (style_view wanted.now.style.now) offset) }
 {
-    refuse_rings(alloc, requests, style)?;
-    let entries = bibliography_entries(alloc, order, requests)?;
+    refuse_rings(alloc, requests, wanted.style)?;
+    let entries = bibliography_entries(alloc, used_order(wanted), requests)?;
     if entries.len() > usize::MAX - offset {
         return Err(DriverError::NumberOverflow);
     }
+    let mut renders = Renders::new();
+    let citations = rendered_citations(alloc, requests, &entries, offset, &mut renders)?;
     Ok(Rendered {
-        citations: Seq::new(rendered_citations(alloc, requests, &entries, offset)?),
-        bibliography: style_bibliography(alloc, style, &entries, offset)?,
+        citations: Seq::new(citations),
+        bibliography: wanted_bibliography(alloc, wanted, requests, &entries, offset, &mut renders)?,
     })
 }
 
 impl<'a, T: EntryLike, P: Drop> BibliographyDriver<'a, T, P> {
     /// Answers all requests: a citation for each, and the bibliography, where its style has one.
     ///
-    /// The entries of the bibliography are those of the handed order that are cited, and then all
-    /// that are cited, each once. Their numbers begin at the offset.
+    /// Each shown cite is rendered once, for its purpose, by its locator and its number; a cite of the
+    /// year alone is its date text. The entries of the bibliography are those of the handed order
+    /// that are cited, and then all that are cited, each rendered once. Their numbers begin at the
+    /// offset.
     ///
     /// # Errors
     /// `MacroRing` exactly where a style has macros that call each other in a ring; `NumberOverflow`
@@ -69,19 +70,13 @@ impl<'a, T: EntryLike, P: Drop> BibliographyDriver<'a, T, P> {
     /// `usize::MAX`; `OutOfMemory` where memory runs out, at any point.
     pub fn finish(self, request: BibliographyRequest<'_, 'a, T>) -> Result<Rendered, DriverError>
         ensures ok { IfOk result
-            (λ r. r ≡ rendered T.eq T.answers (style_view request.entry.style.now) (order_view request.entry.order) (driver_view self.entry).requests (driver_view self.entry).offset) }
+            (λ r. r ≡ rendered T.eq T.answers (wanted_view request.entry) (driver_view self.entry).requests (driver_view self.entry).offset) }
         ensures ringless { OnOk result (NoRingAtAll (driver_view self.entry).requests (style_view request.entry.style.now)) }
         ensures fits { OnOk result ((driver_view self.entry).offset + length (distinct T.eq (cited (driver_view self.entry).requests)) < 2 ^ 64) }
         ensures refused { IfErr result (Refuses T.eq (driver_view self.entry).requests (style_view request.entry.style.now) (driver_view self.entry).offset) }
     {
         let (citations, offset, alloc) = self.into_parts();
-        let BibliographyRequest {
-            style,
-            locale: _,
-            locale_files: _,
-            order,
-        } = request;
-        let result = answer(alloc, &citations, style, used_order(style, order), offset);
+        let result = answer(alloc, &citations, &request, offset);
         discard(citations);
         result
     }

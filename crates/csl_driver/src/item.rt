@@ -1,11 +1,12 @@
 //! A cite as it is asked for.
 ghost use Rattle.std.specs.Prelude.{◌≡◌, false, None, Some, option_map};
 ghost use Rattle.csl_base.specs.StyleView.{code_view};
-ghost use Rattle.csl_driver.specs.RequestView.{cite_view, locator_view};
+ghost use Rattle.csl_writing.specs.PropertiesView.{locator_view};
+ghost use Rattle.csl_driver.specs.RequestView.{cite_view};
 
-use crate::locator::SpecificLocator;
-use crate::purpose::CitePurpose;
 use csl_base::locale::LocaleCode;
+use csl_writing::locator::SpecificLocator;
+use csl_writing::purpose::CitePurpose;
 
 /// An entry that is cited in a request.
 #[derive(PartialEq, Eq, Drop)]

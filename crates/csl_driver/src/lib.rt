@@ -1,17 +1,26 @@
 //! Requests for citations and a bibliography, and the driver that answers them.
+//!
+//! What stands below the driver is passed on, so that a user of the driver names it alone: style
+//! values, entries and trees, and what a cite is written with.
 #![tactic(auto)]
+
+pub use csl_base::{
+    elem, element, entry, formatting, initials, locale, names, seq, stack, style, taxonomy, text,
+};
+pub use csl_writing::{brackets, counter, locator, lookup, properties, purpose, state, year};
 
 mod assemble;
 mod bibliography;
+mod citation;
+mod cites;
 pub mod driver;
 mod entries;
 pub mod error;
 mod finish;
+mod first_places;
 pub mod item;
 pub mod laws;
-pub mod locator;
-pub mod purpose;
 pub mod rendered;
 pub mod request;
 mod rings;
-mod thin;
+pub mod standalone;

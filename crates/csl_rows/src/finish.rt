@@ -1,4 +1,4 @@
-//! The whole answer, for styles whose layouts are one plain text or the citation number.
+//! The whole answer, in styles that write the citation number or a plain text.
 use crate::styles::{entry, numeric, numeric_with_macros, value_style};
 use csl_base::elem::ElemChildren;
 use csl_base::entry::PlainEntry;
@@ -8,7 +8,6 @@ use csl_driver::driver::BibliographyDriver;
 use csl_driver::error::{DriverError, RingPlace};
 use csl_driver::item::CitationItem;
 use csl_driver::locator::{LocatorPayload, SpecificLocator, TransparentLocator};
-use csl_driver::purpose::CitePurpose;
 use csl_driver::rendered::Rendered;
 use csl_driver::request::{BibliographyRequest, CitationRequest, Order};
 use std::alloc::{AllocError, Global};
@@ -319,21 +318,6 @@ fn note_numbers_are_dropped_in_text(rt: HostRuntime) -> Result<(), Fail> {
     assert_eq!(rt; rendered.citations.as_slice().len(), 1);
     assert_eq!(rt; rendered.citations.as_slice()[0].note_number, None);
     assert_eq!(rt; lines(rt.alloc(), &rendered)?.as_str(), "et al.\n");
-    Ok(())
-}
-
-#[test]
-fn a_purpose_takes_prefix_and_suffix_away(rt: HostRuntime) -> Result<(), Fail> {
-    let alloc = rt.alloc();
-    let style = numeric(alloc)?;
-    let cited = entry(alloc, "a")?;
-    let mut items: Vec<Item> = Vec::new(alloc);
-    items.push(CitationItem::with_entry(&cited).kind(CitePurpose::Full))?;
-    items.push(CitationItem::with_locator(&cited, None))?;
-    let mut driver: Driver = BibliographyDriver::new(alloc);
-    take(&mut driver, CitationRequest::from_items(items, &style, &[]))?;
-    let rendered = driver.finish(BibliographyRequest::new(&style, None, &[]))?;
-    assert_eq!(rt; lines(alloc, &rendered)?.as_str(), "1, 1\na [1]\n");
     Ok(())
 }
 

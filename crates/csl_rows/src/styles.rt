@@ -1,15 +1,15 @@
 //! Styles and entries that the tests use.
 use csl_base::element::{
-    Affixes, CslMacro, InheritableNameOptions, LayoutRenderingElement, TextTarget,
+    Affixes, CslMacro, InheritableNameOptions, LayoutRenderingElement, NameForm, TextTarget,
 };
-use csl_base::entry::PlainEntry;
+use csl_base::entry::{Date, Person, PlainEntry};
 use csl_base::formatting::{FontStyle, StyleFormatting};
 use csl_base::seq::Seq;
 use csl_base::style::{
     Bibliography, Citation, Collapse, DisambiguationRule, IndependentStyle, Layout, StyleClass,
     StyleInfo, StyleSettings, SubsequentAuthorSubstituteRule,
 };
-use csl_base::taxonomy::NumberVariable;
+use csl_base::taxonomy::{DateVariable, NameVariable, NumberVariable};
 use csl_base::text::Text;
 use std::alloc::{AllocError, Global};
 use std::num::NonZeroI16;
@@ -101,6 +101,53 @@ fn citation_number(affixes: Affixes) -> LayoutRenderingElement {
         formatting: no_formatting(),
         display: None,
     }
+}
+
+fn no_affixes() -> Affixes {
+    Affixes {
+        prefix: None,
+        suffix: None,
+    }
+}
+
+/// The authors' family names.
+fn authors(alloc: Global) -> Result<LayoutRenderingElement, AllocError> {
+    let mut options = no_options();
+    options.name_form = Some(NameForm::Short);
+    Ok(LayoutRenderingElement::Names {
+        variables: vec![in alloc; NameVariable::Author]?,
+        substitute: Vec::new(alloc),
+        options,
+        affixes: no_affixes(),
+        formatting: no_formatting(),
+        display: None,
+    })
+}
+
+/// The authors and the year, with a space between them.
+fn author_and_year(alloc: Global) -> Result<LayoutRenderingElement, AllocError> {
+    let year = LayoutRenderingElement::Date {
+        variable: DateVariable::Issued,
+        affixes: no_affixes(),
+        formatting: no_formatting(),
+        display: None,
+    };
+    Ok(LayoutRenderingElement::Group {
+        children: vec![in alloc; authors(alloc)?, year]?,
+        delimiter: text(alloc, " ")?,
+        affixes: no_affixes(),
+        formatting: no_formatting(),
+        display: None,
+    })
+}
+
+/// An in-text style of authors and years in parentheses, without a bibliography.
+pub fn author_date(alloc: Global) -> Result<IndependentStyle, AllocError> {
+    let mut layout = layout_of(alloc, author_and_year(alloc)?)?;
+    layout.prefix = text(alloc, "(")?;
+    layout.suffix = text(alloc, ")")?;
+    layout.delimiter = text(alloc, "; ")?;
+    Ok(style_of(alloc, StyleClass::InText, citation_of(layout), None))
 }
 
 fn layout_of(alloc: Global, element: LayoutRenderingElement) -> Result<Layout, AllocError> {
@@ -204,4 +251,17 @@ pub fn entry(alloc: Global, key: &str) -> Result<PlainEntry, AllocError> {
         texts: Seq::new(Vec::new(alloc)),
         numbers: Seq::new(Vec::new(alloc)),
     })
+}
+
+/// An entry of one author, issued in a year.
+pub fn dated(alloc: Global, author: &str, year: i32) -> Result<PlainEntry, AllocError> {
+    let person = Person {
+        name: Text::new(String::from_str(alloc, author)?),
+        given_name: None,
+    };
+    let authors = Seq::new(vec![in alloc; person]?);
+    let mut dated = entry(alloc, author)?;
+    dated.names = Seq::new(vec![in alloc; (NameVariable::Author, authors)]?);
+    dated.dates = Seq::new(vec![in alloc; (DateVariable::Issued, Date { year })]?);
+    Ok(dated)
 }

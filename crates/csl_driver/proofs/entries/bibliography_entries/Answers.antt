@@ -1,4 +1,4 @@
-use Rattle.std.proofs.Common.{ap, ◌∙◌, sym}
+use Rattle.std.proofs.Common.{ap, ◌∙◌}
 use Rattle.csl_driver.specs.RequestView.{entries_view, order_view}
 use Rattle.csl_driver.specs.Entries.{with_all_new}
 use Rattle.csl_driver.proofs.Distinct.{bib_from_steps}

@@ -1,0 +1,32 @@
+-- The tree of one cite.
+use Rattle.std.specs.Prelude.{ℕ, Bool, true, false, List, Option, Some, None, if◌then◌else◌}
+use Rattle.csl_base.specs.Answers.{Answers}
+use Rattle.csl_base.specs.Child.{Child}
+use Rattle.csl_writing.specs.CiteText.{cite_text, date_text}
+use Rattle.csl_writing.specs.Lookup.{Source}
+use Rattle.csl_writing.specs.NoProperties.{nothing_certain, speculated}
+use Rattle.csl_writing.specs.Properties.{LocatorValue, Properties}
+use Rattle.csl_writing.specs.declared.purpose.CitePurpose.{CitePurpose}
+use Rattle.csl_writing.specs.declared.state.IbidState.{IbidState}
+use Rattle.csl_driver.specs.Request.{Cite}
+
+-- the properties of a cite that stands for itself, with this locator, number and place in its request
+abbrev pub properties_of : {P : Type 0} → Option (LocatorValue P) → ℕ → ℕ → Properties P
+properties_of locator number place = record {
+  certain = record nothing_certain { initial_idx = place };
+  speculative = speculated locator number IbidState.Different;
+}
+
+abbrev pub is_for_year : Option CitePurpose → Bool
+is_for_year (Some CitePurpose.Year) = true
+is_for_year _ = false
+
+-- a cite with these properties: the date text where it is written for the year alone, else the cite text for its purpose
+abbrev pub cite_tree : {E P : Type 0} → (E → Answers) → Source → Properties P → Cite E P → List Child
+cite_tree answers source properties c =
+    if is_for_year c.purpose then date_text source (answers c.entry)
+    else cite_text source (answers c.entry) properties c.purpose None
+
+-- the tree of a cite with the number n
+abbrev pub cite_tree_at : {E P : Type 0} → (E → Answers) → Source → ℕ → Cite E P → List Child
+cite_tree_at answers source n c = cite_tree answers source (properties_of c.locator n c.place) c

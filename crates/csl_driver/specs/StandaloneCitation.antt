@@ -1,0 +1,24 @@
+-- A citation that stands for itself.
+use Rattle.std.specs.Prelude.{true, List, map, filter, Some, unwrap_or, codes}
+use Rattle.csl_base.specs.Answers.{Answers}
+use Rattle.csl_base.specs.Child.{Child}
+use Rattle.csl_base.specs.Tree.{has_content}
+use Rattle.csl_writing.specs.Lookup.{Source}
+use Rattle.csl_driver.specs.Assembly.{shown, assembled}
+use Rattle.csl_driver.specs.CiteTree.{properties_of, cite_tree}
+use Rattle.csl_driver.specs.Request.{Cite, Request, source_of}
+
+module _ {E P : Type 0} (answers : E → Answers) where
+  -- the tree of a cite that has no number and no place of its own
+  abbrev pub lone_tree : Source → Cite E P → List Child
+  lone_tree source c = cite_tree answers source (properties_of c.locator 0 0) c
+
+  -- the trees of the cites that aren't hidden and have content
+  abbrev pub lone_trees : Source → List (Cite E P) → List (List Child)
+  lone_trees source cites = filter has_content (map (lone_tree source) (shown cites))
+
+  -- these trees between the layout's prefix and suffix, joined by its delimiter, or else by `, `
+  abbrev pub standalone : Request E P → List Child
+  standalone request =
+      let layout = request.style.citation.layout in
+      assembled true layout (Some (unwrap_or layout.delimiter (codes ", "))) (lone_trees (source_of request) request.cites)

@@ -1,0 +1,77 @@
+//! The tree of one cite.
+ghost use Rattle.std.specs.Prelude.{◌≡◌, IfOk, option_map};
+ghost use Rattle.csl_base.specs.Ring.{HasNoRing};
+ghost use Rattle.csl_writing.specs.PropertiesView.{locator_view, properties_view};
+ghost use Rattle.csl_writing.specs.SourceView.{source_view};
+ghost use Rattle.csl_driver.specs.CiteTree.{cite_tree, is_for_year, properties_of};
+ghost use Rattle.csl_driver.specs.Request.{source_of, wanted_source};
+ghost use Rattle.csl_driver.specs.RequestView.{cite_view, request_view, wanted_view};
+
+use crate::item::CitationItem;
+use crate::request::{BibliographyRequest, CitationRequest};
+use csl_base::elem::ElemChildren;
+use csl_base::entry::EntryLike;
+use csl_base::locale::LocaleCode;
+use csl_writing::counter::Renders;
+use csl_writing::locator::SpecificLocator;
+use csl_writing::lookup::StyleContext;
+use csl_writing::properties::CiteProperties;
+use csl_writing::purpose::CitePurpose;
+use std::alloc::{AllocError, Global};
+
+/// The style of a request, with its locales.
+pub(crate) fn request_context<'r, T, P>(request: &'r CitationRequest<'_, T, P>) -> StyleContext<'r>
+    ensures { source_view result ≡ source_of (request_view request.now) }
+{
+    StyleContext::new(request.style, request.locale.as_ref(), request.locale_files)
+}
+
+/// The style of a request for a bibliography, with its locales.
+pub(crate) fn wanted_context<'w, T>(wanted: &'w BibliographyRequest<'_, '_, T>) -> StyleContext<'w>
+    ensures { source_view result ≡ wanted_source (wanted_view wanted.now) }
+{
+    StyleContext::new(wanted.style, wanted.locale.as_ref(), wanted.locale_files)
+}
+
+/// The properties of a cite that stands for itself.
+pub(crate) fn cite_properties<'a, P: Drop>(
+    locator: &Option<SpecificLocator<'a, P>>,
+    number: usize,
+    place: usize,
+) -> Result<CiteProperties<'a, P>, AllocError>
+    ensures { IfOk result (λ p. properties_view p ≡ properties_of (option_map locator_view locator.now) number place) }
+{
+    let mut properties = CiteProperties::for_sorting(locator.clone()?, number);
+    properties.certain.initial_idx = place;
+    Ok(properties)
+}
+
+/// The date text for a cite of the year alone, else the cite text for its purpose.
+pub(crate) fn cite_tree<T: EntryLike, P>(
+    alloc: Global,
+    context: &StyleContext<'_>,
+    locale: Option<&LocaleCode>,
+    item: &CitationItem<'_, T, P>,
+    properties: &CiteProperties<'_, P>,
+    renders: &mut Renders,
+) -> Result<ElemChildren, AllocError>
+    requires no_ring { HasNoRing (source_view context.now).style.macros }
+    ensures { IfOk result (λ tree. tree ≡ cite_tree T.answers (source_view context.now) (properties_view properties.now) (cite_view item.now)) }
+{
+    let item_locale = item.locale.as_ref();
+    match item.purpose {
+        Some(CitePurpose::Year) => {
+            context.date_replacement(alloc, item.entry, properties, item_locale, locale, renders)
+        }
+        purpose => context.citation(
+            alloc,
+            item.entry,
+            properties,
+            item_locale,
+            locale,
+            purpose,
+            None,
+            renders,
+        ),
+    }
+}

@@ -1,0 +1,98 @@
+//! A citation that stands for itself.
+ghost use Rattle.std.specs.Prelude.{◌≡◌, ◌++◌, ◌∷◌, [], ℕ, Some, IfOk, OnOk, IfErr, option_map, unwrap_or, codes};
+ghost use Rattle.csl_base.specs.ElementView.{text_view};
+ghost use Rattle.csl_base.specs.Ring.{HasNoRing};
+ghost use Rattle.csl_base.specs.StyleView.{style_view};
+ghost use Rattle.csl_writing.specs.SourceView.{source_view};
+ghost use Rattle.csl_driver.specs.Request.{source_of};
+ghost use Rattle.csl_driver.specs.RequestView.{cite_view, request_view};
+ghost use Rattle.csl_driver.specs.Rings.{RefusesAlone};
+ghost use Rattle.csl_driver.specs.StandaloneCitation.{lone_tree, lone_trees, standalone};
+
+use crate::assemble::assembled;
+use crate::cites::{cite_properties, cite_tree, request_context};
+use crate::error::{DriverError, RingPlace};
+use crate::item::CitationItem;
+use crate::request::CitationRequest;
+use csl_base::elem::ElemChildren;
+use csl_base::entry::EntryLike;
+use csl_base::locale::LocaleCode;
+use csl_base::style::Layout;
+use csl_writing::counter::Renders;
+use csl_writing::lookup::StyleContext;
+use std::alloc::{AllocError, Global};
+
+/// The tree of a cite that has no number and no place of its own.
+fn lone_cite<T: EntryLike, P: Drop>(
+    alloc: Global,
+    context: &StyleContext<'_>,
+    locale: Option<&LocaleCode>,
+    item: &CitationItem<'_, T, P>,
+    renders: &mut Renders,
+) -> Result<ElemChildren, AllocError>
+    requires no_ring { HasNoRing (source_view context.now).style.macros }
+    ensures { IfOk result (λ tree. tree ≡ lone_tree T.answers (source_view context.now) (cite_view item.now)) }
+{
+    let properties = cite_properties(&item.locator, 0, 0)?;
+    cite_tree(alloc, context, locale, item, &properties, renders)
+}
+
+/// The trees of the cites that aren't hidden and have content.
+fn lone_cites<T: EntryLike, P: Drop>(
+    alloc: Global,
+    request: &CitationRequest<'_, T, P>,
+) -> Result<Vec<ElemChildren>, AllocError>
+    requires no_ring { HasNoRing (style_view request.now.style.now).macros }
+    ensures { IfOk result (λ cites. cites.items ≡ lone_trees T.answers (source_of (request_view request.now)) (request_view request.now).cites) }
+{
+    let context = request_context(request);
+    let locale = request.locale.as_ref();
+    let mut renders = Renders::new();
+    let mut cites = Vec::new(alloc);
+    for item in &request.items {
+        if !item.hidden {
+            let cite = lone_cite(alloc, &context, locale, item, &mut renders)?;
+            if cite.has_content() {
+                cites.push(cite)?;
+            }
+        }
+    }
+    Ok(cites)
+}
+
+/// What stands between cites: the layout's delimiter, or else a comma and a space.
+fn delimiter_of(layout: &Layout) -> &str
+    ensures { result.now ≡ unwrap_or (text_view layout.now.delimiter) (codes ", ") }
+{
+    match &layout.delimiter {
+        Some(delimiter) => delimiter.as_str(),
+        None => ", ",
+    }
+}
+
+/// A citation that stands for itself, as for a preview.
+///
+/// Cites that are hidden or have no content are left out; where none is left the citation is empty.
+/// The others stand between the layout's prefix and suffix, joined by its delimiter, or by `, ` where
+/// it has none, and aren't marked. Each is written with the number 0 and as if no other had been
+/// written before.
+///
+/// # Errors
+/// `MacroRing`, at `RingPlace::Request(0)`, exactly where the style has macros that call each other in
+/// a ring; `OutOfMemory` where memory runs out, at any point.
+pub fn standalone_citation<T: EntryLike, P: Drop>(
+    alloc: Global,
+    request: CitationRequest<'_, T, P>,
+) -> Result<ElemChildren, DriverError>
+    ensures ok { IfOk result (λ tree. tree ≡ standalone T.answers (request_view request.entry)) }
+    ensures ringless { OnOk result (HasNoRing (request_view request.entry).style.macros) }
+    ensures refused { IfErr result (RefusesAlone (request_view request.entry).style) }
+{
+    if let Some(macro_idx) = request.style.ring(alloc)? {
+        let place = RingPlace::Request(0);
+        return Err(DriverError::MacroRing { place, macro_idx });
+    }
+    let cites = lone_cites(alloc, &request)?;
+    let layout = &request.style.citation.layout;
+    Ok(assembled(alloc, layout, Some(delimiter_of(layout)), cites, true)?)
+}

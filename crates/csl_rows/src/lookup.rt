@@ -1,0 +1,93 @@
+//! Which locale answers.
+use crate::styles::numeric;
+use csl_driver::locale::{Locale, LocaleCode, LocalizedTerm};
+use csl_driver::lookup::StyleContext;
+use csl_driver::taxonomy::{OtherTerm, Term, TermForm};
+use std::alloc::{AllocError, Global};
+use std::test::Fail;
+
+fn code(alloc: Global, code: &str) -> Result<LocaleCode, AllocError> {
+    Ok(LocaleCode(String::from_str(alloc, code)?))
+}
+
+/// A locale that has words for `et al.` and nothing else.
+fn locale(alloc: Global, lang: Option<LocaleCode>, words: &str) -> Result<Locale, AllocError> {
+    let term = LocalizedTerm {
+        name: Term::Other(OtherTerm::EtAl),
+        form: TermForm::Long,
+        single: Some(String::from_str(alloc, words)?),
+        multiple: None,
+    };
+    Ok(Locale {
+        lang,
+        terms: vec![in alloc; term]?,
+        punctuation_in_quote: None,
+    })
+}
+
+/// German and American files.
+fn files(alloc: Global) -> Result<Vec<Locale>, AllocError> {
+    let german = locale(alloc, Some(code(alloc, "de-DE")?), "u. a.")?;
+    let american = locale(alloc, Some(code(alloc, "en-US")?), "et al.")?;
+    Ok(vec![in alloc; german, american]?)
+}
+
+fn words(locale: &Locale) -> Option<&str> {
+    match locale.terms.as_slice().first() {
+        Some(term) => match &term.single {
+            Some(words) => Some(words.as_str()),
+            None => None,
+        },
+        None => None,
+    }
+}
+
+fn et_al<'a>(context: &StyleContext<'a>) -> Option<&'a str> {
+    context.lookup_locale(|locale| words(locale))
+}
+
+#[test]
+fn asks_the_primary_dialect_and_american_english(rt: HostRuntime) -> Result<(), Fail> {
+    let style = numeric(rt.alloc())?;
+    let files = files(rt.alloc())?;
+    let austrian = code(rt.alloc(), "de-AT")?;
+    let french = code(rt.alloc(), "fr-FR")?;
+    let found = et_al(&StyleContext::new(&style, Some(&austrian), &files));
+    assert!(rt; found == Some("u. a."));
+    let found = et_al(&StyleContext::new(&style, Some(&french), &files));
+    assert!(rt; found == Some("et al."));
+    let found = et_al(&StyleContext::new(&style, None, &files));
+    assert!(rt; found == Some("et al."));
+    Ok(())
+}
+
+#[test]
+fn asks_the_style_first(rt: HostRuntime) -> Result<(), Fail> {
+    let mut style = numeric(rt.alloc())?;
+    let files = files(rt.alloc())?;
+    let austrian = code(rt.alloc(), "de-AT")?;
+    style.locale.push(locale(rt.alloc(), None, "etc.")?)?;
+    let found = et_al(&StyleContext::new(&style, Some(&austrian), &files));
+    assert!(rt; found == Some("etc."));
+    let german = code(rt.alloc(), "de")?;
+    style
+        .locale
+        .push(locale(rt.alloc(), Some(german), "usw.")?)?;
+    let found = et_al(&StyleContext::new(&style, Some(&austrian), &files));
+    assert!(rt; found == Some("usw."));
+    Ok(())
+}
+
+#[test]
+fn first_locale_that_says_so_decides_on_punctuation(rt: HostRuntime) -> Result<(), Fail> {
+    let style = numeric(rt.alloc())?;
+    let mut files = files(rt.alloc())?;
+    let context = StyleContext::new(&style, None, &files);
+    assert_eq!(rt; context.locale(), "en-US");
+    assert!(rt; !context.punctuation_in_quotes());
+    if let Some(american) = files.get_mut(1) {
+        american.punctuation_in_quote = Some(true);
+    }
+    assert!(rt; StyleContext::new(&style, None, &files).punctuation_in_quotes());
+    Ok(())
+}

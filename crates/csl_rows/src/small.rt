@@ -1,0 +1,63 @@
+//! Small values: years, letters, brackets, states, properties.
+use csl_driver::brackets::Brackets;
+use csl_driver::locator::{LocatorPayload, SpecificLocator, TransparentLocator};
+use csl_driver::properties::CiteProperties;
+use csl_driver::state::{DisambiguateState, IdentifierUsage};
+use csl_driver::taxonomy::Locator;
+use csl_driver::year::{letters_of_suffix, write_year};
+use std::test::Fail;
+
+#[test]
+fn years(rt: HostRuntime) -> Result<(), Fail> {
+    let rows = [
+        (2021, false, "2021"),
+        (2021, true, "21"),
+        (1000, true, "00"),
+        (999, true, "999AD"),
+        (1, false, "1AD"),
+        (0, false, "1BC"),
+        (0, true, "1BC"),
+        (-1, false, "2BC"),
+        (-2147483647, false, "2147483648BC"),
+        (-2147483648, false, "2147483649BC"),
+    ];
+    for (year, short, want) in rows {
+        let mut text = String::new(rt.alloc());
+        assert!(rt; write_year(year, short, &mut text, "AD", "BC").is_ok());
+        assert_eq!(rt; text.as_str(), want);
+    }
+    Ok(())
+}
+
+#[test]
+fn letters(rt: HostRuntime) -> Result<(), Fail> {
+    for (suffix, want) in [(0, "a"), (25, "z"), (26, "aa"), (27, "ab")] {
+        let text = letters_of_suffix(rt.alloc(), suffix)?;
+        assert_eq!(rt; text.as_str(), want);
+    }
+    Ok(())
+}
+
+#[test]
+fn small_values(rt: HostRuntime) -> Result<(), Fail> {
+    assert!(rt; Brackets::Square.left() == Some('['));
+    assert!(rt; Brackets::Square.right() == Some(']'));
+    assert!(rt; Brackets::None.left() == None);
+    let state = DisambiguateState::Choose.max(DisambiguateState::YearSuffix(3));
+    assert!(rt; state == DisambiguateState::YearSuffix(3));
+    assert!(rt; IdentifierUsage::default().label().number() == IdentifierUsage::Mixed);
+    Ok(())
+}
+
+#[test]
+fn properties_are_copied(rt: HostRuntime) -> Result<(), Fail> {
+    let payload = LocatorPayload::Transparent(TransparentLocator::new(rt.alloc(), 7u32)?);
+    let locator = SpecificLocator(Locator::Page, payload);
+    let properties = CiteProperties::for_sorting(Some(locator), 2);
+    let copy = properties.clone()?;
+    assert!(rt; copy == properties);
+    let without = copy.speculative.for_bibliography();
+    assert!(rt; without.locator.is_none());
+    assert!(rt; !(without == properties.speculative));
+    Ok(())
+}
