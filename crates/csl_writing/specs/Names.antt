@@ -89,7 +89,7 @@ abbrev pub last_joint : Terms → Rules → ℕ → List ℕ
 last_joint terms r count =
     elim r.and [
       | None ↦ r.name_delimiter
-      | Some and ↦ (if count == 2 then [] else r.name_delimiter) ++ 32 ∷ and_words terms and ++ 32 ∷ []
+      | Some and ↦ (if count == 2 then 32 ∷ [] else r.name_delimiter) ++ and_words terms and ++ 32 ∷ []
     ]
 
 abbrev pub is_count : DisambiguatedNameForm → Bool

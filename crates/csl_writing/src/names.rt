@@ -200,11 +200,13 @@ fn last_joint<'a>(
         Some(and) => and,
         None => return Ok(Leaf::Text(rules.name_delimiter)),
     };
+    let before = if count == 2 {
+        " "
+    } else {
+        rules.name_delimiter
+    };
     let mut joint = String::new(alloc);
-    if count != 2 {
-        joint.push_str(rules.name_delimiter)?;
-    }
-    joint.push_str(" ")?;
+    joint.push_str(before)?;
     joint.push_str(and_words(setting, and))?;
     joint.push_str(" ")?;
     Ok(Leaf::Owned(Text::new(joint)))
