@@ -1,5 +1,5 @@
 //! The context in which a cite is written.
-ghost use Rattle.std.specs.Prelude.{◌≡◌, ◌+◌, OnOk, OnErr, IfOk, length, string_bytes, option_map};
+ghost use Rattle.std.specs.Prelude.{◌≡◌, ◌+◌, OnOk, OnErr, IfOk, length, min, string_bytes, option_map};
 ghost use Rattle.csl_base.specs.ElementView.{affixes_view, options_view};
 ghost use Rattle.csl_writing.specs.Lookup.{term_of};
 ghost use Rattle.csl_writing.specs.SourceView.{lookup_view};
@@ -170,6 +170,7 @@ impl<'a, T, P> Context<'a, T, P> {
     /// locale has punctuation inside quotes.
     pub fn may_pull_punctuation(&mut self)
         ensures done { state self.new.writing ≡ pulling_if_asked (words_of self.old) (state self.old.writing) }
+        ensures heights { heights (state self.new.writing) ≡ heights (state self.old.writing) }
         ensures same { IsOfSameCite self.old self.new }
     {
         wording::may_pull_punctuation(&self.style, &mut self.writing);
@@ -178,6 +179,7 @@ impl<'a, T, P> Context<'a, T, P> {
     /// Leaves periods out from here on, where that is asked for; else nothing changes.
     pub fn may_strip_periods(&mut self, strip: bool)
         ensures done { state self.new.writing ≡ stripping strip (state self.old.writing) }
+        ensures heights { heights (state self.new.writing) ≡ heights (state self.old.writing) }
         ensures same { IsOfSameCite self.old self.new }
     {
         self.writing.may_strip_periods(strip);
@@ -186,6 +188,7 @@ impl<'a, T, P> Context<'a, T, P> {
     /// Leaves no period out from here on.
     pub fn stop_stripping_periods(&mut self)
         ensures done { state self.new.writing ≡ not_stripping (state self.old.writing) }
+        ensures heights { heights (state self.new.writing) ≡ heights (state self.old.writing) }
         ensures same { IsOfSameCite self.old self.new }
     {
         self.writing.stop_stripping_periods();
@@ -205,6 +208,7 @@ impl<'a, T, P> Context<'a, T, P> {
         requires { prefix.0.frames + 1 ≡ length (state self.old.writing).frames }
         ensures done { OnOk result (state self.new.writing ≡ suffixed (words_of self.old) (affixes_view affixes.now).suffix prefix.0.formats prefix.1 (state self.old.writing)) }
         ensures height { OnOk result (length (state self.new.writing).frames ≡ prefix.0.frames) }
+        ensures format_height { OnOk result (length (state self.new.writing).formats ≡ min prefix.0.formats (length (state self.old.writing).formats)) }
         ensures refused { OnErr result (heights (state self.new.writing) ≡ heights (state self.old.writing)) }
         ensures same { IsOfSameCite self.old self.new }
     {

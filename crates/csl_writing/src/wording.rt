@@ -1,5 +1,5 @@
 //! Calls of a writing context that ask the style's locales for terms.
-ghost use Rattle.std.specs.Prelude.{◌≡◌, ◌+◌, OnOk, OnErr, IfOk, length, string_bytes, option_map};
+ghost use Rattle.std.specs.Prelude.{◌≡◌, ◌+◌, OnOk, OnErr, IfOk, length, min, string_bytes, option_map};
 ghost use Rattle.csl_writing.specs.Quotes.{quotes_view};
 ghost use Rattle.csl_writing.specs.SourceView.{lookup_view};
 ghost use Rattle.csl_writing.specs.WritingState.{state, heights};
@@ -256,6 +256,7 @@ pub(crate) fn apply_suffix(
     requires { prefix.0.frames + 1 ≡ length (state writing.old).frames }
     ensures done { OnOk result (state writing.new ≡ suffixed (lookup_view style.now) (option_map (λ s. s.now) suffix.entry) prefix.0.formats prefix.1 (state writing.old)) }
     ensures height { OnOk result (length (state writing.new).frames ≡ prefix.0.frames) }
+    ensures format_height { OnOk result (length (state writing.new).formats ≡ min prefix.0.formats (length (state writing.old).formats)) }
     ensures refused { OnErr result (heights (state writing.new) ≡ heights (state writing.old)) }
 {
     if !writing.has_content_since(&prefix)? {

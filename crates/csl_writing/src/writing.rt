@@ -1,5 +1,5 @@
 //! The writing context: texts that are written one after another into trees that are still open.
-ghost use Rattle.std.specs.Prelude.{◌≡◌, ◌+◌, ◌<◌, OnOk, OnErr, IfOk, length, slice_get, Some, false, option_map};
+ghost use Rattle.std.specs.Prelude.{◌≡◌, ◌+◌, ◌<◌, ◌≤◌, OnOk, OnErr, IfOk, length, min, slice_get, Some, false, option_map};
 ghost use Rattle.std.specs.Str.{IsCharBoundary};
 ghost use Rattle.csl_base.specs.ChildView.{child_view};
 ghost use Rattle.csl_base.specs.ElementView.{affixes_view, options_view, text_view};
@@ -311,6 +311,7 @@ impl<'a> WritingContext<'a> {
         ensures formats { IfOk result (λ loc. loc.formats ≡ length (state self.old).formats) }
         ensures done { OnOk result (state self.new ≡ opened format (state self.old)) }
         ensures height { OnOk result (length (state self.new).frames ≡ length (state self.old).frames + 1) }
+        ensures more_formats { OnOk result (length (state self.old).formats ≤ length (state self.new).formats) }
         ensures refused { OnErr result (heights (state self.new) ≡ heights (state self.old)) }
     {
         self.save()?;
@@ -339,6 +340,7 @@ impl<'a> WritingContext<'a> {
         requires { loc.frames + 1 ≡ length (state self.old).frames }
         ensures done { OnOk result (state self.new ≡ closed_elem loc.formats display meta (state self.old)) }
         ensures height { OnOk result (length (state self.new).frames ≡ loc.frames) }
+        ensures format_height { OnOk result (length (state self.new).formats ≡ min loc.formats (length (state self.old).formats)) }
         ensures refused { OnErr result (heights (state self.new) ≡ heights (state self.old)) }
     {
         self.save()?;
@@ -357,6 +359,7 @@ impl<'a> WritingContext<'a> {
         requires { loc.frames + 1 ≡ length (state self.old).frames }
         ensures done { OnOk result (state self.new ≡ discarded loc.formats (state self.old)) }
         ensures height { OnOk result (length (state self.new).frames ≡ loc.frames) }
+        ensures format_height { OnOk result (length (state self.new).formats ≡ min loc.formats (length (state self.old).formats)) }
         ensures refused { OnErr result (heights (state self.new) ≡ heights (state self.old)) }
     {
         self.save()?;
@@ -376,6 +379,8 @@ impl<'a> WritingContext<'a> {
         ensures formats { IfOk result (λ prefix. prefix.0.formats ≡ length (state self.old).formats) }
         ensures offset { IfOk result (λ prefix. prefix.1 ≡ length (term_text (affixes_view affixes.now).prefix)) }
         ensures done { OnOk result (state self.new ≡ prefixed (affixes_view affixes.now).prefix (state self.old)) }
+        ensures height { OnOk result (length (state self.new).frames ≡ length (state self.old).frames + 1) }
+        ensures same_formats { OnOk result (length (state self.new).formats ≡ length (state self.old).formats) }
         ensures refused { OnErr result (heights (state self.new) ≡ heights (state self.old)) }
     {
         self.begin_prefix(text_of(&affixes.prefix))
@@ -446,7 +451,8 @@ impl<'a> WritingContext<'a> {
 
     /// Leaves periods out from here on, where that is asked for.
     pub(crate) fn may_strip_periods(&mut self, asked: bool)
-        ensures { state self.new ≡ stripping asked (state self.old) }
+        ensures done { state self.new ≡ stripping asked (state self.old) }
+        ensures heights { heights (state self.new) ≡ heights (state self.old) }
     {
         if asked {
             self.stripping = true;
