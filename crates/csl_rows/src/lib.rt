@@ -8,8 +8,6 @@ mod finish;
 #[cfg(test)]
 mod initials;
 #[cfg(test)]
-mod laws;
-#[cfg(test)]
 mod lookup;
 #[cfg(test)]
 mod names;
