@@ -27,3 +27,5 @@ mod standalone;
 mod styles;
 #[cfg(test)]
 mod trees;
+#[cfg(test)]
+mod writing;
