@@ -25,3 +25,5 @@ mod standalone;
 mod styles;
 #[cfg(test)]
 mod trees;
+#[cfg(test)]
+mod writing;
