@@ -6,7 +6,8 @@ use Rattle.serde_json.specs.Find.{as_array, as_str}
 use Rattle.csl_base.specs.declared.entry.PlainEntry.{PlainEntry}
 use Rattle.csl_base.specs.Style.{LocaleValue, StyleValue}
 use Rattle.csl_driver.specs.Class.{is_note}
-use Rattle.csl_driver.specs.Request.{text_payload, LocatorValue, Cite, Request}
+use Rattle.csl_writing.specs.Properties.{text_payload, LocatorValue}
+use Rattle.csl_driver.specs.Request.{Cite, Request}
 use Rattle.cite_run.specs.Words.{◌>>=◌, object_with, required, where_present, flag, list_of, items_at, whole, name_form}
 use Rattle.cite_run.specs.Names.{one_of}
 use Rattle.cite_run.specs.Tables.{locators, purposes}

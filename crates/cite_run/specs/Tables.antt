@@ -18,7 +18,7 @@ use Rattle.csl_base.specs.declared.taxonomy.OtherTerm.{OtherTerm}
 use Rattle.csl_base.specs.declared.taxonomy.TermForm.{TermForm}
 use Rattle.csl_base.specs.declared.element.TestPosition.{TestPosition}
 use Rattle.csl_base.specs.declared.element.ChooseMatch.{ChooseMatch}
-use Rattle.csl_driver.specs.declared.purpose.CitePurpose.{CitePurpose}
+use Rattle.csl_writing.specs.declared.purpose.CitePurpose.{CitePurpose}
 use Rattle.cite_run.specs.declared.document.names.TheConstants.{CATEGORIES, CLASSES, GIVEN_NAME_RULES, COLLAPSES, SECOND_FIELD_ALIGNS, SUBSTITUTE_RULES, NAME_ANDS, NAME_FORMS, DISPLAYS, NAME_VARIABLES, DATE_VARIABLES, STANDARD_VARIABLES, NUMBER_VARIABLES, LOCATORS, OTHER_TERMS, TERM_FORMS, POSITIONS, MATCHES, PURPOSES}
 
 -- names and the values that they stand for
