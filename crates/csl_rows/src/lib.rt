@@ -20,8 +20,6 @@ mod small;
 #[cfg(test)]
 mod stacks;
 #[cfg(test)]
-mod standalone;
-#[cfg(test)]
 mod styles;
 #[cfg(test)]
 mod trees;
