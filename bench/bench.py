@@ -89,8 +89,26 @@ def macros(n):
     return document(style, [{"key": "entry"}], [["entry"]])
 
 
+def author_date(n):
+    """n requests of one cite each, of two persons and a year, as in (Doe & Roe 1999); every entry another one."""
+    names = {"kind": "names", "variables": ["author"], "options": {"and": "symbol", "name_form": "short"}}
+    date = {"kind": "date", "variable": "issued"}
+    group = {"kind": "group", "children": [names, date], "delimiter": " "}
+    style = {"citation": {"elements": [group], "prefix": "(", "suffix": ")", "delimiter": "; "}}
+    entries = [
+        {
+            "key": key,
+            "author": [[f"Doe{i}", "Jane"], ["Roe", "Rick"]],
+            "issued": 1900 + i % 100,
+        }
+        for i, key in enumerate(keys_of(n))
+    ]
+    return document(style, entries, [[entry["key"]] for entry in entries])
+
+
 KINDS = {
-    kind.__name__: kind for kind in (numeric, all_distinct, one_entry, one_request, handed_order, macros)
+    kind.__name__: kind
+    for kind in (numeric, all_distinct, one_entry, one_request, handed_order, macros, author_date)
 }
 
 
