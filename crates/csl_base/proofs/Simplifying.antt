@@ -1,8 +1,9 @@
 -- The steps of the calls that simplify.
-use Rattle.std.proofs.Common.{◌≡◌, ℕ, suc, ◌<◌, true, false, List, [], ◌∷◌, ◌++◌, map, length, get_or, refl, sym, ap, ap₂, ◌∙◌, arith}
-use Rattle.std.proofs.Common.{OnOk, Result}
+use Rattle.std.proofs.Common.{◌≡◌, ℕ, suc, ◌<◌, true, false, List, [], ◌∷◌, ◌++◌, map, length, get_or, take, ◌+◌, subst, refl, sym, ap, ap₂, ◌∙◌, arith}
+use Rattle.std.proofs.Common.{OnOk, Result, Option, None, Some, Bor}
 use Rattle.std.proofs.lemmas.Result.{on_ok_weaker}
 use Rattle.std.proofs.lemmas.List.{map-append}
+use Rattle.std.proofs.Math.Seq.{take-suc}
 use Rattle.csl_base.specs.Child.{Child}
 use Rattle.csl_base.specs.ChildView.{child_view}
 use Rattle.csl_base.specs.Simplify.{joins, joined, join_last, level_joined, child_simple}
@@ -20,6 +21,34 @@ pub put_apart : (xs : List ElemChild) (d : ElemChild) (e : Child) (cs : List Chi
 put_apart xs d e cs v p =
     sym (join_last-apart (map child_view xs) (child_view d) e p)
     ∙ ap (λ ds. join_last ds e) (sym (map-append child_view xs (d ∷ [])) ∙ v)
+
+-- the last of some items, where there is one
+abbrev pub EndsIn : {A : Type 0} → Option (Bor A) → List A → Type 0
+EndsIn None xs = xs ≡ []
+EndsIn {A} (Some b) xs = (ys : List A) × (xs ≡ ys ++ b.now ∷ [])
+
+-- a level that stays as it is when it is joined, and one more child that stands apart from its last
+pub apart_next : (cs : List Child) (d e : Child) → level_joined (cs ++ d ∷ []) ≡ cs ++ d ∷ [] → joins d e ≡ false → level_joined ((cs ++ d ∷ []) ++ e ∷ []) ≡ (cs ++ d ∷ []) ++ e ∷ []
+apart_next cs d e h p = level_joined-next (cs ++ d ∷ []) e ∙ ap (λ ds. join_last ds e) h ∙ join_last-apart cs d e p
+
+-- one more of some items
+pub taken_next : {A : Type 0} (xs : List A) (k : ℕ) (x : A) → k < length xs → x ≡ get_or xs k x → take (k + 1) xs ≡ take k xs ++ x ∷ []
+taken_next xs k x h e =
+    let one_more : k + 1 ≡ suc k = omega arith in
+    ap (λ n. take n xs) one_more ∙ take-suc xs k x h ∙ ap (λ y. take k xs ++ y ∷ []) (sym e)
+
+-- the first child of a level stays as it is
+pub first_apart : (xs zs : List ElemChild) (x : ElemChild) → zs ≡ xs ++ x ∷ [] → xs ≡ [] → level_joined (map child_view zs) ≡ map child_view zs
+first_apart xs zs x e f = rw (e, f)
+
+-- and so does one that stands apart from the last before it
+pub more_apart : (xs zs : List ElemChild) (b : Bor ElemChild) (x : ElemChild) → zs ≡ xs ++ x ∷ [] → EndsIn (Some b) xs → level_joined (map child_view xs) ≡ map child_view xs → joins (child_view b.now) (child_view x) ≡ false → level_joined (map child_view zs) ≡ map child_view zs
+more_apart xs zs b x e (ys, f) h p =
+    let d = b.now in
+    let r = map-append child_view ys (d ∷ []) in
+    let q = map-append child_view (ys ++ d ∷ []) (x ∷ []) ∙ ap (λ cs. cs ++ child_view x ∷ []) r in
+    let stays = subst (λ cs. level_joined cs ≡ cs) (ap (map child_view) f ∙ r) h in
+    subst (λ cs. level_joined cs ≡ cs) (sym (ap (map child_view) (e ∙ ap (λ bs. bs ++ x ∷ []) f) ∙ q)) (apart_next (map child_view ys) (child_view d) (child_view x) stays p)
 
 -- one more child of a level
 pub level_next : (xs : List ElemChild) (x : ElemChild) (cs ds : List Child) → cs ≡ level_joined (map child_view xs) → ds ≡ join_last cs (child_view x) → ds ≡ level_joined (map child_view (xs ++ x ∷ []))

@@ -1,5 +1,5 @@
 //! Adjacent texts of equal formatting become one.
-ghost use Rattle.std.specs.Prelude.{◌≡◌, List, OnOk, IfOk};
+ghost use Rattle.std.specs.Prelude.{◌≡◌, List, OnOk, IfOk, false, map};
 ghost use Rattle.csl_base.specs.Child.{Child, kids_of};
 ghost use Rattle.csl_base.specs.ChildView.{child_view};
 ghost use Rattle.csl_base.specs.Tree.{plain};
@@ -63,10 +63,29 @@ impl ElemChild {
     }
 }
 
+/// Whether two of these children, one behind the other, are to be one.
+fn has_joints(children: &[ElemChild]) -> bool
+    ensures { result ≡ false → level_joined (map child_view children.now) ≡ map child_view children.now }
+{
+    let mut last: Option<&ElemChild> = None;
+    for child in children {
+        if let Some(before) = last {
+            if before.joins(child) {
+                return true;
+            }
+        }
+        last = Some(child);
+    }
+    false
+}
+
 /// Joins adjacent texts of equal formatting among these children, and not inside them.
 fn join_adjacent(children: &mut ElemChildren) -> Result<(), AllocError>
     ensures { OnOk result (children.new ≡ level_joined children.old) }
 {
+    if !has_joints(&children.0) {
+        return Ok(());
+    }
     let empty = ElemChildren::new(*children.0.allocator());
     let apart = mem::replace(children, empty);
     for child in apart.0 {
