@@ -1,5 +1,5 @@
 -- Joining neighbours of one level, from either end.
-use Rattle.std.proofs.Common.{◌≡◌, Bool, true, false, cond, ◌&&◌, List, [], ◌∷◌, ◌++◌, map, refl, sym, ap, ◌∙◌, append_assoc, true≢false}
+use Rattle.std.proofs.Common.{◌≡◌, Bool, true, false, cond, List, [], ◌∷◌, ◌++◌, map, refl, sym, ap, ◌∙◌, append_assoc, true≢false}
 use Rattle.csl_base.specs.Child.{Child, text, elem, markup, link, transparent}
 use Rattle.csl_base.specs.EqualTrees.{formattings_find}
 use Rattle.csl_base.specs.Simplify.{same_formatting, joins, joined, join_first, join_last, level_joined, child_simple, simplified}

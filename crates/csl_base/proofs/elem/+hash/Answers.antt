@@ -1,5 +1,5 @@
 -- The hash of a tree: one more child, and all of them.
-use Rattle.std.proofs.Common.{◌≡◌, map, take, ◌++◌, fold, arith, sym}
+use Rattle.std.proofs.Common.{map, take, ◌++◌, arith, sym}
 use Rattle.std.specs.Hash.{fed_then, fed_along}
 use Rattle.csl_base.specs.ChildView.{child_view}
 use Rattle.csl_base.specs.TreeHash.{tree_fed, child_fed}

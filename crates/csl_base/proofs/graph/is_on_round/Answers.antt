@@ -1,6 +1,6 @@
-use Rattle.std.proofs.Common.{◌≡◌, ◌<◌, ◌∙◌, ◌+◌, ◌-◌, ◌≤◌, ℕ, List, [], Vec, Global, map, sym, ap, subst, length, get_or, arith}
-use Rattle.std.proofs.lemmas.List.{length-map, get_or-map}
-use Rattle.csl_base.specs.Places.{Places, steps_from, IsWithin, IsClosed, add_each}
+use Rattle.std.proofs.Common.{◌≡◌, ◌<◌, ◌∙◌, ◌+◌, ◌-◌, ◌≤◌, ℕ, [], Vec, Global, sym, ap, subst, length, arith}
+use Rattle.std.proofs.lemmas.List.{length-map}
+use Rattle.csl_base.specs.Places.{steps_from, IsWithin, add_each}
 use Rattle.csl_base.proofs.Rows.{rows_of, row_read, row_within}
 use Rattle.csl_base.proofs.Reached.{left, IsReached, reached-start, reached-more, next_within, falls, mark_read, on_round}
 use Rattle.csl_base.proofs.graph.is_on_round.Goals as goal

@@ -1,5 +1,4 @@
-use Rattle.std.proofs.Common.{◌≡◌, ◌<◌, ◌≤◌, ℕ, length, map, take, drop, get_or, true}
-use Rattle.csl_base.specs.Places.{has_place, steps_from, IsWithin}
+use Rattle.std.proofs.Common.{◌≡◌, length}
 use Rattle.csl_base.proofs.order.count_steps.Given as goal
 
 abbrev pub invariant-loop-place : goal.invariant-loop-place

@@ -1,8 +1,6 @@
-use Rattle.std.proofs.Common.{◌≡◌, ◌∙◌, ◌<◌, ℕ, Vec, Global, map, sym, ap, subst, length, get_or, arith}
-use Rattle.std.proofs.lemmas.List.{length-set}
+use Rattle.std.proofs.Common.{◌∙◌, ◌<◌, ℕ, Vec, Global, sym, ap, subst, length, arith}
 use Rattle.csl_base.specs.Places.{IsWithin}
-use Rattle.csl_base.proofs.Rows.{rows_of, row_read, row_within, next_place, one_more, rises, no_round}
-use Rattle.csl_base.proofs.Reached.{place_within}
+use Rattle.csl_base.proofs.Rows.{one_more}
 use Rattle.csl_base.proofs.order.free_places.Goals as goal
 use Rattle.csl_base.proofs.order.free_places.Goals.{then-index-eq0+in_ok-push, else-index-eq0}
 

@@ -1,5 +1,5 @@
-use Rattle.std.proofs.Common.{◌≡◌, ◌<◌, ◌≤◌, ℕ, length, map, take, drop, get_or, true}
-use Rattle.csl_base.specs.Places.{has_place, steps_from, IsWithin}
+use Rattle.std.proofs.Common.{◌≡◌, ◌<◌, ℕ, map, get_or, true}
+use Rattle.csl_base.specs.Places.{has_place, steps_from}
 use Rattle.csl_base.proofs.order.leads_up.Given as goal
 
 abbrev pub invariant-loop-i : goal.invariant-loop-i

@@ -1,8 +1,6 @@
-use Rattle.std.proofs.Common.{◌≡◌, ◌∙◌, ◌<◌, ℕ, Vec, Global, map, sym, ap, subst, length, get_or, arith}
-use Rattle.std.proofs.lemmas.List.{length-set}
+use Rattle.std.proofs.Common.{◌<◌, sym, subst, length, arith}
 use Rattle.csl_base.specs.Places.{IsWithin}
 use Rattle.csl_base.proofs.Rows.{row_within, read_within}
-use Rattle.csl_base.proofs.Reached.{place_within}
 use Rattle.csl_base.proofs.order.ranks.Goals as goal
 
 pub index_mut-requires : goal.index_mut-requires

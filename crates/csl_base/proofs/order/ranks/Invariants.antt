@@ -1,5 +1,5 @@
-use Rattle.std.proofs.Common.{◌≡◌, ◌<◌, ◌≤◌, ℕ, length, map, take, drop, get_or, true}
-use Rattle.csl_base.specs.Places.{has_place, steps_from, IsWithin}
+use Rattle.std.proofs.Common.{◌≡◌, length}
+use Rattle.csl_base.specs.Places.{IsWithin}
 use Rattle.csl_base.proofs.order.ranks.Given as goal
 
 abbrev pub invariant-loop-at : goal.invariant-loop-at

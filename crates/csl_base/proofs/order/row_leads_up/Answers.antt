@@ -1,8 +1,5 @@
-use Rattle.std.proofs.Common.{◌≡◌, ◌∙◌, ◌<◌, ℕ, Vec, Global, map, sym, ap, subst, length, get_or, arith}
-use Rattle.std.proofs.lemmas.List.{length-set}
-use Rattle.csl_base.specs.Places.{IsWithin}
-use Rattle.csl_base.proofs.Rows.{rows_of, row_read, row_within, next_place, one_more, rises, no_round}
-use Rattle.csl_base.proofs.Reached.{place_within}
+use Rattle.std.proofs.Common.{length, arith}
+use Rattle.csl_base.proofs.Rows.{next_place, rises}
 use Rattle.csl_base.proofs.order.row_leads_up.Goals as goal
 
 pub index-requires : goal.index-requires

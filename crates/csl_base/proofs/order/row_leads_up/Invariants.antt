@@ -1,5 +1,5 @@
-use Rattle.std.proofs.Common.{◌≡◌, ◌<◌, ◌≤◌, ℕ, length, map, take, drop, get_or, true}
-use Rattle.csl_base.specs.Places.{has_place, steps_from, IsWithin}
+use Rattle.std.proofs.Common.{◌≡◌, ◌<◌, ℕ, take, get_or, true}
+use Rattle.csl_base.specs.Places.{has_place}
 use Rattle.csl_base.proofs.order.row_leads_up.Given as goal
 
 abbrev pub invariant-loop-place : goal.invariant-loop-place

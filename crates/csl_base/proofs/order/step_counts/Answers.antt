@@ -1,8 +1,6 @@
-use Rattle.std.proofs.Common.{◌≡◌, ◌∙◌, ◌<◌, ℕ, Vec, Global, map, sym, ap, subst, length, get_or, arith}
-use Rattle.std.proofs.lemmas.List.{length-set}
+use Rattle.std.proofs.Common.{sym, subst, arith}
 use Rattle.csl_base.specs.Places.{IsWithin}
-use Rattle.csl_base.proofs.Rows.{rows_of, row_read, row_within, next_place, one_more, rises, no_round}
-use Rattle.csl_base.proofs.Reached.{place_within}
+use Rattle.csl_base.proofs.Rows.{row_within}
 use Rattle.csl_base.proofs.order.step_counts.Goals as goal
 
 pub count_steps-requires : goal.count_steps-requires

@@ -1,8 +1,7 @@
-use Rattle.std.proofs.Common.{◌≡◌, ◌∙◌, ◌<◌, ℕ, Vec, Global, map, sym, ap, subst, length, get_or, arith}
+use Rattle.std.proofs.Common.{◌∙◌, ◌<◌, ℕ, Vec, Global, sym, ap, subst, length, get_or, arith}
 use Rattle.std.proofs.lemmas.List.{length-set}
 use Rattle.csl_base.specs.Places.{IsWithin}
-use Rattle.csl_base.proofs.Rows.{rows_of, row_read, row_within, next_place, one_more, rises, no_round}
-use Rattle.csl_base.proofs.Reached.{place_within}
+use Rattle.csl_base.proofs.Rows.{next_place, one_more}
 use Rattle.csl_base.proofs.order.take_away.Goals as goal
 use Rattle.csl_base.proofs.order.take_away.Goals.{then-left-eq0+in_ok-push, else-left-eq0}
 

@@ -1,5 +1,5 @@
 -- All macros, by the places that the map keeps.
-use Rattle.std.proofs.Common.{◌≡◌, ℕ, ◌++◌, ◌∙◌, List, [], Option, map, drop, sym, ap, arith}
+use Rattle.std.proofs.Common.{◌≡◌, ℕ, ◌++◌, ◌∙◌, List, Option, map, sym, ap, arith}
 use Rattle.std.proofs.lemmas.List.{append-nil, drop_all}
 use Rattle.std.specs.List.{filter_map}
 use Rattle.csl_base.specs.Calls.{calls_of_all}

@@ -1,5 +1,5 @@
 -- One more macro: a new name, and an old one.
-use Rattle.std.proofs.Common.{◌≡◌, ◌+◌, ◌<◌, ◌∙◌, List, Some, length, take, cond, is_some, true, false, sym, ap, subst, arith}
+use Rattle.std.proofs.Common.{◌≡◌, ◌<◌, ◌∙◌, List, Some, length, take, cond, is_some, true, false, sym, ap, subst, arith}
 use Rattle.std.specs.Prelude.{bytes_eq}
 use Rattle.csl_base.specs.Element.{Name, Macro}
 use Rattle.csl_base.specs.ElementView.{macro_view, macros_view}

@@ -4,7 +4,7 @@ use Rattle.csl_base.specs.Element.{Macro}
 use Rattle.csl_base.specs.ElementView.{macro_view, macros_view}
 use Rattle.csl_base.specs.Ring.{has_name, IsRingAt}
 use Rattle.csl_base.specs.Places.{IsClosed, IsOnRound}
-use Rattle.csl_base.proofs.Rings.{place_found, calls_closed, ring_of_round, round_of_ring, no_ring, none_past}
+use Rattle.csl_base.proofs.Rings.{place_found, calls_closed, ring_of_round, round_of_ring, none_past}
 use Rattle.csl_base.proofs.ring.first_ring.Goals as goal
 use Rattle.csl_base.proofs.ring.first_ring.Goals.{else-is_new_name-via-then-is_new_name+in_ok-is_on_round+else-branch, else-is_new_name-via-else-is_new_name}
 

@@ -1,5 +1,5 @@
 -- Another child that stands apart from the last; and all of them at the end.
-use Rattle.std.proofs.Common.{◌≡◌, ◌+◌, take, take_all, map, length, refl, sym, ap, subst, ◌∙◌, arith}
+use Rattle.std.proofs.Common.{◌≡◌, ◌+◌, take, take_all, map, refl, sym, subst, ◌∙◌}
 use Rattle.csl_base.specs.ChildView.{child_view}
 use Rattle.csl_base.specs.Simplify.{level_joined}
 use Rattle.csl_base.proofs.Simplifying.{taken_next, first_apart, more_apart, EndsIn}
@@ -18,9 +18,9 @@ loop-child-preserved c =
     let l = c.loop-child.invariant in
     record {
       apart = elim c.match-last.branch [
-        in-Some+else-joins w ↦
-          more_apart (take k xs) (take (k + 1) xs) w.in-Some.before x next (subst (λ o. EndsIn o (take k xs)) w.in-Some.is l.ends) l.apart (sym w.joins.ensures ∙ w.if-joins.false)
-      | in_default w ↦ first_apart (take k xs) (take (k + 1) xs) x next (subst (λ o. EndsIn o (take k xs)) w.in_default.is l.ends)
+        | in-Some+else-joins w ↦
+            more_apart (take k xs) (take (k + 1) xs) w.in-Some.before x next (subst (λ o. EndsIn o (take k xs)) w.in-Some.is l.ends) l.apart (sym w.joins.ensures ∙ w.if-joins.false)
+        | in_default w ↦ first_apart (take k xs) (take (k + 1) xs) x next (subst (λ o. EndsIn o (take k xs)) w.in_default.is l.ends)
       ];
       ends = (take k xs, next);
     }

@@ -1,5 +1,5 @@
 -- The item that is lent, and none.
-use Rattle.std.proofs.Common.{◌≡◌, Bool, false, List, Some, None, option_and_then, slice_get, refl, sym, ap, ◌∙◌, subst}
+use Rattle.std.proofs.Common.{◌≡◌, Bool, false, Some, None, option_and_then, slice_get, refl, sym, ap, ◌∙◌, subst}
 use Rattle.std.specs.List.{All}
 use Rattle.csl_base.specs.Stack.{topmost, AnswersAs, Gave, IsTopmostAccepted}
 use Rattle.csl_base.proofs.stack.NonEmptyStack.last_mut_predicate.Given as given

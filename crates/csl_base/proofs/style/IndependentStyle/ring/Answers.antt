@@ -1,5 +1,5 @@
 -- Where an order was found, and where the first ring was looked for.
-use Rattle.std.proofs.Common.{◌≡◌, ℕ, List, Option, None, Some, Result, Ok, Err, IfOk, true, map, sym, subst}
+use Rattle.std.proofs.Common.{◌≡◌, ℕ, List, Option, None, Some, Result, Ok, Err, IfOk, sym, subst}
 use Rattle.csl_base.specs.Element.{Macro}
 use Rattle.csl_base.specs.ElementView.{macros_view}
 use Rattle.csl_base.specs.Ring.{IsFirstRing, IsRingAt, HasNoRing, call_places}
