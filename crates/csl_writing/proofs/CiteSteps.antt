@@ -1,9 +1,8 @@
 -- A cite from what is written and noted of it.
-use Rattle.std.proofs.Common.{◌≡◌, ℕ, Bool, ◌&&◌, List, [], Option, Some, refl, ap, sym, subst, ◌∙◌}
+use Rattle.std.proofs.Common.{◌≡◌, Bool, ◌&&◌, List, [], Option, Some, ap, sym, ◌∙◌}
 use Rattle.std.specs.Prelude.{is_some, unwrap_or}
 use Rattle.csl_base.specs.Answers.{Answers}
 use Rattle.csl_base.specs.Child.{Child}
-use Rattle.csl_writing.specs.declared.cite.Cite.{Cite}
 use Rattle.csl_writing.specs.declared.notes.Notes.{Notes}
 use Rattle.csl_writing.specs.declared.purpose.CitePurpose.{CitePurpose}
 use Rattle.csl_writing.specs.declared.state.CollapseVerdict.{CollapseVerdict}

@@ -1,15 +1,14 @@
 -- How high the stacks are before and behind parts in a formatting.
-use Rattle.std.proofs.Common.{◌≡◌, ℕ, ◌+◌, ◌≤◌, ◌-◌, ◌∷◌, ◌++◌, [], Bool, true, false, cond, List, length, Option, None, Some, refl, ap, sym, subst, ◌∙◌, arith, length-append}
+use Rattle.std.proofs.Common.{◌≡◌, ℕ, ◌≤◌, ◌-◌, ◌∷◌, ◌++◌, [], Bool, true, false, cond, List, length, None, Some, refl, ap, sym, subst, arith, length-append}
 use Rattle.std.proofs.lemmas.Bool.{ltb-false}
 use Rattle.std.proofs.lemmas.List.{length-take-le, length-set}
 use Rattle.std.specs.Prelude.{slice_set, nat_lt}
 use Rattle.std.specs.Option.{option_map_or}
 use Rattle.csl_base.specs.Child.{Child}
-use Rattle.csl_base.specs.Formatting.{applied}
 use Rattle.csl_base.specs.declared.formatting.Formatting.{Formatting}
 use Rattle.csl_base.specs.declared.formatting.StyleFormatting.{StyleFormatting}
 use Rattle.csl_writing.specs.OpenFrames.{Frames, on_top, top}
-use Rattle.csl_writing.specs.WritingState.{State, is_saved, saved, formatting, formatted, unformatted, cut_formats, asks_nothing}
+use Rattle.csl_writing.specs.WritingState.{State, is_saved, saved, formatted, unformatted, cut_formats, asks_nothing}
 
 pub either_has : (P : State → Type 0) (b : Bool) (x y : State) → P x → P y → P (cond b x y)
 either_has P true x y p q = p

@@ -1,8 +1,7 @@
 -- An item of a bibliography: how high its formats are, and what is written of it.
-use Rattle.std.proofs.Common.{◌≡◌, ℕ, ◌+◌, ◌≤◌, ◌∷◌, [], Bool, true, false, cond, List, length, Option, None, Some, refl, ap, sym, subst, ◌∙◌, arith}
+use Rattle.std.proofs.Common.{◌≡◌, ℕ, ◌≤◌, true, List, length, Option, None, Some, refl, ap, sym, subst, ◌∙◌, arith}
 use Rattle.std.proofs.lemmas.List.{length-take-le}
-use Rattle.std.specs.Prelude.{unwrap_or, take, drop, ◌&&◌}
-use Rattle.std.specs.Option.{option_map_or}
+use Rattle.std.specs.Prelude.{take}
 use Rattle.std.specs.Str.{trim_end}
 use Rattle.csl_base.specs.Child.{Child}
 use Rattle.csl_base.specs.Element.{NameOptions}
@@ -13,7 +12,7 @@ use Rattle.csl_writing.specs.declared.section.Section as declared
 use Rattle.csl_writing.specs.CiteText.{enclosed, layout_affixes, rendered_item}
 use Rattle.csl_writing.specs.Lookup.{Lookup, lookup}
 use Rattle.csl_writing.specs.Notes.{first_notes}
-use Rattle.csl_writing.specs.Plans.{Step, step_of, plan_of}
+use Rattle.csl_writing.specs.Plans.{plan_of}
 use Rattle.csl_writing.specs.SectionView.{IsSection}
 use Rattle.csl_writing.specs.Sections.{Section, item_section}
 use Rattle.csl_writing.specs.Steps.{ClosingQuotes, term_text, opens_tight, has_letter, without_ending, pulled}

@@ -1,8 +1,8 @@
 -- Writing of parts leaves as many formats and frames as there were.
-use Rattle.std.proofs.Common.{◌≡◌, ℕ, ◌+◌, ◌<◌, ◌≤◌, ◌-◌, ◌∷◌, ◌++◌, [], Bool, true, false, cond, ◌&&◌, List, length, Option, None, Some, refl, ap, sym, subst, ◌∙◌, arith, length-append}
+use Rattle.std.proofs.Common.{◌≡◌, ℕ, ◌+◌, ◌<◌, ◌≤◌, ◌-◌, ◌∷◌, ◌++◌, [], cond, List, length, Option, None, Some, refl, ap, sym, subst, ◌∙◌, arith, length-append}
 use Rattle.std.proofs.lemmas.List.{length-take-le, length-set}
 use Rattle.std.proofs.lemmas.Option.{slice_get-get_or}
-use Rattle.std.specs.Prelude.{slice_set, take}
+use Rattle.std.specs.Prelude.{take}
 use Rattle.std.specs.Option.{option_map_or}
 use Rattle.std.specs.Str.{trim_end}
 use Rattle.csl_base.specs.Child.{Child}
@@ -14,12 +14,12 @@ use Rattle.csl_base.specs.declared.formatting.Display.{Display}
 use Rattle.csl_base.specs.declared.formatting.StyleFormatting.{StyleFormatting}
 use Rattle.csl_base.specs.declared.taxonomy.OtherTerm.{OtherTerm}
 use Rattle.csl_writing.specs.Lookup.{Lookup, punctuation_in_quotes}
-use Rattle.csl_writing.specs.OpenFrames.{Frames, is_filled, filled, on_filled, on_top, below, closed, committed, top}
+use Rattle.csl_writing.specs.OpenFrames.{Frames, is_filled, filled, on_filled, on_top, below, closed, committed}
 use Rattle.csl_writing.specs.PartsWritten.{leaf_written, node_begun, node_ended, delimiter_pushed, part_written, joined_written, rest_written, parts_written}
 use Rattle.csl_writing.specs.Pieces.{LeafValue, text_leaf, number_leaf, suffix_leaf, year_leaf, chunked_leaf, link_leaf, mark_leaf, NodeValue, Part, leaf_part, node_part, Parts, no_parts, part, parts_of}
 use Rattle.csl_writing.specs.Steps.{ClosingQuotes, term_text, opens_tight, has_letter, without_ending, pulled}
 use Rattle.csl_writing.specs.Wording.{plain_term, closing_quotes, pushed, term_pushed, opening_quote, closing_quote, quotes_opened, quotes_closed, pulling_if_asked, chunk_of_kind, chunks_pushed, linked, marked, with_suffix, suffixed}
-use Rattle.csl_writing.specs.WritingState.{State, is_saved, saved, with_child, on_text_before, trimmed_for, unrepeated_for, may_pull, on_quoted_text, after_pull, left_by_pull, written, after_push_str, verbatim, formatted, opened, closed_elem, discarded, nothing_asked, prefixed, has_content_since, ends_so, pulling, stripping, not_stripping, deeper, less_deep}
+use Rattle.csl_writing.specs.WritingState.{State, is_saved, saved, with_child, on_text_before, trimmed_for, unrepeated_for, may_pull, on_quoted_text, after_pull, left_by_pull, written, after_push_str, verbatim, formatted, opened, closed_elem, discarded, nothing_asked, prefixed, has_content_since, ends_so, stripping, not_stripping, less_deep}
 use Rattle.csl_writing.proofs.FormatHeights.{either_has, length-on_top, formats-saved, frames-saved, formats-formatted, frames-formatted}
 
 pub record Keeps (a b : State) : Type 0 where

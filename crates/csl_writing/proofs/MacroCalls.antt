@@ -1,5 +1,5 @@
 -- The call of a macro, over plain data.
-use Rattle.std.proofs.Common.{◌≡◌, ℕ, zero, suc, ◌-◌, ◌<◌, List, Option, Some, ap, ◌∙◌, arith}
+use Rattle.std.proofs.Common.{◌≡◌, ℕ, zero, suc, ◌-◌, ◌<◌, List, Some, ap, ◌∙◌, arith}
 use Rattle.csl_base.specs.Element.{Name, Elements, Macro}
 use Rattle.csl_base.specs.Ring.{body_of}
 use Rattle.csl_writing.specs.declared.notes.Notes.{Notes}

@@ -1,13 +1,11 @@
 -- Writing piece by piece is writing of parts.
-use Rattle.std.proofs.Common.{◌≡◌, ℕ, ◌+◌, ◌*◌, ◌-◌, ◌<◌, Bool, true, false, List, [], ◌∷◌, ◌++◌, length, take, map, Some, None, option_map, refl, sym, ap, ◌∙◌, append_assoc, append-nil, arith}
-use Rattle.std.specs.Prelude.{Option}
+use Rattle.std.proofs.Common.{◌≡◌, ◌-◌, Bool, true, false, List, [], ◌∷◌, ◌++◌, length, take, Some, refl, sym, ap, ◌∙◌, append_assoc, append-nil, arith}
 use Rattle.std.specs.Option.{option_and_then}
 use Rattle.std.specs.List.{slice_get}
-use Rattle.std.proofs.lemmas.List.{map-append, length-append, length-map}
-use Rattle.std.proofs.lemmas.Option.{slice_get-map}
+use Rattle.std.proofs.lemmas.List.{length-append}
 use Rattle.std.proofs.Math.Seq.{take-append_seam}
 use Rattle.csl_writing.specs.Lookup.{Lookup}
-use Rattle.csl_writing.specs.Pieces.{NodeValue, Part, leaf_part, node_part, Parts, no_parts, part, parts_of, Token, closing, part_tokens, parts_tokens, tokens}
+use Rattle.csl_writing.specs.Pieces.{Part, leaf_part, node_part, Parts, no_parts, part, parts_of, Token, closing, part_tokens, parts_tokens, tokens}
 use Rattle.csl_writing.specs.WritingState.{State}
 use Rattle.csl_writing.specs.PartsWritten.{node_begun, node_ended, delimiter_pushed, part_written, joined_written, rest_written, parts_written}
 use Rattle.csl_writing.specs.PieceRun.{OpenValue, Run, innermost, delimiter_of, separated, after_leaf, after_opening, closed_run, after_token, after_tokens}

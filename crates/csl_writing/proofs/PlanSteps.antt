@@ -9,7 +9,7 @@ use Rattle.csl_writing.specs.Lookup.{Lookup}
 use Rattle.csl_writing.specs.PartsWritten.{parts_written}
 use Rattle.csl_writing.specs.Pieces.{Part, tokens}
 use Rattle.csl_writing.specs.PiecesView.{tokens_of}
-use Rattle.csl_writing.specs.Plans.{Step, step_of, Plan, plan_of, text_steps, gap_steps, rest_section, enclosing, prose_plan}
+use Rattle.csl_writing.specs.Plans.{Step, plan_of, text_steps, gap_steps, rest_section, enclosing, prose_plan}
 use Rattle.csl_writing.specs.SectionView.{IsSection}
 use Rattle.csl_writing.specs.Sections.{Section, author_section}
 use Rattle.csl_writing.specs.StepsWritten.{steps_written, IsCarriedOut, IsWritten}

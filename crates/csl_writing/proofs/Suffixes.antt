@@ -10,7 +10,7 @@ use Rattle.csl_base.specs.Calls.{Names, target_calls, calls, calls_of_all, calls
 use Rattle.csl_base.specs.Ring.{has_name, body_of, body_calls, macro_calls, Calls, HasNoRing}
 use Rattle.csl_writing.specs.Gathered.{add_each}
 use Rattle.csl_writing.specs.SuffixText.{suffix_in_target, suffix_in, suffix_in_all, suffix_in_branches, no_call, suffix_in_body, suffix_in_macro, suffix_stands}
-use Rattle.csl_writing.proofs.NameLists.{or-left, or-right, or-either, has_name-left, has_name-right, has_name-either, has_name-same}
+use Rattle.csl_writing.proofs.NameLists.{or-left, or-right, or-either, has_name-either, has_name-same}
 use Rattle.csl_writing.proofs.Settled.{meaning, settled}
 use Rattle.csl_writing.proofs.Gathering.{is_added, grows, has_name-at}
 

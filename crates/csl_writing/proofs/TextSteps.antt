@@ -1,14 +1,13 @@
 -- Where a trimmed text ends, and what the two steps on the text before give.
 use Rattle.std.proofs.lemmas.List.{at_drop_more}
 use Rattle.csl_writing.specs.Steps.{kept_of, kept_after, is_mark, is_seen, visible_from}
-use Rattle.std.specs.Prelude.{Option, Some, ◌&&◌, ◌||◌, not, encode_utf8}
-use Rattle.std.specs.Char.{is_whitespace}
+use Rattle.std.specs.Prelude.{Option, Some, ◌||◌, encode_utf8}
 use Rattle.std.specs.List.{slice_get}
 use Rattle.std.proofs.lemmas.Bool.Decides.{nat_tests}
-use Rattle.std.proofs.Common.{eqb, drop, get_or, append_assoc, ap, ◌≡◌, ℕ, ◌+◌, ◌-◌, ◌≤◌, ◌<◌, Bool, None, true, false, List, [], ◌∷◌, ◌++◌, length, take, nat_eq, refl, sym, ◌∙◌, arith}
+use Rattle.std.proofs.Common.{eqb, drop, get_or, append_assoc, ap, ◌≡◌, ℕ, ◌+◌, ◌-◌, ◌≤◌, ◌<◌, Bool, None, true, false, List, [], ◌∷◌, ◌++◌, length, take, sym, ◌∙◌, arith}
 use Rattle.std.specs.Bool.{MatchBool, OnTrue}
 use Rattle.std.specs.Str.Pattern.{HasSuffixMatch, FindsTextSuffix}
-use Rattle.std.specs.Str.{IsUtf8, IsTrimEnd, IsCharBoundary, trim_end}
+use Rattle.std.specs.Str.{IsUtf8, IsTrimEnd, IsCharBoundary}
 use Rattle.std.specs.String.Boundary.{IsSplitPoint}
 use Rattle.std.proofs.lemmas.Str.{IsCharBoundary-from_take, IsCharBoundary-after_ascii}
 

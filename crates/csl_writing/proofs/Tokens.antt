@@ -1,5 +1,5 @@
 -- Nodes that are opened and closed, over plain data.
-use Rattle.std.proofs.Common.{◌≡◌, ℕ, suc, ◌+◌, ◌<◌, ◌≤◌, List, [], ◌∷◌, ◌++◌, length, take, nat_le, Bool, true, false, cond, ◌||◌, refl, sym, ap, ◌∙◌, append_assoc, length-append, arith}
+use Rattle.std.proofs.Common.{◌≡◌, ◌+◌, ◌<◌, ◌≤◌, List, [], ◌∷◌, ◌++◌, length, take, nat_le, Bool, true, false, cond, refl, sym, ap, ◌∙◌, append_assoc, length-append, arith}
 use Rattle.std.proofs.lemmas.List.{append-nil}
 use Rattle.std.proofs.Math.Seq.{take-append_seam}
 use Rattle.std.proofs.lemmas.Bool.Decides.{nat_tests}
@@ -7,9 +7,9 @@ use Rattle.csl_writing.specs.declared.notes.Called.{Called}
 use Rattle.csl_writing.specs.declared.notes.Notes.{Notes}
 use Rattle.csl_writing.specs.declared.held.Opened.{Opened}
 use Rattle.csl_writing.specs.Notes.{joined}
-use Rattle.csl_writing.specs.Pieces.{NodeValue, Part, leaf_part, node_part, Token, opening, closing, part_tokens, parts_tokens, tokens, parts_of, node_of}
+use Rattle.csl_writing.specs.Pieces.{NodeValue, Part, leaf_part, node_part, Token, opening, closing, part_tokens, tokens, node_of}
 use Rattle.csl_writing.specs.Picked.{Picked, Held, nothing, followed, added, grouped, in_macro}
-use Rattle.csl_writing.specs.Nodes.{inside, opened, is_empty_node, cut_back, closed_as, macro_closed, group_closed}
+use Rattle.csl_writing.specs.Nodes.{inside, opened, cut_back, closed_as, macro_closed, group_closed}
 
 pub tokens-append : (xs ys : List Part) → tokens (xs ++ ys) ≡ tokens xs ++ tokens ys
 tokens-append [] ys = refl

@@ -1,10 +1,10 @@
 -- Steps that are added to a picking's list, over plain data.
-use Rattle.std.proofs.Common.{◌≡◌, ℕ, zero, suc, ◌+◌, ◌-◌, ◌*◌, ◌<◌, List, [], ◌∷◌, ◌++◌, length, Bool, true, false, cond, Option, Some, None, Bor, refl, sym, ap, ◌∙◌, arith}
+use Rattle.std.proofs.Common.{◌≡◌, ℕ, zero, suc, ◌+◌, ◌-◌, ◌<◌, List, [], ◌∷◌, ◌++◌, length, Bool, true, false, cond, Some, None, Bor, refl, sym, ap, ◌∙◌, arith}
 use Rattle.std.proofs.lemmas.List.{map-append}
 use Rattle.csl_base.specs.declared.element.LayoutRenderingElement.{LayoutRenderingElement}
 use Rattle.csl_base.specs.declared.element.Condition.{Condition}
 use Rattle.csl_base.specs.declared.element.ChooseMatch.{ChooseMatch}
-use Rattle.csl_base.specs.Element.{Name, Target, value_target, standard_target, macro_target, term_target, Element, text_element, number_element, date_element, names_element, group_element, choose_element, Elements, element, Branches, branch, Macro}
+use Rattle.csl_base.specs.Element.{Name, value_target, standard_target, macro_target, term_target, Element, text_element, number_element, date_element, names_element, group_element, choose_element, Elements, element, Branches, branch, Macro}
 use Rattle.csl_base.specs.ElementView.{elements_view}
 use Rattle.csl_base.specs.Ring.{body_of}
 use Rattle.csl_base.proofs.Weight.{weight_all_with}
@@ -18,7 +18,7 @@ use Rattle.csl_writing.specs.Pieces.{NodeValue}
 use Rattle.csl_writing.specs.Picked.{Held, added, grouped}
 use Rattle.csl_writing.specs.Nodes.{inside, opened}
 use Rattle.csl_writing.specs.Pick.{Call, pick_all_with, pick_first_with, body_picked, called_macro, picks, picks_all}
-use Rattle.csl_writing.specs.Work.{StepValue, step_view, steps_view, done, all_done, plain_done, inside_done, body_weight, macro_weight, weight, weight_all, step_work, work}
+use Rattle.csl_writing.specs.Work.{StepValue, step_view, steps_view, done, all_done, plain_done, inside_done, body_weight, macro_weight, weight_all, step_work, work}
 use Rattle.csl_writing.proofs.Tokens.{group_step, macro_step, added-nothing, added-followed}
 use Rattle.csl_writing.proofs.MacroCalls.{macro_called}
 

@@ -1,5 +1,5 @@
 -- What is written of a cite by what it is written for, and of an item of the bibliography.
-use Rattle.std.specs.Prelude.{ℕ, ◌∷◌, List, [], Bool, true, false, Option, None, Some, length, option_map, is_some, if◌then◌else◌}
+use Rattle.std.specs.Prelude.{◌∷◌, List, [], Bool, true, false, Option, None, Some, length, option_map, is_some, if◌then◌else◌}
 use Rattle.csl_base.specs.Answers.{Answers}
 use Rattle.csl_base.specs.Child.{Child}
 use Rattle.csl_base.specs.Element.{Affix}

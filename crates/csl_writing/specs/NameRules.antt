@@ -1,6 +1,6 @@
 -- The name options that hold in the end, and the forms that they give the names of one variable
 -- (CSL 1.0.2, name, et-al abbreviation).
-use Rattle.std.specs.Prelude.{ℕ, ◌-◌, min, max, List, [], ◌++◌, take, drop, length, replicate, Bool, true, false, nat_le, Option, Some, None, unwrap_or, codes, if◌then◌else◌}
+use Rattle.std.specs.Prelude.{ℕ, ◌-◌, min, max, List, [], ◌++◌, take, drop, length, replicate, Bool, false, nat_le, Option, Some, None, unwrap_or, codes, if◌then◌else◌}
 use Rattle.csl_base.specs.declared.element.NameAnd.{NameAnd}
 use Rattle.csl_base.specs.declared.element.NameForm.{NameForm}
 use Rattle.csl_base.specs.declared.names.DisambiguatedNameForm.{DisambiguatedNameForm}

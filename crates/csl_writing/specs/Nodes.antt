@@ -1,5 +1,5 @@
 -- What a picking holds where a node is opened, and where it is closed again.
-use Rattle.std.specs.Prelude.{◌+◌, List, [], ◌∷◌, ◌++◌, take, length, nat_le, Bool, true, false, ◌||◌}
+use Rattle.std.specs.Prelude.{◌+◌, [], ◌∷◌, ◌++◌, take, length, nat_le, Bool, true, false, ◌||◌}
 use Rattle.std.specs.Bool.{if◌then◌else◌}
 use Rattle.csl_writing.specs.declared.notes.Called.{Called}
 use Rattle.csl_writing.specs.declared.held.Opened.{Opened}

@@ -1,5 +1,5 @@
 -- What writing makes of the parts that a layout picks.
-use Rattle.std.specs.Prelude.{ℕ, Bool, true, false, if◌then◌else◌, List, [], ◌∷◌, length, Option, None, Some}
+use Rattle.std.specs.Prelude.{ℕ, false, if◌then◌else◌, List, length, Option, None, Some}
 use Rattle.std.specs.Fmt.{decimal}
 use Rattle.csl_writing.specs.Lookup.{Lookup}
 use Rattle.csl_writing.specs.SuffixLetters.{suffix_letters}

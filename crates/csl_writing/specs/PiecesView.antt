@@ -1,5 +1,5 @@
 -- The plain data that pieces stand for.
-use Rattle.std.specs.Prelude.{List, map, Option, None, Some, option_map}
+use Rattle.std.specs.Prelude.{List, map, None, option_map}
 use Rattle.std.specs.Option.{option_map_or}
 use Rattle.csl_base.specs.Element.{Affix, Look}
 use Rattle.csl_base.specs.ElementView.{affixes_view, look}

@@ -1,5 +1,5 @@
 -- In which steps a cite is written for a purpose.
-use Rattle.std.specs.Prelude.{ℕ, ◌∷◌, ◌++◌, List, [], Bool, true, false, ◌||◌, Option, None, Some}
+use Rattle.std.specs.Prelude.{ℕ, ◌∷◌, ◌++◌, List, [], Bool, true, false, Option, None, Some}
 use Rattle.std.specs.Str.{chars}
 use Rattle.std.specs.Bool.{if◌then◌else◌}
 use Rattle.std.specs.List.{list_any}

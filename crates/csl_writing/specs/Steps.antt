@@ -1,8 +1,8 @@
 -- What is done to a text, and to the text before a piece that is written. A text is the list of its bytes.
-use Rattle.std.specs.Prelude.{ℕ, ◌-◌, Bool, true, false, ◌||◌, ◌&&◌, ◌==◌, not, if◌then◌else◌, List, [], ◌∷◌, ◌++◌, length, take, nat_eq, encode_utf8, Option, None, Some}
+use Rattle.std.specs.Prelude.{ℕ, ◌-◌, Bool, false, ◌||◌, ◌&&◌, ◌==◌, not, if◌then◌else◌, List, [], ◌∷◌, ◌++◌, length, take, nat_eq, encode_utf8, Option, None, Some}
 use Rattle.std.specs.List.{list_any, ends_with, insert_slice}
 use Rattle.std.specs.Char.{is_whitespace}
-use Rattle.std.specs.Str.{chars, trim_end}
+use Rattle.std.specs.Str.{chars}
 use Rattle.unicode.specs.Binary.{is_alphabetic}
 
 abbrev pub first_is : (ℕ → Bool) → List ℕ → Bool

@@ -1,5 +1,5 @@
 -- What steps of writing make of what is written, and what is written of a plan.
-use Rattle.std.specs.Prelude.{◌≡◌, ℕ, ◌∷◌, List, [], length, unwrap_or}
+use Rattle.std.specs.Prelude.{◌≡◌, ◌∷◌, List, [], length, unwrap_or}
 use Rattle.csl_base.specs.Child.{Child}
 use Rattle.csl_base.specs.declared.formatting.StyleFormatting.{StyleFormatting}
 use Rattle.csl_writing.specs.declared.notes.Notes.{Notes}

@@ -1,7 +1,7 @@
 -- Whether a year-suffix text stands in the layouts of a style.
 use Rattle.std.specs.Prelude.{ℕ, zero, suc, List, length, Bool, true, false, ◌||◌, Option, Some, None}
 use Rattle.csl_base.specs.declared.taxonomy.StandardVariable.TheVariants as standard
-use Rattle.csl_base.specs.Element.{Name, Target, value_target, standard_target, macro_target, term_target, Element, text_element, number_element, date_element, names_element, group_element, choose_element, Elements, no_elements, element, Branches, otherwise, branch, Macro}
+use Rattle.csl_base.specs.Element.{Name, Target, standard_target, macro_target, Element, text_element, number_element, date_element, names_element, group_element, choose_element, Elements, no_elements, element, Branches, otherwise, branch, Macro}
 use Rattle.csl_base.specs.Ring.{body_of}
 use Rattle.csl_base.specs.Style.{StyleValue, BibliographyValue}
 

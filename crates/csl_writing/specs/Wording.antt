@@ -1,5 +1,5 @@
 -- What is written with the terms of a style's locales.
-use Rattle.std.specs.Prelude.{ℕ, Bool, false, ◌==◌, ◌∷◌, [], ◌++◌, if◌then◌else◌, List, Option, None, Some}
+use Rattle.std.specs.Prelude.{ℕ, false, ◌==◌, ◌∷◌, [], ◌++◌, if◌then◌else◌, List, Option, None, Some}
 use Rattle.std.specs.Option.{option_map_or}
 use Rattle.csl_base.specs.Child.{markup, link, transparent}
 use Rattle.csl_base.specs.declared.taxonomy.Term.{Term}

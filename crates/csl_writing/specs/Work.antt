@@ -1,6 +1,6 @@
 -- What a picking has still to do, as a list of steps of which the last comes next.
 use Rattle.std.specs.Prelude.{ℕ, zero, suc, ◌+◌, ◌*◌, List, [], ◌∷◌, map, Option, Some, None}
-use Rattle.csl_base.specs.Element.{Name, Target, value_target, standard_target, macro_target, term_target, Element, text_element, number_element, date_element, names_element, group_element, choose_element, Elements, Branches, Macro}
+use Rattle.csl_base.specs.Element.{Name, macro_target, Element, text_element, group_element, choose_element, Elements, Macro}
 use Rattle.csl_base.specs.ElementView.{elements_view}
 use Rattle.csl_base.specs.Ring.{body_of}
 use Rattle.csl_base.proofs.Weight.{weight_with, weight_all_with}
@@ -11,8 +11,7 @@ use Rattle.csl_writing.specs.Env.{Env}
 use Rattle.csl_writing.specs.Pieces.{plain_node}
 use Rattle.csl_writing.specs.Picked.{Held, added}
 use Rattle.csl_writing.specs.Nodes.{group_closed, macro_closed}
-use Rattle.csl_writing.specs.Variables.{meant}
-use Rattle.csl_writing.specs.Pick.{Call, group_node, pick_with, picks, picks_all, picks_first, called_macro}
+use Rattle.csl_writing.specs.Pick.{Call, pick_with, picks, picks_all, picks_first, called_macro}
 
 -- these elements are to be picked, with macros nested so deep; a node is to be closed
 pub data StepValue : Type 0 where

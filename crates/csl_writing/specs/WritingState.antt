@@ -1,9 +1,9 @@
 -- What a writing context holds, and what each of its calls makes of it. A stack is the list of its items, the
 -- bottom first.
-use Rattle.std.specs.Prelude.{ℕ, ◌-◌, ◌+◌, ◌^◌, Bool, true, false, ◌==◌, ◌&&◌, ◌||◌, not, nat_lt, min, if◌then◌else◌, List, [], ◌∷◌, ◌++◌, length, take, drop, map, slice_get, Option, None, Some, option_map, unwrap_or, is_some, string_bytes}
+use Rattle.std.specs.Prelude.{ℕ, ◌-◌, ◌+◌, ◌^◌, Bool, true, false, ◌==◌, ◌&&◌, not, nat_lt, min, if◌then◌else◌, List, [], ◌∷◌, ◌++◌, length, take, drop, map, slice_get, Option, None, Some, option_map, unwrap_or, is_some, string_bytes}
 use Rattle.std.specs.Option.{option_map_or, option_and_then}
-use Rattle.std.specs.Str.{chars, trim_end}
-use Rattle.csl_base.specs.Child.{Child, text, elem, markup, link, transparent}
+use Rattle.std.specs.Str.{trim_end}
+use Rattle.csl_base.specs.Child.{Child, text}
 use Rattle.std.specs.List.{ends_with}
 use Rattle.std.specs.Prelude.{nat_eq}
 use Rattle.csl_base.specs.Tree.{last_text}
@@ -17,7 +17,7 @@ use Rattle.csl_base.specs.declared.formatting.StyleFormatting.{StyleFormatting}
 use Rattle.csl_base.specs.declared.formatting.Display.{Display}
 use Rattle.csl_base.specs.declared.elem.ElemMeta.{ElemMeta}
 use Rattle.csl_writing.specs.declared.writing.WritingContext.{WritingContext}
-use Rattle.csl_writing.specs.Steps.{ClosingQuotes, opens_tight, opens_with_mark, has_letter, without_ending, without_periods, spaced, visible_from, term_text, ends_quoted, pulled}
+use Rattle.csl_writing.specs.Steps.{ClosingQuotes, opens_tight, opens_with_mark, has_letter, without_ending, without_periods, spaced, term_text, ends_quoted, pulled}
 use Rattle.csl_writing.specs.OpenFrames.{Frames, on_last_text, end_sole_text, on_end_sole_text, filled, on_filled, top, on_top, below, committed, shows}
 
 pub record State : Type 0 where

@@ -1,4 +1,4 @@
-use Rattle.std.proofs.Common.{◌≡◌, ◌+◌, ◌<◌, drop, sym, ap, ◌∙◌, subst, List}
+use Rattle.std.proofs.Common.{◌+◌, ◌<◌, drop, sym, ap, ◌∙◌, subst, List}
 use Rattle.std.proofs.lemmas.List.{drop_all}
 use Rattle.csl_base.specs.ElementView.{elements_view, branches_view}
 use Rattle.csl_base.specs.declared.element.ChooseBranch.{ChooseBranch}

@@ -1,4 +1,4 @@
-use Rattle.std.proofs.Common.{◌≡◌, ◌<◌, [], length, ap, sym, ◌∙◌, arith}
+use Rattle.std.proofs.Common.{◌≡◌, ◌<◌, length, ap, sym, ◌∙◌, arith}
 use Rattle.csl_base.specs.ElementView.{elements_view}
 use Rattle.csl_base.proofs.Views.{macros_length}
 use Rattle.csl_writing.specs.declared.picking.Step.TheVariants as steps

@@ -1,4 +1,4 @@
-use Rattle.std.proofs.Common.{◌≡◌, ◌+◌, ◌*◌, ◌<◌, ap, sym, ◌∙◌, arith}
+use Rattle.std.proofs.Common.{ap, sym, ◌∙◌, arith}
 use Rattle.csl_base.specs.ElementView.{elements_view, text_view, look}
 use Rattle.csl_base.proofs.Views.{group_view, choose_view}
 use Rattle.csl_writing.specs.declared.picking.Step.TheVariants as steps

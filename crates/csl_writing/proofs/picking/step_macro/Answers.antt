@@ -1,4 +1,4 @@
-use Rattle.std.proofs.Common.{◌≡◌, ◌-◌, ◌<◌, ap, None, arith}
+use Rattle.std.proofs.Common.{◌-◌, ◌<◌, ap, None, arith}
 use Rattle.csl_base.specs.ElementView.{elements_view}
 use Rattle.csl_writing.specs.declared.picking.Step.TheVariants as steps
 use Rattle.csl_writing.specs.InputView.{env_of, macros_of}

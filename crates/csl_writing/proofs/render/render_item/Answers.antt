@@ -1,4 +1,4 @@
-use Rattle.std.proofs.Common.{◌≡◌, ◌∙◌, ap, arith, length}
+use Rattle.std.proofs.Common.{◌∙◌, ap, arith, length}
 use Rattle.std.specs.Prelude.{true}
 use Rattle.csl_base.specs.ElementView.{options_view}
 use Rattle.csl_base.specs.StyleView.{bibliography_view}

@@ -1,4 +1,4 @@
-use Rattle.std.proofs.Common.{◌≡◌, ℕ, suc, ◌<◌, ◌≤◌, ◌+◌, ◌∙◌, subst, List, [], ◌∷◌, length, refl, sym, ap, map, get_or, Bor, arith}
+use Rattle.std.proofs.Common.{◌≡◌, ℕ, suc, ◌<◌, ◌+◌, ◌∙◌, subst, List, [], ◌∷◌, length, refl, sym, ap, map, get_or, Bor, arith}
 use Rattle.std.proofs.lemmas.List.{get_or-map}
 use Rattle.csl_base.specs.Element.{Name}
 use Rattle.csl_base.specs.Calls.{calls_of_all}

@@ -1,4 +1,4 @@
-use Rattle.std.proofs.Common.{◌≡◌, ◌+◌, ◌-◌, false, map, length}
+use Rattle.std.proofs.Common.{◌+◌, ◌-◌, map, length}
 use Rattle.csl_base.specs.Calls.{calls_of_all}
 use Rattle.csl_base.specs.ElementView.{elements_view, macros_view}
 use Rattle.csl_writing.proofs.NameLists.{left}

@@ -1,4 +1,4 @@
-use Rattle.std.proofs.Common.{arith, length, drop, get_or, sym, ap, refl, append-nil}
+use Rattle.std.proofs.Common.{arith, length, append-nil}
 use Rattle.std.proofs.lemmas.Iterator.{YieldsList-from_chars}
 use Rattle.std.proofs.lemmas.List.{at_drop_all, length_push}
 use Rattle.std.proofs.lemmas.Iterator.Consumers.{YieldsList-turn, YieldsList-end}

@@ -1,4 +1,4 @@
-use Rattle.std.proofs.Common.{◌≡◌, map, take, sym, ap, ◌∙◌, rules}
+use Rattle.std.proofs.Common.{map, sym, ap, ◌∙◌, rules}
 use Rattle.std.proofs.lemmas.List.{take-map}
 use Rattle.csl_writing.specs.PiecesView.{token_of}
 use Rattle.csl_writing.proofs.held.Picking.cut_back.Goals as goal
