@@ -208,6 +208,18 @@ pub(crate) fn join_child(
     append(frames.last_mut(), child)
 }
 
+// Adds children to a tree, which takes them over as they are where it is empty.
+fn push_all(tree: &mut ElemChildren, children: ElemChildren) -> Result<(), AllocError>
+    ensures { OnOk result (tree.new ≡ tree.old ++ children) }
+{
+    if tree.is_empty() {
+        *tree = children;
+        return Ok(());
+    }
+    let mut children = children;
+    tree.0.append(&mut children.0)
+}
+
 // Adds to a tree what a closed frame gives.
 fn push_closed(
     tree: &mut ElemChildren,
@@ -218,8 +230,7 @@ fn push_closed(
     ensures { OnOk result (tree.new ≡ tree.old ++ closed display meta children) }
 {
     if display.is_none() && meta.is_none() {
-        let mut children = children;
-        tree.0.append(&mut children.0)
+        push_all(tree, children)
     } else {
         tree.push(ElemChild::Elem(Elem {
             children,
