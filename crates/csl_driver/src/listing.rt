@@ -1,5 +1,5 @@
 //! The bibliography's entries in their order, and the numbers that cites have by it.
-ghost use Rattle.std.specs.Prelude.{◌≡◌, ◌≤◌, ◌<◌, List, [], None, length, replicate, filter, IfOk, OnOk};
+ghost use Rattle.std.specs.Prelude.{◌≡◌, ◌≤◌, ◌<◌, List, [], None, length, replicate, filter, if◌then◌else◌, IfOk, OnOk};
 ghost use Rattle.csl_driver.specs.Entries.{bibliography_order, is_in, place, with_all_new, with_new};
 ghost use Rattle.csl_driver.specs.EntryPlaces.{entries_in};
 ghost use Rattle.csl_driver.specs.Laws.{NoTwoEqual};
@@ -52,6 +52,28 @@ impl<'a, T: EntryLike> Listing<'a, T> {
         Ok(())
     }
 
+    /// Lists an entry if it is cited, unless an equal one is listed.
+    fn list_if_cited(
+        &mut self,
+        entry: &'a T,
+        cited: &IndexSet<FirstCite<'a, T>>,
+    ) -> Result<(), AllocError>
+        requires once { NoTwoEqual T.eq (entries_in cited.now.keys) }
+        requires sound { IsListingOf T.eq cited.now.keys self.old }
+        ensures listed { OnOk result (listed self.new
+            ≡ (if is_in T.eq entry.now (entries_in cited.now.keys) then with_new T.eq (listed self.old) entry.now else listed self.old)) }
+        ensures sound { OnOk result (IsListingOf T.eq cited.now.keys self.new) }
+    {
+        let cite = FirstCite { entry, place: 0 };
+        match cited.get_full(&cite) {
+            Some((place, first)) => {
+                let first_place = first.place;
+                self.list(place, ListedEntry { entry, first_place })
+            }
+            None => Ok(()),
+        }
+    }
+
     /// Lists those of the handed entries that are cited.
     fn list_handed(
         &mut self,
@@ -65,17 +87,7 @@ impl<'a, T: EntryLike> Listing<'a, T> {
         ensures sound { OnOk result (IsListingOf T.eq cited.now.keys self.new) }
     {
         for entry in order {
-            let cite = FirstCite {
-                entry: *entry,
-                place: 0,
-            };
-            if let Some((place, first)) = cited.get_full(&cite) {
-                let found = ListedEntry {
-                    entry: *entry,
-                    first_place: first.place,
-                };
-                self.list(place, found)?;
-            }
+            self.list_if_cited(*entry, cited)?;
         }
         Ok(())
     }
