@@ -1,5 +1,5 @@
 -- How the bibliography's list grows, and the numbers of the cited entries with it.
-use Rattle.std.proofs.Common.{◌≡◌, ℕ, zero, suc, ◌+◌, ◌<◌, ◌≤◌, nat_lt, Bool, true, false, cond, not, ◌||◌, Option, Some, None, List, [], ◌∷◌, ◌++◌, length, map, filter, take, get_or, is_some, true≢false, append-nil, refl, ap, sym, subst, ◌∙◌, arith}
+use Rattle.std.proofs.Common.{◌≡◌, ℕ, zero, suc, ◌+◌, ◌<◌, ◌≤◌, nat_lt, Bool, true, false, cond, not, ◌||◌, Option, Some, None, List, [], ◌∷◌, ◌++◌, length, map, filter, take, get_or, is_some, replicate, true≢false, append-nil, refl, ap, sym, subst, ◌∙◌, arith}
 use Rattle.std.specs.Prelude.{slice_get, find, option_map, unwrap_or, All}
 use Rattle.std.specs.Cmp.{IsEquivalence}
 use Rattle.std.specs.List.{list_any, position}
@@ -7,18 +7,18 @@ use Rattle.std.proofs.Math.ListN.{get_or-map, length-map, set}
 use Rattle.std.proofs.lemmas.Bool.Decides.{nat_tests}
 use Rattle.std.proofs.lemmas.List.{map-append, take_all, take_more}
 use Rattle.std.proofs.lemmas.List.Elements.{All-push, filter-append}
-use Rattle.std.proofs.lemmas.List.Sums.{fold_push}
+use Rattle.std.proofs.lemmas.List.Sums.{fold-append, fold_push, prefix_len-le-length}
 use Rattle.std.proofs.lemmas.Option.{slice_get-get_or}
-use Rattle.csl_driver.specs.Entries.{is_in, place, with_new, with_all_new}
+use Rattle.csl_driver.specs.Entries.{bibliography_order, distinct, is_in, place, with_new, with_all_new}
 use Rattle.csl_driver.specs.EntryPlaces.{StandsAt, entries_in, firsts_view}
 use Rattle.csl_driver.specs.Laws.{NoTwoEqual}
 use Rattle.csl_driver.specs.Listed.{IsListingOf, IsOf, first_among, listed}
 use Rattle.csl_driver.specs.declared.entries.FirstCite.{FirstCite}
 use Rattle.csl_driver.specs.declared.listing.ListedEntry.{ListedEntry}
 use Rattle.csl_driver.specs.declared.listing.Listing.{Listing}
-use Rattle.csl_driver.proofs.Distinct.{is_in-equal}
+use Rattle.csl_driver.proofs.Distinct.{all_new-all_new, all_new_is_distinct, bib_made, is_in-equal}
 use Rattle.csl_driver.proofs.Placed.{map-map}
-use Rattle.csl_driver.proofs.Sets.{is_in-view, place-found}
+use Rattle.csl_driver.proofs.Sets.{is_in-view, missing-at, place-found}
 
 module _ {E : Type 0} (eq : E → E → Bool) where
   -- the number of an entry in a list, if it is there
@@ -312,3 +312,43 @@ module _ {T : Type 0} (eq : T → T → Bool) (laws : IsEquivalence eq) (cited :
   pub listed-if : (b : Bool) (l m : List T) (e : T) → is_in eq e (entries_in cited) ≡ b → m ≡ cond b (with_new eq l e) l
       → m ≡ cond (is_in eq e (entries_in cited)) (with_new eq l e) l
   listed-if b l m e h one = rw h one
+
+-- nothing is listed
+pub empty-listing : {T : Type 0} (eq : T → T → Bool) (cited : List (FirstCite T)) (l : Listing T) (count : ℕ) → l.entries.items ≡ [] → l.numbers.items ≡ replicate count None
+    → count ≡ length cited → IsListingOf eq cited l
+empty-listing eq cited l count none numbers all = record {
+  numbers = numbers ∙ ap (λ n. replicate n None) all ∙ unnumbered cited
+      ∙ ap (λ es. map (λ e. position (eq e) es) (entries_in cited)) (sym (ap (λ es. map (λ e. e.entry.now) es) none));
+  firsts = subst (λ es. All (λ e. e.first_place ≡ first_among eq (firsts_view cited) e.entry.now) es) (sym none) (λ k d w. absurd (omega (arith, w)));
+}
+  where
+    unnumbered : (cs : List (FirstCite _)) → replicate (length cs) None ≡ map (λ e. position (eq e) []) (entries_in cs)
+    unnumbered [] = refl
+    unnumbered (c ∷ cs) = ap (λ ns. None ∷ ns) (unnumbered cs)
+
+got : {X : Type 0} (xs : List X) (k : ℕ) (y d : X) → slice_get xs k ≡ Some y → get_or xs k d ≡ y
+got [] k y d h = cc
+got (x ∷ xs) zero y d h = cc
+got (x ∷ xs) (suc k) y d h = got xs k y d h
+
+-- an entry without a number isn't in the list
+pub no-number : {E : Type 0} (eq : E → E → Bool) (e : E) (es : List E) (numbers : List (Option ℕ)) (k len : ℕ) (slot : Option ℕ)
+    → slice_get numbers k ≡ Some (position (eq e) es) → slot ≡ get_or numbers k slot → slot ≡ None → len ≡ length es → len ≡ place eq e es
+no-number eq e es numbers k len slot h here none all =
+    let missing : None ≡ position (eq e) es = sym none ∙ here ∙ got numbers k (position (eq e) es) slot h in
+    all ∙ missing-at (λ x. x) eq (nat_lt (place eq e es) (length es)) (place eq e es) (length es) refl (prefix_len-le-length (λ x. not (eq e x)) es) missing
+
+module _ {E : Type 0} (eq : E → E → Bool) (laws : IsEquivalence eq) where
+  -- what is listed in all
+  pub listed-in-order : (order : Option (List E)) (keys : List E)
+      → with_all_new eq (with_all_new eq [] (filter (λ e. is_in eq e keys) (unwrap_or order []))) keys ≡ bibliography_order eq order keys
+  listed-in-order None keys = all_new_is_distinct eq laws keys
+  listed-in-order (Some order) keys =
+      sym (fold-append (with_new eq) [] (filter (λ e. is_in eq e keys) order) keys) ∙ all_new_is_distinct eq laws (filter (λ e. is_in eq e keys) order ++ keys)
+
+  -- the order of the distinct entries is that of all
+  pub order-distinct : (order : Option (List E)) (xs : List E) → bibliography_order eq order (distinct eq xs) ≡ bibliography_order eq order xs
+  order-distinct None xs =
+      sym (all_new_is_distinct eq laws (distinct eq xs)) ∙ ap (λ ds. with_all_new eq [] ds) (sym (all_new_is_distinct eq laws xs))
+      ∙ all_new-all_new eq laws [] [] xs ∙ all_new_is_distinct eq laws xs
+  order-distinct (Some order) xs = sym (listed-in-order (Some order) (distinct eq xs)) ∙ bib_made eq laws order xs

@@ -1,5 +1,5 @@
 //! The bibliography's entries in their order, and the numbers that cites have by it.
-ghost use Rattle.std.specs.Prelude.{◌≡◌, ◌≤◌, ◌<◌, List, [], None, length, replicate, filter, if◌then◌else◌, IfOk, OnOk};
+ghost use Rattle.std.specs.Prelude.{◌≡◌, ◌≤◌, ◌<◌, List, [], None, length, replicate, filter, unwrap_or, if◌then◌else◌, IfOk, OnOk};
 ghost use Rattle.csl_driver.specs.Entries.{bibliography_order, is_in, place, with_all_new, with_new};
 ghost use Rattle.csl_driver.specs.EntryPlaces.{entries_in};
 ghost use Rattle.csl_driver.specs.Laws.{NoTwoEqual};
@@ -32,7 +32,10 @@ pub(crate) struct Listing<'a, T> {
 
 impl<'a, T: EntryLike> Listing<'a, T> {
     /// A list that is empty, for so many distinct entries.
-    fn new(alloc: Global, count: usize) -> Result<Listing<'a, T>, AllocError> {
+    fn new(alloc: Global, count: usize) -> Result<Listing<'a, T>, AllocError>
+        ensures empty { IfOk result (λ l. l.entries.items ≡ []) }
+        ensures numbers { IfOk result (λ l. l.numbers.items ≡ replicate count None) }
+    {
         Ok(Listing {
             entries: Vec::new(alloc),
             numbers: vec![in alloc; None; count]?,
@@ -92,6 +95,24 @@ impl<'a, T: EntryLike> Listing<'a, T> {
         Ok(())
     }
 
+    /// Lists those of the handed entries that are cited, if an order was handed in.
+    fn list_order(
+        &mut self,
+        order: Option<Order<'_, 'a, T>>,
+        cited: &IndexSet<FirstCite<'a, T>>,
+    ) -> Result<(), AllocError>
+        requires once { NoTwoEqual T.eq (entries_in cited.now.keys) }
+        requires sound { IsListingOf T.eq cited.now.keys self.old }
+        ensures listed { OnOk result (listed self.new
+            ≡ with_all_new T.eq (listed self.old) (filter (λ e. is_in T.eq e (entries_in cited.now.keys)) (unwrap_or (order_view order.entry) []))) }
+        ensures sound { OnOk result (IsListingOf T.eq cited.now.keys self.new) }
+    {
+        match order {
+            Some(order) => self.list_handed(order.0, cited),
+            None => Ok(()),
+        }
+    }
+
     /// Lists the cited entries, in the order of their first cites.
     fn list_cited(&mut self, cited: &IndexSet<FirstCite<'a, T>>) -> Result<(), AllocError>
         requires once { NoTwoEqual T.eq (entries_in cited.now.keys) }
@@ -120,9 +141,7 @@ impl<'a, T: EntryLike> Listing<'a, T> {
         ensures sound { IfOk result (IsListingOf T.eq cited.now.keys) }
     {
         let mut listing = Listing::new(alloc, cited.len())?;
-        if let Some(order) = order {
-            listing.list_handed(order.0, cited)?;
-        }
+        listing.list_order(order, cited)?;
         listing.list_cited(cited)?;
         Ok(listing)
     }

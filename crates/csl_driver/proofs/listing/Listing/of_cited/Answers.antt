@@ -1,20 +1,21 @@
-use Rattle.std.proofs.Common.{rules, ◌≡◌, ◌≤◌, ◌<◌, List, [], None, length, replicate, filter, IfOk, OnOk, ℕ, ◌+◌, ◌-◌, ◌*◌, ◌/◌, ◌%◌, Bool, true, false, nat_eq, nat_lt, ◌∷◌, ◌++◌, slice_index_or, slice_set, bit_and, bit_or, Fits, w8, w32, w64, Bor, MutBor}
-use Rattle.csl_driver.specs.Entries.{bibliography_order, is_in, place, with_all_new, with_new}
+use Rattle.std.proofs.Common.{[], ap, map, ◌∙◌}
+use Rattle.std.specs.List.{filter}
+use Rattle.std.specs.Prelude.{unwrap_or}
+use Rattle.csl_driver.specs.Entries.{is_in, with_all_new}
 use Rattle.csl_driver.specs.EntryPlaces.{entries_in}
-use Rattle.csl_driver.specs.Laws.{NoTwoEqual}
-use Rattle.csl_driver.specs.Listed.{IsListingOf, IsNumbered, IsOf, listed}
-use Rattle.csl_driver.specs.RequestView.{entries_view, order_view}
-use Rattle.csl_driver.specs.declared.entries.FirstCite.{FirstCite}
+use Rattle.csl_driver.specs.RequestView.{order_view}
+use Rattle.csl_driver.proofs.Listings.{empty-listing, listed-in-order}
 use Rattle.csl_driver.proofs.listing.Listing.of_cited.Goals as goal
 
--- src/listing.rt:112:13
-pub list_handed-requires-clause-sound : goal.list_handed-requires-clause-sound
-list_handed-requires-clause-sound g c = ?
+pub list_order-requires-clause-sound : goal.list_order-requires-clause-sound
+list_order-requires-clause-sound g c =
+    empty-listing g.T.PartialEq.eq c.args.cited.now.keys c.in_ok-listing.listing c.len.result c.in_ok-listing.ensures.empty c.in_ok-listing.ensures.numbers c.len.ensures.len
 
--- src/listing.rt:114:9
-pub list_cited-requires-clause-sound : goal.list_cited-requires-clause-sound
-list_cited-requires-clause-sound g c = ?
-
--- src/listing.rt:101:5
 pub returns-clause-listed : goal.returns-clause-listed
-returns-clause-listed g c = ?
+returns-clause-listed g c =
+    let eq = g.T.PartialEq.eq in
+    let keys = entries_in c.args.cited.now.keys in
+    let kept = filter (λ e. is_in eq e keys) (unwrap_or (order_view c.args.order) []) in
+    c.in_ok-list_cited.ensures.listed
+    ∙ ap (λ es. with_all_new eq es keys) (c.in_ok-list_order.ensures.listed ∙ ap (λ es. with_all_new eq (map (λ e. e.entry.now) es) kept) c.in_ok-listing.ensures.empty)
+    ∙ listed-in-order eq g.met.T.Eq.laws (order_view c.args.order) keys
