@@ -3,6 +3,7 @@ pub mod Places
 pub mod Placed
 pub mod Placing
 pub mod Listings
+pub mod Cited
 pub mod Once
 pub mod Joined
 pub mod RingLemmas

@@ -238,6 +238,15 @@ module _ {E : Type 0} (eq : E → E → Bool) (laws : IsEquivalence eq) where
         by false q = q
         by true q = absurd (true≢false (sym there ∙ is_in-equal eq laws (get_or ps k d).0 p.0 (map (λ q. q.0) ps) q ∙ once.0))
 
+pub find-view : {A B : Type 0} (f : A → B) (p : B → Bool) (xs : List A) → find p (map f xs) ≡ option_map f (find (λ x. p (f x)) xs)
+find-view f p [] = refl
+find-view f p (x ∷ xs) = by (p (f x)) (find-view f p xs)
+  where
+    by : (b : Bool) → find p (map f xs) ≡ option_map f (find (λ x. p (f x)) xs)
+        → cond b (Some (f x)) (find p (map f xs)) ≡ option_map f (cond b (Some x) (find (λ x. p (f x)) xs))
+    by true h = refl
+    by false h = h
+
 entries-seen : {T : Type 0} (cites : List (FirstCite T)) → entries_in cites ≡ map (λ f. f.entry.now) cites
 entries-seen cites = map-map (λ p. p.0) (λ f. (f.entry.now, f.place)) cites
 
@@ -254,15 +263,6 @@ cited-all cited k past = ap entries_in (take_all k cited past)
 module _ {T : Type 0} (eq : T → T → Bool) (laws : IsEquivalence eq) (cited : List (FirstCite T)) where
   entries-direct : entries_in cited ≡ map (λ f. f.entry.now) cited
   entries-direct = entries-seen cited
-
-  find-view : {A B : Type 0} (f : A → B) (p : B → Bool) (xs : List A) → find p (map f xs) ≡ option_map f (find (λ x. p (f x)) xs)
-  find-view f p [] = refl
-  find-view f p (x ∷ xs) = by (p (f x)) (find-view f p xs)
-    where
-      by : (b : Bool) → find p (map f xs) ≡ option_map f (find (λ x. p (f x)) xs)
-          → cond b (Some (f x)) (find p (map f xs)) ≡ option_map f (cond b (Some x) (find (λ x. p (f x)) xs))
-      by true h = refl
-      by false h = h
 
   -- what a look-up of an entry finds
   pub found-is-of : (e : ListedEntry T) (k : ℕ) (first : FirstCite T) → Some k ≡ position (λ f. eq e.entry.now f.entry.now) cited

@@ -23,6 +23,10 @@ module _ {T : Type 0} where
   abbrev pub listed : Listing T → List T
   listed l = map (λ e. e.entry.now) l.entries.items
 
+  -- each of the list knows where its entry was cited first
+  abbrev pub KnowFirsts : (T → ℕ) → Listing T → Type 0
+  KnowFirsts first l = All (λ e. e.first_place ≡ first e.entry.now) l.entries.items
+
   module _ (eq : T → T → Bool) where
     -- an entry of the list stands at k among the cited ones, and knows where it was cited first
     pub record IsOf (cited : List (FirstCite T)) (k : ℕ) (e : ListedEntry T) : Type 0 where
@@ -33,7 +37,7 @@ module _ {T : Type 0} where
     -- where it was cited first
     pub record IsListingOf (cited : List (FirstCite T)) (l : Listing T) : Type 0 where
       pub numbers : l.numbers.items ≡ map (λ e. position (eq e) (listed l)) (entries_in cited)
-      pub firsts : All (λ e. e.first_place ≡ first_among eq (firsts_view cited) e.entry.now) l.entries.items
+      pub firsts : KnowFirsts (first_among eq (firsts_view cited)) l
 
     module _ {P : Type 0} where
       -- the item's entry has its number in the list

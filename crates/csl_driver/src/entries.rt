@@ -1,8 +1,11 @@
 //! The entries that requests cite, each once, in the order of their first cites.
-ghost use Rattle.std.specs.Prelude.{◌≡◌, IfOk, OnOk, map};
+ghost use Rattle.std.specs.Prelude.{◌≡◌, IfOk, OnOk, length, map};
+ghost use Rattle.indexmap.specs.IndexSet.{index_set_len};
+ghost use Rattle.csl_driver.specs.Answer.{first_place};
 ghost use Rattle.csl_driver.specs.Entries.{distinct, with_new, with_all_new};
 ghost use Rattle.csl_driver.specs.EntryPlaces.{AllPlaced, ArePlaced, IsPlaced, entries_in, first_of, firsts_view, same_entry};
-ghost use Rattle.csl_driver.specs.Request.{cites_of};
+ghost use Rattle.csl_driver.specs.Listed.{first_among};
+ghost use Rattle.csl_driver.specs.Request.{cited, cites_of};
 ghost use Rattle.csl_driver.specs.RequestView.{cite_view, cites_view, request_view, requests_view};
 
 use crate::item::CitationItem;
@@ -119,7 +122,9 @@ pub(crate) fn cited_entries<'a, T: EntryLike, P>(
     alloc: Global,
     requests: &mut [CitationRequest<'a, T, P>],
 ) -> Result<IndexSet<FirstCite<'a, T>>, AllocError>
-    ensures entries { IfOk result (λ v. firsts_view v.keys ≡ distinct (same_entry T.eq) (map first_of (cites_of (requests_view requests.old)))) }
+    ensures entries { IfOk result (λ v. entries_in v.keys ≡ distinct T.eq (cited (requests_view requests.old))) }
+    ensures count { IfOk result (λ v. index_set_len v ≡ length (distinct T.eq (cited (requests_view requests.old)))) }
+    ensures firsts { IfOk result (λ v. (e : T) → first_among T.eq (firsts_view v.keys) e ≡ first_place T.eq (requests_view requests.old) e) }
     ensures placed { IfOk result (λ v. AllPlaced T.eq (entries_in v.keys) requests.new) }
     ensures kept { requests_view requests.new ≡ requests_view requests.old }
 {
