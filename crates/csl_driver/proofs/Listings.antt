@@ -352,3 +352,9 @@ module _ {E : Type 0} (eq : E → E → Bool) (laws : IsEquivalence eq) where
       sym (all_new_is_distinct eq laws (distinct eq xs)) ∙ ap (λ ds. with_all_new eq [] ds) (sym (all_new_is_distinct eq laws xs))
       ∙ all_new-all_new eq laws [] [] xs ∙ all_new_is_distinct eq laws xs
   order-distinct (Some order) xs = sym (listed-in-order (Some order) (distinct eq xs)) ∙ bib_made eq laws order xs
+
+-- an entry has its number at its place
+pub is-numbered : {T : Type 0} (eq : T → T → Bool) (laws : IsEquivalence eq) (cited : List (FirstCite T)) (l : Listing T) (e : T) (k : ℕ) → IsListingOf eq cited l
+    → StandsAt eq (entries_in cited) e k → slice_get l.numbers.items k ≡ Some (position (eq e) (listed l))
+is-numbered eq laws cited l e k h s =
+    ap (λ ns. slice_get ns k) h.numbers ∙ number-at eq laws (entries_in cited) k e (listed l) s.listed s.at
