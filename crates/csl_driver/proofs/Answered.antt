@@ -1,5 +1,5 @@
 -- The whole answer from its parts.
-use Rattle.std.proofs.Common.{◌≡◌, ℕ, suc, ◌<◌, Bool, List, [], ◌∷◌, Option, Some, None, length, map, slice_index_or, refl, ap, sym, ◌∙◌, arith}
+use Rattle.std.proofs.Common.{◌≡◌, ℕ, suc, Bool, List, [], ◌∷◌, Option, Some, None, map, slice_index_or, refl, ap, sym, ◌∙◌, arith}
 use Rattle.std.specs.Prelude.{All, option_map}
 use Rattle.csl_base.specs.Answers.{Answers}
 use Rattle.csl_base.specs.Style.{BibliographyValue}
@@ -9,7 +9,6 @@ use Rattle.csl_driver.specs.CiteTree.{properties_of}
 use Rattle.csl_driver.specs.Entries.{bibliography_order, number, used_order}
 use Rattle.csl_driver.specs.Listed.{KnowFirsts, listed, listed_bibliography, listed_item}
 use Rattle.csl_driver.specs.Request.{Request, Wanted, cited, wanted_source}
-use Rattle.csl_driver.specs.declared.listing.ListedEntry.{ListedEntry}
 use Rattle.csl_driver.specs.declared.listing.Listing.{Listing}
 use Rattle.csl_driver.specs.declared.rendered.BibliographyItem.{BibliographyItem}
 use Rattle.csl_driver.specs.declared.rendered.Rendered.{Rendered}

@@ -1,11 +1,11 @@
 -- The distinct entries, from their first cites.
-use Rattle.std.proofs.Common.{◌≡◌, ℕ, Bool, true, false, cond, not, Option, Some, None, List, [], ◌∷◌, ◌++◌, map, filter, length, refl, ap, sym, subst, ◌∙◌, true≢false}
+use Rattle.std.proofs.Common.{◌≡◌, ℕ, Bool, true, false, cond, not, Option, Some, None, List, [], ◌∷◌, ◌++◌, map, filter, length, refl, ap, sym, ◌∙◌, true≢false}
 use Rattle.std.specs.Prelude.{find, option_map, unwrap_or}
 use Rattle.std.specs.Cmp.{IsEquivalence}
 use Rattle.std.proofs.Math.ListN.{length-map}
 use Rattle.std.proofs.lemmas.List.{map-append}
 use Rattle.csl_driver.specs.Answer.{first_place}
-use Rattle.csl_driver.specs.Entries.{distinct, with_all_new}
+use Rattle.csl_driver.specs.Entries.{distinct}
 use Rattle.csl_driver.specs.EntryPlaces.{entries_in, first_of, firsts_view, same_entry}
 use Rattle.csl_driver.specs.Listed.{first_among}
 use Rattle.csl_driver.specs.Request.{Cite, Request, cited, cites_of, entries_of}

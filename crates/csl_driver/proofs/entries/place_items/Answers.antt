@@ -1,5 +1,5 @@
-use Rattle.std.proofs.Common.{◌∷◌, [], map}
-use Rattle.csl_driver.specs.EntryPlaces.{ArePlaced, StandsAt, first_of, firsts_view}
+use Rattle.std.proofs.Common.{◌∷◌, []}
+use Rattle.csl_driver.specs.EntryPlaces.{StandsAt, first_of, firsts_view}
 use Rattle.csl_driver.specs.RequestView.{cite_view}
 use Rattle.csl_driver.proofs.Placed.{stays}
 use Rattle.csl_driver.proofs.Placing.{half-kept, half-more, half-placed}

@@ -1,5 +1,5 @@
-use Rattle.std.proofs.Common.{◌∷◌, [], map}
-use Rattle.csl_driver.specs.EntryPlaces.{ArePlaced, StandsAt, first_of, firsts_view}
+use Rattle.std.proofs.Common.{map}
+use Rattle.csl_driver.specs.EntryPlaces.{ArePlaced, first_of, firsts_view}
 use Rattle.csl_driver.specs.RequestView.{request_view}
 use Rattle.csl_driver.proofs.Placing.{Half}
 use Rattle.csl_driver.proofs.entries.place_requests.Given as goal

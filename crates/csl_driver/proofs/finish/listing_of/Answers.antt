@@ -1,4 +1,4 @@
-use Rattle.std.proofs.Common.{◌≡◌, ◌≤◌, ◌+◌, ◌-◌, ap, arith, get_or, length, subst, sym, ◌∙◌}
+use Rattle.std.proofs.Common.{◌≡◌, ap, arith, get_or, length, subst, sym, ◌∙◌}
 use Rattle.csl_driver.specs.Entries.{bibliography_order, distinct, used_order}
 use Rattle.csl_driver.specs.Laws.{NoTwoEqual}
 use Rattle.csl_driver.specs.Listed.{listed}
