@@ -67,8 +67,8 @@ impl ElemChild {
 fn join_adjacent(children: &mut ElemChildren) -> Result<(), AllocError>
     ensures { OnOk result (children.new ≡ level_joined children.old) }
 {
-    let empty = ElemChildren::new(*children.0.allocator());
-    let apart = mem::replace(children, empty);
+    let room = Vec::with_capacity(*children.0.allocator(), children.0.len())?;
+    let apart = mem::replace(children, ElemChildren(room));
     for child in apart.0 {
         append(children, child)?;
     }

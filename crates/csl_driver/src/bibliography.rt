@@ -62,7 +62,7 @@ fn bibliography_items<'a, T: EntryLike, P: Drop>(
 {
     let context = wanted_context(wanted);
     let locale = wanted.locale.as_ref();
-    let mut items = Vec::new(alloc);
+    let mut items = Vec::with_capacity(alloc, listing.entries.len())?;
     for (k, listed) in listing.entries.iter().enumerate() {
         let properties = cite_properties::<P>(&None, offset + k, listed.first_place)?;
         let entry = listed.entry;

@@ -76,7 +76,7 @@ fn shown_cites<'a, T: EntryLike, P: Drop>(
 {
     let context = request_context(request);
     let locale = request.locale.as_ref();
-    let mut cites = Vec::new(alloc);
+    let mut cites = Vec::with_capacity(alloc, request.items.len())?;
     for item in &request.items {
         if !item.hidden {
             let number = offset + listing.number_of(item);
@@ -120,7 +120,7 @@ pub(crate) fn rendered_citations<'a, T: EntryLike, P: Drop>(
     requires numbered { AllNumbered T.eq listing.now requests.now }
     ensures { IfOk result (λ citations. citations.items ≡ map (rendered_citation T.eq T.answers (listed listing.now) offset) (requests_view requests.now)) }
 {
-    let mut citations = Vec::new(alloc);
+    let mut citations = Vec::with_capacity(alloc, requests.len())?;
     for request in requests {
         citations.push(RenderedCitation {
             note_number: request.note_number,
