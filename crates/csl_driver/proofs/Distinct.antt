@@ -1,5 +1,5 @@
 -- `distinct` as the code makes it, member by member.
-use Rattle.std.proofs.Common.{◌≡◌, Bool, true, false, cond, not, ◌||◌, Option, Some, List, [], ◌∷◌, ◌++◌, filter, refl, ap, ◌∙◌, sym, append-nil, append_assoc}
+use Rattle.std.proofs.Common.{◌≡◌, Bool, true, false, cond, not, ◌||◌, Some, List, [], ◌∷◌, ◌++◌, filter, refl, ap, ◌∙◌, sym, append-nil, append_assoc}
 use Rattle.std.specs.Cmp.{IsEquivalence}
 use Rattle.std.proofs.lemmas.List.Elements.{filter-append, filter_agree}
 use Rattle.std.proofs.lemmas.List.Sums.{fold_push, fold-append}
@@ -96,7 +96,7 @@ module _ {E : Type 0} (eq : E → E → Bool) where
         by false p = fold_push (with_new eq) zs ds y
         by true p = rw (is_in-all_new y zs ds, p, or_true (is_in eq y zs)) refl
 
-    all_new-all_new : (zs ds xs : List E) → with_all_new eq zs (with_all_new eq ds xs) ≡ with_all_new eq (with_all_new eq zs ds) xs
+    pub all_new-all_new : (zs ds xs : List E) → with_all_new eq zs (with_all_new eq ds xs) ≡ with_all_new eq (with_all_new eq zs ds) xs
     all_new-all_new zs ds [] = refl
     all_new-all_new zs ds (x ∷ xs) =
         all_new-all_new zs (with_new eq ds x) xs ∙ ap (λ t. with_all_new eq t xs) (all_new-with_new zs ds x)
@@ -111,11 +111,3 @@ module _ {E : Type 0} (eq : E → E → Bool) where
         ∙ all_new-all_new (with_all_new eq [] kept) [] xs
         ∙ sym (fold-append (with_new eq) [] kept xs)
         ∙ all_new_is_distinct (kept ++ xs)
-
-    -- the same, from what each step of the code ensures: `none` is the empty list that it starts with
-    pub bib_from_steps : (order xs : List E) {listed none kept all : List E} {o : Option (List E)}
-        → o ≡ Some order → listed ≡ distinct eq xs → none ≡ []
-        → kept ≡ with_all_new eq none (filter (λ e. is_in eq e listed) order)
-        → all ≡ with_all_new eq kept listed
-        → all ≡ bibliography_order eq o xs
-    bib_from_steps order xs a b z c d = rw (d, c, b, z, a) (bib_made order xs)

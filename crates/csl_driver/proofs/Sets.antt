@@ -19,7 +19,7 @@ module _ {X E : Type 0} (now : X → E) (eq : E → E → Bool) where
       by true = refl
       by false = map-append now ks (x ∷ [])
 
-  place-view : (e : E) (ks : List X) → position_or_len (λ k. eq e (now k)) ks ≡ place eq e (map now ks)
+  pub place-view : (e : E) (ks : List X) → position_or_len (λ k. eq e (now k)) ks ≡ place eq e (map now ks)
   place-view e [] = refl
   place-view e (k ∷ ks) = ap (λ n. cond (not (eq e (now k))) (1 + n) 0) (place-view e ks)
 
@@ -27,7 +27,7 @@ module _ {X E : Type 0} (now : X → E) (eq : E → E → Bool) where
   found-at true i n h = cc
   found-at false i n h = cc
 
-  missing-at : (b : Bool) (n len : ℕ) → nat_lt n len ≡ b → n ≤ len → None ≡ cond b (Some n) None → len ≡ n
+  pub missing-at : (b : Bool) (n len : ℕ) → nat_lt n len ≡ b → n ≤ len → None ≡ cond b (Some n) None → len ≡ n
   missing-at true n len t most h = cc
   missing-at false n len t most h = grind (arith, nat_tests)
 

@@ -5,7 +5,8 @@ pub mod Entries
 pub mod CiteTree
 pub mod Assembly
 pub mod Answer
-pub mod FirstPlaces
+pub mod EntryPlaces
+pub mod Listed
 pub mod StandaloneCitation
 pub mod Laws
 pub mod DriverView

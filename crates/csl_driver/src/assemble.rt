@@ -134,6 +134,14 @@ pub(crate) fn optional_str(text: &Option<String>) -> Option<&str>
     }
 }
 
+/// An empty tree, with room for so many cites, a text before each, and one behind them.
+fn room_for(alloc: Global, cites: usize) -> Result<ElemChildren, AllocError>
+    ensures { IfOk result (λ tree. tree ≡ []) }
+{
+    let children = cites.saturating_mul(2).saturating_add(1);
+    Ok(ElemChildren(Vec::with_capacity(alloc, children)?))
+}
+
 /// The cites joined by the delimiter, between the layout's prefix and suffix where it encloses them.
 fn enclosed(
     alloc: Global,
@@ -145,7 +153,7 @@ fn enclosed(
     ensures { IfOk result (λ tree. tree ≡ enclosed encloses (layout_view layout.now) (option_map (λ t. t.now) delimiter.entry) cites.items) }
 {
     let formatting = layout_formatting(layout);
-    let mut tree = ElemChildren::new(alloc);
+    let mut tree = room_for(alloc, cites.len())?;
     if !encloses {
         push_cites(alloc, &mut tree, cites, delimiter, formatting)?;
         return Ok(tree);

@@ -4,15 +4,16 @@ ghost use Rattle.csl_base.specs.Ring.{HasNoRing};
 ghost use Rattle.csl_base.specs.StyleView.{bibliography_view, style_view};
 ghost use Rattle.csl_writing.specs.PropertiesView.{properties_view};
 ghost use Rattle.csl_writing.specs.SourceView.{source_view};
-ghost use Rattle.csl_driver.specs.Answer.{bibliography_item, entry_properties, rendered_bibliography};
+ghost use Rattle.csl_driver.specs.Answer.{bibliography_item};
+ghost use Rattle.csl_driver.specs.Laws.{NoTwoEqual};
+ghost use Rattle.csl_driver.specs.Listed.{listed, listed_bibliography, listed_item};
 ghost use Rattle.csl_driver.specs.Request.{wanted_source};
-ghost use Rattle.csl_driver.specs.RequestView.{entries_view, requests_view, wanted_view};
+ghost use Rattle.csl_driver.specs.RequestView.{wanted_view};
 
 use crate::cites::{cite_properties, wanted_context};
-use crate::entries::place_of;
-use crate::first_places::{first_places, place_in};
+use crate::listing::Listing;
 use crate::rendered::{BibliographyItem, RenderedBibliography};
-use crate::request::{BibliographyRequest, CitationRequest};
+use crate::request::BibliographyRequest;
 use csl_base::elem::ElemChildren;
 use csl_base::entry::EntryLike;
 use csl_base::locale::LocaleCode;
@@ -22,7 +23,6 @@ use csl_base::text::Text;
 use csl_writing::counter::Renders;
 use csl_writing::lookup::StyleContext;
 use csl_writing::properties::CiteProperties;
-use indexmap::IndexSet;
 use std::alloc::{AllocError, Global};
 
 fn bibliography_item<T: EntryLike, P>(
@@ -50,25 +50,23 @@ fn bibliography_item<T: EntryLike, P>(
 fn bibliography_items<'a, T: EntryLike, P: Drop>(
     alloc: Global,
     wanted: &BibliographyRequest<'_, 'a, T>,
-    requests: &[CitationRequest<'a, T, P>],
-    entries: &IndexSet<&'a T>,
+    listing: &Listing<'a, T>,
     offset: usize,
     renders: &mut Renders,
 ) -> Result<Vec<BibliographyItem>, AllocError>
-    requires fits { offset + length entries.now.keys < 2 ^ 64 }
+    requires fits { offset + length (listed listing.now) < 2 ^ 64 }
+    requires once { NoTwoEqual T.eq (listed listing.now) }
     requires no_ring { HasNoRing (style_view wanted.now.style.now).macros }
     ensures { IfOk result (λ items. items.items
-        ≡ map (λ e. bibliography_item T.answers (wanted_source (wanted_view wanted.now)) (entry_properties T.eq (requests_view requests.now) (entries_view entries.now.keys) offset e) e) (entries_view entries.now.keys)) }
+        ≡ map (listed_item P T.eq T.answers (wanted_source (wanted_view wanted.now)) listing.now offset) listing.now.entries.items) }
 {
     let context = wanted_context(wanted);
     let locale = wanted.locale.as_ref();
-    let mut items = Vec::new(alloc);
-    let places = first_places(alloc, requests)?;
-    for entry in entries.as_slice() {
-        let number = offset + place_of(entries, *entry);
-        let place = place_in(&places, *entry);
-        let properties = cite_properties::<P>(&None, number, place)?;
-        items.push(bibliography_item(alloc, &context, locale, *entry, &properties, renders)?)?;
+    let mut items = Vec::with_capacity(alloc, listing.entries.len())?;
+    for (k, listed) in listing.entries.iter().enumerate() {
+        let properties = cite_properties::<P>(&None, offset + k, listed.first_place)?;
+        let entry = listed.entry;
+        items.push(bibliography_item(alloc, &context, locale, entry, &properties, renders)?)?;
     }
     Ok(items)
 }
@@ -77,17 +75,17 @@ fn rendered_bibliography<'a, T: EntryLike, P: Drop>(
     alloc: Global,
     bibliography: &Bibliography,
     wanted: &BibliographyRequest<'_, 'a, T>,
-    requests: &[CitationRequest<'a, T, P>],
-    entries: &IndexSet<&'a T>,
+    listing: &Listing<'a, T>,
     offset: usize,
     renders: &mut Renders,
 ) -> Result<RenderedBibliography, AllocError>
-    requires fits { offset + length entries.now.keys < 2 ^ 64 }
+    requires fits { offset + length (listed listing.now) < 2 ^ 64 }
+    requires once { NoTwoEqual T.eq (listed listing.now) }
     requires no_ring { HasNoRing (style_view wanted.now.style.now).macros }
     ensures { IfOk result
-        (λ r. r ≡ rendered_bibliography T.eq T.answers (wanted_source (wanted_view wanted.now)) (requests_view requests.now) (entries_view entries.now.keys) offset (bibliography_view bibliography.now)) }
+        (λ r. r ≡ listed_bibliography P T.eq T.answers (wanted_source (wanted_view wanted.now)) listing.now offset (bibliography_view bibliography.now)) }
 {
-    let items = bibliography_items(alloc, wanted, requests, entries, offset, renders)?;
+    let items = bibliography_items::<T, P>(alloc, wanted, listing, offset, renders)?;
     Ok(RenderedBibliography {
         hanging_indent: bibliography.hanging_indent,
         second_field_align: bibliography.second_field_align,
@@ -101,23 +99,22 @@ fn rendered_bibliography<'a, T: EntryLike, P: Drop>(
 pub(crate) fn wanted_bibliography<'a, T: EntryLike, P: Drop>(
     alloc: Global,
     wanted: &BibliographyRequest<'_, 'a, T>,
-    requests: &[CitationRequest<'a, T, P>],
-    entries: &IndexSet<&'a T>,
+    listing: &Listing<'a, T>,
     offset: usize,
     renders: &mut Renders,
 ) -> Result<Option<RenderedBibliography>, AllocError>
-    requires fits { offset + length entries.now.keys < 2 ^ 64 }
+    requires fits { offset + length (listed listing.now) < 2 ^ 64 }
+    requires once { NoTwoEqual T.eq (listed listing.now) }
     requires no_ring { HasNoRing (style_view wanted.now.style.now).macros }
     ensures { IfOk result
-        (λ r. r ≡ option_map (rendered_bibliography T.eq T.answers (wanted_source (wanted_view wanted.now)) (requests_view requests.now) (entries_view entries.now.keys) offset) (style_view wanted.now.style.now).bibliography) }
+        (λ r. r ≡ option_map (listed_bibliography P T.eq T.answers (wanted_source (wanted_view wanted.now)) listing.now offset) (style_view wanted.now.style.now).bibliography) }
 {
     match &wanted.style.bibliography {
-        Some(bibliography) => Ok(Some(rendered_bibliography(
+        Some(bibliography) => Ok(Some(rendered_bibliography::<T, P>(
             alloc,
             bibliography,
             wanted,
-            requests,
-            entries,
+            listing,
             offset,
             renders,
         )?)),

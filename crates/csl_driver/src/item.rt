@@ -22,6 +22,8 @@ pub struct CitationItem<'a, T, P> {
     pub purpose: Option<CitePurpose>,
     /// Its place in the items of its request, once the driver has it; 0 before.
     pub(crate) initial_idx: usize,
+    /// The place of its entry among all that are cited, while an answer is made; 0 before.
+    pub(crate) entry_idx: usize,
 }
 
 impl<'a, T, P> CitationItem<'a, T, P> {
@@ -62,6 +64,7 @@ impl<'a, T, P> CitationItem<'a, T, P> {
             hidden,
             purpose,
             initial_idx: 0,
+            entry_idx: 0,
         }
     }
 

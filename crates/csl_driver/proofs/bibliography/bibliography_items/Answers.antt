@@ -1,36 +1,19 @@
-use Rattle.std.proofs.Common.{ap, subst, sym, ◌∙◌}
-use Rattle.std.specs.Prelude.{unwrap_or}
+use Rattle.std.proofs.Common.{ap, get_or, length, subst, sym, ◌<◌, ◌∙◌}
 use Rattle.csl_base.specs.Ring.{HasNoRing}
 use Rattle.csl_writing.specs.Lookup.{Source}
-use Rattle.csl_driver.specs.Answer.{bibliography_item, entry_properties}
-use Rattle.csl_driver.specs.Request.{wanted_source}
-use Rattle.csl_driver.specs.RequestView.{entries_view, requests_view, wanted_view}
-use Rattle.csl_driver.proofs.Items.{item_of, items-all, items-more}
+use Rattle.csl_driver.proofs.Items.{items-more}
 use Rattle.csl_driver.proofs.bibliography.bibliography_items.Goals as goal
 
 pub bibliography_item-requires : goal.bibliography_item-requires
 bibliography_item-requires g c =
     record { no_ring = subst (λ (s : Source). HasNoRing s.style.macros) (sym c.wanted_context-context.ensures) c.requires.no_ring }
 
-pub loop-entry-preserved : goal.loop-entry-preserved
-loop-entry-preserved g c =
-    let eq = g.T.PartialEq.eq in
-    let answers = g.T.EntryLike.answers in
-    let requests = requests_view c.args.requests.now in
-    let entries = entries_view c.args.entries.now.keys in
-    let source = wanted_source (wanted_view c.args.wanted.now) in
-    items-more (λ e. e.now) (λ e. bibliography_item answers source (entry_properties eq requests entries c.args.offset e) e)
-    c.as_slice-entry-items.result.now c.loop-entry.entry-index c.entry-item.result c.loop-entry-test.true c.entry-item.is
-    c.loop-entry.invariant c.in_ok-push.ensures.items
-    (item_of eq answers requests entries c.args.offset c.entry-item.result.now
+pub loop-k-preserved : goal.loop-k-preserved
+loop-k-preserved g c =
+    let items = c.deref-listed-items.ensures.value in
+    let k = c.loop-k.k in
+    let e = c.listed-item.result in
+    items-more g.row.P.Denot g.T.PartialEq.eq g.met.T.Eq.laws g.T.EntryLike.answers c.args.listing.now c.args.offset k e
+    c.requires.once (subst (λ es. k < length es) items c.loop-k-test.true) (c.listed-item.is ∙ ap (λ es. get_or es k e) items)
+    c.loop-k.invariant c.in_ok-push.ensures.items
     c.in_ok-bibliography_item.ensures c.wanted_context-context.ensures c.in_ok-properties.ensures
-    c.place_of.ensures.place (c.place_in-place.ensures ∙ ap (λ o. unwrap_or o 0) (c.in_ok-places.ensures c.entry-item.result)))
-
-pub returns : goal.returns
-returns g c =
-    let eq = g.T.PartialEq.eq in
-    let requests = requests_view c.args.requests.now in
-    let entries = entries_view c.args.entries.now.keys in
-    let source = wanted_source (wanted_view c.args.wanted.now) in
-    items-all (λ e. e.now) (λ e. bibliography_item g.T.EntryLike.answers source (entry_properties eq requests entries c.args.offset e) e)
-    c.as_slice-entry-items.result.now c.loop-entry.entry-index c.loop-entry-test.false c.as_slice-entry-items.ensures.keys c.loop-entry.invariant
