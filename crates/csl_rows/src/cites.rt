@@ -1,5 +1,5 @@
-//! Cites and items of a bibliography that no document can ask for: in a state, at a position, cut by
-//! a verdict, with marks and pieces of other kinds.
+//! Cites and items of a bibliography that no document can ask for: in a state, at a position, cut
+//! by a verdict, with marks and pieces of other kinds.
 use crate::styles::{
     author_date, authors, bibliography_of, dated, entry, layout_of, no_affixes, number, numeric,
     text_of, value, writing, written_by,
@@ -46,12 +46,6 @@ fn cite(
     )?)
 }
 
-fn plain(alloc: Global, tree: &ElemChildren) -> Result<String, AllocError> {
-    let mut text = String::new(alloc);
-    tree.write_plain(&mut text)?;
-    Ok(text)
-}
-
 /// The plain text of the entry's cite without a purpose.
 fn shown(
     alloc: Global,
@@ -62,7 +56,7 @@ fn shown(
 ) -> Result<String, Fail> {
     let mut renders = Renders::new();
     let cite = cite(alloc, style, cited, properties, None, verdict, &mut renders)?;
-    Ok(plain(alloc, &cite.children)?)
+    Ok(cite.children.to_string(alloc)?)
 }
 
 /// The properties of a cite whose entry is in this state.
@@ -87,7 +81,7 @@ fn a_cite_counts_and_notes_its_number(rt: HostRuntime) -> Result<(), Fail> {
     assert_eq!(rt; renders.count(), 8);
     assert!(rt; cite.identifier_usage == IdentifierUsage::OnlyCitationNumber);
     assert_eq!(rt;
-        plain(alloc, &cite.children)?.as_str(),
+        cite.children.to_string(alloc)?.as_str(),
         "18446744073709551616"
     );
     Ok(())
@@ -108,7 +102,7 @@ fn item(
     let context = StyleContext::new(style, None, &[]);
     let mut renders = Renders::new();
     match context.bibliography(alloc, cited, &properties, None, None, &mut renders)? {
-        Some(tree) => Ok(Some(plain(alloc, &tree)?)),
+        Some(tree) => Ok(Some(tree.to_string(alloc)?)),
         None => Ok(None),
     }
 }
@@ -225,7 +219,7 @@ fn a_choice_asks_for_its_state(rt: HostRuntime) -> Result<(), Fail> {
         let cite = cite(alloc, &style, &cited, &properties, None, None, &mut renders)?;
         assert!(rt; cite.checked_disambiguate);
         assert!(rt; cite.first_name.is_none());
-        assert_eq!(rt; plain(alloc, &cite.children)?.as_str(), text);
+        assert_eq!(rt; cite.children.to_string(alloc)?.as_str(), text);
     }
     Ok(())
 }
@@ -280,7 +274,7 @@ fn prose_without_an_author_at_each_position(rt: HostRuntime) -> Result<(), Fail>
             None,
             &mut renders,
         )?;
-        assert_eq!(rt; plain(alloc, &cite.children)?.as_str(), text);
+        assert_eq!(rt; cite.children.to_string(alloc)?.as_str(), text);
     }
     Ok(())
 }
