@@ -19,7 +19,7 @@ use csl_writing::cite::Cite;
 use csl_writing::counter::Renders;
 use csl_writing::locator::{LocatorPayload, SpecificLocator, TransparentLocator};
 use csl_writing::lookup::StyleContext;
-use csl_writing::properties::CiteProperties;
+use csl_writing::properties::{CertainCiteProperties, CiteProperties, SpeculativeCiteProperties};
 use csl_writing::purpose::CitePurpose;
 use csl_writing::state::{CollapseVerdict, DisambiguateState, IbidState, IdentifierUsage};
 use std::alloc::{AllocError, Global};
@@ -59,11 +59,20 @@ fn shown(
     Ok(cite.children.to_string(alloc)?)
 }
 
+/// The properties of a cite of which nothing else is known.
+fn known(speculative: SpeculativeCiteProperties<'_, u8>) -> Properties<'_> {
+    CiteProperties {
+        certain: CertainCiteProperties::default(),
+        speculative,
+    }
+}
+
 /// The properties of a cite whose entry is in this state.
 fn in_state(state: DisambiguateState) -> Properties<'static> {
-    let mut properties = CiteProperties::for_sorting(None, 0);
-    properties.speculative.disambiguation = state;
-    properties
+    known(SpeculativeCiteProperties {
+        disambiguation: state,
+        ..SpeculativeCiteProperties::speculate(None, 0, IbidState::Different)
+    })
 }
 
 #[test]
@@ -97,8 +106,10 @@ fn item(
     if style.ring(alloc)?.is_some() {
         return Err(Fail::new("the style has a ring"));
     }
-    let mut properties: Properties = CiteProperties::for_sorting(None, 4);
-    properties.speculative.identifier_usage = usage;
+    let properties = known(SpeculativeCiteProperties {
+        identifier_usage: usage,
+        ..SpeculativeCiteProperties::speculate(None, 4, IbidState::Different)
+    });
     let context = StyleContext::new(style, None, &[]);
     let mut renders = Renders::new();
     match context.bibliography(alloc, cited, &properties, None, None, &mut renders)? {
@@ -261,8 +272,7 @@ fn prose_without_an_author_at_each_position(rt: HostRuntime) -> Result<(), Fail>
         (IbidState::IbidWithLocator, "34", "(34)"),
     ] {
         let locator = SpecificLocator(Locator::Page, LocatorPayload::Str(page));
-        let mut properties: Properties = CiteProperties::for_sorting(Some(locator), 0);
-        properties.speculative.ibid = position;
+        let properties = known(SpeculativeCiteProperties::speculate(Some(locator), 0, position));
         let prose = Some(CitePurpose::Prose);
         let mut renders = Renders::new();
         let cite = cite(

@@ -10,6 +10,7 @@ use csl_driver::item::CitationItem;
 use csl_driver::laws::{bibliography_holds_each_once, numbers_have_no_gaps};
 use csl_driver::rendered::Rendered;
 use csl_driver::request::{BibliographyRequest, CitationRequest, Order};
+use csl_writing::purpose::CitePurpose;
 use std::alloc::{AllocError, Global};
 use std::convert::Infallible;
 use std::test::Fail;
@@ -184,13 +185,17 @@ fn note_numbers_are_kept_in_notes_alone(rt: HostRuntime) -> Result<(), Fail> {
 fn requests_are_equal_where_their_parts_are(rt: HostRuntime) -> Result<(), Fail> {
     let alloc = rt.alloc();
     let style = numeric(alloc)?;
-    let (a, b, same) = (entry(alloc, "a")?, entry(alloc, "b")?, entry(alloc, "a")?);
-    let item: Item = CitationItem::with_entry(&a);
-    assert!(rt; item == CitationItem::with_entry(&same));
-    assert!(rt; item != CitationItem::with_entry(&b));
-    let request = cite(alloc, &style, &a, false)?;
-    assert!(rt; request == cite(alloc, &style, &same, false)?);
-    assert!(rt; request != cite(alloc, &style, &a, true)?);
+    let entries = entries_of(alloc, &["a", "b", "a"])?;
+    let [a, b, same] = entries.as_slice() else {
+        return Err(Fail::new("not three entries"));
+    };
+    let item: Item = CitationItem::with_entry(a);
+    assert!(rt; item == CitationItem::with_entry(same));
+    assert!(rt; item != CitationItem::with_entry(b));
+    assert!(rt; item != CitationItem::with_entry(a).kind(CitePurpose::Year));
+    let request = cite(alloc, &style, a, false)?;
+    assert!(rt; request == cite(alloc, &style, same, false)?);
+    assert!(rt; request != cite(alloc, &style, a, true)?);
     Ok(())
 }
 
@@ -202,6 +207,16 @@ fn orders_are_equal_where_their_entries_are(rt: HostRuntime) -> Result<(), Fail>
     };
     assert!(rt; Order(&[a, b]) == Order(&[same, b]));
     assert!(rt; Order(&[a]) != Order(&[b]));
+    Ok(())
+}
+
+#[test]
+fn requests_for_a_bibliography_are_compared(rt: HostRuntime) -> Result<(), Fail> {
+    let numbers = numeric(rt.alloc())?;
+    let plain = value_style(rt.alloc(), StyleClass::Note, "T")?;
+    let wanted: BibliographyRequest<PlainEntry> = BibliographyRequest::new(&numbers, None, &[]);
+    assert!(rt; wanted == BibliographyRequest::new(&numbers, None, &[]));
+    assert!(rt; wanted != BibliographyRequest::new(&plain, None, &[]));
     Ok(())
 }
 

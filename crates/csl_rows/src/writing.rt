@@ -6,7 +6,7 @@ use crate::styles::numeric;
 use csl_base::elem::{ElemChild, ElemChildren};
 use csl_base::element::{Affixes, InheritableNameOptions};
 use csl_base::entry::{Chunk, ChunkKind, ChunkedString};
-use csl_base::formatting::{FontStyle, Formatting, StyleFormatting};
+use csl_base::formatting::Formatting;
 use csl_base::locale::{Locale, LocalizedTerm};
 use csl_base::seq::Seq;
 use csl_base::style::IndependentStyle;
@@ -18,11 +18,6 @@ use csl_writing::properties::CiteProperties;
 use std::alloc::{AllocError, Global};
 use std::fmt::Write;
 use std::test::Fail;
-
-const ITALIC: StyleFormatting = StyleFormatting {
-    font_style: Some(FontStyle::Italic),
-    font_weight: None,
-};
 
 fn text(alloc: Global, text: &str) -> Result<Text, AllocError> {
     Ok(Text::new(String::from_str(alloc, text)?))
@@ -56,7 +51,8 @@ fn quoting(alloc: Global) -> Result<IndependentStyle, AllocError> {
 type Writing<'a> = Context<'a, InheritableNameOptions, u8>;
 
 fn begin<'a>(alloc: Global, style: &'a IndependentStyle) -> Result<Writing<'a>, AllocError>
-    ensures { IfOk result (λ context. length (state context.writing).formats ≡ 1) }
+    ensures formats { IfOk result (λ context. length (state context.writing).formats ≡ 1) }
+    ensures options { IfOk result (λ context. length (state context.writing).name_options ≡ 1) }
 {
     let options = &style.settings.options;
     let properties = CiteProperties::for_sorting(None, 0);
@@ -167,19 +163,17 @@ fn stripped_behind_a_space(
     context.writing.has_content_since(&prefix)
 }
 
-/// Writes under name options, a delimiter and a format of its own.
-fn under_all_stacks(alloc: Global, style: &IndependentStyle) -> Result<ElemChildren, AllocError> {
+/// Writes under name options and a delimiter of its own.
+fn in_stacks(alloc: Global, style: &IndependentStyle) -> Result<String, AllocError> {
     let mut context = begin(alloc, style)?;
+    let delimiter = context.writing.push_delimiter(Some("; "))?;
     context
         .writing
         .push_name_options(&style.citation.name_options)?;
-    let delimiter = context.writing.push_delimiter(Some("; "))?;
-    let format = context.writing.push_format(ITALIC)?;
     context.push_str("A")?;
-    context.writing.pop_format(format)?;
-    context.writing.pop_delimiter(delimiter);
     context.writing.pop_name_options();
-    context.writing.flush()
+    context.writing.pop_delimiter(delimiter);
+    shown(alloc, context)
 }
 
 #[test]
@@ -260,18 +254,19 @@ fn formulas_links_and_marks_stand_apart(rt: HostRuntime) -> Result<(), Fail> {
 }
 
 #[test]
-fn a_format_holds_until_it_ends(rt: HostRuntime) -> Result<(), Fail> {
+fn options_and_delimiters_come_off_again(rt: HostRuntime) -> Result<(), Fail> {
     let style = numeric(rt.alloc())?;
-    let tree = under_all_stacks(rt.alloc(), &style)?;
-    let last = tree.last_text().ok_or("no text")?;
-    assert!(rt; last.formatting.font_style == FontStyle::Italic);
+    let shown = in_stacks(rt.alloc(), &style)?;
+    assert_eq!(rt; shown.as_str(), "A");
     Ok(())
 }
 
 #[test]
-fn a_context_is_a_writer(rt: HostRuntime) -> Result<(), Fail> {
-    let style = numeric(rt.alloc())?;
+fn a_context_is_a_writer_and_knows_terms(rt: HostRuntime) -> Result<(), Fail> {
+    let style = quoting(rt.alloc())?;
     let mut context = begin(rt.alloc(), &style)?;
     assert!(rt; write!(context, "{}", 7).is_ok());
+    let quote = Term::Other(OtherTerm::OpenQuote);
+    assert!(rt; context.term(quote, TermForm::Short, false) == Some("“"));
     Ok(())
 }
