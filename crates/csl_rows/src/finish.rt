@@ -95,17 +95,17 @@ fn equal_entries_are_one(rt: HostRuntime) -> Result<(), Fail> {
     Ok(())
 }
 
+/// A request for the bibliography of the style.
+fn wanted<'a>(style: &'a IndependentStyle) -> BibliographyRequest<'a, 'a, PlainEntry> {
+    BibliographyRequest::new(style, None, &[])
+}
+
 /// Why the bibliography in the style is refused, if it is.
 fn refusal<'a>(
     driver: Driver<'a>,
     style: &'a IndependentStyle,
 ) -> Result<Option<DriverError>, Fail> {
-    let request: BibliographyRequest<'a, 'a, PlainEntry> = BibliographyRequest::new(
-        style,
-        None,
-        &[],
-    );
-    match driver.finish(request) {
+    match driver.finish(wanted(style)) {
         Ok(_) => Ok(None),
         Err(error) => Ok(Some(error)),
     }
@@ -212,11 +212,14 @@ fn orders_are_equal_where_their_entries_are(rt: HostRuntime) -> Result<(), Fail>
 
 #[test]
 fn requests_for_a_bibliography_are_compared(rt: HostRuntime) -> Result<(), Fail> {
-    let numbers = numeric(rt.alloc())?;
-    let plain = value_style(rt.alloc(), StyleClass::Note, "T")?;
-    let wanted: BibliographyRequest<PlainEntry> = BibliographyRequest::new(&numbers, None, &[]);
-    assert!(rt; wanted == BibliographyRequest::new(&numbers, None, &[]));
-    assert!(rt; wanted != BibliographyRequest::new(&plain, None, &[]));
+    let mut styles = Vec::new(rt.alloc());
+    styles.push(numeric(rt.alloc())?)?;
+    styles.push(value_style(rt.alloc(), StyleClass::Note, "T")?)?;
+    let [numbers, plain] = styles.as_slice() else {
+        return Err(Fail::new("not two styles"));
+    };
+    assert!(rt; wanted(numbers) == wanted(numbers));
+    assert!(rt; wanted(numbers) != wanted(plain));
     Ok(())
 }
 
