@@ -96,42 +96,68 @@ fn a_cite_counts_and_notes_its_number(rt: HostRuntime) -> Result<(), Fail> {
     Ok(())
 }
 
-/// The plain text of the entry's item, where the style has a bibliography.
+/// The entry's item, where the style has a bibliography.
 fn item(
     alloc: Global,
     style: &IndependentStyle,
     cited: &PlainEntry,
-    usage: IdentifierUsage,
-) -> Result<Option<String>, Fail> {
+    properties: &Properties<'_>,
+) -> Result<Option<ElemChildren>, Fail> {
     if style.ring(alloc)?.is_some() {
         return Err(Fail::new("the style has a ring"));
     }
+    let context = StyleContext::new(style, None, &[]);
+    let mut renders = Renders::new();
+    Ok(context.bibliography(alloc, cited, properties, None, None, &mut renders)?)
+}
+
+/// The plain text of the item of an entry of number 4, where cites have written these identifiers.
+fn shown_item(
+    alloc: Global,
+    style: &IndependentStyle,
+    cited: &PlainEntry,
+    usage: IdentifierUsage,
+) -> Result<String, Fail> {
     let properties = known(SpeculativeCiteProperties {
         identifier_usage: usage,
         ..SpeculativeCiteProperties::speculate(None, 4, IbidState::Different)
     });
-    let context = StyleContext::new(style, None, &[]);
-    let mut renders = Renders::new();
-    match context.bibliography(alloc, cited, &properties, None, None, &mut renders)? {
-        Some(tree) => Ok(Some(tree.to_string(alloc)?)),
-        None => Ok(None),
-    }
+    let tree = item(alloc, style, cited, &properties)?.ok_or("no item")?;
+    Ok(tree.to_string(alloc)?)
+}
+
+/// A style whose bibliography writes labels.
+fn labelling(alloc: Global) -> Result<IndependentStyle, AllocError> {
+    let mut style = numeric(alloc)?;
+    let label = text_of(TextTarget::Standard(StandardVariable::CitationLabel));
+    style.bibliography = Some(bibliography_of(layout_of(alloc, label)?));
+    Ok(style)
 }
 
 #[test]
 fn an_item_goes_by_what_cites_have_written(rt: HostRuntime) -> Result<(), Fail> {
     let alloc = rt.alloc();
-    let mut style = numeric(alloc)?;
-    let label = text_of(TextTarget::Standard(StandardVariable::CitationLabel));
-    style.bibliography = Some(bibliography_of(layout_of(alloc, label)?));
+    let label = IdentifierUsage::OnlyCitationLabel;
+    let number = IdentifierUsage::OnlyCitationNumber;
     let mut cited = entry(alloc, "a")?;
     cited.label = Some(Text::new(String::from_str(alloc, "Doe99")?));
-    let by_number = item(alloc, &style, &cited, IdentifierUsage::OnlyCitationNumber)?;
-    assert!(rt; by_number.ok_or("no item")?.as_str() == "5");
-    let by_label = item(alloc, &style, &cited, IdentifierUsage::OnlyCitationLabel)?;
-    assert!(rt; by_label.ok_or("no item")?.as_str() == "Doe99");
-    style.bibliography = None;
-    assert!(rt; item(alloc, &style, &cited, IdentifierUsage::None)?.is_none());
+    let style = labelling(alloc)?;
+    assert_eq!(rt; shown_item(alloc, &style, &cited, number)?.as_str(), "5");
+    assert_eq!(rt; shown_item(alloc, &style, &cited, label)?.as_str(), "Doe99");
+    let style = numeric(alloc)?;
+    assert_eq!(rt;
+        shown_item(alloc, &style, &cited, label)?.as_str(),
+        "[Doe99]"
+    );
+    Ok(())
+}
+
+#[test]
+fn a_style_without_a_bibliography_has_no_items(rt: HostRuntime) -> Result<(), Fail> {
+    let style = author_date(rt.alloc())?;
+    let cited = entry(rt.alloc(), "a")?;
+    let properties = in_state(DisambiguateState::None);
+    assert!(rt; item(rt.alloc(), &style, &cited, &properties)?.is_none());
     Ok(())
 }
 

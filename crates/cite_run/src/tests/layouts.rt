@@ -11,132 +11,136 @@ fn writes(rt: &HostRuntime, elements: &str, item: &str, text: &str) -> Result<bo
     shows(rt, style.as_str(), LOCALES, request.as_str(), text)
 }
 
+/// Elements, the item that is cited, and the citation.
+const TEXTS_NUMBERS_AND_DATES: &[(&str, &str, &str)] = &[
+    (
+        r#"{"kind":"text","variable":"url","prefix":"<","suffix":">"}"#,
+        r#""entry":"doe""#,
+        "<http://x.org>",
+    ),
+    (
+        r#"{"kind":"text","variable":"title","quotes":true}"#,
+        r#""entry":"ed""#,
+        "“Two”",
+    ),
+    (
+        r#"{"kind":"text","variable":"citation-label"}"#,
+        r#""entry":"doe""#,
+        "Doe99",
+    ),
+    (
+        r#"{"kind":"text","variable":"year-suffix","prefix":"-"}"#,
+        r#""entry":"doe""#,
+        "",
+    ),
+    (
+        r#"{"kind":"number","variable":"volume","prefix":"vol. "},
+           {"kind":"number","variable":"issue","prefix":"no. "}"#,
+        r#""entry":"doe""#,
+        "vol. 12",
+    ),
+    (
+        r#"{"kind":"number","variable":"citation-number"},
+           {"kind":"number","variable":"citation-number"}"#,
+        r#""entry":"doe""#,
+        "1",
+    ),
+    (
+        r#"{"kind":"text","term":"locator","form":"short"},
+           {"kind":"number","variable":"locator","prefix":" "}"#,
+        r#""entry":"doe","locator":["page","7"]"#,
+        "p. 7",
+    ),
+    (
+        r#"{"kind":"text","term":"locator-page","form":"symbol","plural":true}"#,
+        r#""entry":"doe""#,
+        "pp.",
+    ),
+    (
+        r#"{"kind":"date","variable":"issued"}"#,
+        r#""entry":"doe""#,
+        "1999",
+    ),
+    (
+        r#"{"kind":"date","variable":"issued"}"#,
+        r#""entry":"bc""#,
+        "44 BC",
+    ),
+    (
+        r#"{"kind":"date","variable":"issued"}"#,
+        r#""entry":"ad""#,
+        "43 AD",
+    ),
+    (
+        r#"{"kind":"date","variable":"accessed","prefix":"seen "}"#,
+        r#""entry":"doe""#,
+        "",
+    ),
+];
+
 #[test]
 fn texts_numbers_and_dates(rt: HostRuntime) -> Result<(), Fail> {
-    let rows = [
-        (
-            r#"{"kind":"text","variable":"url","prefix":"<","suffix":">"}"#,
-            r#""entry":"doe""#,
-            "<http://x.org>",
-        ),
-        (
-            r#"{"kind":"text","variable":"title","quotes":true}"#,
-            r#""entry":"ed""#,
-            "“Two”",
-        ),
-        (
-            r#"{"kind":"text","variable":"citation-label"}"#,
-            r#""entry":"doe""#,
-            "Doe99",
-        ),
-        (
-            r#"{"kind":"text","variable":"year-suffix","prefix":"-"}"#,
-            r#""entry":"doe""#,
-            "",
-        ),
-        (
-            r#"{"kind":"number","variable":"volume","prefix":"vol. "},
-               {"kind":"number","variable":"issue","prefix":"no. "}"#,
-            r#""entry":"doe""#,
-            "vol. 12",
-        ),
-        (
-            r#"{"kind":"number","variable":"citation-number"},
-               {"kind":"number","variable":"citation-number"}"#,
-            r#""entry":"doe""#,
-            "1",
-        ),
-        (
-            r#"{"kind":"text","term":"locator","form":"short"},
-               {"kind":"number","variable":"locator","prefix":" "}"#,
-            r#""entry":"doe","locator":["page","7"]"#,
-            "p. 7",
-        ),
-        (
-            r#"{"kind":"text","term":"locator-page","form":"symbol","plural":true}"#,
-            r#""entry":"doe""#,
-            "pp.",
-        ),
-        (
-            r#"{"kind":"date","variable":"issued"}"#,
-            r#""entry":"doe""#,
-            "1999",
-        ),
-        (
-            r#"{"kind":"date","variable":"issued"}"#,
-            r#""entry":"bc""#,
-            "44 BC",
-        ),
-        (
-            r#"{"kind":"date","variable":"issued"}"#,
-            r#""entry":"ad""#,
-            "43 AD",
-        ),
-        (
-            r#"{"kind":"date","variable":"accessed","prefix":"seen "}"#,
-            r#""entry":"doe""#,
-            "",
-        ),
-    ];
-    for (elements, item, text) in rows {
+    for &(elements, item, text) in TEXTS_NUMBERS_AND_DATES {
         assert!(&rt; writes(&rt, elements, item, text)?, "{elements}");
     }
     Ok(())
 }
 
+/// What a names element of the authors has besides, the entry, and the citation.
+const NAMES: &[(&str, &str, &str)] = &[
+    (
+        r#""options":{"et_al_min":3,"name_form":"short"}"#,
+        "doe",
+        "Doe et al.",
+    ),
+    (
+        r#""options":{"et_al_min":3,"name_form":"short"}"#,
+        "two",
+        "Doe, Roe",
+    ),
+    (
+        r#""options":{"et_al_min":2,"et_al_use_first":0,"name_form":"short"}"#,
+        "two",
+        "Doe et al.",
+    ),
+    (
+        r#""options":{"and":"text"}"#,
+        "two",
+        "Jane Doe and Rick Roe",
+    ),
+    (
+        r#""options":{"and":"text","name_form":"short"}"#,
+        "doe",
+        "Doe, Roe, and Poe",
+    ),
+    (
+        r#""options":{"and":"symbol","name_form":"short"}"#,
+        "two",
+        "Doe & Roe",
+    ),
+    (
+        r#""options":{"and":"symbol","et_al_min":3,"et_al_use_first":2,"name_form":"short"}"#,
+        "doe",
+        "Doe, Roe et al.",
+    ),
+    (
+        r#""options":{"initialize_with":". ","name_delimiter":"; "}"#,
+        "doe",
+        "J. M. Doe; R. Roe; E. Poe",
+    ),
+    (
+        r#""substitute":["editor"],"options":{"initialize_with":"."}"#,
+        "roe",
+        "Roe",
+    ),
+    (r#""substitute":["translator","editor"]"#, "ed", "Ann Brady"),
+    (r#""substitute":["editor"]"#, "two", "Jane Doe, Rick Roe"),
+    (r#""substitute":["editor"],"prefix":"by ""#, "bare", ""),
+];
+
 #[test]
 fn names(rt: HostRuntime) -> Result<(), Fail> {
-    let rows = [
-        (
-            r#""options":{"et_al_min":3,"name_form":"short"}"#,
-            "doe",
-            "Doe et al.",
-        ),
-        (
-            r#""options":{"et_al_min":3,"name_form":"short"}"#,
-            "two",
-            "Doe, Roe",
-        ),
-        (
-            r#""options":{"et_al_min":2,"et_al_use_first":0,"name_form":"short"}"#,
-            "two",
-            "Doe et al.",
-        ),
-        (
-            r#""options":{"and":"text"}"#,
-            "two",
-            "Jane Doe and Rick Roe",
-        ),
-        (
-            r#""options":{"and":"text","name_form":"short"}"#,
-            "doe",
-            "Doe, Roe, and Poe",
-        ),
-        (
-            r#""options":{"and":"symbol","name_form":"short"}"#,
-            "two",
-            "Doe & Roe",
-        ),
-        (
-            r#""options":{"and":"symbol","et_al_min":3,"et_al_use_first":2,"name_form":"short"}"#,
-            "doe",
-            "Doe, Roe et al.",
-        ),
-        (
-            r#""options":{"initialize_with":". ","name_delimiter":"; "}"#,
-            "doe",
-            "J. M. Doe; R. Roe; E. Poe",
-        ),
-        (
-            r#""substitute":["editor"],"options":{"initialize_with":"."}"#,
-            "roe",
-            "Roe",
-        ),
-        (r#""substitute":["translator","editor"]"#, "ed", "Ann Brady"),
-        (r#""substitute":["editor"]"#, "two", "Jane Doe, Rick Roe"),
-        (r#""substitute":["editor"],"prefix":"by ""#, "bare", ""),
-    ];
-    for (members, entry, text) in rows {
+    for &(members, entry, text) in NAMES {
         let element = format!(in rt.alloc();
             "{{\"kind\":\"names\",\"variables\":[\"author\"],{members}}}"
         )?;
@@ -149,100 +153,104 @@ fn names(rt: HostRuntime) -> Result<(), Fail> {
     Ok(())
 }
 
+/// Elements, the item, and the citation.
+const SEVERAL_NAMES: &[(&str, &str, &str)] = &[
+    (
+        r#"{"kind":"names","variables":["author","editor"],
+            "options":{"names_delimiter":" / ","name_form":"short"}}"#,
+        r#""entry":"two""#,
+        "Doe, Roe / Brady",
+    ),
+    (
+        r#"{"kind":"names","variables":["author","editor"],
+            "options":{"et_al_min":2,"name_form":"short"}}"#,
+        r#""entry":"two""#,
+        "Doe et al., Brady",
+    ),
+    (
+        r#"{"kind":"names","variables":["author"],"substitute":["editor"],
+            "options":{"name_form":"short"}},
+           {"kind":"names","variables":["editor"],"options":{"name_form":"short"},
+           "prefix":"/"}"#,
+        r#""entry":"roe""#,
+        "Roe",
+    ),
+    (
+        r#"{"kind":"names","variables":["author"],"substitute":["editor"],
+            "options":{"name_form":"short"}},
+           {"kind":"names","variables":["editor"],"options":{"name_form":"short"},
+           "prefix":"/"}"#,
+        r#""entry":"two""#,
+        "Doe, Roe/Brady",
+    ),
+    (
+        r#"{"kind":"group","delimiter":", ","children":[
+            {"kind":"names","variables":["author"],"substitute":["translator","editor"],
+             "options":{"name_form":"short"}},
+            {"kind":"names","variables":["editor"],"options":{"name_form":"short"}},
+            {"kind":"text","variable":"title"}]}"#,
+        r#""entry":"ed""#,
+        "Brady, Two",
+    ),
+];
+
 #[test]
 fn several_names(rt: HostRuntime) -> Result<(), Fail> {
-    let rows = [
-        (
-            r#"{"kind":"names","variables":["author","editor"],
-                "options":{"names_delimiter":" / ","name_form":"short"}}"#,
-            r#""entry":"two""#,
-            "Doe, Roe / Brady",
-        ),
-        (
-            r#"{"kind":"names","variables":["author","editor"],
-                "options":{"et_al_min":2,"name_form":"short"}}"#,
-            r#""entry":"two""#,
-            "Doe et al., Brady",
-        ),
-        (
-            r#"{"kind":"names","variables":["author"],"substitute":["editor"],
-                "options":{"name_form":"short"}},
-               {"kind":"names","variables":["editor"],"options":{"name_form":"short"},
-               "prefix":"/"}"#,
-            r#""entry":"roe""#,
-            "Roe",
-        ),
-        (
-            r#"{"kind":"names","variables":["author"],"substitute":["editor"],
-                "options":{"name_form":"short"}},
-               {"kind":"names","variables":["editor"],"options":{"name_form":"short"},
-               "prefix":"/"}"#,
-            r#""entry":"two""#,
-            "Doe, Roe/Brady",
-        ),
-        (
-            r#"{"kind":"group","delimiter":", ","children":[
-                {"kind":"names","variables":["author"],"substitute":["translator","editor"],
-                 "options":{"name_form":"short"}},
-                {"kind":"names","variables":["editor"],"options":{"name_form":"short"}},
-                {"kind":"text","variable":"title"}]}"#,
-            r#""entry":"ed""#,
-            "Brady, Two",
-        ),
-    ];
-    for (elements, item, text) in rows {
+    for &(elements, item, text) in SEVERAL_NAMES {
         assert!(&rt; writes(&rt, elements, item, text)?, "{elements}");
     }
     Ok(())
 }
 
+/// The children of a group whose delimiter is a space, the item, and the citation.
+const GROUPS: &[(&str, &str, &str)] = &[
+    (
+        r#"{"kind":"text","value":"in"},{"kind":"text","variable":"title"}"#,
+        r#""entry":"bare""#,
+        "",
+    ),
+    (
+        r#"{"kind":"text","value":"in"},{"kind":"text","variable":"title"}"#,
+        r#""entry":"roe""#,
+        "in X",
+    ),
+    (
+        r#"{"kind":"text","value":"in"},{"kind":"text","value":"press"}"#,
+        r#""entry":"bare""#,
+        "in press",
+    ),
+    (
+        r#"{"kind":"text","value":"a"},
+           {"kind":"group","children":[{"kind":"text","value":"b"},{"kind":"text",
+           "variable":"title"}]}"#,
+        r#""entry":"bare""#,
+        "",
+    ),
+    (
+        r#"{"kind":"text","value":"a"},
+           {"kind":"group","children":[{"kind":"text","value":"b"}]},
+           {"kind":"text","variable":"title"}"#,
+        r#""entry":"bare""#,
+        "a b",
+    ),
+    (
+        r#"{"kind":"text","value":"a"},
+           {"kind":"choose","branches":[{"if":[],"children":[{"kind":"date",
+           "variable":"issued"}]}]}"#,
+        r#""entry":"bare""#,
+        "",
+    ),
+    (
+        r#"{"kind":"text","variable":"title"},{"kind":"number","variable":"issue"},
+           {"kind":"date","variable":"issued"}"#,
+        r#""entry":"ed""#,
+        "Two 2010",
+    ),
+];
+
 #[test]
 fn groups(rt: HostRuntime) -> Result<(), Fail> {
-    let rows = [
-        (
-            r#"{"kind":"text","value":"in"},{"kind":"text","variable":"title"}"#,
-            r#""entry":"bare""#,
-            "",
-        ),
-        (
-            r#"{"kind":"text","value":"in"},{"kind":"text","variable":"title"}"#,
-            r#""entry":"roe""#,
-            "in X",
-        ),
-        (
-            r#"{"kind":"text","value":"in"},{"kind":"text","value":"press"}"#,
-            r#""entry":"bare""#,
-            "in press",
-        ),
-        (
-            r#"{"kind":"text","value":"a"},
-               {"kind":"group","children":[{"kind":"text","value":"b"},{"kind":"text",
-               "variable":"title"}]}"#,
-            r#""entry":"bare""#,
-            "",
-        ),
-        (
-            r#"{"kind":"text","value":"a"},
-               {"kind":"group","children":[{"kind":"text","value":"b"}]},
-               {"kind":"text","variable":"title"}"#,
-            r#""entry":"bare""#,
-            "a b",
-        ),
-        (
-            r#"{"kind":"text","value":"a"},
-               {"kind":"choose","branches":[{"if":[],"children":[{"kind":"date",
-               "variable":"issued"}]}]}"#,
-            r#""entry":"bare""#,
-            "",
-        ),
-        (
-            r#"{"kind":"text","variable":"title"},{"kind":"number","variable":"issue"},
-               {"kind":"date","variable":"issued"}"#,
-            r#""entry":"ed""#,
-            "Two 2010",
-        ),
-    ];
-    for (children, item, text) in rows {
+    for &(children, item, text) in GROUPS {
         let group = format!(in rt.alloc();
             "{{\"kind\":\"group\",\"delimiter\":\" \",\"children\":[{children}]}}"
         )?;
@@ -251,48 +259,50 @@ fn groups(rt: HostRuntime) -> Result<(), Fail> {
     Ok(())
 }
 
+/// A test, the entry, and whether the test holds.
+const CHOICES: &[(&str, &str, &str)] = &[
+    (r#""if":[],"match":"any""#, "bare", "no"),
+    (r#""if":[],"match":"none""#, "bare", "yes"),
+    (r#""if":[]"#, "bare", "yes"),
+    (
+        r#""if":[{"variable":"title"},{"variable":"volume"}]"#,
+        "ed",
+        "no",
+    ),
+    (
+        r#""if":[{"variable":"title"},{"variable":"volume"}],"match":"any""#,
+        "ed",
+        "yes",
+    ),
+    (
+        r#""if":[{"variable":"title"},{"variable":"volume"}],"match":"none""#,
+        "ed",
+        "no",
+    ),
+    (
+        r#""if":[{"variable":"note"},{"variable":"volume"}],"match":"none""#,
+        "ed",
+        "yes",
+    ),
+    (
+        r#""if":[{"variable":"editor"},{"variable":"issued"}]"#,
+        "ed",
+        "yes",
+    ),
+    (r#""if":[{"variable":"author"}]"#, "ed", "no"),
+    (
+        r#""if":[{"variable":"citation-label"},{"variable":"citation-number"}]"#,
+        "doe",
+        "yes",
+    ),
+    (r#""if":[{"variable":"locator"}]"#, "doe", "no"),
+    (r#""if":[{"variable":"year-suffix"}]"#, "doe", "no"),
+    (r#""if":["disambiguate"]"#, "doe", "no"),
+];
+
 #[test]
 fn choices(rt: HostRuntime) -> Result<(), Fail> {
-    let rows = [
-        (r#""if":[],"match":"any""#, "bare", "no"),
-        (r#""if":[],"match":"none""#, "bare", "yes"),
-        (r#""if":[]"#, "bare", "yes"),
-        (
-            r#""if":[{"variable":"title"},{"variable":"volume"}]"#,
-            "ed",
-            "no",
-        ),
-        (
-            r#""if":[{"variable":"title"},{"variable":"volume"}],"match":"any""#,
-            "ed",
-            "yes",
-        ),
-        (
-            r#""if":[{"variable":"title"},{"variable":"volume"}],"match":"none""#,
-            "ed",
-            "no",
-        ),
-        (
-            r#""if":[{"variable":"note"},{"variable":"volume"}],"match":"none""#,
-            "ed",
-            "yes",
-        ),
-        (
-            r#""if":[{"variable":"editor"},{"variable":"issued"}]"#,
-            "ed",
-            "yes",
-        ),
-        (r#""if":[{"variable":"author"}]"#, "ed", "no"),
-        (
-            r#""if":[{"variable":"citation-label"},{"variable":"citation-number"}]"#,
-            "doe",
-            "yes",
-        ),
-        (r#""if":[{"variable":"locator"}]"#, "doe", "no"),
-        (r#""if":[{"variable":"year-suffix"}]"#, "doe", "no"),
-        (r#""if":["disambiguate"]"#, "doe", "no"),
-    ];
-    for (test, entry, text) in rows {
+    for &(test, entry, text) in CHOICES {
         let choice = format!(in rt.alloc();
             "{{\"kind\":\"choose\",\"branches\":[{{{test},\"children\":[{{\"kind\":\"text\",
                 \"value\":\"yes\"}}]}}],\"else\":[{{\"kind\":\"text\",\"value\":\"no\"}}]}}"

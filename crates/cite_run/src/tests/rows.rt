@@ -24,84 +24,86 @@ fn document(rt: &HostRuntime, style: &str, rest: &str) -> Result<String, AllocEr
     format!(in rt.alloc(); "{{\"styles\":{{\"s\":{{{style}}}}},{rest}}}")
 }
 
+/// A name, what the document has beside the numeric style, and what is written.
+const NUMBERS: &[(&str, &str, &str)] = &[
+    (
+        "empty run",
+        r#""entries":[],"requests":[],"bibliography":{"style":"s"}"#,
+        "\n",
+    ),
+    (
+        "offset and order",
+        r#""entries":[{"key":"a"},{"key":"b"},{"key":"c"},{"key":"x"}],
+           "requests":[{"style":"s","items":[{"entry":"a"}]},{"style":"s","items":[
+               {"entry":"b"}]},
+               {"style":"s","items":[{"entry":"c"}]},{"style":"s","items":[{"entry":"b"}]}],
+           "bibliography":{"style":"s","order":["c","x","a","c"]},"offset":2"#,
+        "[4]\n[5]\n[3]\n[5]\n\nc\t[3]\na\t[4]\nb\t[5]\n",
+    ),
+    (
+        "hidden first",
+        r#""entries":[{"key":"a"},{"key":"b"}],
+           "requests":[{"style":"s","items":[{"entry":"a","hidden":true},{"entry":"b"}]},
+               {"style":"s","items":[{"entry":"a","hidden":true}]}],
+           "bibliography":{"style":"s"}"#,
+        "[2]\n\n\na\t[1]\nb\t[2]\n",
+    ),
+    (
+        "all hidden",
+        r#""entries":[{"key":"a"},{"key":"b"},{"key":"c"}],
+           "requests":[{"style":"s","items":[{"entry":"a","hidden":true},{"entry":"b",
+               "hidden":true}]},
+               {"style":"s","items":[{"entry":"c"}]}],
+           "bibliography":{"style":"s"}"#,
+        "\n[3]\n\na\t[1]\nb\t[2]\nc\t[3]\n",
+    ),
+    (
+        "empty order",
+        r#""entries":[{"key":"a"},{"key":"b"}],
+           "requests":[{"style":"s","items":[{"entry":"a"},{"entry":"b"}]}],
+           "bibliography":{"style":"s","order":[]}"#,
+        "[1, 2]\n\na\t[1]\nb\t[2]\n",
+    ),
+    (
+        "repeated order",
+        r#""entries":[{"key":"a"},{"key":"b"},{"key":"x"}],
+           "requests":[{"style":"s","items":[{"entry":"a"},{"entry":"b"}]}],
+           "bibliography":{"style":"s","order":["x","x","b","b"]}"#,
+        "[2, 1]\n\nb\t[1]\na\t[2]\n",
+    ),
+    (
+        "a full cite",
+        r#""entries":[{"key":"a"},{"key":"b"},{"key":"c"}],
+           "requests":[{"style":"s","items":[{"entry":"a"},{"entry":"b"},
+               {"entry":"c","purpose":"full"}]}],
+           "bibliography":{"style":"s"}"#,
+        "1, 2, [3]\n\na\t[1]\nb\t[2]\nc\t[3]\n",
+    ),
+    (
+        "a full cite behind a run",
+        r#""entries":[{"key":"a"},{"key":"b"},{"key":"c"},{"key":"d"}],
+           "requests":[{"style":"s","items":[{"entry":"a"},{"entry":"b"},{"entry":"c"},
+               {"entry":"d","purpose":"full"}]}],
+           "bibliography":{"style":"s"}"#,
+        "1, 2, 3, [4]\n\na\t[1]\nb\t[2]\nc\t[3]\nd\t[4]\n",
+    ),
+    (
+        "greatest offset",
+        r#""entries":[{"key":"a"}],"requests":[],"bibliography":{"style":"s"},
+           "offset":18446744073709551615"#,
+        "\n",
+    ),
+    (
+        "greatest number",
+        r#""entries":[{"key":"a"}],"requests":[{"style":"s","items":[{"entry":"a"}]}],
+           "bibliography":{"style":"s"},"offset":18446744073709551614"#,
+        "[18446744073709551615]\n\na\t[18446744073709551615]\n",
+    ),
+];
+
 #[test]
 fn numbers(rt: HostRuntime) -> Result<(), Fail> {
-    let rows = [
-        (
-            "empty run",
-            r#""entries":[],"requests":[],"bibliography":{"style":"s"}"#,
-            "\n",
-        ),
-        (
-            "offset and order",
-            r#""entries":[{"key":"a"},{"key":"b"},{"key":"c"},{"key":"x"}],
-               "requests":[{"style":"s","items":[{"entry":"a"}]},{"style":"s","items":[
-                   {"entry":"b"}]},
-                   {"style":"s","items":[{"entry":"c"}]},{"style":"s","items":[{"entry":"b"}]}],
-               "bibliography":{"style":"s","order":["c","x","a","c"]},"offset":2"#,
-            "[4]\n[5]\n[3]\n[5]\n\nc\t[3]\na\t[4]\nb\t[5]\n",
-        ),
-        (
-            "hidden first",
-            r#""entries":[{"key":"a"},{"key":"b"}],
-               "requests":[{"style":"s","items":[{"entry":"a","hidden":true},{"entry":"b"}]},
-                   {"style":"s","items":[{"entry":"a","hidden":true}]}],
-               "bibliography":{"style":"s"}"#,
-            "[2]\n\n\na\t[1]\nb\t[2]\n",
-        ),
-        (
-            "all hidden",
-            r#""entries":[{"key":"a"},{"key":"b"},{"key":"c"}],
-               "requests":[{"style":"s","items":[{"entry":"a","hidden":true},{"entry":"b",
-                   "hidden":true}]},
-                   {"style":"s","items":[{"entry":"c"}]}],
-               "bibliography":{"style":"s"}"#,
-            "\n[3]\n\na\t[1]\nb\t[2]\nc\t[3]\n",
-        ),
-        (
-            "empty order",
-            r#""entries":[{"key":"a"},{"key":"b"}],
-               "requests":[{"style":"s","items":[{"entry":"a"},{"entry":"b"}]}],
-               "bibliography":{"style":"s","order":[]}"#,
-            "[1, 2]\n\na\t[1]\nb\t[2]\n",
-        ),
-        (
-            "repeated order",
-            r#""entries":[{"key":"a"},{"key":"b"},{"key":"x"}],
-               "requests":[{"style":"s","items":[{"entry":"a"},{"entry":"b"}]}],
-               "bibliography":{"style":"s","order":["x","x","b","b"]}"#,
-            "[2, 1]\n\nb\t[1]\na\t[2]\n",
-        ),
-        (
-            "a full cite",
-            r#""entries":[{"key":"a"},{"key":"b"},{"key":"c"}],
-               "requests":[{"style":"s","items":[{"entry":"a"},{"entry":"b"},
-                   {"entry":"c","purpose":"full"}]}],
-               "bibliography":{"style":"s"}"#,
-            "1, 2, [3]\n\na\t[1]\nb\t[2]\nc\t[3]\n",
-        ),
-        (
-            "a full cite behind a run",
-            r#""entries":[{"key":"a"},{"key":"b"},{"key":"c"},{"key":"d"}],
-               "requests":[{"style":"s","items":[{"entry":"a"},{"entry":"b"},{"entry":"c"},
-                   {"entry":"d","purpose":"full"}]}],
-               "bibliography":{"style":"s"}"#,
-            "1, 2, 3, [4]\n\na\t[1]\nb\t[2]\nc\t[3]\nd\t[4]\n",
-        ),
-        (
-            "greatest offset",
-            r#""entries":[{"key":"a"}],"requests":[],"bibliography":{"style":"s"},
-               "offset":18446744073709551615"#,
-            "\n",
-        ),
-        (
-            "greatest number",
-            r#""entries":[{"key":"a"}],"requests":[{"style":"s","items":[{"entry":"a"}]}],
-               "bibliography":{"style":"s"},"offset":18446744073709551614"#,
-            "[18446744073709551615]\n\na\t[18446744073709551615]\n",
-        ),
-    ];
-    for (name, rest, text) in rows {
+    for &(name, rest, text) in NUMBERS {
         let document = document(&rt, NUMERIC, rest)?;
         assert!(&rt; gives(&rt, document.as_str(), 0, text), "{name}");
     }
@@ -149,46 +151,48 @@ fn authors_and_years(rt: HostRuntime) -> Result<(), Fail> {
     Ok(())
 }
 
+/// A style, what the document has besides, and what is written.
+const STYLES_OF_THEIR_OWN: &[(&str, &str, &str)] = &[
+    (
+        r#""class":"in-text","categories":["author-date"],"citation":{"elements":[
+            {"kind":"group","delimiter":" ",
+            "children":[{"kind":"names","variables":["author"],"substitute":["editor"],
+                "options":{"name_form":"short","et_al_min":3,"et_al_use_first":1,
+                    "and":"symbol"}},
+                {"kind":"date","variable":"issued"}]}],
+            "prefix":"(","suffix":")","delimiter":"; ","add_names":true,
+                "add_year_suffix":true}"#,
+        r#""entries":[{"key":"a","issued":2010,"editor":[["Brady"],["Collier"]]}],
+           "requests":[{"style":"s","items":[{"entry":"a","purpose":"prose"}]}],
+           "bibliography":{"style":"s"}"#,
+        "Brady & Collier (2010)\n",
+    ),
+    (
+        r#""citation":{"elements":[{"kind":"number","variable":"citation-number"}],
+            "prefix":"[","suffix":"]"},
+           "bibliography":{"elements":[{"kind":"number","variable":"citation-number"},
+               {"kind":"text","variable":"title"}],"second_field_align":"flush"}"#,
+        r#""entries":[{"key":"a","title":"One"}],
+           "requests":[{"style":"s","items":[{"entry":"a","purpose":"full"}]}],
+           "bibliography":{"style":"s"}"#,
+        "1 One\n\na\t1One\n",
+    ),
+    (
+        r#""class":"note","citation":{"near_note_distance":1,"elements":[{"kind":"choose",
+            "branches":[{"if":["near-note"],"children":[{"kind":"text","value":"near"}]}],
+            "else":[{"kind":"text","value":"far"}]}]}"#,
+        r#""entries":[{"key":"k"},{"key":"x"}],
+           "requests":[{"style":"s","items":[{"entry":"k"}],"note":1},
+               {"style":"s","items":[{"entry":"x"}],"note":2},
+               {"style":"s","items":[{"entry":"k"}],"note":3}],
+           "bibliography":{"style":"s"}"#,
+        "far\nfar\nfar\n",
+    ),
+];
+
 #[test]
 fn styles_of_their_own(rt: HostRuntime) -> Result<(), Fail> {
-    let rows = [
-        (
-            r#""class":"in-text","categories":["author-date"],"citation":{"elements":[
-                {"kind":"group","delimiter":" ",
-                "children":[{"kind":"names","variables":["author"],"substitute":["editor"],
-                    "options":{"name_form":"short","et_al_min":3,"et_al_use_first":1,
-                        "and":"symbol"}},
-                    {"kind":"date","variable":"issued"}]}],
-                "prefix":"(","suffix":")","delimiter":"; ","add_names":true,
-                    "add_year_suffix":true}"#,
-            r#""entries":[{"key":"a","issued":2010,"editor":[["Brady"],["Collier"]]}],
-               "requests":[{"style":"s","items":[{"entry":"a","purpose":"prose"}]}],
-               "bibliography":{"style":"s"}"#,
-            "Brady & Collier (2010)\n",
-        ),
-        (
-            r#""citation":{"elements":[{"kind":"number","variable":"citation-number"}],
-                "prefix":"[","suffix":"]"},
-               "bibliography":{"elements":[{"kind":"number","variable":"citation-number"},
-                   {"kind":"text","variable":"title"}],"second_field_align":"flush"}"#,
-            r#""entries":[{"key":"a","title":"One"}],
-               "requests":[{"style":"s","items":[{"entry":"a","purpose":"full"}]}],
-               "bibliography":{"style":"s"}"#,
-            "1 One\n\na\t1One\n",
-        ),
-        (
-            r#""class":"note","citation":{"near_note_distance":1,"elements":[{"kind":"choose",
-                "branches":[{"if":["near-note"],"children":[{"kind":"text","value":"near"}]}],
-                "else":[{"kind":"text","value":"far"}]}]}"#,
-            r#""entries":[{"key":"k"},{"key":"x"}],
-               "requests":[{"style":"s","items":[{"entry":"k"}],"note":1},
-                   {"style":"s","items":[{"entry":"x"}],"note":2},
-                   {"style":"s","items":[{"entry":"k"}],"note":3}],
-               "bibliography":{"style":"s"}"#,
-            "far\nfar\nfar\n",
-        ),
-    ];
-    for (style, rest, text) in rows {
+    for &(style, rest, text) in STYLES_OF_THEIR_OWN {
         let document = document(&rt, style, rest)?;
         assert!(&rt; gives(&rt, document.as_str(), 0, text), "{style}");
     }
@@ -234,42 +238,45 @@ fn macro_rings(rt: HostRuntime) -> Result<(), Fail> {
     Ok(())
 }
 
+/// A request, and the request for a bibliography with all that follows.
+const REFUSED_RUNS: &[(&str, &str)] = &[
+    (
+        r#""style":"s","items":[{"entry":"q"}]"#,
+        r#""style":"s"},"offset":2"#,
+    ),
+    (
+        r#""style":"s","items":[{"entry":"a","hidden":1}]"#,
+        r#""style":"s"},"offset":2"#,
+    ),
+    (
+        r#""style":"s","items":[{"entry":"a"}]"#,
+        r#""style":"s","order":["q"]},"offset":2"#,
+    ),
+    (
+        r#""style":"s","items":[{"entry":"a"}]"#,
+        r#""style":"s"},"offset":2,"styel":1"#,
+    ),
+    (
+        r#""style":"s","items":[{"entry":"a"}]"#,
+        r#""style":"s"},"offset":-1"#,
+    ),
+    (
+        r#""style":"s","items":[{"entry":"a"}]"#,
+        r#""style":"s"},"offset":2.0"#,
+    ),
+    (
+        r#""style":"s","items":[{"entry":"a"}]"#,
+        r#""style":"s"},"offset":2e0"#,
+    ),
+    (
+        r#""style":"s","items":[{"entry":"a"}]"#,
+        r#""style":"s"},"rounds":"four""#,
+    ),
+];
+
 #[test]
 fn refused_runs(rt: HostRuntime) -> Result<(), Fail> {
-    for (requests, bibliography) in [
-        (
-            r#""style":"s","items":[{"entry":"q"}]"#,
-            r#""style":"s"},"offset":2"#,
-        ),
-        (
-            r#""style":"s","items":[{"entry":"a","hidden":1}]"#,
-            r#""style":"s"},"offset":2"#,
-        ),
-        (
-            r#""style":"s","items":[{"entry":"a"}]"#,
-            r#""style":"s","order":["q"]},"offset":2"#,
-        ),
-        (
-            r#""style":"s","items":[{"entry":"a"}]"#,
-            r#""style":"s"},"offset":2,"styel":1"#,
-        ),
-        (
-            r#""style":"s","items":[{"entry":"a"}]"#,
-            r#""style":"s"},"offset":-1"#,
-        ),
-        (
-            r#""style":"s","items":[{"entry":"a"}]"#,
-            r#""style":"s"},"offset":2.0"#,
-        ),
-        (
-            r#""style":"s","items":[{"entry":"a"}]"#,
-            r#""style":"s"},"offset":2e0"#,
-        ),
-        (
-            r#""style":"s","items":[{"entry":"a"}]"#,
-            r#""style":"s"},"rounds":"four""#,
-        ),
-    ] {
+    for &(requests, bibliography) in REFUSED_RUNS {
         let rest = format!(in rt.alloc();
             "\"entries\":[{{\"key\":\"a\"}}],\"requests\":[{{{requests}}}],
                 \"bibliography\":{{{bibliography}"

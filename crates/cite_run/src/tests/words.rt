@@ -88,51 +88,54 @@ fn default_locale_of_a_style(rt: HostRuntime) -> Result<(), Fail> {
     Ok(())
 }
 
+/// A term, the item that is cited, the locales, and the citation.
+const FORMS: &[(&str, &str, &str, &str)] = &[
+    (
+        r#""term":"locator","form":"symbol""#,
+        r#""entry":"bare","locator":["page","7"]"#,
+        r#"{"lang":"en-US","terms":[{"name":"locator-page","single":"page"}]}"#,
+        "page",
+    ),
+    (
+        r#""term":"edition","form":"symbol""#,
+        r#""entry":"bare""#,
+        r#"{"lang":"en-US","terms":[{"name":"edition","single":"edition"},
+            {"name":"edition","form":"short","single":"ed."}]}"#,
+        "ed.",
+    ),
+    (
+        r#""term":"edition","form":"verb-short""#,
+        r#""entry":"bare""#,
+        r#"{"lang":"en-US","terms":[{"name":"edition","form":"short","single":"ed."},
+            {"name":"edition","form":"verb","single":"edited by"}]}"#,
+        "edited by",
+    ),
+    (
+        r#""term":"edition","form":"verb""#,
+        r#""entry":"bare""#,
+        r#"{"lang":"en-US","terms":[{"name":"edition","form":"short","single":"ed."},
+            {"name":"edition","single":"edition"}]}"#,
+        "edition",
+    ),
+    (
+        r#""term":"edition","form":"short""#,
+        r#""entry":"bare""#,
+        r#"{"lang":"en-US","terms":[{"name":"edition","form":"short","multiple":"eds."},
+            {"name":"edition","single":"edition"}]}"#,
+        "",
+    ),
+    (
+        r#""term":"edition","form":"short","plural":true"#,
+        r#""entry":"bare""#,
+        r#"{"lang":"en-US","terms":[{"name":"edition","form":"short","multiple":"eds."},
+            {"name":"edition","single":"edition"}]}"#,
+        "eds.",
+    ),
+];
+
 #[test]
 fn forms_that_stand_in(rt: HostRuntime) -> Result<(), Fail> {
-    for (term, item, locales, text) in [
-        (
-            r#""term":"locator","form":"symbol""#,
-            r#""entry":"bare","locator":["page","7"]"#,
-            r#"{"lang":"en-US","terms":[{"name":"locator-page","single":"page"}]}"#,
-            "page",
-        ),
-        (
-            r#""term":"edition","form":"symbol""#,
-            r#""entry":"bare""#,
-            r#"{"lang":"en-US","terms":[{"name":"edition","single":"edition"},
-                {"name":"edition","form":"short","single":"ed."}]}"#,
-            "ed.",
-        ),
-        (
-            r#""term":"edition","form":"verb-short""#,
-            r#""entry":"bare""#,
-            r#"{"lang":"en-US","terms":[{"name":"edition","form":"short","single":"ed."},
-                {"name":"edition","form":"verb","single":"edited by"}]}"#,
-            "edited by",
-        ),
-        (
-            r#""term":"edition","form":"verb""#,
-            r#""entry":"bare""#,
-            r#"{"lang":"en-US","terms":[{"name":"edition","form":"short","single":"ed."},
-                {"name":"edition","single":"edition"}]}"#,
-            "edition",
-        ),
-        (
-            r#""term":"edition","form":"short""#,
-            r#""entry":"bare""#,
-            r#"{"lang":"en-US","terms":[{"name":"edition","form":"short","multiple":"eds."},
-                {"name":"edition","single":"edition"}]}"#,
-            "",
-        ),
-        (
-            r#""term":"edition","form":"short","plural":true"#,
-            r#""entry":"bare""#,
-            r#"{"lang":"en-US","terms":[{"name":"edition","form":"short","multiple":"eds."},
-                {"name":"edition","single":"edition"}]}"#,
-            "eds.",
-        ),
-    ] {
+    for &(term, item, locales, text) in FORMS {
         let style = format!(in rt.alloc();
             "\"citation\":{{\"elements\":[{{\"kind\":\"text\",{term}}}]}}"
         )?;
