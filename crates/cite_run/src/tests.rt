@@ -1,11 +1,16 @@
 //! Runs on documents, over memory and over readers and writers that fail.
+mod hostile;
+mod layouts;
 mod parts;
+mod purposes;
 mod rows;
+mod words;
 
 use crate::error::RunError;
 use crate::input::read_input;
 use crate::running::run;
 use csl_driver::error::RingPlace;
+use std::alloc::AllocError;
 use std::io;
 use std::io::{ErrorKind, Read, Write};
 use std::test::Fail;
@@ -23,6 +28,42 @@ fn ended(rt: &HostRuntime, document: &str) -> (u8, Vec<u8>) {
 pub(crate) fn gives(rt: &HostRuntime, document: &str, status: u8, text: &str) -> bool {
     let (got, out) = ended(rt, document);
     got == status && out.as_slice() == text.as_bytes()
+}
+
+/// American files that most tests use.
+pub(crate) const LOCALES: &str = r#"{"lang":"en-US","terms":[
+    {"name":"open-quote","single":"“"},{"name":"close-quote","single":"”"},
+    {"name":"locator-page","form":"short","single":"p.","multiple":"pp."}]}"#;
+
+/// What the tests of layouts cite.
+const ENTRIES: &str = r#"
+    {"key":"doe","label":"Doe99","author":[["Doe","Jane Mary"],["Roe","Rick"],["Poe","Edgar"]],
+     "title":"On Order","issued":1999,"volume":"12","url":"http://x.org"},
+    {"key":"two","author":[["Doe","Jane"],["Roe","Rick"]],"editor":[["Brady","Ann"]],"title":"Two"},
+    {"key":"ed","editor":[["Brady","Ann"]],"title":"Two","issued":2010},
+    {"key":"roe","editor":[["Roe"]],"title":"X"},
+    {"key":"space","author":[["Doe\u00a0"]],"issued":2003},
+    {"key":"sub","original-date":1900,"submitted":2003,"accessed":2020},
+    {"key":"seen","accessed":2020,"available-date":2021},
+    {"key":"bare"},
+    {"key":"bc","issued":-43},
+    {"key":"ad","issued":43}"#;
+
+/// Whether a request of these members, in a style of these members, gives a citation of this text.
+pub(crate) fn shows(
+    rt: &HostRuntime,
+    style: &str,
+    locales: &str,
+    request: &str,
+    text: &str,
+) -> Result<bool, AllocError> {
+    let document = format!(in rt.alloc();
+        "{{\"styles\":{{\"s\":{{{style}}},\"none\":{{\"citation\":{{\"elements\":[]}}}}}},
+            \"locales\":[{locales}],\"entries\":[{ENTRIES}],\"requests\":[{{\"style\":\"s\",
+            {request}}}],\"bibliography\":{{\"style\":\"none\"}}}}"
+    )?;
+    let line = format!(in rt.alloc(); "{text}\n")?;
+    Ok(gives(rt, document.as_str(), 0, line.as_str()))
 }
 
 /// Whether the document is one.
@@ -79,8 +120,9 @@ impl Write for Failing {
 
 #[test]
 fn failing_writers(rt: HostRuntime) {
-    let document =
-        r#"{"styles":{"s":{"citation":{"elements":[{"kind":"text","value":"See it"}]}}},"entries":[{"key":"a"}],"requests":[{"style":"s","items":[{"entry":"a"}]}],"bibliography":{"style":"s"}}"#;
+    let document = r#"{"styles":{"s":{"citation":{"elements":[{"kind":"text","value":"See it"}]}}},
+            "entries":[{"key":"a"}],"requests":[{"style":"s","items":[{"entry":"a"}]}],
+                "bibliography":{"style":"s"}}"#;
     for left in 0..7 {
         let mut out = Failing {
             left,

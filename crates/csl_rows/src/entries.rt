@@ -5,6 +5,7 @@ use csl_base::seq::Seq;
 use csl_base::taxonomy::{DateVariable, NameVariable, NumberVariable, StandardVariable};
 use csl_base::text::Text;
 use std::alloc::{AllocError, Global};
+use std::collections::HashSet;
 use std::test::Fail;
 
 fn text(alloc: Global, text: &str) -> Result<Text, AllocError> {
@@ -92,6 +93,16 @@ fn answers_dates_numbers_and_labels(rt: HostRuntime) -> Result<(), Fail> {
     assert!(rt; issued.ok_or("no date")?.year == -43);
     let volume = one.resolve_number_variable(NumberVariable::Volume);
     assert_eq!(rt; volume.ok_or("no volume")?, "7");
+    Ok(())
+}
+
+#[test]
+fn entries_are_found_by_hash(rt: HostRuntime) -> Result<(), Fail> {
+    let alloc = rt.alloc();
+    let mut seen = HashSet::new(alloc);
+    seen.insert(doubled(alloc)?)?;
+    assert!(rt; seen.contains(&doubled(alloc)?));
+    assert!(rt; !seen.contains(&entry(alloc, "k")?));
     Ok(())
 }
 

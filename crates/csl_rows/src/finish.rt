@@ -1,15 +1,16 @@
-//! The whole answer, in styles that write the citation number or a plain text.
+//! The whole answer, as far as no document tells it: entries that are equal at two places, rings by
+//! their places, note numbers, marks, and equality of what goes in and comes out.
 use crate::styles::{entry, numeric, numeric_with_macros, value_style};
-use csl_base::elem::ElemChildren;
+use csl_base::elem::{ElemChildren, ElemMeta};
 use csl_base::entry::PlainEntry;
 use csl_base::style::{IndependentStyle, StyleClass};
-use csl_base::taxonomy::Locator;
 use csl_driver::driver::BibliographyDriver;
 use csl_driver::error::{DriverError, RingPlace};
 use csl_driver::item::CitationItem;
-use csl_driver::locator::{LocatorPayload, SpecificLocator, TransparentLocator};
+use csl_driver::laws::{bibliography_holds_each_once, numbers_have_no_gaps};
 use csl_driver::rendered::Rendered;
 use csl_driver::request::{BibliographyRequest, CitationRequest, Order};
+use csl_writing::purpose::CitePurpose;
 use std::alloc::{AllocError, Global};
 use std::convert::Infallible;
 use std::test::Fail;
@@ -28,31 +29,15 @@ fn entries_of(alloc: Global, keys: &[&str]) -> Result<Vec<PlainEntry>, AllocErro
     Ok(entries)
 }
 
-/// The entries at these places.
-fn picked<'a>(
-    alloc: Global,
-    entries: &'a [PlainEntry],
-    places: &[usize],
-) -> Result<Vec<&'a PlainEntry>, Fail> {
-    let mut found = Vec::new(alloc);
-    for place in places {
-        found.push(entries.get(*place).ok_or("no such entry")?)?;
-    }
-    Ok(found)
-}
-
-/// A request that cites these entries; the first of them is hidden where that is asked for.
-fn cites<'a>(
+/// A request that cites the entry, which may be hidden.
+fn cite<'a>(
     alloc: Global,
     style: &'a IndependentStyle,
-    entries: &[&'a PlainEntry],
-    hides_first: bool,
+    cited: &'a PlainEntry,
+    hidden: bool,
 ) -> Result<Request<'a>, AllocError> {
     let mut items: Vec<Item<'a>> = Vec::new(alloc);
-    for (k, each) in entries.iter().enumerate() {
-        let hidden = hides_first && k == 0;
-        items.push(CitationItem::new(*each, None, None, hidden, None))?;
-    }
+    items.push(CitationItem::new(cited, None, None, hidden, None))?;
     Ok(CitationRequest::from_items(items, style, &[]))
 }
 
@@ -63,34 +48,17 @@ fn take<'a>(driver: &mut Driver<'a>, request: Request<'a>) -> Result<(), Fail> {
     }
 }
 
-/// A driver that has taken a request for each list of places.
+/// A driver that has taken a request for each of the entries.
 fn driver_of<'a>(
     alloc: Global,
     style: &'a IndependentStyle,
     entries: &'a [PlainEntry],
-    requests: &[&[usize]],
-    hides_first: bool,
 ) -> Result<Driver<'a>, Fail> {
     let mut driver: Driver<'a> = BibliographyDriver::new(alloc);
-    for places in requests {
-        let cited = picked(alloc, entries, *places)?;
-        take(&mut driver, cites(alloc, style, &cited, hides_first)?)?;
+    for each in entries {
+        take(&mut driver, cite(alloc, style, each, false)?)?;
     }
     Ok(driver)
-}
-
-fn finished<'o, 'a>(
-    driver: Driver<'a>,
-    style: &'o IndependentStyle,
-    order: Option<Order<'o, 'a, PlainEntry>>,
-) -> Result<Rendered, Fail> {
-    let mut request: BibliographyRequest<'o, 'a, PlainEntry> = BibliographyRequest::new(
-        style,
-        None,
-        &[],
-    );
-    request.order = order;
-    Ok(driver.finish(request)?)
 }
 
 fn push_plain(text: &mut String, tree: &ElemChildren) -> Result<(), AllocError> {
@@ -114,134 +82,33 @@ fn lines(alloc: Global, rendered: &Rendered) -> Result<String, AllocError> {
     Ok(text)
 }
 
-/// The lines of a run in the numeric style: each request is a list of places among the keys.
-fn numbered(
-    alloc: Global,
-    offset: usize,
-    keys: &[&str],
-    requests: &[&[usize]],
-    hides_first: bool,
-) -> Result<String, Fail> {
-    let style = numeric(alloc)?;
-    let entries = entries_of(alloc, keys)?;
-    let driver = driver_of(alloc, &style, &entries, requests, hides_first)?;
-    let rendered = finished(driver.with_citation_number_offset(offset), &style, None)?;
-    Ok(lines(alloc, &rendered)?)
-}
-
-/// The same in a handed order.
-fn ordered(
-    alloc: Global,
-    offset: usize,
-    keys: &[&str],
-    requests: &[&[usize]],
-    order: &[usize],
-) -> Result<String, Fail> {
-    let style = numeric(alloc)?;
-    let entries = entries_of(alloc, keys)?;
-    let driver = driver_of(alloc, &style, &entries, requests, false)?;
-    let order = picked(alloc, &entries, order)?;
-    let driver = driver.with_citation_number_offset(offset);
-    let rendered = finished(driver, &style, Some(Order(&order)))?;
-    Ok(lines(alloc, &rendered)?)
-}
-
-#[test]
-fn empty_run(rt: HostRuntime) -> Result<(), Fail> {
-    assert_eq!(rt; numbered(rt.alloc(), 0, &[], &[], false)?.as_str(), "");
-    Ok(())
-}
-
-#[test]
-fn offset_and_order(rt: HostRuntime) -> Result<(), Fail> {
-    let requests: [&[usize]; 4] = [&[0], &[1], &[2], &[1]];
-    let text = ordered(
-        rt.alloc(),
-        2,
-        &["a", "b", "c", "x"],
-        &requests,
-        &[2, 3, 0, 2],
-    )?;
-    assert_eq!(rt; text.as_str(), "[4]\n[5]\n[3]\n[5]\nc [3]\na [4]\nb [5]\n");
-    Ok(())
-}
-
 #[test]
 fn equal_entries_are_one(rt: HostRuntime) -> Result<(), Fail> {
-    let text = numbered(rt.alloc(), 0, &["a", "a"], &[&[0], &[1]], false)?;
-    assert_eq!(rt; text.as_str(), "[1]\n[1]\na [1]\n");
-    Ok(())
-}
-
-#[test]
-fn empty_order(rt: HostRuntime) -> Result<(), Fail> {
-    let text = ordered(rt.alloc(), 0, &["a", "b"], &[&[0, 1]], &[])?;
-    assert_eq!(rt; text.as_str(), "[1, 2]\na [1]\nb [2]\n");
-    Ok(())
-}
-
-#[test]
-fn repeated_order(rt: HostRuntime) -> Result<(), Fail> {
-    let text = ordered(rt.alloc(), 0, &["a", "b", "x"], &[&[0, 1]], &[2, 2, 1, 1])?;
-    assert_eq!(rt; text.as_str(), "[2, 1]\nb [1]\na [2]\n");
-    Ok(())
-}
-
-#[test]
-fn hidden_first(rt: HostRuntime) -> Result<(), Fail> {
-    let text = numbered(rt.alloc(), 0, &["a", "b"], &[&[0, 1], &[0]], true)?;
-    assert_eq!(rt; text.as_str(), "[2]\n\na [1]\nb [2]\n");
-    Ok(())
-}
-
-#[test]
-fn greatest_number(rt: HostRuntime) -> Result<(), Fail> {
-    let text = numbered(rt.alloc(), usize::MAX - 1, &["a"], &[&[0]], false)?;
-    assert_eq!(rt;
-        text.as_str(),
-        "[18446744073709551615]\na [18446744073709551615]\n"
-    );
-    Ok(())
-}
-
-/// Why one request with these entries is refused, if it is.
-fn overflow(alloc: Global, offset: usize, places: &[usize]) -> Result<Option<DriverError>, Fail> {
+    bibliography_holds_each_once::<PlainEntry>();
+    numbers_have_no_gaps::<PlainEntry>();
+    let alloc = rt.alloc();
     let style = numeric(alloc)?;
-    let entries = entries_of(alloc, &["a", "b"])?;
-    let driver = driver_of(alloc, &style, &entries, &[places], false)?;
-    refusal(driver.with_citation_number_offset(offset), &style)
+    let entries = entries_of(alloc, &["a", "a"])?;
+    let driver = driver_of(alloc, &style, &entries)?;
+    let rendered = driver.finish(BibliographyRequest::new(&style, None, &[]))?;
+    assert_eq!(rt; lines(alloc, &rendered)?.as_str(), "[1]\n[1]\na [1]\n");
+    Ok(())
 }
 
+/// A request for the bibliography of the style.
+fn wanted<'a>(style: &'a IndependentStyle) -> BibliographyRequest<'a, 'a, PlainEntry> {
+    BibliographyRequest::new(style, None, &[])
+}
+
+/// Why the bibliography in the style is refused, if it is.
 fn refusal<'a>(
     driver: Driver<'a>,
     style: &'a IndependentStyle,
 ) -> Result<Option<DriverError>, Fail> {
-    let request: BibliographyRequest<'a, 'a, PlainEntry> = BibliographyRequest::new(
-        style,
-        None,
-        &[],
-    );
-    match driver.finish(request) {
+    match driver.finish(wanted(style)) {
         Ok(_) => Ok(None),
         Err(error) => Ok(Some(error)),
     }
-}
-
-#[test]
-fn no_number_overflow(rt: HostRuntime) -> Result<(), Fail> {
-    assert_eq!(rt;
-        numbered(rt.alloc(), usize::MAX, &[], &[], false)?.as_str(),
-        ""
-    );
-    Ok(())
-}
-
-#[test]
-fn number_overflow(rt: HostRuntime) -> Result<(), Fail> {
-    let alloc = rt.alloc();
-    assert!(rt; overflow(alloc, usize::MAX, &[0])? == Some(DriverError::NumberOverflow));
-    assert!(rt; overflow(alloc, usize::MAX - 1, &[0, 1])? == Some(DriverError::NumberOverflow));
-    Ok(())
 }
 
 /// Why a run whose requests are in these styles is refused, at an offset that is too great.
@@ -253,7 +120,7 @@ fn ring<'a>(
 ) -> Result<Option<DriverError>, Fail> {
     let mut driver: Driver<'a> = BibliographyDriver::new(alloc);
     for style in styles {
-        take(&mut driver, cites(alloc, *style, &[cited], false)?)?;
+        take(&mut driver, cite(alloc, *style, cited, false)?)?;
     }
     refusal(driver.with_citation_number_offset(usize::MAX), bibliography)
 }
@@ -303,34 +170,64 @@ fn noted(alloc: Global, class: StyleClass, written: &str) -> Result<Rendered, Fa
 }
 
 #[test]
-fn note_numbers_are_kept_in_notes(rt: HostRuntime) -> Result<(), Fail> {
-    let rendered = noted(rt.alloc(), StyleClass::Note, "T")?;
-    assert!(rt; rendered.bibliography.is_none());
-    assert_eq!(rt; rendered.citations.as_slice().len(), 1);
-    assert_eq!(rt; rendered.citations.as_slice()[0].note_number, Some(7));
-    assert_eq!(rt; lines(rt.alloc(), &rendered)?.as_str(), "T.\n");
+fn note_numbers_are_kept_in_notes_alone(rt: HostRuntime) -> Result<(), Fail> {
+    for (class, number) in [(StyleClass::Note, Some(7)), (StyleClass::InText, None)] {
+        let rendered = noted(rt.alloc(), class, "T")?;
+        assert!(rt; rendered.bibliography.is_none());
+        let citation = rendered.citations.as_slice().first().ok_or("no citation")?;
+        assert_eq!(rt; citation.note_number, number);
+        assert!(rt; citation.citation.find_meta(&ElemMeta::Entry(0)).is_some());
+    }
     Ok(())
 }
 
 #[test]
-fn note_numbers_are_dropped_in_text(rt: HostRuntime) -> Result<(), Fail> {
-    let rendered = noted(rt.alloc(), StyleClass::InText, "et al.")?;
-    assert_eq!(rt; rendered.citations.as_slice().len(), 1);
-    assert_eq!(rt; rendered.citations.as_slice()[0].note_number, None);
-    assert_eq!(rt; lines(rt.alloc(), &rendered)?.as_str(), "et al.\n");
-    Ok(())
-}
-
-#[test]
-fn locators_are_equal_where_their_payloads_are(rt: HostRuntime) -> Result<(), Fail> {
+fn requests_are_equal_where_their_parts_are(rt: HostRuntime) -> Result<(), Fail> {
     let alloc = rt.alloc();
-    let one = TransparentLocator::new(alloc, 7u32)?;
-    let same = TransparentLocator::new(alloc, 7u32)?;
-    let other = TransparentLocator::new(alloc, 8u32)?;
-    assert!(rt; one == same);
-    assert!(rt; one != other);
-    let page: SpecificLocator<u32> = SpecificLocator(Locator::Page, LocatorPayload::Str("7"));
-    let line: SpecificLocator<u32> = SpecificLocator(Locator::Line, LocatorPayload::Str("7"));
-    assert!(rt; page != line);
+    let style = numeric(alloc)?;
+    let entries = entries_of(alloc, &["a", "b", "a"])?;
+    let [a, b, same] = entries.as_slice() else {
+        return Err(Fail::new("not three entries"));
+    };
+    let item: Item = CitationItem::with_entry(a);
+    assert!(rt; item == CitationItem::with_entry(same));
+    assert!(rt; item != CitationItem::with_entry(b));
+    assert!(rt; item != CitationItem::with_entry(a).kind(CitePurpose::Year));
+    let request = cite(alloc, &style, a, false)?;
+    assert!(rt; request == cite(alloc, &style, same, false)?);
+    assert!(rt; request != cite(alloc, &style, a, true)?);
+    Ok(())
+}
+
+#[test]
+fn orders_are_equal_where_their_entries_are(rt: HostRuntime) -> Result<(), Fail> {
+    let entries = entries_of(rt.alloc(), &["a", "b", "a"])?;
+    let [a, b, same] = entries.as_slice() else {
+        return Err(Fail::new("not three entries"));
+    };
+    assert!(rt; Order(&[a, b]) == Order(&[same, b]));
+    assert!(rt; Order(&[a]) != Order(&[b]));
+    Ok(())
+}
+
+#[test]
+fn requests_for_a_bibliography_are_compared(rt: HostRuntime) -> Result<(), Fail> {
+    let mut styles = Vec::new(rt.alloc());
+    styles.push(numeric(rt.alloc())?)?;
+    styles.push(value_style(rt.alloc(), StyleClass::Note, "T")?)?;
+    let [numbers, plain] = styles.as_slice() else {
+        return Err(Fail::new("not two styles"));
+    };
+    assert!(rt; wanted(numbers) == wanted(numbers));
+    assert!(rt; wanted(numbers) != wanted(plain));
+    Ok(())
+}
+
+#[test]
+fn answers_are_equal_where_their_parts_are(rt: HostRuntime) -> Result<(), Fail> {
+    let answer = noted(rt.alloc(), StyleClass::Note, "T")?;
+    assert!(rt; answer == noted(rt.alloc(), StyleClass::Note, "T")?);
+    assert!(rt; answer != noted(rt.alloc(), StyleClass::InText, "T")?);
+    assert!(rt; answer != noted(rt.alloc(), StyleClass::Note, "U")?);
     Ok(())
 }

@@ -2,6 +2,8 @@
 #![tactic(auto)]
 
 #[cfg(test)]
+mod cites;
+#[cfg(test)]
 mod entries;
 #[cfg(test)]
 mod finish;
@@ -19,6 +21,8 @@ mod rings;
 mod small;
 #[cfg(test)]
 mod stacks;
+#[cfg(test)]
+mod standalone;
 #[cfg(test)]
 mod styles;
 #[cfg(test)]

@@ -62,23 +62,6 @@ fn asks_the_primary_dialect_and_american_english(rt: HostRuntime) -> Result<(), 
 }
 
 #[test]
-fn asks_the_style_first(rt: HostRuntime) -> Result<(), Fail> {
-    let mut style = numeric(rt.alloc())?;
-    let files = files(rt.alloc())?;
-    let austrian = code(rt.alloc(), "de-AT")?;
-    style.locale.push(locale(rt.alloc(), None, "etc.")?)?;
-    let found = et_al(&StyleContext::new(&style, Some(&austrian), &files));
-    assert!(rt; found == Some("etc."));
-    let german = code(rt.alloc(), "de")?;
-    style
-        .locale
-        .push(locale(rt.alloc(), Some(german), "usw.")?)?;
-    let found = et_al(&StyleContext::new(&style, Some(&austrian), &files));
-    assert!(rt; found == Some("usw."));
-    Ok(())
-}
-
-#[test]
 fn first_locale_that_says_so_decides_on_punctuation(rt: HostRuntime) -> Result<(), Fail> {
     let style = numeric(rt.alloc())?;
     let mut files = files(rt.alloc())?;

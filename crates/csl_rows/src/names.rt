@@ -1,5 +1,5 @@
 //! The forms of names.
-use csl_base::names::{DisambiguatedNameForm, NameDisambiguationProperties};
+use csl_base::names::{DisambiguatedNameForm, NameDisambiguationProperties, forms_are_in_order};
 use csl_base::seq::Seq;
 use std::test::Fail;
 
@@ -49,6 +49,7 @@ fn lends_forms_from_zero_on(rt: HostRuntime) -> Result<(), Fail> {
 
 #[test]
 fn forms_are_ordered_as_written(rt: HostRuntime) {
+    forms_are_in_order();
     assert!(rt; DisambiguatedNameForm::Count < DisambiguatedNameForm::Short);
     assert!(rt; DisambiguatedNameForm::Short < DisambiguatedNameForm::LongInitialized);
     assert!(rt; DisambiguatedNameForm::LongInitialized < DisambiguatedNameForm::LongFull);

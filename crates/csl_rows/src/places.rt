@@ -8,7 +8,9 @@ ghost use Rattle.csl_base.specs.declared.formatting.Formatted.{Formatted};
 ghost use Rattle.csl_base.specs.declared.formatting.FontStyle.TheVariants as style;
 
 use csl_base::elem::{BufWriteFormat, Elem, ElemChild, ElemChildren, ElemMeta};
+use csl_base::first_names::first_names_laws;
 use csl_base::formatting::{Display, FontStyle, Formatted, Formatting};
+use csl_base::last_text::last_text_laws;
 use csl_base::seq::Seq;
 use std::alloc::AllocError;
 use std::test::Fail;
@@ -133,6 +135,7 @@ fn takes_out_what_has_a_meta(rt: HostRuntime) -> Result<(), Fail> {
 
 #[test]
 fn writes_the_last_text(rt: HostRuntime) -> Result<(), Fail> {
+    last_text_laws();
     let mut tree = cite(&rt)?;
     let last = tree.last_text_mut().ok_or("no last text")?;
     *last = text(&rt, "p. 6")?;
@@ -152,6 +155,7 @@ fn writes_the_last_text(rt: HostRuntime) -> Result<(), Fail> {
 
 #[test]
 fn writes_the_first_names(rt: HostRuntime) -> Result<(), Fail> {
+    first_names_laws();
     let mut tree = cite(&rt)?;
     let found = tree.find_names_mut().ok_or("no names")?;
     found.display = Some(Display::Block);

@@ -1,94 +1,15 @@
 //! Rings of macros that call each other.
-use csl_base::element::{
-    Affixes, ChooseBranch, ChooseMatch, Condition, CslMacro, InheritableNameOptions,
-    LayoutRenderingElement, TextTarget,
-};
-use csl_base::formatting::StyleFormatting;
-use csl_base::style::{
-    Citation, DisambiguationRule, IndependentStyle, Layout, StyleClass, StyleInfo, StyleSettings,
-};
+use crate::styles::{call, group, numeric};
+use csl_base::element::{ChooseBranch, ChooseMatch, Condition, CslMacro, LayoutRenderingElement};
+use csl_writing::picking::macros_unfold;
 use std::alloc::AllocError;
 use std::test::Fail;
 
-fn no_affixes() -> Affixes {
-    Affixes {
-        prefix: None,
-        suffix: None,
-    }
-}
-
-fn no_formatting() -> StyleFormatting {
-    StyleFormatting {
-        font_style: None,
-        font_weight: None,
-    }
-}
-
-fn no_options() -> InheritableNameOptions {
-    InheritableNameOptions {
-        and: None,
-        name_delimiter: None,
-        names_delimiter: None,
-        et_al_min: None,
-        et_al_use_first: None,
-        name_form: None,
-        initialize_with: None,
-    }
-}
-
-// A style of these macros.
-fn style_of(rt: &HostRuntime, macros: Vec<CslMacro>) -> IndependentStyle {
-    let alloc = rt.alloc();
-    IndependentStyle {
-        info: StyleInfo {
-            category: Vec::new(alloc),
-        },
-        settings: StyleSettings {
-            class: StyleClass::InText,
-            options: no_options(),
-        },
-        default_locale: None,
-        locale: Vec::new(alloc),
-        macros,
-        citation: Citation {
-            layout: Layout {
-                elements: Vec::new(alloc),
-                formatting: no_formatting(),
-                prefix: None,
-                suffix: None,
-                delimiter: None,
-            },
-            disambiguate_add_givenname: false,
-            givenname_disambiguation_rule: DisambiguationRule::ByCite,
-            disambiguate_add_names: false,
-            disambiguate_add_year_suffix: false,
-            cite_group_delimiter: None,
-            year_suffix_delimiter: None,
-            after_collapse_delimiter: None,
-            collapse: None,
-            near_note_distance: 5,
-            name_options: no_options(),
-        },
-        bibliography: None,
-    }
-}
-
-fn call(name: String) -> LayoutRenderingElement {
-    LayoutRenderingElement::Text {
-        target: TextTarget::Macro(name),
-        quotes: false,
-        strip_periods: false,
-        affixes: no_affixes(),
-        formatting: no_formatting(),
-        display: None,
-    }
-}
-
-// Calls of these macros, one after the other.
+/// Calls of these macros, one after the other.
 fn calls(rt: &HostRuntime, names: &[&str]) -> Result<Vec<LayoutRenderingElement>, AllocError> {
     let mut elements = Vec::new(rt.alloc());
     for name in names {
-        elements.push(call(String::from_str(rt.alloc(), *name)?))?;
+        elements.push(call(rt.alloc(), *name)?)?;
     }
     Ok(elements)
 }
@@ -104,17 +25,25 @@ fn add(
     Ok(())
 }
 
-// The ring of macros that call each other by name.
+/// The ring of a style of these macros.
+fn ring_in(rt: &HostRuntime, macros: Vec<CslMacro>) -> Result<Option<usize>, AllocError> {
+    let mut style = numeric(rt.alloc())?;
+    style.macros = macros;
+    style.ring(rt.alloc())
+}
+
+/// The ring of macros that call each other by name.
 fn ring_of(rt: &HostRuntime, rows: &[(&str, &[&str])]) -> Result<Option<usize>, AllocError> {
     let mut macros = Vec::new(rt.alloc());
     for row in rows {
         add(rt, &mut macros, row.0, calls(rt, row.1)?)?;
     }
-    style_of(rt, macros).ring(rt.alloc())
+    ring_in(rt, macros)
 }
 
 #[test]
 fn finds_the_first_macro_on_a_ring(rt: HostRuntime) -> Result<(), Fail> {
+    macros_unfold();
     assert!(rt; ring_of(&rt, &[])? == None);
     assert!(rt; ring_of(&rt, &[("p", &["q"]), ("q", &["p"])])? == Some(0));
     assert!(rt; ring_of(&rt, &[("p", &["q"]), ("q", &["q"])])? == Some(1));
@@ -131,14 +60,14 @@ fn finds_the_first_macro_on_a_ring(rt: HostRuntime) -> Result<(), Fail> {
     Ok(())
 }
 
-// The ring of one macro that calls itself from inside the elements that `wrap` makes of the call.
+/// The ring of one macro that calls itself from inside the elements that `wrap` makes of the call.
 fn ring_inside(
     rt: &HostRuntime,
     children: Vec<LayoutRenderingElement>,
 ) -> Result<Option<usize>, AllocError> {
     let mut macros = Vec::new(rt.alloc());
     add(rt, &mut macros, "p", children)?;
-    style_of(rt, macros).ring(rt.alloc())
+    ring_in(rt, macros)
 }
 
 fn one(
@@ -150,17 +79,7 @@ fn one(
     Ok(elements)
 }
 
-fn group(children: Vec<LayoutRenderingElement>) -> LayoutRenderingElement {
-    LayoutRenderingElement::Group {
-        children,
-        delimiter: None,
-        affixes: no_affixes(),
-        formatting: no_formatting(),
-        display: None,
-    }
-}
-
-// A choice of one branch and what stands otherwise.
+/// A choice of one branch and what stands otherwise.
 fn choose(
     rt: &HostRuntime,
     children: Vec<LayoutRenderingElement>,
@@ -183,7 +102,7 @@ fn choose(
 fn calls_count_wherever_they_stand(rt: HostRuntime) -> Result<(), Fail> {
     let none = Vec::new(rt.alloc());
     let nothing = Vec::new(rt.alloc());
-    let in_group = one(&rt, group(calls(&rt, &["p"])?))?;
+    let in_group = one(&rt, group(rt.alloc(), calls(&rt, &["p"])?, " ")?)?;
     assert!(rt; ring_inside(&rt, in_group)? == Some(0));
     let in_branch = one(&rt, choose(&rt, calls(&rt, &["p"])?, none)?)?;
     assert!(rt; ring_inside(&rt, in_branch)? == Some(0));
@@ -192,21 +111,22 @@ fn calls_count_wherever_they_stand(rt: HostRuntime) -> Result<(), Fail> {
     Ok(())
 }
 
-// Macros each of which calls the next one twice; the last one calls macro `end`.
+/// Macros each of which calls the next one twice; the last one calls macro `end`.
 fn chain(rt: &HostRuntime, length: usize, end: usize) -> Result<Option<usize>, AllocError> {
     let alloc = rt.alloc();
     let mut macros = Vec::new(alloc);
     for i in 0..length {
         let next = if i == length - 1 { end } else { i + 1 };
         let mut children = Vec::new(alloc);
-        children.push(call(format!(in alloc; "m{next}")?))?;
-        children.push(call(format!(in alloc; "m{next}")?))?;
+        let name = format!(in alloc; "m{next}")?;
+        children.push(call(alloc, name.as_str())?)?;
+        children.push(call(alloc, name.as_str())?)?;
         macros.push(CslMacro {
             name: format!(in alloc; "m{i}")?,
             children,
         })?;
     }
-    style_of(rt, macros).ring(alloc)
+    ring_in(rt, macros)
 }
 
 #[test]

@@ -5,6 +5,9 @@ use csl_driver::properties::CiteProperties;
 use csl_driver::state::{DisambiguateState, IdentifierUsage};
 use csl_driver::taxonomy::Locator;
 use csl_driver::year::{letters_of_suffix, write_year};
+use csl_writing::laws::{
+    copies_are_equal, states_have_a_greatest, suffixes_differ, usage_counts_once,
+};
 use std::test::Fail;
 
 #[test]
@@ -31,6 +34,7 @@ fn years(rt: HostRuntime) -> Result<(), Fail> {
 
 #[test]
 fn letters(rt: HostRuntime) -> Result<(), Fail> {
+    suffixes_differ();
     for (suffix, want) in [(0, "a"), (25, "z"), (26, "aa"), (27, "ab")] {
         let text = letters_of_suffix(rt.alloc(), suffix)?;
         assert_eq!(rt; text.as_str(), want);
@@ -40,6 +44,8 @@ fn letters(rt: HostRuntime) -> Result<(), Fail> {
 
 #[test]
 fn small_values(rt: HostRuntime) -> Result<(), Fail> {
+    states_have_a_greatest();
+    usage_counts_once();
     assert!(rt; Brackets::Square.left() == Some('['));
     assert!(rt; Brackets::Square.right() == Some(']'));
     assert!(rt; Brackets::None.left() == None);
@@ -51,6 +57,7 @@ fn small_values(rt: HostRuntime) -> Result<(), Fail> {
 
 #[test]
 fn properties_are_copied(rt: HostRuntime) -> Result<(), Fail> {
+    copies_are_equal::<u32>();
     let payload = LocatorPayload::Transparent(TransparentLocator::new(rt.alloc(), 7u32)?);
     let locator = SpecificLocator(Locator::Page, payload);
     let properties = CiteProperties::for_sorting(Some(locator), 2);
@@ -59,5 +66,19 @@ fn properties_are_copied(rt: HostRuntime) -> Result<(), Fail> {
     let without = copy.speculative.for_bibliography();
     assert!(rt; without.locator.is_none());
     assert!(rt; !(without == properties.speculative));
+    Ok(())
+}
+
+#[test]
+fn locators_are_equal_where_their_payloads_are(rt: HostRuntime) -> Result<(), Fail> {
+    let alloc = rt.alloc();
+    let one = TransparentLocator::new(alloc, 7u32)?;
+    let same = TransparentLocator::new(alloc, 7u32)?;
+    let other = TransparentLocator::new(alloc, 8u32)?;
+    assert!(rt; one == same);
+    assert!(rt; one != other);
+    let page: SpecificLocator<u32> = SpecificLocator(Locator::Page, LocatorPayload::Str("7"));
+    let line: SpecificLocator<u32> = SpecificLocator(Locator::Line, LocatorPayload::Str("7"));
+    assert!(rt; page != line);
     Ok(())
 }

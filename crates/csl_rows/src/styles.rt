@@ -14,7 +14,7 @@ use csl_base::text::Text;
 use std::alloc::{AllocError, Global};
 use std::num::NonZeroI16;
 
-fn no_options() -> InheritableNameOptions {
+pub fn no_options() -> InheritableNameOptions {
     InheritableNameOptions {
         and: None,
         name_delimiter: None,
@@ -26,10 +26,17 @@ fn no_options() -> InheritableNameOptions {
     }
 }
 
-fn no_formatting() -> StyleFormatting {
+pub fn no_formatting() -> StyleFormatting {
     StyleFormatting {
         font_style: None,
         font_weight: None,
+    }
+}
+
+pub fn no_affixes() -> Affixes {
+    Affixes {
+        prefix: None,
+        suffix: None,
     }
 }
 
@@ -37,31 +44,38 @@ fn text(alloc: Global, text: &str) -> Result<Option<String>, AllocError> {
     Ok(Some(String::from_str(alloc, text)?))
 }
 
-/// A text element that writes the value and nothing else.
-fn value(alloc: Global, value: &str) -> Result<LayoutRenderingElement, AllocError> {
-    Ok(LayoutRenderingElement::Text {
-        target: TextTarget::Value(String::from_str(alloc, value)?),
+/// A text element of this target and nothing else.
+pub fn text_of(target: TextTarget) -> LayoutRenderingElement {
+    LayoutRenderingElement::Text {
+        target,
         quotes: false,
         strip_periods: false,
-        affixes: Affixes {
-            prefix: None,
-            suffix: None,
-        },
+        affixes: no_affixes(),
         formatting: no_formatting(),
         display: None,
-    })
+    }
+}
+
+/// A text element that writes the value.
+pub fn value(alloc: Global, value: &str) -> Result<LayoutRenderingElement, AllocError> {
+    Ok(text_of(TextTarget::Value(String::from_str(alloc, value)?)))
 }
 
 /// A text element that calls the macro of this name.
-fn call(alloc: Global, name: &str) -> Result<LayoutRenderingElement, AllocError> {
-    Ok(LayoutRenderingElement::Text {
-        target: TextTarget::Macro(String::from_str(alloc, name)?),
-        quotes: false,
-        strip_periods: false,
-        affixes: Affixes {
-            prefix: None,
-            suffix: None,
-        },
+pub fn call(alloc: Global, name: &str) -> Result<LayoutRenderingElement, AllocError> {
+    Ok(text_of(TextTarget::Macro(String::from_str(alloc, name)?)))
+}
+
+/// The children, with this delimiter between them.
+pub fn group(
+    alloc: Global,
+    children: Vec<LayoutRenderingElement>,
+    delimiter: &str,
+) -> Result<LayoutRenderingElement, AllocError> {
+    Ok(LayoutRenderingElement::Group {
+        children,
+        delimiter: text(alloc, delimiter)?,
+        affixes: no_affixes(),
         formatting: no_formatting(),
         display: None,
     })
@@ -94,26 +108,24 @@ pub fn value_style(
     Ok(style_of(alloc, class, citation_of(layout), None))
 }
 
-fn citation_number(affixes: Affixes) -> LayoutRenderingElement {
+/// A number element.
+pub fn number(variable: NumberVariable, affixes: Affixes) -> LayoutRenderingElement {
     LayoutRenderingElement::Number {
-        variable: NumberVariable::CitationNumber,
+        variable,
         affixes,
         formatting: no_formatting(),
         display: None,
     }
 }
 
-fn no_affixes() -> Affixes {
-    Affixes {
-        prefix: None,
-        suffix: None,
-    }
-}
-
-/// The authors' family names.
-fn authors(alloc: Global) -> Result<LayoutRenderingElement, AllocError> {
+/// The authors' family names, cut from so many on.
+pub fn authors(
+    alloc: Global,
+    et_al_min: Option<usize>,
+) -> Result<LayoutRenderingElement, AllocError> {
     let mut options = no_options();
     options.name_form = Some(NameForm::Short);
+    options.et_al_min = et_al_min;
     Ok(LayoutRenderingElement::Names {
         variables: vec![in alloc; NameVariable::Author]?,
         substitute: Vec::new(alloc),
@@ -124,33 +136,40 @@ fn authors(alloc: Global) -> Result<LayoutRenderingElement, AllocError> {
     })
 }
 
-/// The authors and the year, with a space between them.
-fn author_and_year(alloc: Global) -> Result<LayoutRenderingElement, AllocError> {
-    let year = LayoutRenderingElement::Date {
-        variable: DateVariable::Issued,
+/// A date element.
+fn date(variable: DateVariable) -> LayoutRenderingElement {
+    LayoutRenderingElement::Date {
+        variable,
         affixes: no_affixes(),
         formatting: no_formatting(),
         display: None,
-    };
-    Ok(LayoutRenderingElement::Group {
-        children: vec![in alloc; authors(alloc)?, year]?,
-        delimiter: text(alloc, " ")?,
-        affixes: no_affixes(),
-        formatting: no_formatting(),
-        display: None,
-    })
+    }
 }
 
-/// An in-text style of authors and years in parentheses, without a bibliography.
-pub fn author_date(alloc: Global) -> Result<IndependentStyle, AllocError> {
-    let mut layout = layout_of(alloc, author_and_year(alloc)?)?;
-    layout.prefix = text(alloc, "(")?;
-    layout.suffix = text(alloc, ")")?;
-    layout.delimiter = text(alloc, "; ")?;
+/// An in-text style without a bibliography, which writes this element and no affixes.
+pub fn writing(
+    alloc: Global,
+    element: LayoutRenderingElement,
+) -> Result<IndependentStyle, AllocError> {
+    let layout = layout_of(alloc, element)?;
     Ok(style_of(alloc, StyleClass::InText, citation_of(layout), None))
 }
 
-fn layout_of(alloc: Global, element: LayoutRenderingElement) -> Result<Layout, AllocError> {
+/// An in-text style of authors, years and original years in parentheses, without a bibliography.
+pub fn author_date(alloc: Global) -> Result<IndependentStyle, AllocError> {
+    let mut children = Vec::new(alloc);
+    children.push(authors(alloc, None)?)?;
+    children.push(date(DateVariable::Issued))?;
+    children.push(date(DateVariable::OriginalDate))?;
+    let mut style = writing(alloc, group(alloc, children, " ")?)?;
+    let layout = &mut style.citation.layout;
+    layout.prefix = text(alloc, "(")?;
+    layout.suffix = text(alloc, ")")?;
+    layout.delimiter = text(alloc, "; ")?;
+    Ok(style)
+}
+
+pub fn layout_of(alloc: Global, element: LayoutRenderingElement) -> Result<Layout, AllocError> {
     let mut elements = Vec::new(alloc);
     elements.push(element)?;
     Ok(Layout {
@@ -178,7 +197,7 @@ fn citation_of(layout: Layout) -> Citation {
     }
 }
 
-fn bibliography_of(layout: Layout) -> Bibliography {
+pub fn bibliography_of(layout: Layout) -> Bibliography {
     Bibliography {
         layout,
         hanging_indent: false,
@@ -215,13 +234,7 @@ fn style_of(
 
 /// An in-text style of citation numbers in brackets, whose bibliography writes them so too.
 pub fn numeric(alloc: Global) -> Result<IndependentStyle, AllocError> {
-    let mut layout = layout_of(
-        alloc,
-        citation_number(Affixes {
-            prefix: None,
-            suffix: None,
-        }),
-    )?;
+    let mut layout = layout_of(alloc, number(NumberVariable::CitationNumber, no_affixes()))?;
     layout.prefix = text(alloc, "[")?;
     layout.suffix = text(alloc, "]")?;
     layout.delimiter = text(alloc, ", ")?;
@@ -232,7 +245,7 @@ pub fn numeric(alloc: Global) -> Result<IndependentStyle, AllocError> {
         prefix: text(alloc, "[")?,
         suffix: text(alloc, "]")?,
     };
-    let items = layout_of(alloc, citation_number(affixes))?;
+    let items = layout_of(alloc, number(NumberVariable::CitationNumber, affixes))?;
     Ok(style_of(
         alloc,
         StyleClass::InText,
@@ -253,15 +266,24 @@ pub fn entry(alloc: Global, key: &str) -> Result<PlainEntry, AllocError> {
     })
 }
 
+/// An entry of these authors.
+pub fn written_by(alloc: Global, authors: &[&str]) -> Result<PlainEntry, AllocError> {
+    let mut written = entry(alloc, "")?;
+    let mut persons = Vec::new(alloc);
+    for author in authors {
+        let name = Text::new(String::from_str(alloc, *author)?);
+        persons.push(Person {
+            name,
+            given_name: None,
+        })?;
+    }
+    written.names = Seq::new(vec![in alloc; (NameVariable::Author, Seq::new(persons))]?);
+    Ok(written)
+}
+
 /// An entry of one author, issued in a year.
 pub fn dated(alloc: Global, author: &str, year: i32) -> Result<PlainEntry, AllocError> {
-    let person = Person {
-        name: Text::new(String::from_str(alloc, author)?),
-        given_name: None,
-    };
-    let authors = Seq::new(vec![in alloc; person]?);
-    let mut dated = entry(alloc, author)?;
-    dated.names = Seq::new(vec![in alloc; (NameVariable::Author, authors)]?);
+    let mut dated = written_by(alloc, &[author])?;
     dated.dates = Seq::new(vec![in alloc; (DateVariable::Issued, Date { year })]?);
     Ok(dated)
 }

@@ -1,13 +1,16 @@
 //! Trees: their plain text, their content, copies, and adjacent texts joined.
 use csl_base::elem::{BufWriteFormat, Elem, ElemChild, ElemChildren, ElemMeta};
 use csl_base::entry::Person;
+use csl_base::equality::equality_laws;
 use csl_base::formatting::{
     Display, FontStyle, FontWeight, Formatted, Formatting, StyleFormatting,
 };
 use csl_base::seq::Seq;
+use csl_base::simplify::simplify_laws;
 use csl_base::taxonomy::NameVariable;
 use csl_base::text::Text;
 use std::alloc::AllocError;
+use std::collections::HashMap;
 use std::test::Fail;
 
 fn plain(rt: &HostRuntime, bytes: &str) -> Result<Formatted, AllocError> {
@@ -117,6 +120,7 @@ fn has_content_beside_white_space(rt: HostRuntime) -> Result<(), Fail> {
 
 #[test]
 fn joins_adjacent_texts(rt: HostRuntime) -> Result<(), Fail> {
+    simplify_laws();
     let mut inner = ElemChildren::new(rt.alloc());
     inner.push(plain(&rt, "a")?.into())?;
     inner.push(plain(&rt, "b")?.into())?;
@@ -162,6 +166,7 @@ fn keeps_texts_of_other_weight_apart(rt: HostRuntime) -> Result<(), Fail> {
 
 #[test]
 fn copies_are_equal(rt: HostRuntime) -> Result<(), Fail> {
+    equality_laws();
     let tree = each_kind(&rt)?;
     let mut copy = tree.clone()?;
     assert!(rt; copy == tree);
@@ -174,6 +179,28 @@ fn copies_are_equal(rt: HostRuntime) -> Result<(), Fail> {
     assert!(rt; !(other == block(alone(&rt, "a")?)), "another meta");
     let last = tree.last_text().ok_or("no last text")?;
     assert!(rt; *last == plain(&rt, "!")?);
+    Ok(())
+}
+
+#[test]
+fn elements_are_found_by_hash(rt: HostRuntime) -> Result<(), Fail> {
+    let elem = block(each_kind(&rt)?);
+    let copy = elem.clone()?;
+    let mut seen = HashMap::new(rt.alloc());
+    seen.insert(elem, 7)?;
+    assert!(rt; seen.get(&copy) == Some(&7));
+    assert!(rt; seen.get(&block(alone(&rt, "a")?)).is_none());
+    Ok(())
+}
+
+#[test]
+fn a_child_is_written_as_in_its_tree(rt: HostRuntime) -> Result<(), Fail> {
+    let child: ElemChild = block(each_kind(&rt)?).into();
+    assert!(rt; child.clone()? == child);
+    assert!(rt; child.has_content());
+    let mut written = String::new(rt.alloc());
+    child.write_plain(&mut written)?;
+    assert_eq!(rt; written.as_str(), "See Doesite<br>!");
     Ok(())
 }
 

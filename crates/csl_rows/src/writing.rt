@@ -1,12 +1,12 @@
 //! What a writing context makes of texts, quotes, elements and affixes.
 ghost use Rattle.std.specs.Prelude.{◌≡◌, IfOk, length};
-ghost use Rattle.csl_writing.specs.WritingState.{state, heights};
+ghost use Rattle.csl_writing.specs.WritingState.{state};
 
 use crate::styles::numeric;
 use csl_base::elem::{ElemChild, ElemChildren};
 use csl_base::element::{Affixes, InheritableNameOptions};
 use csl_base::entry::{Chunk, ChunkKind, ChunkedString};
-use csl_base::formatting::{Display, Formatting, StyleFormatting};
+use csl_base::formatting::Formatting;
 use csl_base::locale::{Locale, LocalizedTerm};
 use csl_base::seq::Seq;
 use csl_base::style::IndependentStyle;
@@ -16,12 +16,12 @@ use csl_writing::context::Context;
 use csl_writing::lookup::StyleContext;
 use csl_writing::properties::CiteProperties;
 use std::alloc::{AllocError, Global};
+use std::fmt::Write;
 use std::test::Fail;
 
-const NOTHING_ASKED: StyleFormatting = StyleFormatting {
-    font_style: None,
-    font_weight: None,
-};
+fn text(alloc: Global, text: &str) -> Result<Text, AllocError> {
+    Ok(Text::new(String::from_str(alloc, text)?))
+}
 
 fn term(alloc: Global, name: OtherTerm, words: &str) -> Result<LocalizedTerm, AllocError> {
     Ok(LocalizedTerm {
@@ -38,8 +38,6 @@ fn quoting(alloc: Global) -> Result<IndependentStyle, AllocError> {
     let mut terms = Vec::new(alloc);
     terms.push(term(alloc, OtherTerm::OpenQuote, "“")?)?;
     terms.push(term(alloc, OtherTerm::CloseQuote, "”")?)?;
-    terms.push(term(alloc, OtherTerm::OpenInnerQuote, "‘")?)?;
-    terms.push(term(alloc, OtherTerm::CloseInnerQuote, "’")?)?;
     let locale = Locale {
         lang: None,
         terms,
@@ -53,7 +51,8 @@ fn quoting(alloc: Global) -> Result<IndependentStyle, AllocError> {
 type Writing<'a> = Context<'a, InheritableNameOptions, u8>;
 
 fn begin<'a>(alloc: Global, style: &'a IndependentStyle) -> Result<Writing<'a>, AllocError>
-    ensures { IfOk result (λ context. length (state context.writing).formats ≡ 1) }
+    ensures formats { IfOk result (λ context. length (state context.writing).formats ≡ 1) }
+    ensures options { IfOk result (λ context. length (state context.writing).name_options ≡ 1) }
 {
     let options = &style.settings.options;
     let properties = CiteProperties::for_sorting(None, 0);
@@ -66,17 +65,6 @@ fn shown(alloc: Global, context: Writing<'_>) -> Result<String, AllocError>
     context.writing.flush()?.to_string(alloc)
 }
 
-/// Writes X in quotes, into which punctuation may be pulled.
-fn quote_x(context: &mut Writing<'_>) -> Result<(), AllocError>
-    ensures { heights (state context.new.writing) ≡ heights (state context.old.writing) }
-{
-    context.push_quotes()?;
-    context.push_str("X")?;
-    context.pop_quotes()?;
-    context.may_pull_punctuation();
-    Ok(())
-}
-
 fn affixes(alloc: Global, prefix: &str, suffix: &str) -> Result<Affixes, AllocError> {
     Ok(Affixes {
         prefix: Some(String::from_str(alloc, prefix)?),
@@ -87,7 +75,7 @@ fn affixes(alloc: Global, prefix: &str, suffix: &str) -> Result<Affixes, AllocEr
 /// A formula.
 fn formula(alloc: Global, formula: &str) -> Result<ChunkedString, AllocError> {
     let chunk = Chunk {
-        value: Text::new(String::from_str(alloc, formula)?),
+        value: text(alloc, formula)?,
         kind: ChunkKind::Math,
     };
     Ok(ChunkedString(Seq::new(vec![in alloc; chunk]?)))
@@ -118,25 +106,10 @@ fn without_periods(
 
 fn quoted(alloc: Global, style: &IndependentStyle) -> Result<String, AllocError> {
     let mut context = begin(alloc, style)?;
-    quote_x(&mut context)?;
-    context.push_str(", ")?;
-    shown(alloc, context)
-}
-
-fn quoted_twice(alloc: Global, style: &IndependentStyle) -> Result<String, AllocError> {
-    let mut context = begin(alloc, style)?;
     context.push_quotes()?;
-    quote_x(&mut context)?;
+    context.push_str("X")?;
     context.pop_quotes()?;
-    shown(alloc, context)
-}
-
-fn quoted_in_element(alloc: Global, style: &IndependentStyle) -> Result<String, AllocError> {
-    let mut context = begin(alloc, style)?;
-    let loc = context.writing.push_elem(NOTHING_ASKED)?;
-    quote_x(&mut context)?;
-    let display = Some(Display::Block);
-    context.writing.commit_elem(loc, display, None)?;
+    context.may_pull_punctuation();
     context.push_str(", ")?;
     shown(alloc, context)
 }
@@ -161,15 +134,46 @@ fn spaced(alloc: Global, style: &IndependentStyle, text: &str) -> Result<String,
     shown(alloc, context)
 }
 
-fn with_formula(
+/// A text, a formula, a link and a mark.
+fn with_marks(
     alloc: Global,
     style: &IndependentStyle,
     formula: &ChunkedString,
+    url: String,
 ) -> Result<ElemChildren, AllocError> {
     let mut context = begin(alloc, style)?;
     context.push_str("A")?;
     context.push_chunked(formula)?;
+    context.push_link(formula, url)?;
+    context.push_transparent(2)?;
     context.writing.flush()
+}
+
+/// Whether what follows a prefix of one space is content.
+fn stripped_behind_a_space(
+    alloc: Global,
+    style: &IndependentStyle,
+    affixes: &Affixes,
+) -> Result<bool, AllocError> {
+    let mut context = begin(alloc, style)?;
+    let prefix = context.writing.apply_prefix(affixes)?;
+    context.may_strip_periods(true);
+    context.push_str(".é")?;
+    context.stop_stripping_periods();
+    context.writing.has_content_since(&prefix)
+}
+
+/// Writes under name options and a delimiter of its own.
+fn in_stacks(alloc: Global, style: &IndependentStyle) -> Result<String, AllocError> {
+    let mut context = begin(alloc, style)?;
+    let delimiter = context.writing.push_delimiter(Some("; "))?;
+    context
+        .writing
+        .push_name_options(&style.citation.name_options)?;
+    context.push_str("A")?;
+    context.writing.pop_name_options();
+    context.writing.pop_delimiter(delimiter);
+    shown(alloc, context)
 }
 
 #[test]
@@ -197,16 +201,6 @@ fn closing_quotes_pull_punctuation_in(rt: HostRuntime) -> Result<(), Fail> {
     let style = quoting(rt.alloc())?;
     let shown = quoted(rt.alloc(), &style)?;
     assert_eq!(rt; shown.as_str(), "“X,” ");
-    let in_element = quoted_in_element(rt.alloc(), &style)?;
-    assert_eq!(rt; in_element.as_str(), "“X,” ");
-    Ok(())
-}
-
-#[test]
-fn quotes_within_quotes_are_inner_ones(rt: HostRuntime) -> Result<(), Fail> {
-    let style = quoting(rt.alloc())?;
-    let shown = quoted_twice(rt.alloc(), &style)?;
-    assert_eq!(rt; shown.as_str(), "“‘X’”");
     Ok(())
 }
 
@@ -230,14 +224,49 @@ fn a_no_break_space_is_a_space(rt: HostRuntime) -> Result<(), Fail> {
 }
 
 #[test]
-fn a_formula_is_markup(rt: HostRuntime) -> Result<(), Fail> {
+fn a_prefix_is_passed_by_whole_characters(rt: HostRuntime) -> Result<(), Fail> {
+    let style = numeric(rt.alloc())?;
+    let affixes = affixes(rt.alloc(), " ", "")?;
+    assert!(rt; !stripped_behind_a_space(rt.alloc(), &style, &affixes)?);
+    Ok(())
+}
+
+#[test]
+fn formulas_links_and_marks_stand_apart(rt: HostRuntime) -> Result<(), Fail> {
     let style = numeric(rt.alloc())?;
     let formula = formula(rt.alloc(), "x")?;
-    let children = with_formula(rt.alloc(), &style, &formula)?.into_vec();
-    let text = Formatting::default().add_text(String::from_str(rt.alloc(), "A")?);
-    let markup = Text::new(String::from_str(rt.alloc(), "x")?);
-    assert_eq!(rt; children.len(), 2);
-    assert!(rt; children.first() == Some(&ElemChild::Text(text)));
-    assert!(rt; children.last() == Some(&ElemChild::Markup(markup)));
+    let url = String::from_str(rt.alloc(), "u")?;
+    let tree = with_marks(rt.alloc(), &style, &formula, url)?;
+    let plain = Formatting::default();
+    let mut want = ElemChildren::new(rt.alloc());
+    want.push(plain.add_text(String::from_str(rt.alloc(), "A")?).into())?;
+    want.push(ElemChild::Markup(text(rt.alloc(), "x")?))?;
+    want.push(ElemChild::Link {
+        text: plain.add_text(String::from_str(rt.alloc(), "x")?),
+        url: text(rt.alloc(), "u")?,
+    })?;
+    want.push(ElemChild::Transparent {
+        cite_idx: 2,
+        format: plain,
+    })?;
+    assert!(rt; tree == want);
+    Ok(())
+}
+
+#[test]
+fn options_and_delimiters_come_off_again(rt: HostRuntime) -> Result<(), Fail> {
+    let style = numeric(rt.alloc())?;
+    let shown = in_stacks(rt.alloc(), &style)?;
+    assert_eq!(rt; shown.as_str(), "A");
+    Ok(())
+}
+
+#[test]
+fn a_context_is_a_writer_and_knows_terms(rt: HostRuntime) -> Result<(), Fail> {
+    let style = quoting(rt.alloc())?;
+    let mut context = begin(rt.alloc(), &style)?;
+    assert!(rt; write!(context, "{}", 7).is_ok());
+    let quote = Term::Other(OtherTerm::OpenQuote);
+    assert!(rt; context.term(quote, TermForm::Short, false) == Some("“"));
     Ok(())
 }
