@@ -1,5 +1,9 @@
 //! Cites and items of a bibliography that no document can ask for: in a state, at a position, cut
 //! by a verdict, with marks and pieces of other kinds.
+ghost use Rattle.std.specs.Prelude.{IfOk};
+ghost use Rattle.csl_base.specs.Ring.{HasNoRing};
+ghost use Rattle.csl_writing.specs.SourceView.{source_view};
+
 use crate::styles::{
     author_date, authors, bibliography_of, dated, entry, layout_of, no_affixes, number, numeric,
     text_of, value, writing, written_by,
@@ -27,6 +31,16 @@ use std::test::Fail;
 
 type Properties<'a> = CiteProperties<'a, u8>;
 
+/// The style without locales.
+fn ringless<'a>(alloc: Global, style: &'a IndependentStyle) -> Result<StyleContext<'a>, Fail>
+    ensures { IfOk result (λ context. HasNoRing (source_view context).style.macros) }
+{
+    match style.ring(alloc)? {
+        Some(_) => Err(Fail::new("the style has a ring")),
+        None => Ok(StyleContext::new(style, None, &[])),
+    }
+}
+
 /// The entry's cite in the style.
 fn cite(
     alloc: Global,
@@ -37,10 +51,7 @@ fn cite(
     verdict: Option<CollapseVerdict>,
     renders: &mut Renders,
 ) -> Result<Cite, Fail> {
-    if style.ring(alloc)?.is_some() {
-        return Err(Fail::new("the style has a ring"));
-    }
-    let context = StyleContext::new(style, None, &[]);
+    let context = ringless(alloc, style)?;
     Ok(context.do_citation(
         alloc, cited, properties, None, None, purpose, verdict, renders,
     )?)
@@ -103,10 +114,7 @@ fn item(
     cited: &PlainEntry,
     properties: &Properties<'_>,
 ) -> Result<Option<ElemChildren>, Fail> {
-    if style.ring(alloc)?.is_some() {
-        return Err(Fail::new("the style has a ring"));
-    }
-    let context = StyleContext::new(style, None, &[]);
+    let context = ringless(alloc, style)?;
     let mut renders = Renders::new();
     Ok(context.bibliography(alloc, cited, properties, None, None, &mut renders)?)
 }

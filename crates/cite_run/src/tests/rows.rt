@@ -188,6 +188,15 @@ const STYLES_OF_THEIR_OWN: &[(&str, &str, &str)] = &[
            "bibliography":{"style":"s"}"#,
         "far\nfar\nfar\n",
     ),
+    (
+        r#""class":"note","citation":{"suffix":".","italic":true,"delimiter":" ",
+            "elements":[{"kind":"text","variable":"title"}]}"#,
+        r#""entries":[{"key":"a","title":"T"},{"key":"b","title":"et al."}],
+           "requests":[{"style":"s","items":[{"entry":"a"}],"note":7},
+               {"style":"s","items":[{"entry":"a"},{"entry":"b"}]}],
+           "bibliography":{"style":"s"}"#,
+        "T.\nT et al.\n",
+    ),
 ];
 
 #[test]
