@@ -1,5 +1,5 @@
 -- The plain data that the requests of a document stand for, which hold their own texts.
-use Rattle.std.specs.Prelude.{ℕ, List, None, map, option_map, string_bytes, if◌then◌else◌}
+use Rattle.std.specs.Prelude.{List, None, map, option_map, string_bytes, if◌then◌else◌}
 use Rattle.std.specs.declared.convert.Infallible.{Infallible}
 use Rattle.csl_base.specs.StyleView.{code_view, style_view}
 use Rattle.csl_base.specs.Style.{LocaleValue}

@@ -1,12 +1,9 @@
 -- What the driver answers, or why its numbers are too large, is of the document.
 use Rattle.std.proofs.Common.{◌≡◌, ap, map, refl, string_bytes, ◌∙◌}
 use Rattle.csl_base.specs.StyleView.{locale_view}
-use Rattle.csl_base.specs.declared.entry.PlainEntry.{PlainEntry}
-use Rattle.std.specs.declared.convert.Infallible.{Infallible}
 use Rattle.csl_base.specs.PlainEntry.{plain_answers}
 use Rattle.csl_driver.specs.Answer.{rendered}
 use Rattle.csl_driver.specs.DriverView.{driver_view}
-use Rattle.csl_driver.specs.Request.{Driver}
 use Rattle.csl_driver.specs.RequestView.{order_view}
 use Rattle.cite_run.specs.AskedView.{asked_requests_view}
 use Rattle.cite_run.specs.DocumentView.{document_view}
