@@ -22,7 +22,8 @@ ghost use Rattle.cite_run.specs.Reads.{Reads};
 pub(crate) use crate::document::entries::entries_of;
 use crate::document::entries::{EntriesByKey, entries_by_key};
 pub(crate) use crate::document::locales::locales_at;
-pub use crate::document::requests::{Request, Wanted};
+pub(crate) use crate::document::requests::{copied_code, driver_request};
+pub use crate::document::requests::{AskedRequest, Wanted};
 use crate::document::requests::{requests_of, wanted_of};
 pub use crate::document::styles::NamedStyle;
 pub(crate) use crate::document::styles::styles_of;
@@ -37,7 +38,7 @@ use std::alloc::Global;
 /// What the document asks for.
 #[derive(Drop)]
 pub struct Asked<'e> {
-    pub requests: Vec<Request<'e>>,
+    pub requests: Vec<AskedRequest<'e>>,
     pub wanted: Wanted<'e>,
     /// The locales that are asked for terms that a style doesn't have.
     pub locales: &'e [Locale],
@@ -96,7 +97,7 @@ fn asked_of<'e>(
     styles: &StylesByName<'e>,
     entries: &EntriesByKey<'e>,
     locales: &'e [Locale],
-    object: &'e Value,
+    object: &Value,
 ) -> Result<Asked<'e>, RunError>
     ensures { Reads document_view result (asked_form (style_in styles.now) (entry_in entries.now) (map locale_view locales.now) (view object.now)) }
 {
@@ -118,7 +119,7 @@ pub(crate) fn asked_in<'e>(
     styles: &'e [NamedStyle],
     entries: &'e [PlainEntry],
     locales: &'e [Locale],
-    object: &'e Value,
+    object: &Value,
 ) -> Result<Asked<'e>, RunError>
     ensures { Reads document_view result (asked_form (style_named (named_styles_view styles.now)) (entry_named entries.now) (map locale_view locales.now) (view object.now)) }
 {

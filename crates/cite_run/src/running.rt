@@ -1,21 +1,28 @@
 //! The program's work, over any writer.
-ghost use Rattle.std.specs.Prelude.{◌≡◌, ◌++◌, ℕ, None, Some, option_map, OnOk, IfOk, IfErr, IsErrOf};
+ghost use Rattle.std.specs.Prelude.{◌≡◌, ◌++◌, ℕ, None, Some, map, option_map, OnOk, IfOk, IfErr, IsErrOf};
 ghost use Rattle.std.specs.Io.KnownBytes.{Appends, Keeps};
 ghost use Rattle.serde_json.specs.View.{view};
+ghost use Rattle.csl_base.specs.StyleView.{locale_view};
 ghost use Rattle.csl_driver.specs.DriverView.{driver_view};
-ghost use Rattle.csl_driver.specs.RequestView.{entries_view, order_view, requests_view};
+ghost use Rattle.csl_driver.specs.RequestView.{entries_view, order_view};
 ghost use Rattle.csl_driver.specs.declared.error.RingPlace.{RingPlace};
+ghost use Rattle.cite_run.specs.AskedView.{asked_requests_view};
 ghost use Rattle.cite_run.specs.DocumentView.{document_view};
-ghost use Rattle.cite_run.specs.Form.{form, document_form};
+ghost use Rattle.cite_run.specs.Form.{asked_form, form, document_form};
+ghost use Rattle.cite_run.specs.Entries.{entry_named};
+ghost use Rattle.cite_run.specs.NamedStyleView.{named_styles_view};
 ghost use Rattle.cite_run.specs.Print.{print};
+ghost use Rattle.cite_run.specs.Styles.{style_named};
 ghost use Rattle.cite_run.specs.Run.{accepted, answer, HasAnswer, HasFirstRing, HasTooLargeNumbers, IsDocumentThat, Prints};
 
 use crate::document::{
-    Asked, Request, Wanted, asked_in, entries_of, locales_at, styles_of, text_of, top_of, value_of,
+    Asked, AskedRequest, NamedStyle, asked_in, copied_code, driver_request, entries_of, locales_at,
+    styles_of, text_of, top_of, value_of,
 };
 use crate::error::RunError;
 use crate::printing::print_rendered;
 use csl_base::entry::PlainEntry;
+use csl_base::locale::Locale;
 use csl_driver::driver::BibliographyDriver;
 use csl_driver::error::DriverError;
 use csl_driver::request::{BibliographyRequest, Order};
@@ -25,15 +32,20 @@ use std::convert::Infallible;
 use std::io::Write;
 
 fn add_all<'e>(
+    alloc: Global,
     driver: &mut BibliographyDriver<'e, PlainEntry, Infallible>,
-    requests: Vec<Request<'e>>,
+    requests: &'e [AskedRequest<'_>],
+    locales: &'e [Locale],
 ) -> Result<(), RunError>
     ensures added { OnOk result
-        (driver_view driver.new ≡ record (driver_view driver.old) { requests = (driver_view driver.old).requests ++ accepted (requests_view requests.entry.items) }) }
+        (driver_view driver.new ≡ record (driver_view driver.old) { requests = (driver_view driver.old).requests ++ accepted (asked_requests_view (map locale_view locales.now) requests.now) }) }
     ensures memory { IfErr result (λ e. e ≡ RunError.OutOfMemory) }
 {
     for request in requests {
-        if driver.citation(request).is_err() {
+        if driver
+            .citation(driver_request(alloc, request, locales)?)
+            .is_err()
+        {
             return Err(RunError::OutOfMemory);
         }
     }
@@ -43,14 +55,15 @@ fn add_all<'e>(
 /// A driver that has taken these requests, in their order.
 fn filled_driver<'e>(
     alloc: Global,
-    requests: Vec<Request<'e>>,
+    requests: &'e [AskedRequest<'_>],
+    locales: &'e [Locale],
     offset: usize,
 ) -> Result<BibliographyDriver<'e, PlainEntry, Infallible>, RunError>
-    ensures filled { IfOk result (λ d. driver_view d ≡ record { requests = accepted (requests_view requests.entry.items); offset = offset }) }
+    ensures filled { IfOk result (λ d. driver_view d ≡ record { requests = accepted (asked_requests_view (map locale_view locales.now) requests.now); offset = offset }) }
     ensures memory { IfErr result (λ e. e ≡ RunError.OutOfMemory) }
 {
     let mut driver = BibliographyDriver::new(alloc).with_citation_number_offset(offset);
-    add_all(&mut driver, requests)?;
+    add_all(alloc, &mut driver, requests, locales)?;
     Ok(driver)
 }
 
@@ -64,26 +77,15 @@ fn order_of<'o, 'e>(entries: &'o Option<Vec<&'e PlainEntry>>) -> Option<Order<'o
 }
 
 /// The text that is printed for what a document asks for.
-fn print_asked(alloc: Global, asked: Asked<'_>) -> Result<String, RunError>
-    ensures { Prints result (Some (document_view asked.entry)) }
+fn print_asked<'r>(alloc: Global, asked: &'r Asked<'_>) -> Result<String, RunError>
+    ensures { Prints result (Some (document_view asked.now)) }
 {
-    let Asked {
-        requests,
-        wanted,
-        locales,
-        offset,
-    } = asked;
-    let Wanted {
-        style,
-        locale,
-        order,
-    } = wanted;
-    let driver = filled_driver(alloc, requests, offset)?;
+    let driver = filled_driver(alloc, &asked.requests, asked.locales, asked.offset)?;
     let request = BibliographyRequest {
-        style,
-        locale,
-        locale_files: locales,
-        order: order_of(&order),
+        style: asked.wanted.style,
+        locale: copied_code(alloc, &asked.wanted.locale)?,
+        locale_files: asked.locales,
+        order: order_of(&asked.wanted.order),
     };
     match driver.finish(request) {
         Ok(rendered) => Ok(print_rendered(alloc, &rendered)?),
@@ -95,16 +97,31 @@ fn print_asked(alloc: Global, asked: Asked<'_>) -> Result<String, RunError>
     }
 }
 
-#[tactic(auto, unfolding(crate::specs::Form::document_form))]
-fn print_value(alloc: Global, value: &Value) -> Result<String, RunError>
-    ensures { Prints result (document_form (view value.now)) }
+/// Prints what the value asks for, of these styles, entries and locales. The value is let go before
+/// anything is written.
+fn print_of<'e>(
+    alloc: Global,
+    value: Value,
+    styles: &'e [NamedStyle],
+    entries: &'e [PlainEntry],
+    locales: &'e [Locale],
+) -> Result<String, RunError>
+    ensures { Prints result (asked_form (style_named (named_styles_view styles.now)) (entry_named entries.now) (map locale_view locales.now) (view value)) }
 {
-    let object = top_of(value)?;
+    let asked = asked_in(alloc, styles, entries, locales, &value)?;
+    drop(value);
+    print_asked(alloc, &asked)
+}
+
+#[tactic(auto, unfolding(crate::specs::Form::document_form))]
+fn print_value(alloc: Global, value: Value) -> Result<String, RunError>
+    ensures { Prints result (document_form (view value)) }
+{
+    let object = top_of(&value)?;
     let styles = styles_of(alloc, object)?;
     let locales = locales_at(alloc, object, "locales")?;
     let entries = entries_of(alloc, object)?;
-    let asked = asked_in(alloc, &styles, &entries, &locales, object)?;
-    print_asked(alloc, asked)
+    print_of(alloc, value, &styles, &entries, &locales)
 }
 
 #[tactic(auto, unfolding(crate::specs::Form::form))]
@@ -113,7 +130,7 @@ fn print_bytes(alloc: Global, bytes: &[u8]) -> Result<String, RunError>
 {
     let text = text_of(bytes)?;
     let value = value_of(alloc, text)?;
-    print_value(alloc, &value)
+    print_value(alloc, value)
 }
 
 /// Writes what the document of these bytes prints. The whole text is ready before any of it is

@@ -1,7 +1,7 @@
 -- Requests are read one after another.
 use Rattle.std.proofs.Common.{map}
 use Rattle.csl_base.specs.StyleView.{locale_view}
-use Rattle.csl_driver.specs.RequestView.{requests_view}
+use Rattle.cite_run.specs.AskedView.{asked_requests_view}
 use Rattle.cite_run.specs.Finders.{entry_in, style_in}
 use Rattle.cite_run.specs.Requests.{request_form}
 use Rattle.cite_run.proofs.Progress.{Progress}
@@ -9,4 +9,4 @@ use Rattle.cite_run.proofs.document.requests.all_requests.Given as goal
 
 abbrev pub invariant-loop-item : goal.invariant-loop-item
 invariant-loop-item l =
-    Progress (request_form (style_in l.styles) (entry_in l.entries) (map locale_view l.locales)) l.items l.item-index (requests_view l.requests.items)
+    Progress (request_form (style_in l.styles) (entry_in l.entries) (map locale_view l.locales)) l.items l.item-index (asked_requests_view (map locale_view l.locales) l.requests.items)
