@@ -1,26 +1,18 @@
 //! Reads a document from standard input, and prints its citations and its bibliography.
 //!
-//! Each citation is a line. Where the bibliography's style has a bibliography, an empty line follows,
-//! and then a line for each item: its key, a tab and its text. Where there is no answer, standard
-//! error gets one line that says why, and the exit status tells it too.
+//! Where there is no answer, standard error gets one line that says why, and the exit status tells it
+//! too.
 #![tactic(auto)]
 
-mod document;
-mod error;
-mod input;
-mod printing;
-mod running;
-#[cfg(test)]
-mod tests;
-mod words;
-
-use crate::error::RunError;
+use cite_document::error::RunError;
+use cite_document::input::read_input;
+use cite_document::running::run;
 use std::io;
 use std::process::ExitCode;
 
 fn answer(rt: &(impl Input + Print + AllocGlobal)) -> Result<(), RunError> {
-    let bytes = input::read_input(rt.alloc(), &mut rt.reader())?;
-    running::run(rt.alloc(), &bytes, &mut io::writer(rt))
+    let bytes = read_input(rt.alloc(), &mut rt.reader())?;
+    run(rt.alloc(), &bytes, &mut io::writer(rt))
 }
 
 fn main(rt: HostRuntime) -> ExitCode {

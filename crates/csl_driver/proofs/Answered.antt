@@ -3,7 +3,7 @@ use Rattle.std.proofs.Common.{◌≡◌, ℕ, suc, Bool, List, [], ◌∷◌, Op
 use Rattle.std.specs.Prelude.{All, option_map}
 use Rattle.csl_base.specs.Answers.{Answers}
 use Rattle.csl_base.specs.Style.{BibliographyValue}
-use Rattle.csl_writing.specs.Lookup.{Source}
+use Rattle.csl_lookup.specs.Lookup.{Source}
 use Rattle.csl_driver.specs.Answer.{bibliography_item, entry_properties, first_place, rendered, rendered_bibliography, rendered_citation}
 use Rattle.csl_driver.specs.CiteTree.{properties_of}
 use Rattle.csl_driver.specs.Entries.{bibliography_order, number, used_order}

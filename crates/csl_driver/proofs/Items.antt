@@ -5,8 +5,8 @@ use Rattle.std.specs.Cmp.{IsEquivalence}
 use Rattle.std.proofs.Math.ListN.{get_or-map, length-map}
 use Rattle.std.proofs.lemmas.List.{take_more, map-append}
 use Rattle.csl_base.specs.Answers.{Answers}
-use Rattle.csl_writing.specs.Lookup.{Source}
-use Rattle.csl_writing.specs.Properties.{Properties}
+use Rattle.csl_lookup.specs.Lookup.{Source}
+use Rattle.csl_lookup.specs.Properties.{Properties}
 use Rattle.csl_driver.specs.Answer.{bibliography_item}
 use Rattle.csl_driver.specs.CiteTree.{properties_of}
 use Rattle.csl_driver.specs.Entries.{place}

@@ -5,8 +5,8 @@ use Rattle.csl_base.specs.Child.{Child}
 use Rattle.csl_base.specs.Style.{BibliographyValue}
 use Rattle.csl_base.specs.Simplify.{simplified}
 use Rattle.csl_writing.specs.CiteText.{bibliography_text}
-use Rattle.csl_writing.specs.Lookup.{Source}
-use Rattle.csl_writing.specs.Properties.{Properties}
+use Rattle.csl_lookup.specs.Lookup.{Source}
+use Rattle.csl_lookup.specs.Properties.{Properties}
 use Rattle.csl_driver.specs.Assembly.{citation_tree}
 use Rattle.csl_driver.specs.CiteTree.{properties_of, cite_tree_at}
 use Rattle.csl_driver.specs.Entries.{used_order, bibliography_order, number}

@@ -3,11 +3,11 @@ use Rattle.std.specs.Prelude.{ℕ, Bool, true, false, List, Option, Some, None, 
 use Rattle.csl_base.specs.Answers.{Answers}
 use Rattle.csl_base.specs.Child.{Child}
 use Rattle.csl_writing.specs.CiteText.{cite_text, date_text}
-use Rattle.csl_writing.specs.Lookup.{Source}
-use Rattle.csl_writing.specs.NoProperties.{nothing_certain, speculated}
-use Rattle.csl_writing.specs.Properties.{LocatorValue, Properties}
-use Rattle.csl_writing.specs.declared.purpose.CitePurpose.{CitePurpose}
-use Rattle.csl_writing.specs.declared.state.IbidState.{IbidState}
+use Rattle.csl_lookup.specs.Lookup.{Source}
+use Rattle.csl_lookup.specs.NoProperties.{nothing_certain, speculated}
+use Rattle.csl_lookup.specs.Properties.{LocatorValue, Properties}
+use Rattle.csl_lookup.specs.declared.purpose.CitePurpose.{CitePurpose}
+use Rattle.csl_lookup.specs.declared.state.IbidState.{IbidState}
 use Rattle.csl_driver.specs.Request.{Cite}
 
 -- the properties of a cite that stands for itself, with this locator, number and place in its request

@@ -2,7 +2,7 @@
 use Rattle.std.specs.Prelude.{◌≡◌, ℕ, Bool, List, map, find, position, slice_get, Some, None, option_map, unwrap_or, All}
 use Rattle.csl_base.specs.Answers.{Answers}
 use Rattle.csl_base.specs.Style.{BibliographyValue}
-use Rattle.csl_writing.specs.Lookup.{Source}
+use Rattle.csl_lookup.specs.Lookup.{Source}
 use Rattle.csl_driver.specs.Answer.{bibliography_item}
 use Rattle.csl_driver.specs.CiteTree.{properties_of}
 use Rattle.csl_driver.specs.Entries.{number}

@@ -2,9 +2,9 @@
 use Rattle.std.specs.Prelude.{ℕ, ◌+◌, Bool, List, [], ◌∷◌, ◌++◌, Option, map}
 use Rattle.std.specs.List.{flat_map}
 use Rattle.csl_base.specs.Style.{StyleValue, LocaleValue}
-use Rattle.csl_writing.specs.Lookup.{Source}
-use Rattle.csl_writing.specs.Properties.{LocatorValue}
-use Rattle.csl_writing.specs.declared.purpose.CitePurpose.{CitePurpose}
+use Rattle.csl_lookup.specs.Lookup.{Source}
+use Rattle.csl_lookup.specs.Properties.{LocatorValue}
+use Rattle.csl_lookup.specs.declared.purpose.CitePurpose.{CitePurpose}
 
 -- a cite: what is cited and how, and the place that it had in its request
 pub record Cite (E P : Type 0) : Type 0 where

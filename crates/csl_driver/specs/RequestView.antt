@@ -2,7 +2,7 @@
 use Rattle.std.specs.Prelude.{List, Option, Some, None, map, option_map}
 use Rattle.std.specs.Borrow.{Bor}
 use Rattle.csl_base.specs.StyleView.{code_view, locale_view, style_view}
-use Rattle.csl_writing.specs.PropertiesView.{locator_view}
+use Rattle.csl_lookup.specs.PropertiesView.{locator_view}
 use Rattle.csl_driver.specs.declared.item.CitationItem.{CitationItem}
 use Rattle.csl_driver.specs.declared.request.BibliographyRequest.{BibliographyRequest}
 use Rattle.csl_driver.specs.declared.request.CitationRequest.{CitationRequest}

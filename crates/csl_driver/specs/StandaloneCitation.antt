@@ -3,7 +3,7 @@ use Rattle.std.specs.Prelude.{true, List, map, filter, Some, unwrap_or, codes}
 use Rattle.csl_base.specs.Answers.{Answers}
 use Rattle.csl_base.specs.Child.{Child}
 use Rattle.csl_base.specs.Tree.{has_content}
-use Rattle.csl_writing.specs.Lookup.{Source}
+use Rattle.csl_lookup.specs.Lookup.{Source}
 use Rattle.csl_driver.specs.Assembly.{shown, assembled}
 use Rattle.csl_driver.specs.CiteTree.{properties_of, cite_tree}
 use Rattle.csl_driver.specs.Request.{Cite, Request, source_of}

@@ -2,8 +2,8 @@
 ghost use Rattle.std.specs.Prelude.{◌≡◌, ◌+◌, ◌<◌, ◌^◌, IfOk, length, map, option_map};
 ghost use Rattle.csl_base.specs.Ring.{HasNoRing};
 ghost use Rattle.csl_base.specs.StyleView.{bibliography_view, style_view};
-ghost use Rattle.csl_writing.specs.PropertiesView.{properties_view};
-ghost use Rattle.csl_writing.specs.SourceView.{source_view};
+ghost use Rattle.csl_lookup.specs.PropertiesView.{properties_view};
+ghost use Rattle.csl_writing.specs.ContextSource.{context_source};
 ghost use Rattle.csl_driver.specs.Answer.{bibliography_item};
 ghost use Rattle.csl_driver.specs.Laws.{NoTwoEqual};
 ghost use Rattle.csl_driver.specs.Listed.{listed, listed_bibliography, listed_item};
@@ -33,8 +33,8 @@ fn bibliography_item<T: EntryLike, P>(
     properties: &CiteProperties<'_, P>,
     renders: &mut Renders,
 ) -> Result<BibliographyItem, AllocError>
-    requires no_ring { HasNoRing (source_view context.now).style.macros }
-    ensures { IfOk result (λ item. item ≡ bibliography_item T.answers (source_view context.now) (properties_view properties.now) entry.now) }
+    requires no_ring { HasNoRing (context_source context.now).style.macros }
+    ensures { IfOk result (λ item. item ≡ bibliography_item T.answers (context_source context.now) (properties_view properties.now) entry.now) }
 {
     let text = context.bibliography(alloc, entry, properties, None, locale, renders)?;
     let mut content = text.unwrap_or(ElemChildren::new(alloc));

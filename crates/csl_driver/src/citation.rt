@@ -3,7 +3,7 @@ ghost use Rattle.std.specs.Prelude.{◌≡◌, ◌+◌, ◌<◌, ◌^◌, ◌++�
 ghost use Rattle.csl_base.specs.ChildView.{child_view};
 ghost use Rattle.csl_base.specs.Ring.{HasNoRing};
 ghost use Rattle.csl_base.specs.StyleView.{style_view};
-ghost use Rattle.csl_writing.specs.SourceView.{source_view};
+ghost use Rattle.csl_writing.specs.ContextSource.{context_source};
 ghost use Rattle.csl_driver.specs.Answer.{numbered_tree, rendered_citation};
 ghost use Rattle.csl_driver.specs.Assembly.{citation_tree, has_no_purpose, marked, shown};
 ghost use Rattle.csl_driver.specs.CiteTree.{cite_tree_at};
@@ -46,8 +46,8 @@ fn marked_cite<T: EntryLike, P: Drop>(
     number: usize,
     renders: &mut Renders,
 ) -> Result<ElemChildren, AllocError>
-    requires no_ring { HasNoRing (source_view context.now).style.macros }
-    ensures { IfOk result (λ tree. tree ≡ marked (cite_tree_at T.answers (source_view context.now) number) (cite_view item.now)) }
+    requires no_ring { HasNoRing (context_source context.now).style.macros }
+    ensures { IfOk result (λ tree. tree ≡ marked (cite_tree_at T.answers (context_source context.now) number) (cite_view item.now)) }
 {
     let properties = cite_properties(&item.locator, number, item.initial_idx)?;
     let cite = Elem {

@@ -1,8 +1,8 @@
 //! The tree of one cite.
 ghost use Rattle.std.specs.Prelude.{◌≡◌, IfOk, option_map};
 ghost use Rattle.csl_base.specs.Ring.{HasNoRing};
-ghost use Rattle.csl_writing.specs.PropertiesView.{locator_view, properties_view};
-ghost use Rattle.csl_writing.specs.SourceView.{source_view};
+ghost use Rattle.csl_lookup.specs.PropertiesView.{locator_view, properties_view};
+ghost use Rattle.csl_writing.specs.ContextSource.{context_source};
 ghost use Rattle.csl_driver.specs.CiteTree.{cite_tree, is_for_year, properties_of};
 ghost use Rattle.csl_driver.specs.Request.{source_of, wanted_source};
 ghost use Rattle.csl_driver.specs.RequestView.{cite_view, request_view, wanted_view};
@@ -21,14 +21,14 @@ use std::alloc::{AllocError, Global};
 
 /// The style of a request, with its locales.
 pub(crate) fn request_context<'r, T, P>(request: &'r CitationRequest<'_, T, P>) -> StyleContext<'r>
-    ensures { source_view result ≡ source_of (request_view request.now) }
+    ensures { context_source result ≡ source_of (request_view request.now) }
 {
     StyleContext::new(request.style, request.locale.as_ref(), request.locale_files)
 }
 
 /// The style of a request for a bibliography, with its locales.
 pub(crate) fn wanted_context<'w, T>(wanted: &'w BibliographyRequest<'_, '_, T>) -> StyleContext<'w>
-    ensures { source_view result ≡ wanted_source (wanted_view wanted.now) }
+    ensures { context_source result ≡ wanted_source (wanted_view wanted.now) }
 {
     StyleContext::new(wanted.style, wanted.locale.as_ref(), wanted.locale_files)
 }
@@ -55,8 +55,8 @@ pub(crate) fn cite_tree<T: EntryLike, P>(
     properties: &CiteProperties<'_, P>,
     renders: &mut Renders,
 ) -> Result<ElemChildren, AllocError>
-    requires no_ring { HasNoRing (source_view context.now).style.macros }
-    ensures { IfOk result (λ tree. tree ≡ cite_tree T.answers (source_view context.now) (properties_view properties.now) (cite_view item.now)) }
+    requires no_ring { HasNoRing (context_source context.now).style.macros }
+    ensures { IfOk result (λ tree. tree ≡ cite_tree T.answers (context_source context.now) (properties_view properties.now) (cite_view item.now)) }
 {
     let item_locale = item.locale.as_ref();
     match item.purpose {

@@ -1,7 +1,7 @@
 //! A cite as it is asked for.
 ghost use Rattle.std.specs.Prelude.{◌≡◌, false, None, Some, option_map};
 ghost use Rattle.csl_base.specs.StyleView.{code_view};
-ghost use Rattle.csl_writing.specs.PropertiesView.{locator_view};
+ghost use Rattle.csl_lookup.specs.PropertiesView.{locator_view};
 ghost use Rattle.csl_driver.specs.RequestView.{cite_view};
 
 use csl_base::locale::LocaleCode;

@@ -3,7 +3,7 @@ ghost use Rattle.std.specs.Prelude.{◌≡◌, ◌++◌, ◌∷◌, [], ℕ, Som
 ghost use Rattle.csl_base.specs.ElementView.{text_view};
 ghost use Rattle.csl_base.specs.Ring.{HasNoRing};
 ghost use Rattle.csl_base.specs.StyleView.{style_view};
-ghost use Rattle.csl_writing.specs.SourceView.{source_view};
+ghost use Rattle.csl_writing.specs.ContextSource.{context_source};
 ghost use Rattle.csl_driver.specs.Request.{source_of};
 ghost use Rattle.csl_driver.specs.RequestView.{cite_view, request_view};
 ghost use Rattle.csl_driver.specs.Rings.{RefusesAlone};
@@ -30,8 +30,8 @@ fn lone_cite<T: EntryLike, P: Drop>(
     item: &CitationItem<'_, T, P>,
     renders: &mut Renders,
 ) -> Result<ElemChildren, AllocError>
-    requires no_ring { HasNoRing (source_view context.now).style.macros }
-    ensures { IfOk result (λ tree. tree ≡ lone_tree T.answers (source_view context.now) (cite_view item.now)) }
+    requires no_ring { HasNoRing (context_source context.now).style.macros }
+    ensures { IfOk result (λ tree. tree ≡ lone_tree T.answers (context_source context.now) (cite_view item.now)) }
 {
     let properties = cite_properties(&item.locator, 0, 0)?;
     cite_tree(alloc, context, locale, item, &properties, renders)

@@ -2,7 +2,7 @@
 //! by a verdict, with marks and pieces of other kinds.
 ghost use Rattle.std.specs.Prelude.{IfOk};
 ghost use Rattle.csl_base.specs.Ring.{HasNoRing};
-ghost use Rattle.csl_writing.specs.SourceView.{source_view};
+ghost use Rattle.csl_lookup.specs.SourceView.{source_view};
 
 use crate::styles::{
     author_date, authors, bibliography_of, dated, entry, layout_of, no_affixes, number, numeric,

@@ -1,6 +1,6 @@
 //! What a writing context makes of texts, quotes, elements and affixes.
 ghost use Rattle.std.specs.Prelude.{◌≡◌, IfOk, length};
-ghost use Rattle.csl_writing.specs.WritingState.{state};
+ghost use Rattle.csl_context.specs.WritingState.{state};
 
 use crate::styles::numeric;
 use csl_base::elem::{ElemChild, ElemChildren};

@@ -3,20 +3,20 @@ use Rattle.std.proofs.Common.{◌≡◌, Bool, ◌&&◌, List, [], Option, Some,
 use Rattle.std.specs.Prelude.{is_some, unwrap_or}
 use Rattle.csl_base.specs.Answers.{Answers}
 use Rattle.csl_base.specs.Child.{Child}
-use Rattle.csl_writing.specs.declared.notes.Notes.{Notes}
-use Rattle.csl_writing.specs.declared.purpose.CitePurpose.{CitePurpose}
-use Rattle.csl_writing.specs.declared.state.CollapseVerdict.{CollapseVerdict}
+use Rattle.csl_picking.specs.declared.notes.Notes.{Notes}
+use Rattle.csl_lookup.specs.declared.purpose.CitePurpose.{CitePurpose}
+use Rattle.csl_lookup.specs.declared.state.CollapseVerdict.{CollapseVerdict}
 use Rattle.csl_writing.specs.CiteText.{arranged, rendered_cite}
-use Rattle.csl_writing.specs.Env as env
-use Rattle.csl_writing.specs.Lookup.{Source, lookup}
-use Rattle.csl_writing.specs.Notes.{first_notes}
+use Rattle.csl_picking.specs.Env as env
+use Rattle.csl_lookup.specs.Lookup.{Source, lookup}
+use Rattle.csl_picking.specs.Notes.{first_notes}
 use Rattle.csl_writing.specs.Plans.{cite_plan}
-use Rattle.csl_writing.specs.Properties.{Properties}
+use Rattle.csl_lookup.specs.Properties.{Properties}
 use Rattle.csl_writing.specs.StepsWritten.{steps_written, finished, tree_of, IsCarriedOut}
 use Rattle.csl_writing.specs.Subject.{Subject, subject, cite_of}
-use Rattle.csl_writing.specs.Suffix.{suffix_of}
-use Rattle.csl_writing.specs.SuffixText.{explicit_suffix}
-use Rattle.csl_writing.specs.WritingState.{State, begun, flushed}
+use Rattle.csl_lookup.specs.States.{year_suffix}
+use Rattle.csl_picking.specs.SuffixText.{explicit_suffix}
+use Rattle.csl_context.specs.WritingState.{State, begun, flushed}
 
 -- a flushed tree is the finished one
 pub tree_finished : (a : State) (tree : List Child) → flushed a ≡ Some tree → tree ≡ finished a
@@ -44,6 +44,6 @@ cite_rendered s purpose verdict a b n tree children start done out arrangement =
 
 -- what is rendered, from its parts
 pub subject_known : {P : Type 0} (source : Source) (answers : Answers) (props : Properties P) (c : env.Cite) (writes : Bool)
-    → c ≡ cite_of props → writes ≡ (is_some (suffix_of props.speculative.disambiguation) && explicit_suffix source.style)
+    → c ≡ cite_of props → writes ≡ (is_some (year_suffix props.speculative.disambiguation) && explicit_suffix source.style)
     → (record { source = source; answers = answers; cite = c; explicit_suffix = writes }) ≡ subject source answers props
 subject_known source answers props c writes e f = λ i. record { source = source; answers = answers; cite = e i; explicit_suffix = f i }

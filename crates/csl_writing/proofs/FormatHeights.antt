@@ -7,8 +7,8 @@ use Rattle.std.specs.Option.{option_map_or}
 use Rattle.csl_base.specs.Child.{Child}
 use Rattle.csl_base.specs.declared.formatting.Formatting.{Formatting}
 use Rattle.csl_base.specs.declared.formatting.StyleFormatting.{StyleFormatting}
-use Rattle.csl_writing.specs.OpenFrames.{Frames, on_top, top}
-use Rattle.csl_writing.specs.WritingState.{State, is_saved, saved, formatted, unformatted, cut_formats, asks_nothing}
+use Rattle.csl_context.specs.OpenFrames.{Frames, on_top, top}
+use Rattle.csl_context.specs.WritingState.{State, is_saved, saved, formatted, unformatted, cut_formats, asks_nothing}
 
 pub either_has : (P : State → Type 0) (b : Bool) (x y : State) → P x → P y → P (cond b x y)
 either_has P true x y p q = p

@@ -5,21 +5,21 @@ use Rattle.csl_base.specs.Child.{Child}
 use Rattle.csl_base.specs.Element.{Affix}
 use Rattle.csl_base.specs.Style.{StyleValue, LayoutValue, BibliographyValue}
 use Rattle.csl_writing.specs.declared.cite.Cite.{Cite}
-use Rattle.csl_writing.specs.declared.notes.Form.{Form}
-use Rattle.csl_writing.specs.declared.purpose.CitePurpose.{CitePurpose}
-use Rattle.csl_writing.specs.declared.state.CollapseVerdict.{CollapseVerdict}
+use Rattle.csl_picking.specs.declared.notes.Form.{Form}
+use Rattle.csl_lookup.specs.declared.purpose.CitePurpose.{CitePurpose}
+use Rattle.csl_lookup.specs.declared.state.CollapseVerdict.{CollapseVerdict}
 pub use Rattle.csl_writing.specs.DateText.{date_text}
 use Rattle.csl_writing.specs.FirstField.{first_field_first}
-use Rattle.csl_writing.specs.Lookup.{Source, Lookup, lookup}
-use Rattle.csl_writing.specs.Notes.{first_notes}
+use Rattle.csl_lookup.specs.Lookup.{Source, Lookup, lookup}
+use Rattle.csl_picking.specs.Notes.{first_notes}
 use Rattle.csl_writing.specs.Plans.{Step, step_of, cite_plan}
-use Rattle.csl_writing.specs.Properties.{Properties}
+use Rattle.csl_lookup.specs.Properties.{Properties}
 use Rattle.csl_writing.specs.Sections.{item_section}
-use Rattle.csl_writing.specs.Steps.{term_text}
+use Rattle.csl_context.specs.Steps.{term_text}
 use Rattle.csl_writing.specs.StepsWritten.{steps_written, finished, tree_of}
 use Rattle.csl_writing.specs.Subject.{Subject, subject}
-use Rattle.csl_writing.specs.Wording.{suffixed}
-use Rattle.csl_writing.specs.WritingState.{State, begun, prefixed}
+use Rattle.csl_context.specs.Wording.{suffixed}
+use Rattle.csl_context.specs.WritingState.{State, begun, prefixed}
 
 -- the second fields of the bibliography are aligned
 abbrev pub aligns_second_field : Option BibliographyValue → Bool

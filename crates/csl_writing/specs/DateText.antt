@@ -6,9 +6,9 @@ use Rattle.csl_base.specs.Formatting.{normal}
 use Rattle.csl_base.specs.declared.entry.Date.{Date}
 use Rattle.csl_base.specs.declared.taxonomy.DateVariable.{DateVariable}
 use Rattle.csl_base.specs.declared.taxonomy.OtherTerm.{OtherTerm}
-use Rattle.csl_writing.specs.Lookup.{Source, lookup, term_of, first_answer}
-use Rattle.csl_writing.specs.Variables.{words_for}
-use Rattle.csl_writing.specs.Years.{year_text}
+use Rattle.csl_lookup.specs.Lookup.{Source, lookup, term_of, first_answer}
+use Rattle.csl_picking.specs.Variables.{words_for}
+use Rattle.csl_lookup.specs.Years.{year_text}
 
 -- the first that an entry has of the dates that stand for it
 abbrev pub date_of_entry : Answers → Option Date

@@ -3,7 +3,7 @@ use Rattle.std.specs.Prelude.{◌∷◌, ◌++◌, List, [], option_to_list}
 use Rattle.std.specs.List.{find, remove, position_or_len}
 use Rattle.csl_base.specs.Child.{Child}
 use Rattle.csl_base.specs.Metas.{child_has_any_meta}
-use Rattle.csl_writing.specs.OpenFrames.{on_last_text}
+use Rattle.csl_context.specs.OpenFrames.{on_last_text}
 
 -- a tree with a space behind its last text
 abbrev pub spaced_behind : List Child → List Child

@@ -9,12 +9,12 @@ use Rattle.csl_base.specs.declared.formatting.StyleFormatting.{StyleFormatting}
 use Rattle.csl_base.specs.declared.style.StyleCategory.{StyleCategory}
 use Rattle.csl_base.specs.declared.style.StyleCategory.TheVariants as categories
 use Rattle.csl_base.specs.declared.style.CitationFormat.{CitationFormat}
-use Rattle.csl_writing.specs.declared.notes.Form.{Form}
-use Rattle.csl_writing.specs.declared.notes.Notes.{Notes}
-use Rattle.csl_writing.specs.declared.purpose.CitePurpose.{CitePurpose}
-use Rattle.csl_writing.specs.declared.state.CollapseVerdict.{CollapseVerdict}
-use Rattle.csl_writing.specs.Pieces.{Part}
-use Rattle.csl_writing.specs.Steps.{first_is}
+use Rattle.csl_picking.specs.declared.notes.Form.{Form}
+use Rattle.csl_picking.specs.declared.notes.Notes.{Notes}
+use Rattle.csl_lookup.specs.declared.purpose.CitePurpose.{CitePurpose}
+use Rattle.csl_lookup.specs.declared.state.CollapseVerdict.{CollapseVerdict}
+use Rattle.csl_picking.specs.Pieces.{Part}
+use Rattle.csl_context.specs.Steps.{first_is}
 use Rattle.csl_writing.specs.Subject.{Subject}
 use Rattle.csl_writing.specs.Sections.{Section, citation_section, author_section, regular_section, full_section}
 

@@ -6,15 +6,15 @@ use Rattle.csl_base.specs.Style.{BibliographyValue}
 use Rattle.csl_base.specs.declared.formatting.StyleFormatting.{StyleFormatting}
 use Rattle.csl_base.specs.declared.taxonomy.NameVariable.{NameVariable}
 use Rattle.csl_base.specs.declared.taxonomy.Variable.{Variable}
-use Rattle.csl_writing.specs.declared.notes.Form.{Form}
-use Rattle.csl_writing.specs.declared.notes.Notes.{Notes}
-use Rattle.csl_writing.specs.declared.state.CollapseVerdict.{CollapseVerdict}
-use Rattle.csl_writing.specs.Conditions.{is_repeated}
-use Rattle.csl_writing.specs.Pick.{pick_layout}
-use Rattle.csl_writing.specs.Names.{author_variable}
-use Rattle.csl_writing.specs.Picked.{Picked, nothing}
-use Rattle.csl_writing.specs.Pieces.{Part}
-use Rattle.csl_writing.specs.Env.{Env}
+use Rattle.csl_picking.specs.declared.notes.Form.{Form}
+use Rattle.csl_picking.specs.declared.notes.Notes.{Notes}
+use Rattle.csl_lookup.specs.declared.state.CollapseVerdict.{CollapseVerdict}
+use Rattle.csl_picking.specs.Conditions.{is_repeated}
+use Rattle.csl_picking.specs.Pick.{pick_layout}
+use Rattle.csl_picking.specs.Names.{author_variable}
+use Rattle.csl_picking.specs.Picked.{Picked, nothing}
+use Rattle.csl_picking.specs.Pieces.{Part}
+use Rattle.csl_picking.specs.Env.{Env}
 use Rattle.csl_writing.specs.Subject.{Subject, env, as_different}
 
 -- what is picked, and the formatting in which it is written

@@ -2,13 +2,13 @@
 use Rattle.std.specs.Prelude.{◌≡◌, ◌∷◌, List, [], length, unwrap_or}
 use Rattle.csl_base.specs.Child.{Child}
 use Rattle.csl_base.specs.declared.formatting.StyleFormatting.{StyleFormatting}
-use Rattle.csl_writing.specs.declared.notes.Notes.{Notes}
-use Rattle.csl_writing.specs.Lookup.{Source, Lookup, lookup}
-use Rattle.csl_writing.specs.Pieces.{Part}
+use Rattle.csl_picking.specs.declared.notes.Notes.{Notes}
+use Rattle.csl_lookup.specs.Lookup.{Source, Lookup, lookup}
+use Rattle.csl_picking.specs.Pieces.{Part}
 use Rattle.csl_writing.specs.Plans.{Step, section_step, text_step, space_step, Plan}
-use Rattle.csl_writing.specs.Wording.{pushed}
+use Rattle.csl_context.specs.Wording.{pushed}
 use Rattle.csl_writing.specs.PartsWritten.{parts_written}
-use Rattle.csl_writing.specs.WritingState.{State, begun, formatted, unformatted, with_space, flushed}
+use Rattle.csl_context.specs.WritingState.{State, begun, formatted, unformatted, with_space, flushed}
 
 -- parts in a formatting, which holds for them alone
 abbrev pub section_written : Lookup → StyleFormatting → List Part → State → State

@@ -2,14 +2,14 @@
 use Rattle.std.specs.Prelude.{ℕ, List, Bool, Option, None, Some, option_map, is_some, ◌&&◌}
 use Rattle.csl_base.specs.Answers.{Answers}
 use Rattle.csl_base.specs.Element.{NameOptions}
-use Rattle.csl_writing.specs.declared.notes.Form.{Form}
-use Rattle.csl_writing.specs.declared.state.IbidState.{IbidState}
-use Rattle.csl_writing.specs.Lookup.{Source, lookup, term_of}
-use Rattle.csl_writing.specs.Properties.{Payload, text_payload, own_payload, LocatorValue, Properties}
-use Rattle.csl_writing.specs.Env.{CiteLocator, Cite, Env}
-use Rattle.csl_writing.specs.Options.{applied_options}
-use Rattle.csl_writing.specs.Suffix.{suffix_of}
-use Rattle.csl_writing.specs.SuffixText.{explicit_suffix}
+use Rattle.csl_picking.specs.declared.notes.Form.{Form}
+use Rattle.csl_lookup.specs.declared.state.IbidState.{IbidState}
+use Rattle.csl_lookup.specs.Lookup.{Source, lookup, term_of}
+use Rattle.csl_lookup.specs.Properties.{Payload, text_payload, own_payload, LocatorValue, Properties}
+use Rattle.csl_picking.specs.Env.{CiteLocator, Cite, Env}
+use Rattle.csl_picking.specs.Options.{applied_options}
+use Rattle.csl_lookup.specs.States.{year_suffix}
+use Rattle.csl_picking.specs.SuffixText.{explicit_suffix}
 
 pub record Subject : Type 0 where
   pub source : Source
@@ -47,7 +47,7 @@ module _ {P : Type 0} where
     source = source;
     answers = answers;
     cite = cite_of props;
-    explicit_suffix = is_some (suffix_of props.speculative.disambiguation) && explicit_suffix source.style;
+    explicit_suffix = is_some (year_suffix props.speculative.disambiguation) && explicit_suffix source.style;
   }
 
 -- what a picking reads, under these name options and in this form, and whether it is an item of the

@@ -1,5 +1,5 @@
 //! What a cite is rendered to.
-use crate::state::IdentifierUsage;
+use csl_lookup::state::IdentifierUsage;
 use csl_base::elem::ElemChildren;
 use csl_base::names::NameDisambiguationProperties;
 

@@ -1,10 +1,10 @@
 //! The date text: the year of an entry alone.
 ghost use Rattle.std.specs.Prelude.{◌≡◌, IfOk, option_map, string_bytes};
 ghost use Rattle.csl_writing.specs.DateText as text;
-ghost use Rattle.csl_writing.specs.SourceView.{source_view};
+ghost use Rattle.csl_lookup.specs.SourceView.{source_view};
 
-use crate::lookup::StyleContext;
-use crate::year::year_in_words;
+use csl_lookup::lookup::StyleLocales;
+use csl_lookup::year::year_in_words;
 use csl_base::elem::{ElemChild, ElemChildren};
 use csl_base::entry::{Date, EntryLike};
 use csl_base::formatting::Formatting;
@@ -27,33 +27,35 @@ fn date_of_entry<T: EntryLike>(entry: &T) -> Option<&Date>
     entry.resolve_date_variable(DateVariable::OriginalDate)
 }
 
-impl<'a> StyleContext<'a> {
-    // The term in its long form, or these words where no locale has it.
-    fn long_term(&self, name: OtherTerm, words: &'a str) -> &'a str
-        ensures { result.now ≡ text.long_term (source_view self.now) name words.now }
-    {
-        match self.term(None, Term::Other(name), TermForm::Long, false) {
-            Some(found) => found,
-            None => words,
-        }
+// The term in its long form, or these words where no locale has it.
+fn long_term<'a>(style: &StyleLocales<'a>, name: OtherTerm, words: &'a str) -> &'a str
+    ensures { result.now ≡ text.long_term (source_view style.now) name words.now }
+{
+    match style.term(None, Term::Other(name), TermForm::Long, false) {
+        Some(found) => found,
+        None => words,
     }
+}
 
-    // The year of the date, or what stands for it.
-    fn date_words(&self, alloc: Global, date: Option<&Date>) -> Result<String, AllocError>
-        ensures { IfOk result (λ t. string_bytes t ≡ text.date_words (source_view self.now) (option_map (λ d. d.now) date.entry)) }
-    {
-        match date {
-            Some(date) => {
-                let (after, before) = (" AD", " BC");
-                let ad: &'a str = self.long_term(OtherTerm::Ad, after);
-                let bc: &'a str = self.long_term(OtherTerm::Bc, before);
-                year_in_words(alloc, date.year, false, ad, bc)
-            }
-            None => {
-                let undated = "n.d.";
-                let words: &'a str = self.long_term(OtherTerm::NoDate, undated);
-                String::from_str(alloc, words)
-            }
+// The year of the date, or what stands for it.
+fn date_words<'a>(
+    style: &StyleLocales<'a>,
+    alloc: Global,
+    date: Option<&Date>,
+) -> Result<String, AllocError>
+    ensures { IfOk result (λ t. string_bytes t ≡ text.date_words (source_view style.now) (option_map (λ d. d.now) date.entry)) }
+{
+    match date {
+        Some(date) => {
+            let (after, before) = (" AD", " BC");
+            let ad: &'a str = long_term(style, OtherTerm::Ad, after);
+            let bc: &'a str = long_term(style, OtherTerm::Bc, before);
+            year_in_words(alloc, date.year, false, ad, bc)
+        }
+        None => {
+            let undated = "n.d.";
+            let words: &'a str = long_term(style, OtherTerm::NoDate, undated);
+            String::from_str(alloc, words)
         }
     }
 }
@@ -63,13 +65,13 @@ impl<'a> StyleContext<'a> {
 /// Fails where memory is refused.
 #[tactic(auto, unfolding(crate::specs::DateText::date_text))]
 pub(crate) fn date_text<T: EntryLike>(
-    context: &StyleContext<'_>,
+    style: &StyleLocales<'_>,
     alloc: Global,
     entry: &T,
 ) -> Result<ElemChildren, AllocError>
-    ensures { IfOk result (λ tree. tree ≡ text.date_text (source_view context.now) (T.answers entry.now)) }
+    ensures { IfOk result (λ tree. tree ≡ text.date_text (source_view style.now) (T.answers entry.now)) }
 {
-    let words = context.date_words(alloc, date_of_entry(entry))?;
+    let words = date_words(style, alloc, date_of_entry(entry))?;
     let mut tree = ElemChildren::new(alloc);
     tree.push(ElemChild::Text(Formatting::default().add_text(words)))?;
     Ok(tree)

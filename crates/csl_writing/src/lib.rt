@@ -1,38 +1,20 @@
-//! Writing of the citation driver: the properties of a cite, and what is looked up for it.
+//! Rendering of the citation driver: a cite and an item of the bibliography, picked and then written.
+//!
+//! What stands below is passed on: the small values of a cite, and the context in which it is written.
 #![tactic(auto)]
 
-pub mod brackets;
-mod choices;
+pub use csl_context::{context, text, token, writing};
+pub use csl_lookup::{brackets, laws, locator, properties, purpose, state, year};
+pub use csl_picking::picking;
+
 pub mod cite;
-pub mod context;
 pub mod counter;
 mod date;
 mod first_field;
-mod frames;
-mod held;
-mod input;
-pub mod laws;
-pub mod locator;
 pub mod lookup;
-mod name_rules;
-mod name_text;
-mod names;
-mod notes;
 mod open_node;
 mod parts;
-pub mod picking;
-mod pieces;
-pub mod properties;
-pub mod purpose;
 mod purposes;
 mod render;
 mod section;
-pub mod state;
 mod subject;
-mod suffix_text;
-pub mod text;
-pub mod token;
-mod variables;
-mod wording;
-pub mod writing;
-pub mod year;

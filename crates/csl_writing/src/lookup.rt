@@ -1,21 +1,24 @@
-//! Look-up of terms in the locales of a style (CSL 1.0.2, locale fallback).
-ghost use Rattle.std.specs.Prelude.{◌≡◌, map, option_map, option_to_list, bytes_eq};
-ghost use Rattle.std.specs.Option.{option_eq};
-ghost use Rattle.csl_base.specs.StyleView.{code_view, locale_view, style_view, term_view};
-ghost use Rattle.csl_writing.specs.Lookup as found;
-ghost use Rattle.csl_writing.specs.FirstAnswer.{Gives, FirstAnswer};
-ghost use Rattle.csl_writing.specs.SourceView.{source_view, lookup_view};
+//! A style with its locales: what a cite is written in.
+ghost use Rattle.std.specs.Prelude.{◌≡◌, map, option_map, IfOk};
+ghost use Rattle.csl_base.specs.ElementView.{options_view};
+ghost use Rattle.csl_base.specs.StyleView.{code_view, locale_view, style_view};
+ghost use Rattle.csl_lookup.specs.FirstAnswer.{Gives, FirstAnswer};
+ghost use Rattle.csl_lookup.specs.Lookup as found;
+ghost use Rattle.csl_context.specs.WritingState.{state, begun};
+ghost use Rattle.csl_writing.specs.ContextSource.{context_source};
 
-use csl_base::locale::{Locale, LocaleCode, LocalizedTerm};
+use csl_base::element::InheritableNameOptions;
+use csl_base::locale::{Locale, LocaleCode};
 use csl_base::style::IndependentStyle;
-use csl_base::taxonomy::{Locator, NumberVariable, Term, TermForm};
+use csl_context::context::{Context, begin_cite};
+use csl_lookup::lookup::StyleLocales;
+use csl_lookup::properties::CiteProperties;
+use std::alloc::{AllocError, Global};
 
 /// A style, with the locales that it is written in.
 #[derive(Clone, Copy)]
 pub struct StyleContext<'a> {
-    pub(crate) style: &'a IndependentStyle,
-    locale: Option<&'a LocaleCode>,
-    files: &'a [Locale],
+    pub(crate) locales: StyleLocales<'a>,
 }
 
 impl<'a> StyleContext<'a> {
@@ -26,26 +29,20 @@ impl<'a> StyleContext<'a> {
         locale: Option<&'a LocaleCode>,
         files: &'a [Locale],
     ) -> StyleContext<'a>
-        ensures { source_view result
+        ensures { context_source result
             ≡ record { style = style_view style.now; locale = option_map (λ code. code_view code.now) locale.entry; files = map locale_view files.now } }
     {
         StyleContext {
-            style,
-            locale,
-            files,
+            locales: StyleLocales::new(style, locale, files),
         }
     }
 
     /// The code of the locale in use: the one that was asked for, else the style's own, else
     /// `en-US`.
     pub fn locale(&self) -> &'a str
-        ensures { result.now ≡ found.locale_in_use (source_view self.now) }
+        ensures { result.now ≡ found.locale_in_use (context_source self.now) }
     {
-        match (self.locale, &self.style.default_locale) {
-            (Some(code), _) => code.0.as_str(),
-            (None, Some(code)) => code.0.as_str(),
-            (None, None) => "en-US",
-        }
+        self.locales.locale()
     }
 
     /// The first answer that the closure gives of the locales that are asked, in this order: of
@@ -55,186 +52,36 @@ impl<'a> StyleContext<'a> {
     /// takes no memory.
     pub fn lookup_locale<F: Fn(&'a Locale) -> Option<R> + Drop, R>(&self, f: F) -> Option<R>
         requires { F.IsAlwaysCallable f }
-        ensures { FirstAnswer (Gives F.Fn f) (found.asked (lookup_view self.now)) result }
+        ensures { FirstAnswer (Gives F.Fn f) (found.asked (found.lookup (context_source self.now))) result }
     {
-        match self.answer_of_own(&f) {
-            Some(answer) => Some(answer),
-            None => self.answer_of_files(&f),
-        }
-    }
-
-    // The first answer of the style's own locales.
-    fn answer_of_own<F: Fn(&'a Locale) -> Option<R>, R>(&self, f: &F) -> Option<R>
-        requires { F.IsAlwaysCallable f.now }
-        ensures { FirstAnswer (Gives F.Fn f.now) (found.asked_own (lookup_view self.now)) result }
-    {
-        let own = self.style.locale.as_slice();
-        if let Some(answer) = answer_of(own, Some(self.locale()), f) {
-            return Some(answer);
-        }
-        if let Some(answer) = answer_of(own, Some(base_language(self.locale())), f) {
-            return Some(answer);
-        }
-        answer_of(own, None, f)
-    }
-
-    // The first answer of the files.
-    fn answer_of_files<F: Fn(&'a Locale) -> Option<R>, R>(&self, f: &F) -> Option<R>
-        requires { F.IsAlwaysCallable f.now }
-        ensures { FirstAnswer (Gives F.Fn f.now) (found.asked_files (lookup_view self.now)) result }
-    {
-        if let Some(answer) = answer_of(self.files, Some(self.locale()), f) {
-            return Some(answer);
-        }
-        if let Some(dialect) = primary_dialect(self.locale()) {
-            if let Some(answer) = answer_of(self.files, Some(dialect), f) {
-                return Some(answer);
-            }
-        }
-        answer_of(self.files, Some("en-US"), f)
+        self.locales.lookup_locale(f)
     }
 
     /// Whether `.` and `,` go before a closing quote: as the first locale says that is asked and
     /// says so, else not.
     pub fn punctuation_in_quotes(&self) -> bool
-        ensures { result ≡ found.punctuation_in_quotes (lookup_view self.now) }
+        ensures { result ≡ found.punctuation_in_quotes (found.lookup (context_source self.now)) }
     {
-        self.lookup_locale(|locale| locale.punctuation_in_quote)
-            .unwrap_or(false)
+        self.locales.punctuation_in_quotes()
     }
 
-    // The first form of the term that is found, of the asked one and those that stand in for it.
-    fn found_term(&self, name: Term, form: TermForm) -> Option<&'a LocalizedTerm>
-        ensures { option_map (λ t. term_view t.now) result ≡ found.found_term (lookup_view self.now) name form }
-    {
-        for form in forms_from(form) {
-            if let Some(term) = self.term_of_form(name, *form) {
-                return Some(term);
-            }
-        }
-        None
-    }
-
-    // The term that the first locale has in this form.
-    fn term_of_form(&self, name: Term, form: TermForm) -> Option<&'a LocalizedTerm>
-        ensures { option_map (λ t. term_view t.now) result ≡ found.first_answer (found.term_in name form) (found.asked (lookup_view self.now)) }
-    {
-        self.lookup_locale(|locale| term_in(locale, name, form))
-    }
-
-    /// The term in words, for a cite whose locator counts `locator`: the first of the form, and the
-    /// forms that stand in for it, that some locale has. `None` where none has it, and where the
-    /// term that is found has no words in this number: then nothing else is asked.
-    pub(crate) fn term(
+    /// A context for a cite of this entry, in which nothing is written, under these name options.
+    ///
+    /// # Errors
+    ///
+    /// Where memory is refused.
+    pub fn ctx<T, P: Drop>(
         &self,
-        locator: Option<Locator>,
-        name: Term,
-        form: TermForm,
-        plural: bool,
-    ) -> Option<&'a str>
-        ensures { option_map (λ t. t.now) result ≡ found.term_of (lookup_view self.now) locator name form plural }
+        alloc: Global,
+        entry: &'a T,
+        properties: CiteProperties<'a, P>,
+        options: &'a InheritableNameOptions,
+    ) -> Result<Context<'a, T, P>, AllocError>
+        ensures empty { IfOk result (λ context. state context.writing ≡ begun (options_view options.now)) }
+        ensures style { IfOk result (λ context. context.style ≡ self.now.locales) }
+        ensures entry { IfOk result (λ context. context.entry.now ≡ entry.now) }
+        ensures properties { IfOk result (λ context. context.properties ≡ properties.entry) }
     {
-        let term = self.found_term(term_meant(locator, name), form)?;
-        let words = if plural { &term.multiple } else { &term.single };
-        match words {
-            Some(words) => Some(words.as_str()),
-            None => None,
-        }
-    }
-}
-
-// What the closure answers of the first locale of a language.
-fn answer_of<'a, F: Fn(&'a Locale) -> Option<R>, R>(
-    locales: &'a [Locale],
-    language: Option<&str>,
-    f: &F,
-) -> Option<R>
-    requires { F.IsAlwaysCallable f.now }
-    ensures { FirstAnswer (Gives F.Fn f.now) (option_to_list (found.locale_of (option_map (λ t. t.now) language.entry) (map locale_view locales.now))) result }
-{
-    match locale_of(locales, language) {
-        Some(locale) => f(locale),
-        None => None,
-    }
-}
-
-// The first locale of a language, or of none.
-fn locale_of<'a>(locales: &'a [Locale], language: Option<&str>) -> Option<&'a Locale>
-    ensures { option_map (λ l. locale_view l.now) result ≡ found.locale_of (option_map (λ t. t.now) language.entry) (map locale_view locales.now) }
-{
-    for locale in locales {
-        if is_language(locale, language) {
-            return Some(locale);
-        }
-    }
-    None
-}
-
-fn is_language(locale: &Locale, language: Option<&str>) -> bool
-    ensures { result ≡ option_eq bytes_eq (locale_view locale.now).lang (option_map (λ t. t.now) language.entry) }
-{
-    match (&locale.lang, language) {
-        (Some(code), Some(language)) => code.0.as_str() == language,
-        (None, None) => true,
-        _ => false,
-    }
-}
-
-// The text before the first `-`, or the whole code where there is none.
-fn base_language(code: &str) -> &str
-    ensures { result.now ≡ found.base_language code.now }
-{
-    match code.split_once('-') {
-        Some((base, _)) => base,
-        None => code,
-    }
-}
-
-// The dialect in which a dialect's words are looked up next.
-fn primary_dialect(code: &str) -> Option<&'static str>
-    ensures { option_map (λ t. t.now) result ≡ found.primary_dialect code.now }
-{
-    match code {
-        "de-AT" => Some("de-DE"),
-        "de-CH" => Some("de-DE"),
-        "en-GB" => Some("en-US"),
-        "pt-BR" => Some("pt-PT"),
-        "zh-TW" => Some("zh-CN"),
-        _ => None,
-    }
-}
-
-// A form, and then those that stand in for it (CSL 1.0.2, terms).
-fn forms_from(form: TermForm) -> &'static [TermForm]
-    ensures { result.now ≡ found.forms_from form }
-{
-    match form {
-        TermForm::Long => &[TermForm::Long],
-        TermForm::Short => &[TermForm::Short, TermForm::Long],
-        TermForm::Verb => &[TermForm::Verb, TermForm::Long],
-        TermForm::VerbShort => &[TermForm::VerbShort, TermForm::Verb, TermForm::Long],
-        TermForm::Symbol => &[TermForm::Symbol, TermForm::Short, TermForm::Long],
-    }
-}
-
-// The first term of a locale that has this name and form.
-fn term_in(locale: &Locale, name: Term, form: TermForm) -> Option<&LocalizedTerm>
-    ensures { option_map (λ t. term_view t.now) result ≡ found.term_in name form (locale_view locale.now) }
-{
-    for term in &locale.terms {
-        if term.name == name && term.form == form {
-            return Some(term);
-        }
-    }
-    None
-}
-
-// The term of what the cite's locator counts, where the locator is asked for.
-fn term_meant(locator: Option<Locator>, name: Term) -> Term
-    ensures { result ≡ found.term_meant locator name }
-{
-    match (locator, name) {
-        (Some(kind), Term::NumberVariable(NumberVariable::Locator)) => Term::Locator(kind),
-        _ => name,
+        begin_cite(alloc, &self.locales, entry, properties, options)
     }
 }

@@ -1,10 +1,10 @@
 //! A node whose parts are being written.
 ghost use Rattle.std.specs.Prelude.{◌≡◌, ◌+◌, length};
-ghost use Rattle.csl_writing.specs.PiecesView.{node_view};
-ghost use Rattle.csl_writing.specs.Steps.{term_text};
+ghost use Rattle.csl_picking.specs.PiecesView.{node_view};
+ghost use Rattle.csl_context.specs.Steps.{term_text};
 
-use crate::pieces::Node;
-use crate::token::DisplayLoc;
+use csl_picking::pieces::Node;
+use csl_context::token::DisplayLoc;
 
 /// A node whose parts are being written, and the two frames that it opened.
 #[derive(Drop)]

@@ -1,24 +1,25 @@
 //! Writing of what a layout picks.
 ghost use Rattle.std.specs.Prelude.{◌≡◌, ◌+◌, OnOk, IfOk, length, option_map, if◌then◌else◌, string_bytes, List, true, false};
 ghost use Rattle.std.specs.Fmt.{decimal};
-ghost use Rattle.csl_writing.specs.SourceView.{lookup_view};
-ghost use Rattle.csl_writing.specs.Pieces.{Part, tokens};
-ghost use Rattle.csl_writing.specs.PiecesView.{leaf_view, node_view, token_of, tokens_of};
-ghost use Rattle.csl_writing.specs.WritingState.{state};
-ghost use Rattle.csl_writing.specs.Wording.{quotes_opened, quotes_closed, pulling_if_asked, linked, joined_values};
+ghost use Rattle.csl_lookup.specs.SourceView.{lookup_view};
+ghost use Rattle.csl_picking.specs.Pieces.{Part, tokens};
+ghost use Rattle.csl_picking.specs.PiecesView.{leaf_view, node_view, token_of, tokens_of};
+ghost use Rattle.csl_context.specs.WritingState.{state};
+ghost use Rattle.csl_context.specs.Wording.{quotes_opened, quotes_closed, pulling_if_asked, linked, joined_values};
 ghost use Rattle.csl_writing.specs.PartsWritten.{leaf_written, node_begun, node_ended, delimiter_pushed, parts_written};
 ghost use Rattle.csl_writing.specs.PieceRun.{innermost, delimiter_of, separated, after_leaf, after_opening, closed_run, after_token, after_tokens};
 ghost use Rattle.csl_writing.specs.OpenNodes.{open_view, open_views, IsNested, run_of};
 
-use crate::lookup::StyleContext;
+use csl_lookup::lookup::StyleLocales;
 use crate::open_node::OpenNode;
-use crate::pieces::{Leaf, Node, Piece};
-use crate::wording::{
-    apply_suffix, joined_values, may_pull_punctuation, pop_quotes, push_chunked, push_link,
-    push_quotes, push_str, push_transparent,
+use csl_picking::pieces::{Leaf, Node, Piece};
+use csl_context::wording::{
+    allocator, apply_suffix, begin_prefix, joined_values, may_pull_punctuation, may_strip_periods,
+    pop_quotes, push_chunked, push_link, push_quotes, push_str, push_transparent,
+    stop_stripping_periods,
 };
-use crate::writing::{WritingContext, text_of};
-use crate::year::{letters_of_suffix, year_in_words};
+use csl_context::writing::{WritingContext, text_of};
+use csl_lookup::year::{letters_of_suffix, year_in_words};
 use csl_base::entry::ChunkedString;
 use std::alloc::{AllocError, Global};
 
@@ -41,7 +42,7 @@ fn suffix_of<'a>(node: &Node<'a>) -> Option<&'a str>
 }
 
 fn open_quotes(
-    style: &StyleContext<'_>,
+    style: &StyleLocales<'_>,
     writing: &mut WritingContext<'_>,
     asked: bool,
 ) -> Result<(), AllocError>
@@ -55,7 +56,7 @@ fn open_quotes(
 }
 
 fn close_quotes(
-    style: &StyleContext<'_>,
+    style: &StyleLocales<'_>,
     writing: &mut WritingContext<'_>,
     asked: bool,
 ) -> Result<(), AllocError>
@@ -72,7 +73,7 @@ fn close_quotes(
 // What comes before the parts of a node.
 #[tactic(auto, unfolding(crate::specs::PartsWritten::node_begun))]
 fn begin_node<'a>(
-    style: &StyleContext<'_>,
+    style: &StyleLocales<'_>,
     writing: &mut WritingContext<'_>,
     node: Node<'a>,
 ) -> Result<OpenNode<'a>, AllocError>
@@ -81,17 +82,17 @@ fn begin_node<'a>(
     ensures frame { IfOk result (λ begun. begun.prefix.0.frames ≡ length (state writing.old).frames) }
     ensures height { OnOk result (length (state writing.new).frames ≡ length (state writing.old).frames + 2) }
 {
-    let prefix = writing.begin_prefix(prefix_of(&node))?;
+    let prefix = begin_prefix(writing, prefix_of(&node))?;
     let elem = writing.push_elem(node.formatting)?;
     open_quotes(style, writing, node.quotes)?;
-    writing.may_strip_periods(node.strip_periods);
+    may_strip_periods(writing, node.strip_periods);
     Ok(OpenNode { node, prefix, elem })
 }
 
 // What comes behind the parts of a node.
 #[tactic(auto, unfolding(crate::specs::PartsWritten::node_ended))]
 fn end_node(
-    style: &StyleContext<'_>,
+    style: &StyleLocales<'_>,
     writing: &mut WritingContext<'_>,
     ended: OpenNode<'_>,
 ) -> Result<(), AllocError>
@@ -102,7 +103,7 @@ fn end_node(
     let OpenNode { node, prefix, elem } = ended;
     let suffix = suffix_of(&node);
     if node.strip_periods {
-        writing.stop_stripping_periods();
+        stop_stripping_periods(writing);
     }
     close_quotes(style, writing, node.quotes)?;
     writing.commit_elem(elem, node.display, node.meta)?;
@@ -123,20 +124,20 @@ fn push_link_to_itself(
     ensures done { OnOk result (state writing.new ≡ linked text.now.0 (joined_values text.now.0) (state writing.old)) }
     ensures height { length (state writing.new).frames ≡ length (state writing.old).frames }
 {
-    let url = joined_values(writing.alloc(), text)?;
+    let url = joined_values(allocator(writing), text)?;
     push_link(writing, text, url)
 }
 
 #[tactic(auto, unfolding(crate::specs::PartsWritten::leaf_written))]
 fn push_leaf(
-    style: &StyleContext<'_>,
+    style: &StyleLocales<'_>,
     writing: &mut WritingContext<'_>,
     leaf: &Leaf<'_>,
 ) -> Result<(), AllocError>
     ensures done { OnOk result (state writing.new ≡ leaf_written (lookup_view style.now) (leaf_view leaf.now) (state writing.old)) }
     ensures height { length (state writing.new).frames ≡ length (state writing.old).frames }
 {
-    let alloc = writing.alloc();
+    let alloc = allocator(writing);
     match leaf {
         Leaf::Text(text) => push_str(style, writing, text),
         Leaf::Owned(text) => push_str(style, writing, text.as_str()),
@@ -160,7 +161,7 @@ fn push_leaf(
 
 #[tactic(auto, unfolding(crate::specs::PartsWritten::delimiter_pushed))]
 fn push_delimiter(
-    style: &StyleContext<'_>,
+    style: &StyleLocales<'_>,
     writing: &mut WritingContext<'_>,
     delimiter: Option<&str>,
 ) -> Result<(), AllocError>
@@ -186,7 +187,7 @@ fn innermost_delimiter<'a>(nodes: &[OpenNode<'a>]) -> Option<&'a str>
 // Writes the delimiter of the innermost node, where a part stands before.
 #[tactic(auto, unfolding(crate::specs::PieceRun::separated, crate::specs::PartsWritten::delimiter_pushed))]
 fn separate(
-    style: &StyleContext<'_>,
+    style: &StyleLocales<'_>,
     writing: &mut WritingContext<'_>,
     nodes: &[OpenNode<'_>],
     after_part: bool,
@@ -202,7 +203,7 @@ fn separate(
 
 #[tactic(auto, unfolding(crate::specs::PieceRun::after_leaf))]
 fn write_leaf(
-    style: &StyleContext<'_>,
+    style: &StyleLocales<'_>,
     writing: &mut WritingContext<'_>,
     nodes: &[OpenNode<'_>],
     after_part: bool,
@@ -217,7 +218,7 @@ fn write_leaf(
 
 #[tactic(auto, unfolding(crate::specs::PieceRun::after_opening))]
 fn open_node<'a>(
-    style: &StyleContext<'_>,
+    style: &StyleLocales<'_>,
     writing: &mut WritingContext<'_>,
     nodes: &mut Vec<OpenNode<'a>>,
     after_part: bool,
@@ -236,7 +237,7 @@ fn open_node<'a>(
 // A closing without an opening writes nothing.
 #[tactic(auto, unfolding(crate::specs::PieceRun::closed_run))]
 fn close_node(
-    style: &StyleContext<'_>,
+    style: &StyleLocales<'_>,
     writing: &mut WritingContext<'_>,
     nodes: &mut Vec<OpenNode<'_>>,
     after_part: bool,
@@ -254,7 +255,7 @@ fn close_node(
 // Writes one piece. Tells whether it ends a part of the innermost node.
 #[tactic(auto, unfolding(crate::specs::PieceRun::after_token))]
 fn write_piece<'a>(
-    style: &StyleContext<'_>,
+    style: &StyleLocales<'_>,
     writing: &mut WritingContext<'_>,
     nodes: &mut Vec<OpenNode<'a>>,
     after_part: bool,
@@ -282,7 +283,7 @@ fn write_piece<'a>(
 
 // Writes the pieces one behind the other. Tells whether they end a part of the innermost node.
 fn write_all<'a>(
-    style: &StyleContext<'_>,
+    style: &StyleLocales<'_>,
     writing: &mut WritingContext<'_>,
     nodes: &mut Vec<OpenNode<'a>>,
     pieces: Vec<Piece<'a>>,
@@ -303,13 +304,13 @@ fn write_all<'a>(
 ///
 /// Where memory is refused.
 pub(crate) fn write_pieces<'a>(
-    style: &StyleContext<'_>,
+    style: &StyleLocales<'_>,
     writing: &mut WritingContext<'_>,
     pieces: Vec<Piece<'a>>,
 ) -> Result<(), AllocError>
     ensures { (parts : List Part) → tokens_of pieces.entry.items ≡ tokens parts → OnOk result (state writing.new ≡ parts_written (lookup_view style.now) parts (state writing.old)) }
 {
-    let mut nodes = Vec::new(writing.alloc());
+    let mut nodes = Vec::new(allocator(writing));
     write_all(style, writing, &mut nodes, pieces)?;
     Ok(())
 }

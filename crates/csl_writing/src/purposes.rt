@@ -2,32 +2,32 @@
 ghost use Rattle.std.specs.Prelude.{◌≡◌, IfOk, OnOk, OnErr, length};
 ghost use Rattle.csl_base.specs.ElementView.{text_view};
 ghost use Rattle.csl_base.specs.StyleView.{layout_view, style_view};
-ghost use Rattle.csl_writing.specs.Notes.{first_notes};
+ghost use Rattle.csl_picking.specs.Notes.{first_notes};
 ghost use Rattle.csl_writing.specs.Plans as plans;
 ghost use Rattle.csl_writing.specs.SectionView.{IsSection};
 ghost use Rattle.csl_writing.specs.Sections as sections;
-ghost use Rattle.csl_writing.specs.SourceView.{lookup_view};
+ghost use Rattle.csl_lookup.specs.SourceView.{lookup_view};
 ghost use Rattle.csl_writing.specs.StepsWritten.{IsCarriedOut, IsWritten};
 ghost use Rattle.csl_writing.specs.SubjectView.{subject_view};
-ghost use Rattle.csl_writing.specs.WritingState.{state};
+ghost use Rattle.csl_context.specs.WritingState.{state};
 
-use crate::held::Picking;
-use crate::lookup::StyleContext;
-use crate::notes::{Form, Notes};
+use csl_picking::held::Picking;
+use csl_lookup::lookup::StyleLocales;
+use csl_picking::notes::{Form, Notes};
 use crate::parts::write_pieces;
-use crate::purpose::CitePurpose;
+use csl_lookup::purpose::CitePurpose;
 use crate::section::{Section, first_notes, names_alone};
-use crate::state::CollapseVerdict;
+use csl_lookup::state::CollapseVerdict;
 use crate::subject::Subject;
-use crate::wording::push_str;
-use crate::writing::WritingContext;
+use csl_context::wording::push_str;
+use csl_context::writing::WritingContext;
 use csl_base::entry::EntryLike;
 use csl_base::style::{CitationFormat, IndependentStyle, Layout, StyleCategory};
 use std::alloc::{AllocError, Global};
 
 /// Writes a section in its formatting, and hands its notes on.
 pub(crate) fn write_section(
-    style: &StyleContext<'_>,
+    style: &StyleLocales<'_>,
     writing: &mut WritingContext<'_>,
     section: Section<'_>,
 ) -> Result<Notes, AllocError>
@@ -75,7 +75,7 @@ fn opens_with_space(text: &Option<String>) -> bool
 
 /// A space between the author and the rest, unless the layout's prefix begins with one.
 fn write_gap(
-    style: &StyleContext<'_>,
+    style: &StyleLocales<'_>,
     writing: &mut WritingContext<'_>,
     layout: &Layout,
 ) -> Result<(), AllocError>
@@ -90,7 +90,7 @@ fn write_gap(
 /// What encloses the rest on one side: the layout's own affix, else the bracket, but where cites
 /// are labels or numbers.
 fn write_enclosing(
-    style: &StyleContext<'_>,
+    style: &StyleLocales<'_>,
     writing: &mut WritingContext<'_>,
     affix: &Option<String>,
     bracket: &str,

@@ -4,28 +4,28 @@ ghost use Rattle.csl_base.specs.Ring.{HasNoRing};
 ghost use Rattle.csl_base.specs.StyleView.{bibliography_view, style_view};
 ghost use Rattle.csl_writing.specs.CiteText as rendered;
 ghost use Rattle.csl_writing.specs.Counted.{counted};
-ghost use Rattle.csl_writing.specs.PropertiesView.{properties_view};
-ghost use Rattle.csl_writing.specs.SourceView.{source_view};
+ghost use Rattle.csl_lookup.specs.PropertiesView.{properties_view};
+ghost use Rattle.csl_writing.specs.ContextSource.{context_source};
 ghost use Rattle.csl_writing.specs.Subject as plain;
 ghost use Rattle.csl_writing.specs.SubjectView.{subject_view};
-ghost use Rattle.csl_writing.specs.Suffix.{suffix_of};
-ghost use Rattle.csl_writing.specs.SuffixText as suffixes;
+ghost use Rattle.csl_lookup.specs.States.{year_suffix};
+ghost use Rattle.csl_picking.specs.SuffixText as suffixes;
 
 use crate::cite::Cite;
 use crate::counter::Renders;
 use crate::date::date_text;
 use crate::first_field::put_first_field_first;
 use crate::lookup::StyleContext;
-use crate::notes::Form;
-use crate::properties::CiteProperties;
-use crate::purpose::CitePurpose;
+use csl_picking::notes::Form;
+use csl_lookup::properties::CiteProperties;
+use csl_lookup::purpose::CitePurpose;
 use crate::purposes::write_section;
 use crate::section::first_notes;
-use crate::state::{CollapseVerdict, DisambiguateState};
+use csl_lookup::state::{CollapseVerdict, DisambiguateState};
 use crate::subject::{Subject, cite_facts};
-use crate::suffix_text::explicit_suffix;
-use crate::wording::apply_suffix;
-use crate::writing::{WritingContext, text_of};
+use csl_picking::suffix_text::explicit_suffix;
+use csl_context::wording::{apply_suffix, begin_prefix};
+use csl_context::writing::{WritingContext, text_of};
 use csl_base::elem::ElemChildren;
 use csl_base::entry::EntryLike;
 use csl_base::locale::LocaleCode;
@@ -100,7 +100,7 @@ fn render_item<'a, T: EntryLike>(
     let before = text_of(&layout.prefix);
     let behind = text_of(&layout.suffix);
     let mut writing = WritingContext::new(alloc, &style.style.settings.options)?;
-    let prefix = writing.begin_prefix(before)?;
+    let prefix = begin_prefix(&mut writing, before)?;
     let _noted = write_section(style, &mut writing, section)?;
     apply_suffix(style, &mut writing, behind, prefix)?;
     let tree = writing.flush()?;
@@ -110,11 +110,11 @@ fn render_item<'a, T: EntryLike>(
 impl<'a> StyleContext<'a> {
     // Whether the cite has a year suffix, and a text that writes it stands in a layout of the style.
     fn writes_suffix(&self, alloc: Global, state: &DisambiguateState) -> Result<bool, AllocError>
-        requires { HasNoRing (source_view self.now).style.macros }
-        ensures { IfOk result (λ b. b ≡ (is_some (suffix_of state.now) && suffixes.explicit_suffix (source_view self.now).style)) }
+        requires { HasNoRing (context_source self.now).style.macros }
+        ensures { IfOk result (λ b. b ≡ (is_some (year_suffix state.now) && suffixes.explicit_suffix (context_source self.now).style)) }
     {
         match state {
-            DisambiguateState::YearSuffix(_) => explicit_suffix(alloc, self.style),
+            DisambiguateState::YearSuffix(_) => explicit_suffix(alloc, self.locales.style),
             DisambiguateState::None => Ok(false),
             DisambiguateState::NameDisambiguation(_) => Ok(false),
             DisambiguateState::Choose => Ok(false),
@@ -131,13 +131,13 @@ impl<'a> StyleContext<'a> {
         purpose: Option<CitePurpose>,
         verdict: Option<CollapseVerdict>,
     ) -> Result<Cite, AllocError>
-        requires { HasNoRing (source_view self.now).style.macros }
-        ensures { IfOk result (λ c. c ≡ rendered.cite (source_view self.now) (T.answers entry.now) (properties_view props.now) purpose verdict) }
+        requires { HasNoRing (context_source self.now).style.macros }
+        ensures { IfOk result (λ c. c ≡ rendered.cite (context_source self.now) (T.answers entry.now) (properties_view props.now) purpose verdict) }
     {
         let writes = self.writes_suffix(alloc, &props.speculative.disambiguation)?;
         let subject = Subject {
             entry,
-            context: *self,
+            context: self.locales,
             cite: cite_facts(props),
             explicit_suffix: writes,
         };
@@ -168,8 +168,8 @@ impl<'a> StyleContext<'a> {
         verdict: Option<CollapseVerdict>,
         renders: &mut Renders,
     ) -> Result<Cite, AllocError>
-        requires { HasNoRing (source_view self.now).style.macros }
-        ensures cite { IfOk result (λ c. c ≡ rendered.cite (source_view self.now) (T.answers entry.now) (properties_view props.now) purpose verdict) }
+        requires { HasNoRing (context_source self.now).style.macros }
+        ensures cite { IfOk result (λ c. c ≡ rendered.cite (context_source self.now) (T.answers entry.now) (properties_view props.now) purpose verdict) }
         ensures count { renders.new ≡ counted renders.old }
     {
         renders.add_one();
@@ -194,8 +194,8 @@ impl<'a> StyleContext<'a> {
         verdict: Option<CollapseVerdict>,
         renders: &mut Renders,
     ) -> Result<ElemChildren, AllocError>
-        requires { HasNoRing (source_view self.now).style.macros }
-        ensures cite { IfOk result (λ tree. tree ≡ rendered.cite_text (source_view self.now) (T.answers entry.now) (properties_view props.now) purpose verdict) }
+        requires { HasNoRing (context_source self.now).style.macros }
+        ensures cite { IfOk result (λ tree. tree ≡ rendered.cite_text (context_source self.now) (T.answers entry.now) (properties_view props.now) purpose verdict) }
         ensures count { renders.new ≡ counted renders.old }
     {
         renders.add_one();
@@ -220,11 +220,11 @@ impl<'a> StyleContext<'a> {
         _term_locale: Option<&LocaleCode>,
         renders: &mut Renders,
     ) -> Result<ElemChildren, AllocError>
-        ensures date { IfOk result (λ tree. tree ≡ rendered.date_text (source_view self.now) (T.answers entry.now)) }
+        ensures date { IfOk result (λ tree. tree ≡ rendered.date_text (context_source self.now) (T.answers entry.now)) }
         ensures count { renders.new ≡ counted renders.old }
     {
         renders.add_one();
-        date_text(self, alloc, entry)
+        date_text(&self.locales, alloc, entry)
     }
 
     // An item of this bibliography.
@@ -235,13 +235,13 @@ impl<'a> StyleContext<'a> {
         props: &CiteProperties<'_, P>,
         bibliography: &Bibliography,
     ) -> Result<ElemChildren, AllocError>
-        requires { HasNoRing (source_view self.now).style.macros }
-        ensures { IfOk result (λ tree. tree ≡ rendered.rendered_item (plain.subject (source_view self.now) (T.answers entry.now) (properties_view props.now)) (bibliography_view bibliography.now)) }
+        requires { HasNoRing (context_source self.now).style.macros }
+        ensures { IfOk result (λ tree. tree ≡ rendered.rendered_item (plain.subject (context_source self.now) (T.answers entry.now) (properties_view props.now)) (bibliography_view bibliography.now)) }
     {
         let writes = self.writes_suffix(alloc, &props.speculative.disambiguation)?;
         let subject = Subject {
             entry,
-            context: *self,
+            context: self.locales,
             cite: cite_facts(props),
             explicit_suffix: writes,
         };
@@ -256,10 +256,10 @@ impl<'a> StyleContext<'a> {
         entry: &T,
         props: &CiteProperties<'_, P>,
     ) -> Result<Option<ElemChildren>, AllocError>
-        requires { HasNoRing (source_view self.now).style.macros }
-        ensures { IfOk result (λ item. item ≡ rendered.bibliography_text (source_view self.now) (T.answers entry.now) (properties_view props.now)) }
+        requires { HasNoRing (context_source self.now).style.macros }
+        ensures { IfOk result (λ item. item ≡ rendered.bibliography_text (context_source self.now) (T.answers entry.now) (properties_view props.now)) }
     {
-        match &self.style.bibliography {
+        match &self.locales.style.bibliography {
             Some(bibliography) => {
                 let tree = self.item_of(alloc, entry, props, bibliography)?;
                 Ok(Some(tree))
@@ -287,8 +287,8 @@ impl<'a> StyleContext<'a> {
         _term_locale: Option<&LocaleCode>,
         renders: &mut Renders,
     ) -> Result<Option<ElemChildren>, AllocError>
-        requires { HasNoRing (source_view self.now).style.macros }
-        ensures item { IfOk result (λ item. item ≡ rendered.bibliography_text (source_view self.now) (T.answers entry.now) (properties_view props.now)) }
+        requires { HasNoRing (context_source self.now).style.macros }
+        ensures item { IfOk result (λ item. item ≡ rendered.bibliography_text (context_source self.now) (T.answers entry.now) (properties_view props.now)) }
         ensures count { renders.new ≡ counted renders.old }
     {
         renders.add_one();

@@ -2,19 +2,19 @@
 ghost use Rattle.std.specs.Prelude.{◌≡◌, IfOk};
 ghost use Rattle.csl_base.specs.ElementView.{elements_view};
 ghost use Rattle.csl_base.specs.StyleView.{bibliography_view};
-ghost use Rattle.csl_writing.specs.Conditions.{is_repeated};
-ghost use Rattle.csl_writing.specs.InputView.{env_of, macros_of};
-ghost use Rattle.csl_writing.specs.Notes.{first_notes};
+ghost use Rattle.csl_picking.specs.Conditions.{is_repeated};
+ghost use Rattle.csl_picking.specs.InputView.{env_of, macros_of};
+ghost use Rattle.csl_picking.specs.Notes.{first_notes};
 ghost use Rattle.csl_writing.specs.SectionView.{IsSection};
 ghost use Rattle.csl_writing.specs.Sections as sections;
 ghost use Rattle.csl_writing.specs.SubjectView.{subject_view};
 
-use crate::held::Picking;
-use crate::input::Input;
-use crate::names::author_variable;
-use crate::notes::{Called, Form, Notes, Suppressed};
-use crate::picking::pick_layout;
-use crate::state::{CollapseVerdict, IbidState, IdentifierUsage};
+use csl_picking::held::Picking;
+use csl_picking::input::Input;
+use csl_picking::names::author_variable;
+use csl_picking::notes::{Called, Form, Notes, Suppressed};
+use csl_picking::picking::pick_layout;
+use csl_lookup::state::{CollapseVerdict, IbidState, IdentifierUsage};
 use crate::subject::Subject;
 use csl_base::element::{Affixes, InheritableNameOptions, LayoutRenderingElement};
 use csl_base::entry::EntryLike;

@@ -2,18 +2,18 @@
 ghost use Rattle.std.specs.Prelude.{◌≡◌, IfOk};
 ghost use Rattle.csl_base.specs.ElementView.{options_view};
 ghost use Rattle.csl_base.specs.StyleView.{style_view};
-ghost use Rattle.csl_writing.specs.InputView as input;
-ghost use Rattle.csl_writing.specs.PropertiesView.{locator_view, properties_view};
-ghost use Rattle.csl_writing.specs.SourceView.{source_view};
+ghost use Rattle.csl_picking.specs.InputView as input;
+ghost use Rattle.csl_lookup.specs.PropertiesView.{locator_view, properties_view};
+ghost use Rattle.csl_lookup.specs.SourceView.{source_view};
 ghost use Rattle.csl_writing.specs.Subject as plain;
 ghost use Rattle.csl_writing.specs.SubjectView.{subject_view};
 
-use crate::input::{CiteFacts, Input, LocatorFacts, Setting};
-use crate::locator::{LocatorPayload, SpecificLocator};
-use crate::lookup::StyleContext;
-use crate::notes::Form;
-use crate::properties::CiteProperties;
-use crate::state::IbidState;
+use csl_picking::input::{CiteFacts, Input, LocatorFacts, Setting};
+use csl_lookup::locator::{LocatorPayload, SpecificLocator};
+use csl_lookup::lookup::StyleLocales;
+use csl_picking::notes::Form;
+use csl_lookup::properties::CiteProperties;
+use csl_lookup::state::IbidState;
 use csl_base::element::InheritableNameOptions;
 use csl_base::entry::EntryLike;
 
@@ -55,7 +55,7 @@ pub(crate) fn cite_facts<'a, P>(props: &'a CiteProperties<'_, P>) -> CiteFacts<'
 #[derive(Drop)]
 pub(crate) struct Subject<'a, T> {
     pub(crate) entry: &'a T,
-    pub(crate) context: StyleContext<'a>,
+    pub(crate) context: StyleLocales<'a>,
     pub(crate) cite: CiteFacts<'a>,
     /// Whether a year-suffix text stands in a layout of the style.
     pub(crate) explicit_suffix: bool,

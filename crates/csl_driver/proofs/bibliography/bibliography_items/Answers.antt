@@ -1,6 +1,6 @@
 use Rattle.std.proofs.Common.{ap, get_or, length, subst, sym, ◌<◌, ◌∙◌}
 use Rattle.csl_base.specs.Ring.{HasNoRing}
-use Rattle.csl_writing.specs.Lookup.{Source}
+use Rattle.csl_lookup.specs.Lookup.{Source}
 use Rattle.csl_driver.proofs.Items.{items-more}
 use Rattle.csl_driver.proofs.bibliography.bibliography_items.Goals as goal
 

@@ -1,6 +1,6 @@
 use Rattle.std.proofs.Common.{subst, sym}
 use Rattle.csl_base.specs.Ring.{HasNoRing}
-use Rattle.csl_writing.specs.Lookup.{Source}
+use Rattle.csl_lookup.specs.Lookup.{Source}
 use Rattle.csl_driver.proofs.standalone.lone_cites.Goals as goal
 
 pub lone_cite-requires : goal.lone_cite-requires

@@ -2,14 +2,14 @@ use Rattle.std.proofs.Common.{◌≡◌, subst}
 use Rattle.std.specs.Prelude.{IfOk}
 use Rattle.csl_base.specs.StyleView.{bibliography_view}
 use Rattle.csl_writing.specs.CiteText.{rendered_item}
-use Rattle.csl_writing.specs.InputView.{cite_facts}
-use Rattle.csl_writing.specs.PropertiesView.{properties_view}
-use Rattle.csl_writing.specs.SourceView.{source_view}
+use Rattle.csl_picking.specs.InputView.{cite_facts}
+use Rattle.csl_lookup.specs.PropertiesView.{properties_view}
+use Rattle.csl_lookup.specs.SourceView.{source_view}
 use Rattle.csl_writing.proofs.CiteSteps.{subject_known}
 use Rattle.csl_writing.proofs.lookup.StyleContext.item_of.Goals as goal
 
 pub returns : goal.returns
 returns g c =
     subst (λ s. IfOk c.render_item.result (λ t. t ≡ rendered_item s (bibliography_view c.args.bibliography.now)))
-    (subject_known (source_view c.args.self.now) (g.T.EntryLike.answers c.args.entry.now) (properties_view c.args.props.now) (cite_facts c.cite_facts.result) c.in_ok-writes.writes c.cite_facts.ensures c.in_ok-writes.ensures)
+    (subject_known (source_view c.args.self.now.locales) (g.T.EntryLike.answers c.args.entry.now) (properties_view c.args.props.now) (cite_facts c.cite_facts.result) c.in_ok-writes.writes c.cite_facts.ensures c.in_ok-writes.ensures)
     c.render_item.ensures

@@ -1,0 +1,58 @@
+-- What a run prints, and why it prints nothing.
+use Rattle.std.specs.Prelude.{◌≡◌, ℕ, ◌+◌, ◌<◌, ◌^◌, Bool, List, length, map, Option, Some, None, Result, Ok, Err, String, string_bytes}
+use Rattle.std.specs.declared.alloc.Global.{Global}
+use Rattle.std.specs.declared.convert.Infallible.{Infallible}
+use Rattle.csl_base.specs.PlainEntry.{plain_answers}
+use Rattle.csl_base.specs.declared.entry.PlainEntry.{PlainEntry}
+use Rattle.csl_base.specs.contracts.entry.PlainEntryPartialEq.TheImpl as plain_entry_eq
+use Rattle.csl_driver.specs.Answer.{rendered}
+use Rattle.csl_driver.specs.Entries.{distinct}
+use Rattle.csl_driver.specs.Request.{Request, Wanted, cited, with_places}
+use Rattle.csl_driver.specs.Rings.{NoRingAtAll, IsFirstRingOf, Overflows}
+use Rattle.csl_driver.specs.declared.error.RingPlace.{RingPlace}
+use Rattle.csl_driver.specs.declared.rendered.Rendered.{Rendered}
+use Rattle.cite_document.specs.Form.{Document}
+use Rattle.cite_document.specs.Print.{print}
+use Rattle.cite_document.specs.declared.error.RunError.{RunError}
+use Rattle.cite_document.specs.declared.error.RunError.TheVariants as errors
+
+-- whether two entries are equal, by their derived test
+abbrev pub same_entry : PlainEntry → PlainEntry → Bool
+same_entry = (plain_entry_eq.ghosts).eq
+
+-- requests as the driver keeps them
+abbrev pub accepted : List (Request PlainEntry Infallible) → List (Request PlainEntry Infallible)
+accepted = map with_places
+
+-- the bibliography that a document asks for
+abbrev pub wanted_of : Document → Wanted PlainEntry
+wanted_of d = record { style = d.style; locale = d.locale; locales = d.locales; order = d.order }
+
+-- the whole answer to a document
+abbrev pub answer : Document → Rendered
+answer d = rendered same_entry plain_answers (wanted_of d) (accepted d.requests) d.offset
+
+-- the first ring of a document's styles: the style's place, and that of its first macro on a ring
+abbrev pub HasFirstRing : RingPlace → ℕ → Document → Type 0
+HasFirstRing place i d = IsFirstRingOf (accepted d.requests) d.style place i
+
+-- no style of a document has a ring, and its numbers are not above the greatest usize
+abbrev pub HasAnswer : Document → Type 0
+HasAnswer d = NoRingAtAll (accepted d.requests) d.style × (d.offset + length (distinct same_entry (cited (accepted d.requests))) < 2 ^ 64)
+
+-- no style of a document has a ring, and its numbers are above the greatest usize
+abbrev pub HasTooLargeNumbers : Document → Type 0
+HasTooLargeNumbers d = NoRingAtAll (accepted d.requests) d.style × Overflows same_entry (accepted d.requests) d.offset
+
+-- there is a document, and it is such
+abbrev pub IsDocumentThat : Option Document → (Document → Type 0) → Type 0
+IsDocumentThat read Such = (d : Document) × (read ≡ Some d) × Such d
+
+-- the text that a run made, or why it made none, where the form gives this document, or none
+abbrev pub Prints : Result (String Global) RunError → Option Document → Type 0
+Prints (Ok text) read = IsDocumentThat read (λ d. HasAnswer d × (string_bytes text ≡ print (answer d)))
+Prints (Err errors.Document) read = read ≡ None
+Prints (Err (errors.MacroRing place i)) read = IsDocumentThat read (HasFirstRing place i)
+Prints (Err errors.NumberOverflow) read = IsDocumentThat read HasTooLargeNumbers
+Prints (Err errors.OutOfMemory) read = Unit {0}
+Prints (Err errors.Output) read = ⊥

@@ -1,0 +1,15 @@
+//! Documents of the program: read, answered and printed.
+//!
+//! A document is JSON: styles, locales, entries, requests and a bibliography. Its answer is text: each
+//! citation is a line. Where the bibliography's style has a bibliography, an empty line follows, and
+//! then a line for each item: its key, a tab and its text.
+#![tactic(auto)]
+
+mod document;
+pub mod error;
+pub mod input;
+mod printing;
+pub mod running;
+#[cfg(test)]
+mod tests;
+mod words;

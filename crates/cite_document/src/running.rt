@@ -1,0 +1,159 @@
+//! The program's work, over any writer.
+ghost use Rattle.std.specs.Prelude.{◌≡◌, ◌++◌, ℕ, None, Some, map, option_map, OnOk, IfOk, IfErr, IsErrOf};
+ghost use Rattle.std.specs.Io.KnownBytes.{Appends, Keeps};
+ghost use Rattle.serde_json.specs.View.{view};
+ghost use Rattle.csl_base.specs.StyleView.{locale_view};
+ghost use Rattle.csl_driver.specs.DriverView.{driver_view};
+ghost use Rattle.csl_driver.specs.RequestView.{entries_view, order_view};
+ghost use Rattle.csl_driver.specs.declared.error.RingPlace.{RingPlace};
+ghost use Rattle.cite_document.specs.AskedView.{asked_requests_view};
+ghost use Rattle.cite_document.specs.DocumentView.{document_view};
+ghost use Rattle.cite_document.specs.Form.{asked_form, form, document_form};
+ghost use Rattle.cite_document.specs.Entries.{entry_named};
+ghost use Rattle.cite_document.specs.NamedStyleView.{named_styles_view};
+ghost use Rattle.cite_document.specs.Print.{print};
+ghost use Rattle.cite_document.specs.Styles.{style_named};
+ghost use Rattle.cite_document.specs.Run.{accepted, answer, HasAnswer, HasFirstRing, HasTooLargeNumbers, IsDocumentThat, Prints};
+
+use crate::document::{
+    Asked, AskedRequest, NamedStyle, asked_in, copied_code, driver_request, entries_of, locales_at,
+    styles_of, text_of, top_of, value_of,
+};
+use crate::error::RunError;
+use crate::printing::print_rendered;
+use csl_base::entry::PlainEntry;
+use csl_base::locale::Locale;
+use csl_driver::driver::BibliographyDriver;
+use csl_driver::error::DriverError;
+use csl_driver::request::{BibliographyRequest, Order};
+use serde_json::Value;
+use std::alloc::Global;
+use std::convert::Infallible;
+use std::io::Write;
+
+fn add_all<'e>(
+    alloc: Global,
+    driver: &mut BibliographyDriver<'e, PlainEntry, Infallible>,
+    requests: &'e [AskedRequest<'_>],
+    locales: &'e [Locale],
+) -> Result<(), RunError>
+    ensures added { OnOk result
+        (driver_view driver.new ≡ record (driver_view driver.old) { requests = (driver_view driver.old).requests ++ accepted (asked_requests_view (map locale_view locales.now) requests.now) }) }
+    ensures memory { IfErr result (λ e. e ≡ RunError.OutOfMemory) }
+{
+    for request in requests {
+        if driver
+            .citation(driver_request(alloc, request, locales)?)
+            .is_err()
+        {
+            return Err(RunError::OutOfMemory);
+        }
+    }
+    Ok(())
+}
+
+/// A driver that has taken these requests, in their order.
+fn filled_driver<'e>(
+    alloc: Global,
+    requests: &'e [AskedRequest<'_>],
+    locales: &'e [Locale],
+    offset: usize,
+) -> Result<BibliographyDriver<'e, PlainEntry, Infallible>, RunError>
+    ensures filled { IfOk result (λ d. driver_view d ≡ record { requests = accepted (asked_requests_view (map locale_view locales.now) requests.now); offset = offset }) }
+    ensures memory { IfErr result (λ e. e ≡ RunError.OutOfMemory) }
+{
+    let mut driver = BibliographyDriver::new(alloc).with_citation_number_offset(offset);
+    add_all(alloc, &mut driver, requests, locales)?;
+    Ok(driver)
+}
+
+fn order_of<'o, 'e>(entries: &'o Option<Vec<&'e PlainEntry>>) -> Option<Order<'o, 'e, PlainEntry>>
+    ensures { order_view result ≡ option_map (λ v. entries_view v.items) entries.now }
+{
+    match entries {
+        Some(entries) => Some(Order(entries.as_slice())),
+        None => None,
+    }
+}
+
+/// The text that is printed for what a document asks for.
+fn print_asked<'r>(alloc: Global, asked: &'r Asked<'_>) -> Result<String, RunError>
+    ensures { Prints result (Some (document_view asked.now)) }
+{
+    let driver = filled_driver(alloc, &asked.requests, asked.locales, asked.offset)?;
+    let request = BibliographyRequest {
+        style: asked.wanted.style,
+        locale: copied_code(alloc, &asked.wanted.locale)?,
+        locale_files: asked.locales,
+        order: order_of(&asked.wanted.order),
+    };
+    match driver.finish(request) {
+        Ok(rendered) => Ok(print_rendered(alloc, &rendered)?),
+        Err(DriverError::MacroRing { place, macro_idx }) => {
+            Err(RunError::MacroRing { place, macro_idx })
+        }
+        Err(DriverError::NumberOverflow) => Err(RunError::NumberOverflow),
+        Err(DriverError::OutOfMemory(_)) => Err(RunError::OutOfMemory),
+    }
+}
+
+/// Prints what the value asks for, of these styles, entries and locales. The value is let go before
+/// anything is written.
+fn print_of<'e>(
+    alloc: Global,
+    value: Value,
+    styles: &'e [NamedStyle],
+    entries: &'e [PlainEntry],
+    locales: &'e [Locale],
+) -> Result<String, RunError>
+    ensures { Prints result (asked_form (style_named (named_styles_view styles.now)) (entry_named entries.now) (map locale_view locales.now) (view value)) }
+{
+    let asked = asked_in(alloc, styles, entries, locales, &value)?;
+    drop(value);
+    print_asked(alloc, &asked)
+}
+
+#[tactic(auto, unfolding(crate::specs::Form::document_form))]
+fn print_value(alloc: Global, value: Value) -> Result<String, RunError>
+    ensures { Prints result (document_form (view value)) }
+{
+    let object = top_of(&value)?;
+    let styles = styles_of(alloc, object)?;
+    let locales = locales_at(alloc, object, "locales")?;
+    let entries = entries_of(alloc, object)?;
+    print_of(alloc, value, &styles, &entries, &locales)
+}
+
+#[tactic(auto, unfolding(crate::specs::Form::form))]
+fn print_bytes(alloc: Global, bytes: &[u8]) -> Result<String, RunError>
+    ensures { Prints result (form bytes.now) }
+{
+    let text = text_of(bytes)?;
+    let value = value_of(alloc, text)?;
+    print_value(alloc, value)
+}
+
+/// Writes what the document of these bytes prints. The whole text is ready before any of it is
+/// written.
+///
+/// # Errors
+/// `Document` exactly where the bytes are no document; `MacroRing` and `NumberOverflow` exactly where
+/// the driver refuses the document; `Output` where the writer fails, which may have taken a beginning;
+/// `OutOfMemory` where memory runs out before the text is ready.
+pub fn run<W: Write>(alloc: Global, bytes: &[u8], out: &mut W) -> Result<(), RunError>
+    ensures written { OnOk result (IsDocumentThat (form bytes.now)
+        (λ d. Appends (W.contents out.old) (W.contents out.new) (print (answer d)))) }
+    ensures answered { OnOk result (IsDocumentThat (form bytes.now) HasAnswer) }
+    ensures document { IsErrOf result RunError.Document → form bytes.now ≡ None }
+    ensures overflow { IsErrOf result RunError.NumberOverflow → IsDocumentThat (form bytes.now) HasTooLargeNumbers }
+    ensures ring { (place : RingPlace) (i : ℕ) → IsErrOf result (RunError.MacroRing place i)
+        → IsDocumentThat (form bytes.now) (HasFirstRing place i) }
+    ensures output { IsErrOf result RunError.Output → IsDocumentThat (form bytes.now) HasAnswer }
+    ensures nothing { IfErr result (λ e. (e ≡ RunError.Output → ⊥) → Keeps (W.contents out.old) (W.contents out.new)) }
+{
+    let text = print_bytes(alloc, bytes)?;
+    match out.write_all(text.as_bytes()) {
+        Ok(()) => Ok(()),
+        Err(_) => Err(RunError::Output),
+    }
+}

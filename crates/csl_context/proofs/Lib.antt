@@ -1,0 +1,3 @@
+pub mod TextSteps
+pub mod FrameSteps
+pub mod WordingSteps

@@ -1,0 +1,7 @@
+pub mod Steps
+pub mod Quotes
+pub mod OpenFrames
+pub mod Edits
+pub mod WritingState
+pub mod Wording
+pub mod ContextView

@@ -1,0 +1,9 @@
+//! The context in which a cite is written: frames, formats, quotes and punctuation.
+#![tactic(auto)]
+
+pub mod context;
+mod frames;
+pub mod text;
+pub mod token;
+pub mod wording;
+pub mod writing;

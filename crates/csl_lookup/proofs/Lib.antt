@@ -1,0 +1,5 @@
+pub mod Greater
+pub mod StateOrder
+pub mod FirstAnswers
+pub mod Letters
+pub mod Copies

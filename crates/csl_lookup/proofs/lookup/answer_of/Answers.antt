@@ -1,0 +1,15 @@
+use Rattle.std.proofs.Common.{◌≡◌, Some, List, option_map, option_to_list, map, sym, ap, ◌∙◌, subst, refl}
+use Rattle.csl_base.specs.Style.{LocaleValue}
+use Rattle.csl_base.specs.StyleView.{locale_view}
+use Rattle.csl_lookup.specs.FirstAnswer.{Gives, FirstAnswer}
+use Rattle.csl_lookup.specs.Lookup.{locale_of}
+use Rattle.csl_lookup.proofs.FirstAnswers.{one_asked}
+use Rattle.csl_lookup.proofs.lookup.answer_of.Goals as goal
+
+pub returns-in-Some : goal.returns-in-Some
+returns-in-Some g c =
+    let gives = Gives g.F.Fn c.args.f.now in
+    let l = locale_view c.in-Some.locale.now in
+    let found : Some l ≡ locale_of (option_map (λ t. t.now) c.args.language) (map locale_view c.args.locales.now) = ap (option_map (λ x. locale_view x.now)) (sym c.in-Some.is) ∙ c.locale_of.ensures in
+    let one : FirstAnswer gives (option_to_list (Some l)) c.f.result = one_asked gives l c.f.result (c.in-Some.locale.now, refl, record { shown = c.in-Some.locale; shows = refl; says = record { met = c.f.ensures } }) in
+    subst (λ (xs : List LocaleValue). FirstAnswer gives xs c.f.result) (ap option_to_list found) one

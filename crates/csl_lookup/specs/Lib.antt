@@ -1,0 +1,11 @@
+pub mod Properties
+pub mod PropertiesView
+pub mod NoProperties
+pub mod States
+pub mod ValueLaws
+pub mod BracketPairs
+pub mod Years
+pub mod SuffixLetters
+pub mod Lookup
+pub mod FirstAnswer
+pub mod SourceView

@@ -1,0 +1,44 @@
+//! Laws of the small values, each on a call of its own.
+ghost use Rattle.std.specs.Prelude.{◌≡◌};
+ghost use Rattle.csl_base.specs.Ordered.{IsValueOrder};
+ghost use Rattle.csl_lookup.specs.declared.properties.CiteProperties.{CiteProperties};
+ghost use Rattle.csl_lookup.specs.declared.state.DisambiguateState.{DisambiguateState};
+ghost use Rattle.csl_lookup.specs.States.{with_label, with_number, state_cmp, greater};
+ghost use Rattle.csl_lookup.specs.SuffixLetters.{SuffixesDiffer};
+ghost use Rattle.csl_lookup.specs.ValueLaws.{IsCommutative, IsAssociative, IsIdempotent, IsNeverBelow, IsOnce, Commute};
+
+use crate::properties::CiteProperties;
+use crate::state::DisambiguateState;
+use csl_base::names::forms_are_in_order;
+
+/// A law: what was written counts once, in whatever order.
+pub fn usage_counts_once()
+    ensures label { IsOnce with_label }
+    ensures number { IsOnce with_number }
+    ensures any_order { Commute with_label with_number }
+{}
+
+/// A law: states are in a total order in which only equal states are equal, and of several states
+/// there is one greatest, however they are taken together.
+pub fn states_have_a_greatest()
+    ensures in_order { IsValueOrder state_cmp }
+    ensures any_order { IsCommutative greater }
+    ensures any_grouping { IsAssociative greater }
+    ensures once { IsIdempotent greater }
+    ensures never_below { IsNeverBelow state_cmp greater }
+{
+    forms_are_in_order();
+}
+
+/// A law: the letters of suffixes are `a` to `z`, and say which suffix it is: they are its number
+/// and one more, written with these letters for 1 to 26. So different suffixes have different
+/// letters.
+pub fn suffixes_differ()
+    ensures { SuffixesDiffer }
+{}
+
+/// A law: a copy of a state, and of the properties of a cite, is equal to it.
+pub fn copies_are_equal<P: Drop>()
+    ensures state { (a b : DisambiguateState) → ⟦<DisambiguateState as Clone>⟧.is_clone a b → b ≡ a }
+    ensures properties { (a b : CiteProperties P) → ⟦<CiteProperties<'static, P> as Clone>⟧.is_clone a b → b ≡ a }
+{}

@@ -1,0 +1,15 @@
+pub mod InitialsLeft
+pub mod WrittenNames
+pub mod NameParts
+pub mod FormsLength
+pub mod NameBlocks
+pub mod Tokens
+pub mod MacroCalls
+pub mod NameLists
+pub mod Agree
+pub mod Settled
+pub mod Nesting
+pub mod Gathering
+pub mod Suffixes
+pub mod WorkSteps
+pub mod TextView

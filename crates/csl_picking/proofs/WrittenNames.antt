@@ -1,0 +1,12 @@
+-- The names that are written of what is left of a block.
+use Rattle.std.proofs.Common.{ℕ, List, option_map}
+use Rattle.std.specs.List.{filter_map, zip, enumerate_from}
+use Rattle.csl_base.specs.declared.entry.Person.{Person}
+use Rattle.csl_base.specs.Forms.{Forms}
+use Rattle.csl_picking.specs.NameText.{name_leaf}
+use Rattle.csl_picking.specs.Pieces.{LeafValue}
+
+-- from a place on
+abbrev pub names_left : List ℕ → ℕ → Forms → List Person → List (ℕ × LeafValue)
+names_left end place forms persons =
+    filter_map (λ x. option_map (λ leaf. (x.0, leaf)) (name_leaf end x.1.0 x.1.1)) (enumerate_from place (zip forms persons))

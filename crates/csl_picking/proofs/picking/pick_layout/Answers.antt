@@ -1,0 +1,42 @@
+use Rattle.std.proofs.Common.{◌≡◌, ◌<◌, length, ap, sym, ◌∙◌, arith}
+use Rattle.csl_base.specs.ElementView.{elements_view}
+use Rattle.csl_base.proofs.Views.{macros_length}
+use Rattle.csl_picking.specs.declared.picking.Step.TheVariants as steps
+use Rattle.csl_picking.specs.InputView.{env_of, macros_of}
+use Rattle.csl_picking.specs.HeldView.{held}
+use Rattle.csl_picking.specs.Picked.{added}
+use Rattle.csl_picking.specs.Pick.{picks_all}
+use Rattle.csl_picking.specs.Work.{steps_view, all_done, work}
+use Rattle.csl_picking.proofs.WorkSteps.{pushed, pushed-work, no_items}
+use Rattle.csl_picking.proofs.picking.pick_layout.Goals as goal
+
+pub loop-step-smaller : goal.loop-step-smaller
+loop-step-smaller g c =
+    let ms = macros_of c.args.input.now.setting in
+    let one = pushed-work ms c.pop.new.self.items c.loop-step.steps.items c.in-Some.step c.in-Some.ensures.items in
+    let falls = c.in_ok-take_step.ensures.falls in
+    let h : work ms (steps_view c.take_step.new.steps.items) < work ms (steps_view c.loop-step.steps.items) = omega (arith, one, falls) in
+    h
+
+pub loop-step-preserved : goal.loop-step-preserved
+loop-step-preserved g c =
+    let env = env_of (g.T.EntryLike.answers c.args.input.now.entry.now) c.args.input.now.setting in
+    let ms = macros_of c.args.input.now.setting in
+    c.in_ok-take_step.ensures.done ∙ sym (pushed env ms c.pop.new.self.items c.loop-step.steps.items c.in-Some.step (held c.loop-step.picking) c.in-Some.ensures.items)
+    ∙ c.loop-step.invariant
+
+pub returns : goal.returns
+returns g c =
+    let env = env_of (g.T.EntryLike.answers c.args.input.now.entry.now) c.args.input.now.setting in
+    let macros = c.args.input.now.setting.context.style.now.macros in
+    let ms = macros_of c.args.input.now.setting in
+    let d = c.len-depth.result in
+    let h = held c.args.picking.now in
+    let empty = no_items c.loop-step.steps.items (omega (arith, c.loop-step.steps.ok.0, c.in_default.ensures.cases.0)) in
+    let deep : d ≡ length ms = omega (arith, macros_length macros.items, macros.ok.0, c.len-depth.ensures) in
+    ap (λ xs. all_done env ms (steps_view xs) (held c.loop-step.picking)) (sym empty)
+    ∙ c.loop-step.invariant
+    ∙ pushed env ms c.new-steps.result.items c.push.new.self.items (steps.Elements c.as_slice.result d) h c.in_ok-push.ensures.items
+    ∙ ap (λ xs. all_done env ms (steps_view xs) (added (picks_all env ms d (elements_view c.as_slice.result.now) h.noted) h)) c.new-steps.ensures.items
+    ∙ ap (λ xs. added (picks_all env ms d (elements_view xs) h.noted) h) c.as_slice.ensures.value
+    ∙ ap (λ k. added (picks_all env ms k (elements_view c.args.elements.now.items) h.noted) h) deep

@@ -1,0 +1,22 @@
+use Rattle.std.proofs.Common.{◌≡◌, drop}
+use Rattle.csl_base.specs.ElementView.{element_view, elements_view, branches_view}
+use Rattle.csl_base.proofs.Weight.{weight_with, weight_all_with, weight_branches_with}
+use Rattle.csl_picking.specs.SuffixText.{no_call, suffix_in_all, suffix_in_branches}
+use Rattle.csl_picking.proofs.suffix_text.+suffix.Given as goal
+
+abbrev pub invariant-have_suffix-loop-element : goal.invariant-have_suffix-loop-element
+invariant-have_suffix-loop-element l =
+    suffix_in_all no_call (elements_view (drop l.element-index l.element-items)) ≡ suffix_in_all no_call (elements_view l.element-items)
+
+abbrev pub invariant-branches_have_suffix-loop-branch : goal.invariant-branches_have_suffix-loop-branch
+invariant-branches_have_suffix-loop-branch l =
+    suffix_in_branches no_call (branches_view (drop l.branch-index l.branch-items) l.otherwise.items) ≡ suffix_in_branches no_call (branches_view l.branch-items l.otherwise.items)
+
+abbrev pub decreases-has_suffix : goal.decreases-has_suffix
+decreases-has_suffix l = weight_with (λ _. 0) (element_view l.element.now)
+
+abbrev pub decreases-have_suffix : goal.decreases-have_suffix
+decreases-have_suffix l = weight_all_with (λ _. 0) (elements_view l.elements.now.items)
+
+abbrev pub decreases-branches_have_suffix : goal.decreases-branches_have_suffix
+decreases-branches_have_suffix l = weight_branches_with (λ _. 0) (branches_view l.branches.now.items l.otherwise.now.items)

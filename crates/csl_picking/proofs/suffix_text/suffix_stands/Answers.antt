@@ -1,0 +1,60 @@
+use Rattle.std.proofs.Common.{◌≡◌, ℕ, suc, ◌<◌, ◌+◌, ◌∙◌, subst, List, [], ◌∷◌, length, refl, sym, ap, map, get_or, Bor, arith}
+use Rattle.std.proofs.lemmas.List.{get_or-map}
+use Rattle.csl_base.specs.Element.{Name}
+use Rattle.csl_base.specs.Calls.{calls_of_all}
+use Rattle.csl_base.specs.Ring.{macro_calls}
+use Rattle.csl_base.specs.ElementView.{elements_view, macros_view}
+use Rattle.csl_picking.proofs.Gathering.{falls}
+use Rattle.csl_picking.proofs.Suffixes.{IsGathered, gathered-start, gathered-more, at_once, at_name, at_end}
+use Rattle.csl_picking.proofs.suffix_text.suffix_stands.Goals as goal
+
+name_at : (xs : List (Bor Name)) (i : ℕ) (x : Bor Name) → i < length xs → x ≡ get_or xs i x → x.now ≡ get_or (map (λ s. s.now) xs) i x.now
+name_at xs i x h e = ap (λ s. s.now) e ∙ sym (get_or-map (λ (s : Bor Name). s.now) xs i x x.now h)
+
+names_len : (xs : List (Bor Name)) → length (map (λ s. s.now) xs) ≡ length xs
+names_len [] = refl
+names_len (x ∷ xs) = ap (λ n. suc n) (names_len xs)
+
+pub returns-then-have_suffix : goal.returns-then-have_suffix
+returns-then-have_suffix c =
+    at_once (macros_view c.args.macros.now.items) c.requires (elements_view c.args.elements.now.items) (sym c.have_suffix.ensures ∙ c.if-have_suffix.true)
+
+pub loop-at-init : goal.loop-at-init
+loop-at-init c =
+    rw (c.in_ok-add_called.ensures, c.new-names.ensures.items) (gathered-start (macros_view c.args.macros.now.items) c.requires (calls_of_all (elements_view c.args.elements.now.items)))
+
+pub loop-at-smaller : goal.loop-at-smaller
+loop-at-smaller c =
+    let l = c.loop-at in
+    let ms = macros_view c.args.macros.now.items in
+    let names = map (λ (s : Bor Name). s.now) l.names.items in
+    let n = names_len l.names.items in
+    let h = falls ms (macro_calls ms c.index-next.result.now.now) names l.at (omega (arith, n, l.names.ok.0, c.len.ensures)) in
+    rw (c.in_ok-found.ensures.gathered c.if-found.false) h
+
+pub loop-at-preserved : goal.loop-at-preserved
+loop-at-preserved c =
+    let l = c.loop-at in
+    let ms = macros_view c.args.macros.now.items in
+    let first = calls_of_all (elements_view c.args.elements.now.items) in
+    let names = map (λ (s : Bor Name). s.now) l.names.items in
+    let n = names_len l.names.items in
+    let next = c.index-next.result.now in
+    let more = gathered-more ms c.requires first names l.at next.now l.invariant (omega (arith, n, l.names.ok.0, c.len.ensures))
+    (name_at l.names.items l.at next (omega (arith, l.names.ok.0, c.len.ensures)) c.index-next.ensures) (sym c.in_ok-found.ensures.found ∙ c.if-found.false) in
+    subst (λ ns. IsGathered ms first ns (l.at + 1)) (sym (c.in_ok-found.ensures.gathered c.if-found.false)) more
+
+pub returns-then-found : goal.returns-then-found
+returns-then-found c =
+    let l = c.loop-at in
+    let names = map (λ (s : Bor Name). s.now) l.names.items in
+    let n = names_len l.names.items in
+    let next = c.index-next.result.now in
+    at_name (macros_view c.args.macros.now.items) c.requires (elements_view c.args.elements.now.items) names l.at next.now l.invariant (omega (arith, n, l.names.ok.0, c.len.ensures))
+    (name_at l.names.items l.at next (omega (arith, l.names.ok.0, c.len.ensures)) c.index-next.ensures) (sym c.in_ok-found.ensures.found ∙ c.if-found.true)
+
+pub returns : goal.returns
+returns c =
+    let l = c.loop-at in
+    let n = names_len l.names.items in
+    at_end (macros_view c.args.macros.now.items) c.requires (elements_view c.args.elements.now.items) (map (λ (s : Bor Name). s.now) l.names.items) l.at l.invariant (omega (arith, n, l.names.ok.0, c.len.ensures)) (sym c.have_suffix.ensures ∙ c.if-have_suffix.false)

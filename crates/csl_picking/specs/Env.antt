@@ -1,0 +1,43 @@
+-- What a picking only reads.
+use Rattle.std.specs.Prelude.{ℕ, List, Bool, Option}
+use Rattle.csl_base.specs.declared.taxonomy.Term.{Term}
+use Rattle.csl_base.specs.declared.taxonomy.TermForm.{TermForm}
+use Rattle.csl_base.specs.declared.taxonomy.Locator.{Locator}
+use Rattle.csl_base.specs.Answers.{Answers}
+use Rattle.csl_base.specs.Element.{NameOptions}
+use Rattle.csl_picking.specs.declared.notes.Form.{Form}
+use Rattle.csl_lookup.specs.declared.state.DisambiguateState.{DisambiguateState}
+use Rattle.csl_lookup.specs.declared.state.IbidState.{IbidState}
+use Rattle.csl_lookup.specs.declared.state.IdentifierUsage.{IdentifierUsage}
+
+-- what a locator counts, and its text; none where it is the caller's own
+pub record CiteLocator : Type 0 where
+  pub kind : Locator
+  pub text : Option (List ℕ)
+
+-- what is read of a cite's properties
+pub record Cite : Type 0 where
+  pub citation_number : ℕ
+  pub first_note_number : Option ℕ
+  pub is_first : Bool
+  pub is_near_note : Bool
+  pub initial_idx : ℕ
+  pub ibid : IbidState
+  pub locator : Option CiteLocator
+  pub state : DisambiguateState
+  pub usage : IdentifierUsage
+
+pub record Env : Type 0 where
+  -- what the entry answers
+  pub answers : Answers
+  pub cite : Cite
+  -- which elements are written
+  pub form : Form
+  -- a term's words in a form, in the plural where the truth value says so
+  pub term : Term → TermForm → Bool → Option (List ℕ)
+  -- a year-suffix text stands in a layout of the style
+  pub explicit_suffix : Bool
+  -- an item of the bibliography is picked
+  pub is_bibliography : Bool
+  -- the name options that hold where a names element has none of its own
+  pub options : NameOptions

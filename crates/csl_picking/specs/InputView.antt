@@ -1,0 +1,48 @@
+-- The plain data that a picking reads.
+use Rattle.std.specs.Prelude.{ℕ, List, Bool, Option, option_map}
+use Rattle.csl_base.specs.declared.taxonomy.Term.{Term}
+use Rattle.csl_base.specs.declared.taxonomy.TermForm.{TermForm}
+use Rattle.csl_base.specs.Answers.{Answers}
+use Rattle.csl_base.specs.Element.{Macro}
+use Rattle.csl_base.specs.ElementView.{options_view, macros_view}
+use Rattle.csl_picking.specs.declared.input.LocatorFacts.{LocatorFacts}
+use Rattle.csl_picking.specs.declared.input.CiteFacts.{CiteFacts}
+use Rattle.csl_picking.specs.declared.input.Setting.{Setting}
+use Rattle.csl_lookup.specs.Lookup.{term_of}
+use Rattle.csl_lookup.specs.SourceView.{lookup_view}
+use Rattle.csl_picking.specs.Env.{CiteLocator, Cite, Env}
+use Rattle.csl_picking.specs.Options.{applied_options}
+
+abbrev pub locator_facts : LocatorFacts → CiteLocator
+locator_facts l = record { kind = l.kind; text = option_map (λ t. t.now) l.text }
+
+abbrev pub cite_facts : CiteFacts → Cite
+cite_facts c = record {
+  citation_number = c.citation_number;
+  first_note_number = c.first_note_number;
+  is_first = c.is_first;
+  is_near_note = c.is_near_note;
+  initial_idx = c.initial_idx;
+  ibid = c.ibid;
+  locator = option_map locator_facts c.locator;
+  state = c.state.now;
+  usage = c.usage;
+}
+
+-- the words of terms, for the cite
+abbrev pub term_for : Setting → Term → TermForm → Bool → Option (List ℕ)
+term_for s = term_of (lookup_view s.context) (option_map (λ l. l.kind) s.cite.locator)
+
+abbrev pub env_of : Answers → Setting → Env
+env_of answers s = record {
+  answers = answers;
+  cite = cite_facts s.cite;
+  form = s.form;
+  term = term_for s;
+  explicit_suffix = s.explicit_suffix;
+  is_bibliography = s.is_bibliography;
+  options = applied_options (options_view s.context.style.now.settings.options) (options_view s.layout_options.now);
+}
+
+abbrev pub macros_of : Setting → List Macro
+macros_of s = macros_view s.context.style.now.macros.items

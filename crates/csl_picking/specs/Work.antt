@@ -1,0 +1,77 @@
+-- What a picking has still to do, as a list of steps of which the last comes next.
+use Rattle.std.specs.Prelude.{ℕ, zero, suc, ◌+◌, ◌*◌, List, [], ◌∷◌, map, Option, Some, None}
+use Rattle.csl_base.specs.Element.{Name, macro_target, Element, text_element, group_element, choose_element, Elements, Macro}
+use Rattle.csl_base.specs.ElementView.{elements_view}
+use Rattle.csl_base.specs.Ring.{body_of}
+use Rattle.csl_base.proofs.Weight.{weight_with, weight_all_with}
+use Rattle.csl_picking.specs.declared.held.Opened.{Opened}
+use Rattle.csl_picking.specs.declared.picking.Step.{Step}
+use Rattle.csl_picking.specs.declared.picking.Step.TheVariants as steps
+use Rattle.csl_picking.specs.Env.{Env}
+use Rattle.csl_picking.specs.Pieces.{plain_node}
+use Rattle.csl_picking.specs.Picked.{Held, added}
+use Rattle.csl_picking.specs.Nodes.{group_closed, macro_closed}
+use Rattle.csl_picking.specs.Pick.{Call, pick_with, picks, picks_all, picks_first, called_macro}
+
+-- these elements are to be picked, with macros nested so deep; a node is to be closed
+pub data StepValue : Type 0 where
+  elements_step : Elements → ℕ → StepValue
+  group_step : Opened → StepValue
+  macro_step : Opened → StepValue
+
+abbrev pub step_view : Step → StepValue
+step_view (steps.Elements elements depth) = elements_step (elements_view elements.now) depth
+step_view (steps.CloseGroup opened) = group_step opened
+step_view (steps.CloseMacro opened) = macro_step opened
+
+abbrev pub steps_view : List Step → List StepValue
+steps_view = map step_view
+
+-- once a step is done
+abbrev pub done : Env → List Macro → StepValue → Held → Held
+done env macros (elements_step es depth) h = added (picks_all env macros depth es h.noted) h
+done env macros (group_step o) h = group_closed o h
+done env macros (macro_step o) h = macro_closed o h
+
+-- once all are done, from the last to the first
+abbrev pub all_done : Env → List Macro → List StepValue → Held → Held
+all_done env macros [] h = h
+all_done env macros (x ∷ xs) h = done env macros x (all_done env macros xs h)
+
+-- an element that has none inside is picked at once
+abbrev pub plain_done : Env → Call → Element → Held → Held
+plain_done env call (text_element (macro_target name) quotes strip look) h = h
+plain_done env call (group_element children delimiter look) h = h
+plain_done env call (choose_element branches) h = h
+plain_done env call e h = added (pick_with env call e h.noted) h
+
+-- any other by further steps
+abbrev pub inside_done : Env → List Macro → ℕ → Element → Held → Held
+inside_done env macros depth (text_element (macro_target name) quotes strip look) h = added (called_macro env macros depth name (plain_node look quotes strip None) h.noted) h
+inside_done env macros depth (group_element children delimiter look) h = added (picks env macros depth (group_element children delimiter look) h.noted) h
+inside_done env macros depth (choose_element branches) h = added (picks_first env macros depth branches h.noted) h
+inside_done env macros depth e h = h
+
+-- how many steps there are at most, macros and all
+abbrev pub body_weight : (Elements → ℕ) → Option Elements → ℕ
+body_weight all None = 0
+body_weight all (Some elements) = 1 + all elements
+
+abbrev pub macro_weight : List Macro → ℕ → Name → ℕ
+macro_weight macros zero name = 0
+macro_weight macros (suc depth) name = body_weight (weight_all_with (macro_weight macros depth)) (body_of name macros)
+
+abbrev pub weight : List Macro → ℕ → Element → ℕ
+weight macros depth = weight_with (macro_weight macros depth)
+
+abbrev pub weight_all : List Macro → ℕ → Elements → ℕ
+weight_all macros depth = weight_all_with (macro_weight macros depth)
+
+abbrev pub step_work : List Macro → StepValue → ℕ
+step_work macros (elements_step es depth) = 2 * weight_all macros depth es
+step_work macros (group_step o) = 1
+step_work macros (macro_step o) = 1
+
+abbrev pub work : List Macro → List StepValue → ℕ
+work macros [] = 0
+work macros (x ∷ xs) = step_work macros x + work macros xs

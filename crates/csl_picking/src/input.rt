@@ -1,0 +1,51 @@
+//! What a picking only reads.
+
+use csl_lookup::lookup::StyleLocales;
+use crate::notes::Form;
+use csl_lookup::state::{DisambiguateState, IbidState, IdentifierUsage};
+use csl_base::element::InheritableNameOptions;
+use csl_base::entry::EntryLike;
+use csl_base::taxonomy::{Locator, OtherTerm, Term, TermForm};
+
+/// A cite's locator: what it counts, and its text; none where it is the caller's own.
+#[derive(Clone, Copy)]
+pub struct LocatorFacts<'a> {
+    pub kind: Locator,
+    pub text: Option<&'a str>,
+}
+
+/// What of a cite's properties is read.
+#[derive(Clone, Copy)]
+pub struct CiteFacts<'a> {
+    /// From 0; what is printed is one more.
+    pub citation_number: usize,
+    pub first_note_number: Option<usize>,
+    pub is_first: bool,
+    pub is_near_note: bool,
+    pub initial_idx: usize,
+    pub ibid: IbidState,
+    pub locator: Option<LocatorFacts<'a>>,
+    pub state: &'a DisambiguateState,
+    pub usage: IdentifierUsage,
+}
+
+/// What a picking reads of the style and the cite.
+#[derive(Clone, Copy)]
+pub struct Setting<'a> {
+    pub context: StyleLocales<'a>,
+    pub cite: CiteFacts<'a>,
+    pub form: Form,
+    /// Whether a year-suffix text stands in a layout of the style, so that no date adds letters.
+    pub explicit_suffix: bool,
+    /// Whether an item of the bibliography is picked.
+    pub is_bibliography: bool,
+    /// The name options of the layout, which go before those of the whole style.
+    pub layout_options: &'a InheritableNameOptions,
+}
+
+/// What a picking reads.
+#[derive(Drop)]
+pub struct Input<'a, T> {
+    pub entry: &'a T,
+    pub setting: Setting<'a>,
+}

@@ -1,0 +1,14 @@
+//! What a layout picks for a cite: one flat list of pieces.
+#![tactic(auto)]
+
+mod choices;
+pub mod held;
+pub mod input;
+mod name_rules;
+mod name_text;
+pub mod names;
+pub mod notes;
+pub mod picking;
+pub mod pieces;
+pub mod suffix_text;
+mod variables;

@@ -1,0 +1,83 @@
+//! How one name is written (CSL 1.0.2, name).
+ghost use Rattle.std.specs.Prelude.{◌≡◌, ◌++◌, IfOk, Some, option_map, string_bytes, encode_utf8};
+ghost use Rattle.std.specs.List.{flat_map};
+ghost use Rattle.std.specs.Str.{chars};
+ghost use Rattle.csl_base.specs.Initials.{parts_name, initials};
+ghost use Rattle.csl_picking.specs.NameText.{whole_name, name_leaf};
+ghost use Rattle.csl_picking.specs.PiecesView.{leaf_view};
+ghost use Rattle.csl_picking.specs.Variables.{text_leaves};
+
+use crate::pieces::Leaf;
+use crate::variables::text_leaf;
+use csl_base::entry::Person;
+use csl_base::names::DisambiguatedNameForm;
+use csl_base::text::Text;
+use std::alloc::{AllocError, Global};
+
+// Whether a character stands between the parts of a given name.
+fn parts_name(c: char) -> bool
+    ensures { result ≡ parts_name c }
+{
+    c.is_whitespace() || c == '-'
+}
+
+// The initials of a given name, each with this text behind it.
+fn ended_initials(alloc: Global, given: &str, end: &str) -> Result<String, AllocError>
+    ensures { IfOk result (λ text. string_bytes text ≡ flat_map (λ c. encode_utf8 c ++ end.now) (initials (chars given.now))) }
+{
+    let (mut initials, mut part_begins) = (String::new(alloc), true);
+    for c in given.chars() {
+        if parts_name(c) {
+            part_begins = true;
+        } else if part_begins {
+            initials.push(c)?;
+            initials.push_str(end)?;
+            part_begins = false;
+        }
+    }
+    Ok(initials)
+}
+
+// A given name before a family name.
+fn whole_leaf<'a>(
+    alloc: Global,
+    given: &str,
+    family: &'a str,
+) -> Result<Option<Leaf<'a>>, AllocError>
+    ensures { IfOk result (λ leaf. option_map leaf_view leaf ≡ text_leaves (Some (whole_name given.now family.now))) }
+{
+    if given.is_empty() {
+        return Ok(text_leaf(Some(family)));
+    }
+    let mut name = String::from_str(alloc, given)?;
+    name.push_str(" ")?;
+    name.push_str(family)?;
+    let name = Text::new(name);
+    if name.has_content() {
+        Ok(Some(Leaf::Owned(name)))
+    } else {
+        Ok(None)
+    }
+}
+
+/// A name in a form, where `end` follows each initial; none where it only counts, or is blank.
+pub fn name_leaf<'a>(
+    alloc: Global,
+    end: &str,
+    form: DisambiguatedNameForm,
+    person: &'a Person,
+) -> Result<Option<Leaf<'a>>, AllocError>
+    ensures { IfOk result (λ leaf. option_map leaf_view leaf ≡ name_leaf end.now form person.now) }
+{
+    let family = person.name.as_str();
+    match (form, &person.given_name) {
+        (DisambiguatedNameForm::Count, _) => Ok(None),
+        (DisambiguatedNameForm::Short, _) => Ok(text_leaf(Some(family))),
+        (DisambiguatedNameForm::LongInitialized, Some(given)) => {
+            let initials = ended_initials(alloc, given.as_str(), end)?;
+            whole_leaf(alloc, initials.as_str().trim_end(), family)
+        }
+        (DisambiguatedNameForm::LongFull, Some(given)) => whole_leaf(alloc, given.as_str(), family),
+        (_, None) => Ok(text_leaf(Some(family))),
+    }
+}

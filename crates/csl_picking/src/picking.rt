@@ -1,0 +1,331 @@
+//! Picking: what a layout writes, from left to right, apart from writing it.
+ghost use Rattle.std.specs.Prelude.{◌≡◌, ℕ, ◌+◌, ◌*◌, ◌<◌, OnOk, None, false};
+ghost use Rattle.csl_base.specs.ElementView.{element_view, elements_view, branches_view, target_view, text_view, look};
+ghost use Rattle.csl_base.specs.Element.{Name, text_element};
+ghost use Rattle.csl_base.proofs.Weight.{weight_all_with, weight_branches_with};
+ghost use Rattle.csl_picking.specs.Picked.{added};
+ghost use Rattle.csl_picking.specs.PiecesView.{node_view, shape_look};
+ghost use Rattle.csl_picking.specs.Pieces.{plain_node};
+ghost use Rattle.csl_picking.specs.Pick.{Call, group_node, pick_all_with, pick_first_with, called_macro, pick_layout, MacrosUnfold};
+ghost use Rattle.csl_picking.specs.Work.{steps_view, step_view, done, all_done, plain_done, inside_done, macro_weight, weight, step_work, work};
+ghost use Rattle.csl_picking.specs.HeldView.{held};
+ghost use Rattle.csl_picking.specs.InputView.{env_of, macros_of};
+
+use crate::choices::passes;
+use crate::held::{Opened, Picking};
+use crate::input::Input;
+use crate::names::pick_names;
+use crate::notes::Notes;
+use crate::pieces::{Node, Shape};
+use crate::variables::{meant, pick_date, pick_variable, pick_words};
+use csl_base::element::{Affixes, ChooseBranch, LayoutRenderingElement, TextTarget};
+use csl_base::entry::EntryLike;
+use csl_base::formatting::{Display, StyleFormatting};
+use csl_base::ring::body_of;
+use csl_base::taxonomy::Variable;
+use std::alloc::AllocError;
+
+// The node of a group.
+fn group_node<'a>(
+    affixes: &'a Affixes,
+    formatting: StyleFormatting,
+    display: Option<Display>,
+    delimiter: &'a Option<String>,
+) -> Node<'a>
+    ensures { node_view result ≡ group_node (look affixes.now formatting display) (text_view delimiter.now) }
+{
+    let delimiter = match delimiter {
+        Some(text) => Some(text.as_str()),
+        None => None,
+    };
+    Node {
+        affixes: Some(affixes),
+        formatting,
+        display,
+        quotes: false,
+        strip_periods: false,
+        delimiter,
+        meta: None,
+    }
+}
+
+// The shape of an element that has neither quotes nor stripped periods.
+fn plain_shape<'a>(
+    affixes: &'a Affixes,
+    formatting: StyleFormatting,
+    display: Option<Display>,
+) -> Shape<'a>
+    ensures look { shape_look result ≡ look affixes.now formatting display }
+    ensures quotes { result.quotes ≡ false }
+    ensures strip_periods { result.strip_periods ≡ false }
+{
+    Shape {
+        affixes,
+        formatting,
+        display,
+        quotes: false,
+        strip_periods: false,
+    }
+}
+
+/// A step that is still to be done.
+#[derive(Drop)]
+enum Step<'a> {
+    /// These elements are to be picked, with macros nested at most so deep.
+    Elements(&'a [LayoutRenderingElement], usize),
+    CloseGroup(Opened),
+    CloseMacro(Opened),
+}
+
+// Picks an element that has none inside, and nothing of any other.
+fn pick_plain<'a, T: EntryLike>(
+    input: &Input<'a, T>,
+    element: &'a LayoutRenderingElement,
+    picking: &mut Picking<'a>,
+) -> Result<(), AllocError>
+    ensures { let env = env_of (T.answers input.now.entry.now) input.now.setting in
+        OnOk result ((call : Call) → held picking.new ≡ plain_done env call (element_view element.now) (held picking.old)) }
+{
+    match element {
+        LayoutRenderingElement::Text {
+            target,
+            quotes,
+            strip_periods,
+            affixes,
+            formatting,
+            display,
+        } => {
+            let shape = Shape {
+                affixes,
+                formatting: *formatting,
+                display: *display,
+                quotes: *quotes,
+                strip_periods: *strip_periods,
+            };
+            pick_text(input, target, shape, picking)
+        }
+        LayoutRenderingElement::Number {
+            variable,
+            affixes,
+            formatting,
+            display,
+        } => {
+            let variable = meant(&input.setting, Variable::Number(*variable));
+            let shape = plain_shape(affixes, *formatting, *display);
+            pick_variable(input, variable, shape, picking)
+        }
+        LayoutRenderingElement::Date {
+            variable,
+            affixes,
+            formatting,
+            display,
+        } => {
+            let shape = plain_shape(affixes, *formatting, *display);
+            pick_date(input, *variable, shape, picking)
+        }
+        LayoutRenderingElement::Names {
+            variables,
+            substitute,
+            options,
+            affixes,
+            formatting,
+            display,
+        } => {
+            let shape = plain_shape(affixes, *formatting, *display);
+            pick_names(input, variables, substitute, options, shape, picking)
+        }
+        LayoutRenderingElement::Group { .. } => Ok(()),
+        LayoutRenderingElement::Choose { .. } => Ok(()),
+    }
+}
+
+// Picks a text, but nothing of a macro.
+fn pick_text<'a, T: EntryLike>(
+    input: &Input<'a, T>,
+    target: &'a TextTarget,
+    shape: Shape<'a>,
+    picking: &mut Picking<'a>,
+) -> Result<(), AllocError>
+    ensures { let env = env_of (T.answers input.now.entry.now) input.now.setting in
+        let element = text_element (target_view target.now) shape.entry.quotes shape.entry.strip_periods (shape_look shape.entry) in
+        OnOk result ((call : Call) → held picking.new ≡ plain_done env call element (held picking.old)) }
+{
+    match target {
+        TextTarget::Value(text) => pick_words(&input.setting, Some(text.as_str()), shape, picking),
+        TextTarget::Term(name, form, plural) => {
+            let words = input.setting.term(*name, *form, *plural);
+            pick_words(&input.setting, words, shape, picking)
+        }
+        TextTarget::Standard(variable) => {
+            let variable = meant(&input.setting, Variable::Standard(*variable));
+            pick_variable(input, variable, shape, picking)
+        }
+        TextTarget::Macro(_) => Ok(()),
+    }
+}
+
+// The children of the first branch whose test holds, else the last part. All conditions of each
+// branch that is reached are tested.
+fn chosen_children<'a, T: EntryLike>(
+    input: &Input<'a, T>,
+    branches: &'a Vec<ChooseBranch>,
+    otherwise: &'a Vec<LayoutRenderingElement>,
+    notes: &mut Notes,
+) -> &'a Vec<LayoutRenderingElement>
+    ensures chosen { let env = env_of (T.answers input.now.entry.now) input.now.setting in
+        (call : Call) → pick_first_with env call (branches_view branches.now.items otherwise.now.items) notes.old ≡ pick_all_with env call (elements_view result.now.items) notes.new }
+    ensures lighter { (call : Name → ℕ) → weight_all_with call (elements_view result.now.items) < weight_branches_with call (branches_view branches.now.items otherwise.now.items) }
+{
+    for branch in branches {
+        if passes(input, &branch.conditions, branch.rule, notes) {
+            return &branch.children;
+        }
+    }
+    otherwise
+}
+
+// Adds the steps of an element that has others inside, and none of any other.
+fn step_inside<'a, T: EntryLike>(
+    input: &Input<'a, T>,
+    element: &'a LayoutRenderingElement,
+    depth: usize,
+    steps: &mut Vec<Step<'a>>,
+    picking: &mut Picking<'a>,
+) -> Result<(), AllocError>
+    ensures done { let env = env_of (T.answers input.now.entry.now) input.now.setting in
+        let ms = macros_of input.now.setting in
+        OnOk result (all_done env ms (steps_view steps.new.items) (held picking.new)
+        ≡ all_done env ms (steps_view steps.old.items) (inside_done env ms depth (element_view element.now) (held picking.old))) }
+    ensures falls { let ms = macros_of input.now.setting in
+        OnOk result (work ms (steps_view steps.new.items) < work ms (steps_view steps.old.items) + 2 * weight ms depth (element_view element.now)) }
+{
+    match element {
+        LayoutRenderingElement::Text {
+            target: TextTarget::Macro(name),
+            quotes,
+            strip_periods,
+            affixes,
+            formatting,
+            display,
+        } => {
+            let shape = Shape {
+                affixes,
+                formatting: *formatting,
+                display: *display,
+                quotes: *quotes,
+                strip_periods: *strip_periods,
+            };
+            step_macro(input, name.as_str(), shape, depth, steps, picking)
+        }
+        LayoutRenderingElement::Group {
+            children,
+            delimiter,
+            affixes,
+            formatting,
+            display,
+        } => {
+            let opened = picking.open(group_node(affixes, *formatting, *display, delimiter))?;
+            steps.push(Step::CloseGroup(opened))?;
+            steps.push(Step::Elements(children.as_slice(), depth))?;
+            Ok(())
+        }
+        LayoutRenderingElement::Choose {
+            branches,
+            otherwise,
+        } => {
+            let children = chosen_children(input, branches, otherwise, &mut picking.notes);
+            steps.push(Step::Elements(children.as_slice(), depth))?;
+            Ok(())
+        }
+        _ => Ok(()),
+    }
+}
+
+// Adds the steps of a macro's call; none where there is no such macro.
+fn step_macro<'a, T: EntryLike>(
+    input: &Input<'a, T>,
+    name: &str,
+    shape: Shape<'a>,
+    depth: usize,
+    steps: &mut Vec<Step<'a>>,
+    picking: &mut Picking<'a>,
+) -> Result<(), AllocError>
+    ensures done { let env = env_of (T.answers input.now.entry.now) input.now.setting in
+        let ms = macros_of input.now.setting in
+        let node = plain_node (shape_look shape.entry) shape.entry.quotes shape.entry.strip_periods None in
+        OnOk result (all_done env ms (steps_view steps.new.items) (held picking.new)
+        ≡ all_done env ms (steps_view steps.old.items) (added (called_macro env ms depth name.now node (held picking.old).noted) (held picking.old))) }
+    ensures falls { let ms = macros_of input.now.setting in
+        OnOk result (work ms (steps_view steps.new.items) < work ms (steps_view steps.old.items) + 2 * (1 + macro_weight ms depth name.now)) }
+{
+    if depth == 0 {
+        return Ok(());
+    }
+    match body_of(&input.setting.context.style.macros, name) {
+        None => Ok(()),
+        Some(elements) => {
+            let opened = picking.open(shape.node(None))?;
+            steps.push(Step::CloseMacro(opened))?;
+            steps.push(Step::Elements(elements.as_slice(), depth - 1))?;
+            Ok(())
+        }
+    }
+}
+
+// Does one step, which may add others.
+fn take_step<'a, T: EntryLike>(
+    input: &Input<'a, T>,
+    step: Step<'a>,
+    steps: &mut Vec<Step<'a>>,
+    picking: &mut Picking<'a>,
+) -> Result<(), AllocError>
+    ensures done { let env = env_of (T.answers input.now.entry.now) input.now.setting in
+        let ms = macros_of input.now.setting in
+        OnOk result (all_done env ms (steps_view steps.new.items) (held picking.new)
+        ≡ all_done env ms (steps_view steps.old.items) (done env ms (step_view step.entry) (held picking.old))) }
+    ensures falls { let ms = macros_of input.now.setting in
+        OnOk result (work ms (steps_view steps.new.items) < work ms (steps_view steps.old.items) + step_work ms (step_view step.entry)) }
+{
+    match step {
+        Step::Elements(elements, depth) => {
+            if let Some((element, rest)) = elements.split_first() {
+                steps.push(Step::Elements(rest, depth))?;
+                pick_plain(input, element, picking)?;
+                step_inside(input, element, depth, steps, picking)?;
+            }
+            Ok(())
+        }
+        Step::CloseGroup(opened) => picking.close_group(opened),
+        Step::CloseMacro(opened) => picking.close_macro(opened),
+    }
+}
+
+/// A law: in a style without a ring each call of a macro gives what its first macro's children
+/// give (CSL 1.0.2, macro).
+#[tactic(auto, using(crate::proofs::Nesting::macros_unfold))]
+pub fn macros_unfold()
+    ensures { MacrosUnfold }
+{}
+
+/// What a layout gives, behind what is picked already. Elements and macros may nest as deep as
+/// memory allows.
+///
+/// # Errors
+///
+/// Where memory is refused; the picking may then only be dropped.
+pub fn pick_layout<'a, T: EntryLike>(
+    input: &Input<'a, T>,
+    elements: &'a Vec<LayoutRenderingElement>,
+    picking: &mut Picking<'a>,
+) -> Result<(), AllocError>
+    ensures { let env = env_of (T.answers input.now.entry.now) input.now.setting in
+        OnOk result (held picking.new ≡ added (pick_layout env (macros_of input.now.setting) (elements_view elements.now.items) (held picking.old).noted) (held picking.old)) }
+{
+    let depth = input.setting.context.style.macros.len();
+    let mut steps = Vec::new(*picking.pieces.allocator());
+    steps.push(Step::Elements(elements.as_slice(), depth))?;
+    while let Some(step) = steps.pop() {
+        take_step(input, step, &mut steps, picking)?;
+    }
+    Ok(())
+}
