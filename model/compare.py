@@ -117,7 +117,8 @@ def main():
     print('statuses', dict(statuses))
     print('parts', json.dumps(dict(parts.most_common())))
     print('events', json.dumps(dict(events.most_common())))
+    return 1 if failed else 0
 
 
 if __name__ == '__main__':
-    main()
+    sys.exit(main())

@@ -1,80 +1,12 @@
-//! Runs on documents, over memory and over readers and writers that fail.
-mod hostile;
-mod layouts;
-mod parts;
-mod purposes;
-mod rows;
-mod words;
-
+//! Runs over readers and writers that fail. Documents with what they print lie in `documents/`, at the
+//! top of the repository, where a script runs the built program on them.
 use crate::error::RunError;
 use crate::input::read_input;
 use crate::running::run;
 use csl_driver::error::RingPlace;
-use std::alloc::AllocError;
 use std::io;
 use std::io::{ErrorKind, Read, Write};
 use std::test::Fail;
-
-/// The status that the run on the document ends with, and what it writes.
-fn ended(rt: &HostRuntime, document: &str) -> (u8, Vec<u8>) {
-    let mut out = Vec::new(rt.alloc());
-    match run(rt.alloc(), document.as_bytes(), &mut out) {
-        Ok(()) => (0, out),
-        Err(error) => (error.status(), out),
-    }
-}
-
-/// Whether the run on the document ends with this status and has written exactly the text.
-pub(crate) fn gives(rt: &HostRuntime, document: &str, status: u8, text: &str) -> bool {
-    let (got, out) = ended(rt, document);
-    got == status && out.as_slice() == text.as_bytes()
-}
-
-/// American files that most tests use.
-pub(crate) const LOCALES: &str = r#"{"lang":"en-US","terms":[
-    {"name":"open-quote","single":"“"},{"name":"close-quote","single":"”"},
-    {"name":"locator-page","form":"short","single":"p.","multiple":"pp."}]}"#;
-
-/// What the tests of layouts cite.
-const ENTRIES: &str = r#"
-    {"key":"doe","label":"Doe99","author":[["Doe","Jane Mary"],["Roe","Rick"],["Poe","Edgar"]],
-     "title":"On Order","issued":1999,"volume":"12","url":"http://x.org"},
-    {"key":"two","author":[["Doe","Jane"],["Roe","Rick"]],"editor":[["Brady","Ann"]],"title":"Two"},
-    {"key":"ed","editor":[["Brady","Ann"]],"title":"Two","issued":2010},
-    {"key":"roe","editor":[["Roe"]],"title":"X"},
-    {"key":"space","author":[["Doe\u00a0"]],"issued":2003},
-    {"key":"sub","original-date":1900,"submitted":2003,"accessed":2020},
-    {"key":"seen","accessed":2020,"available-date":2021},
-    {"key":"bare"},
-    {"key":"bc","issued":-43},
-    {"key":"ad","issued":43}"#;
-
-/// Whether a request of these members, in a style of these members, gives a citation of this text.
-pub(crate) fn shows(
-    rt: &HostRuntime,
-    style: &str,
-    locales: &str,
-    request: &str,
-    text: &str,
-) -> Result<bool, AllocError> {
-    let document = format!(in rt.alloc();
-        "{{\"styles\":{{\"s\":{{{style}}},\"none\":{{\"citation\":{{\"elements\":[]}}}}}},
-            \"locales\":[{locales}],\"entries\":[{ENTRIES}],\"requests\":[{{\"style\":\"s\",
-            {request}}}],\"bibliography\":{{\"style\":\"none\"}}}}"
-    )?;
-    let line = format!(in rt.alloc(); "{text}\n")?;
-    Ok(gives(rt, document.as_str(), 0, line.as_str()))
-}
-
-/// Whether the document is one.
-pub(crate) fn is_accepted(rt: &HostRuntime, document: &str) -> bool {
-    ended(rt, document).0 == 0
-}
-
-/// Whether the document is refused, and nothing was written.
-pub(crate) fn is_refused(rt: &HostRuntime, document: &str) -> bool {
-    gives(rt, document, 2, "")
-}
 
 #[test]
 fn lines_of_errors(rt: HostRuntime) -> Result<(), Fail> {
@@ -123,6 +55,7 @@ fn failing_writers(rt: HostRuntime) {
     let document = r#"{"styles":{"s":{"citation":{"elements":[{"kind":"text","value":"See it"}]}}},
             "entries":[{"key":"a"}],"requests":[{"style":"s","items":[{"entry":"a"}]}],
                 "bibliography":{"style":"s"}}"#;
+    let text = b"See it\n".as_slice();
     for left in 0..7 {
         let mut out = Failing {
             left,
@@ -132,8 +65,17 @@ fn failing_writers(rt: HostRuntime) {
         let Failing { left, got } = out;
         assert!(&rt; matches!(done, Err(RunError::Output)));
         assert_eq!(&rt; left, 0);
-        assert!(&rt; b"See it\n".starts_with(got.as_slice()));
+        assert!(&rt; text.starts_with(got.as_slice()));
     }
+    let mut out = Failing {
+        left: 7,
+        got: Vec::new(rt.alloc()),
+    };
+    let done = run(rt.alloc(), document.as_bytes(), &mut out);
+    let Failing { left, got } = out;
+    assert!(&rt; done.is_ok());
+    assert_eq!(&rt; left, 0);
+    assert_eq!(&rt; got.as_slice(), text);
 }
 
 /// Gives its bytes one at each read, and then its end or a failure.

@@ -1,0 +1,384 @@
+#!/usr/bin/env python3
+"""run.py PROGRAM: runs a built cite_run on each document of this folder and of examples/, side by side, and compares
+standard output, exit status and the line on standard error. Then it tries what only a process can show, holds the
+documents to docs/document.schema.json, and compares PROGRAM with model/ on random documents.
+
+A document is NAME.json. NAME.txt is what it must print; where the status isn't 0, NAME.status has it, and nothing is
+printed. A document of refused/ is refused by the schema too, one of beyond_schema/ isn't.
+The last line is 'N passed, M failed', and the exit status is 1 where a test failed."""
+import difflib
+import json
+import os
+import subprocess
+import sys
+import tempfile
+import time
+from concurrent.futures import ThreadPoolExecutor
+
+HERE = os.path.dirname(os.path.abspath(__file__))
+ROOT = os.path.dirname(HERE)
+LINES = {
+    0: b'',
+    1: b'cite_run: input or output failed\n',
+    2: b'cite_run: document refused\n',
+    3: b'cite_run: macro ring\n',
+    4: b'cite_run: number overflow\n',
+    5: b'cite_run: out of memory\n',
+}
+SECONDS = 60
+RANDOM_DOCUMENTS = 2000
+
+
+class Failed(Exception):
+    pass
+
+
+def read(path):
+    with open(path, 'rb') as file:
+        return file.read()
+
+
+def ended(program, given=b'', **how):
+    """Status, standard output and standard error of a run."""
+    if 'stdin' not in how:
+        how['input'] = given
+    how = {'stdout': subprocess.PIPE, 'stderr': subprocess.PIPE, 'timeout': SECONDS, **how}
+    try:
+        done = subprocess.run([*program] if isinstance(program, list) else [program], **how)
+    except subprocess.TimeoutExpired:
+        raise Failed('it had not ended after %d seconds' % SECONDS)
+    return done.returncode, done.stdout or b'', done.stderr
+
+
+def shortened(data, length=400):
+    text = data.decode(errors='backslashreplace')
+    return text if len(text) <= length else text[:length] + ' .. (%d bytes)' % len(data)
+
+
+def difference(expected, got, length=12):
+    """What differs between two outputs, a line each."""
+    both = [shortened(it, 100000).split('\n') for it in (expected, got)]
+    lines = [repr(it)[1:-1] for it in difflib.unified_diff(*both, 'expected', 'got', lineterm='', n=1)]
+    return '\n'.join(it[:160] for it in lines[2:][:length])
+
+
+def hold(got, status, text=b''):
+    """Fails unless a run ended with the status, its line and the text."""
+    said = []
+    if got[0] != status:
+        said.append('status %d, and not %d' % (got[0], status))
+    if got[2] != LINES[status]:
+        said.append('standard error %r, and not %r' % (shortened(got[2]), LINES[status].decode()))
+    if got[1] != text:
+        said.append(difference(text, got[1]))
+    if said:
+        raise Failed('\n'.join(said))
+
+
+# Documents
+
+
+def documents():
+    """Each document's path, without its ending."""
+    found = []
+    for folder in [*sorted(it.path for it in os.scandir(HERE) if it.is_dir()), ROOT + '/examples']:
+        for name in sorted(os.listdir(folder)) if os.path.isdir(folder) else []:
+            if name.endswith('.json'):
+                found.append(folder + '/' + name[: -len('.json')])
+    return found
+
+
+def wanted(base):
+    """The status and the text that a document must give."""
+    has_status, has_text = (os.path.isfile(base + it) for it in ('.status', '.txt'))
+    if has_status == has_text:
+        raise Failed('it must have one of the files .txt and .status')
+    return (int(read(base + '.status')), b'') if has_status else (0, read(base + '.txt'))
+
+
+def document(program, base):
+    status, text = wanted(base)
+    hold(ended(program, read(base + '.json')), status, text)
+
+
+def strays():
+    """Files of the folders that belong to no document."""
+    for base in documents():
+        wanted(base)
+    known = {base + ending for base in documents() for ending in ('.json', '.txt', '.status')}
+    folders = {os.path.dirname(base) for base in documents()}
+    lost = [it.path for folder in folders for it in os.scandir(folder) if it.path not in known]
+    if lost:
+        raise Failed('no document is beside ' + ', '.join(os.path.relpath(it, ROOT) for it in lost))
+
+
+def is_of_schema(validator, base):
+    """Whether the schema takes a document; a text that is no JSON is not for it to judge."""
+    try:
+        value = json.loads(read(base + '.json'))
+    except ValueError:
+        return None
+    return validator.is_valid(value)
+
+
+def schema(validator, base):
+    status, _ = wanted(base)
+    is_refused = status == 2 and os.path.basename(os.path.dirname(base)) != 'beyond_schema'
+    takes = is_of_schema(validator, base)
+    if takes is not None and takes == is_refused:
+        raise Failed('the schema %s it' % ('takes' if takes else 'refuses'))
+
+
+def validator_of_schema():
+    """What checks a document against the schema, or None where the library isn't there."""
+    try:
+        from jsonschema import Draft202012Validator
+    except ImportError:
+        return None
+    made = json.loads(read(ROOT + '/docs/document.schema.json'))
+    Draft202012Validator.check_schema(made)
+    return Draft202012Validator(made)
+
+
+# What only a process can show
+
+
+def one_cite():
+    base = HERE + '/rows/one_cite'
+    return read(base + '.json'), read(base + '.txt')
+
+
+def many_cites(count):
+    """A document of so many requests, each of an entry of its own, and what it prints."""
+    keys = ['k%d' % it for it in range(count)]
+    number = {'kind': 'number', 'variable': 'citation-number', 'prefix': '[', 'suffix': ']'}
+    made = {
+        'styles': {'s': {'citation': {'elements': [number]}, 'bibliography': {'elements': [number]}}},
+        'entries': [{'key': it} for it in keys],
+        'requests': [{'style': 's', 'items': [{'entry': it}]} for it in keys],
+        'bibliography': {'style': 's'},
+    }
+    cites = ''.join('[%d]\n' % (it + 1) for it in range(count))
+    listed = ''.join('%s\t[%d]\n' % (it, at + 1) for at, it in enumerate(keys))
+    return json.dumps(made).encode(), (cites + '\n' + listed).encode()
+
+
+def of_style(style, text):
+    made = {
+        'styles': {'s': style},
+        'entries': [{'key': 'a'}],
+        'requests': [{'style': 's', 'items': [{'entry': 'a'}]}],
+        'bibliography': {'style': 's'},
+    }
+    return json.dumps(made).encode(), text.encode() + b'\n'
+
+
+def delimiter_of_a_megabyte(program):
+    delimiter = '-' * 1048576
+    values = [{'kind': 'text', 'value': it} for it in 'ab']
+    group = {'kind': 'group', 'delimiter': delimiter, 'children': values}
+    given, text = of_style({'citation': {'elements': [group]}}, 'a' + delimiter + 'b')
+    hold(ended(program, given), 0, text)
+
+
+def chain_of_macros(program):
+    """The layout calls the first of so many macros, each of which calls the next."""
+    for length in (2000, 10000):
+        macros = [{'name': 'm%d' % it, 'children': [{'kind': 'text', 'macro': 'm%d' % (it + 1)}]} for it in range(length)]
+        macros.append({'name': 'm%d' % length, 'children': [{'kind': 'text', 'value': 'end'}]})
+        style = {'citation': {'elements': [{'kind': 'text', 'macro': 'm0'}]}, 'macros': macros}
+        given, text = of_style(style, 'end')
+        hold(ended(program, given), 0, text)
+
+
+def inside_many_lists(program):
+    for depth in (127, 128, 100000):
+        hold(ended(program, b'[' * depth + one_cite()[0] + b']' * depth), 2)
+
+
+def cut_after_each_byte(program):
+    """Only the whole document, with or without the line feed at its end, is one."""
+    whole, text = one_cite()
+    document = whole.rstrip()
+    for length in range(len(document)):
+        got = ended(program, document[:length])
+        try:
+            hold(got, 2)
+        except Failed as error:
+            raise Failed('cut after %d bytes: %s' % (length, error))
+    hold(ended(program, document), 0, text)
+
+
+def bytes_that_are_no_text(program):
+    whole, _ = one_cite()
+    for given in (b'\xef\xbb\xbf' + whole, whole.replace(b'"a"', b'"\xff"'), whole.replace(b'"a"', b'"\xed\xa0\x80"'), whole + b'\0', whole + whole):
+        hold(ended(program, given), 2)
+
+
+def arguments_change_nothing(program):
+    given, text = one_cite()
+    hold(ended([program, '--help', '', 'document.json'], given), 0, text)
+
+
+def input_in_pieces(program):
+    """One byte at a time, and the first ones late."""
+    given, text = one_cite()
+    how = {'stdin': subprocess.PIPE, 'stdout': subprocess.PIPE, 'stderr': subprocess.PIPE}
+    with subprocess.Popen([program], bufsize=0, **how) as running:
+        time.sleep(0.05)
+        for at in range(len(given)):
+            running.stdin.write(given[at : at + 1])
+        out, error = running.communicate(timeout=SECONDS)
+        hold((running.returncode, out, error), 0, text)
+
+
+def large_input_and_output(program):
+    given, text = many_cites(20000)
+    hold(ended(program, given), 0, text)
+
+
+def input_is_a_folder(program):
+    at = os.open(HERE, os.O_RDONLY)
+    try:
+        hold(ended(program, stdin=at), 1)
+    finally:
+        os.close(at)
+
+
+def input_is_closed(program):
+    hold(ended(['sh', '-c', 'exec "$0" <&-', program]), 1)
+
+
+def output_is_full(program):
+    with open('/dev/full', 'wb') as full:
+        hold(ended(program, one_cite()[0], stdout=full), 1)
+
+
+def output_is_closed(program):
+    hold(ended(['sh', '-c', 'exec "$0" >&-', program], one_cite()[0]), 1)
+
+
+def nobody_reads_the_output(program):
+    reader, writer = os.pipe()
+    os.close(reader)
+    try:
+        hold(ended(program, one_cite()[0], stdout=writer), 1)
+    finally:
+        os.close(writer)
+
+
+def reader_leaves(program):
+    """The reader takes some bytes and goes: those were a beginning of the text."""
+    given, text = many_cites(20000)
+    with tempfile.TemporaryFile() as document:
+        document.write(given)
+        document.seek(0)
+        with subprocess.Popen([program], stdin=document, stdout=subprocess.PIPE, stderr=subprocess.PIPE) as running:
+            out = os.read(running.stdout.fileno(), 10)
+            running.stdout.close()
+            error = running.stderr.read()
+            running.wait(SECONDS)
+    if not out or not text.startswith(out):
+        raise Failed('%r is no beginning of the text' % out)
+    hold((running.returncode, b'', error), 1)
+
+
+def refused_with_the_output_closed(program):
+    """What is refused writes nothing, so that the output needn't work."""
+    hold(ended(['sh', '-c', 'exec "$0" >&-', program], b'{}'), 2)
+
+
+def memory_runs_out(program):
+    """Under a limit of memory there is the whole answer, or none."""
+    given, text = many_cites(8000)
+    statuses = set()
+    for limit in range(12, 48, 3):
+        got = ended(['sh', '-c', 'ulimit -v %d; exec "$0"' % (limit * 1024), program], given)
+        statuses.add(got[0])
+        try:
+            hold(got, 5 if got[0] else 0, b'' if got[0] else text)
+        except Failed as error:
+            raise Failed('at %d MiB: %s' % (limit, error))
+    if statuses != {0, 5}:
+        raise Failed('only the statuses %s came' % sorted(statuses))
+
+
+def stored_run(program):
+    folder = ROOT + '/crates/cite_run/'
+    hold(ended(program, read(folder + 'stdin')), 0, read(folder + 'stdout'))
+
+
+PROCESSES = [
+    stored_run,
+    arguments_change_nothing,
+    input_in_pieces,
+    input_is_a_folder,
+    input_is_closed,
+    output_is_full,
+    output_is_closed,
+    nobody_reads_the_output,
+    reader_leaves,
+    refused_with_the_output_closed,
+    memory_runs_out,
+    large_input_and_output,
+    delimiter_of_a_megabyte,
+    chain_of_macros,
+    inside_many_lists,
+    bytes_that_are_no_text,
+    cut_after_each_byte,
+]
+
+
+def model(program):
+    """The model of model/ gives what the program gives, on random documents."""
+    words = [sys.executable, 'compare.py', program, '0', str(RANDOM_DOCUMENTS)]
+    done = subprocess.run(words, cwd=ROOT + '/model', stdout=subprocess.PIPE, stderr=subprocess.STDOUT)
+    if done.returncode:
+        raise Failed(shortened(done.stdout, 4000))
+
+
+def main():
+    if len(sys.argv) != 2 or not os.access(sys.argv[1], os.X_OK):
+        print(__doc__, file=sys.stderr)
+        return 2
+    program = os.path.abspath(sys.argv[1])
+    sys.setrecursionlimit(100000)
+    began = time.time()
+    validator = validator_of_schema()
+    bases = documents()
+    name_of = lambda base: os.path.relpath(base, ROOT)
+    tests = [('model: %d random documents' % RANDOM_DOCUMENTS, model, program)]
+    tests += [('process: ' + it.__name__.replace('_', ' '), it, program) for it in reversed(PROCESSES)]
+    tests += [(name_of(it), document, program, it) for it in bases]
+    tests.append(('files of the folders', strays))
+    by_schema = [('schema: ' + name_of(it), schema, validator, it) for it in bases if validator]
+    failed = []
+
+    def tried(name, call, *given):
+        try:
+            call(*given)
+            return None
+        except Failed as error:
+            return name, str(error)
+        except Exception as error:
+            return name, '%s: %s' % (type(error).__name__, error)
+
+    with ThreadPoolExecutor(os.cpu_count()) as pool:
+        runs = [pool.submit(tried, *it) for it in tests]
+        # (this thread holds the documents to the schema meanwhile)
+        results = [tried(*it) for it in by_schema]
+        results += [it.result() for it in runs]
+    for it in results:
+        if it:
+            failed.append(it[0])
+            print('FAILED %s\n    %s' % (it[0], it[1].replace('\n', '\n    ')))
+    if not validator:
+        print('note: the documents were not held to the schema: the library jsonschema (python3-jsonschema) is not here')
+    print('%d documents, %d of a process, %d against the schema, %d random ones against the model: %.1f seconds'
+          % (len(bases), len(PROCESSES), len(by_schema), RANDOM_DOCUMENTS, time.time() - began))
+    print('%d passed, %d failed' % (len(results) - len(failed), len(failed)))
+    return 1 if failed else 0
+
+
+if __name__ == '__main__':
+    sys.exit(main())
