@@ -215,8 +215,8 @@ class Picker:
         return bool(self.entry.get(variable)) and variable not in self.suppressed
 
     def block(self, variable, options):
-        """The persons that are written, with what stands between them, and the mark of those left out. The joints
-        alone are no piece: where no person is written, nothing is."""
+        """The persons that are written, with what stands between them, and the mark of those left out, which stands
+        at the end even where no other person is written. Nothing where no person is written and none left out."""
         persons = self.entry[variable]
         shown = persons
         if 'et_al_min' in options and len(persons) >= options['et_al_min']:
@@ -229,8 +229,7 @@ class Picker:
             if leaf:
                 nodes.append(Node(leaf, meta=('name', variable, place)))
         if not nodes:
-            self.events['block without a written person left out'] += 1
-            return []
+            self.events['block without a written person' + (', some cut' if left_out else '')] += 1
         delimiter = options.get('name_delimiter', ', ')
         answer = []
         for i, node in enumerate(nodes):
