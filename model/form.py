@@ -30,7 +30,7 @@ def whole_number(text):
 
 
 def no_constant(text):
-    raise Refused('no number: ' + text)
+    raise Refused('no JSON')
 
 
 def fraction(text):

@@ -170,17 +170,19 @@ class Round:
 def all_rounds(cites, first_style, render, events):
     """The table of states after the rounds. `render(cite, state)` gives the tree of a cite in a state at its first
     properties; exactly the cites of marked entries are rendered again."""
-    table, count = {}, 0
+    table, count, kinds = {}, 0, set()
     while count < ROUNDS:
         marks = Round(cites, table, first_style, events).marks()
         if not marks:
             break
         count += 1
+        kinds.update(state[0] for state in marks.values())
         table = {**table, **marks}
         for cite in cites:
             if cite.key in marks:
                 cite.show(render(cite, marks[cite.key]))
     events['documents of %d rounds' % count] += 1
     for kind, name in ((1, 'names'), (2, 'choose'), (3, 'suffix')):
+        events['documents marked by ' + name] += kind in kinds
         events['final states of ' + name] += sum(state[0] == kind for state in table.values())
     return table
