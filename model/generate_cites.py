@@ -63,6 +63,7 @@ class CiteGenerator:
         self.titles = r.sample(TITLES, r.choice([1, 2, 3]))
         self.labels = r.sample(LABELS, r.choice([1, 2, 3]))
         self.most_persons = r.choice([2, 3, 4, 5] if self.of_names else [1, 1, 2, 3, 4])
+        self.p_blank = r.choice([0, 0, 0, 0, 0.1, 0.4])
         self.p_copy = r.choice([0.6, 0.9, 1] if self.of_names else [0.3, 0.6, 0.9])
         self.p_locator = r.choice([0, 0.2, 0.6])
         self.p_hidden = r.choice([0, 0, 0.1, 0.3])
@@ -78,6 +79,8 @@ class CiteGenerator:
 
     def person(self):
         family, given = self.pick(self.families), self.pick(self.given)
+        if self.chance(self.p_blank):
+            family, given = '', None
         return [family] if given is None else [family, given]
 
     def persons(self):
@@ -175,13 +178,17 @@ class CiteGenerator:
 
     def by_position(self):
         conditions = [self.pick(POSITIONS) for _ in range(self.pick([1, 1, 1, 2]))]
+        if self.chance(0.4):
+            return choice(conditions, [self.names()], [self.names()])
         otherwise = self.pick([[], [], [text('P')], [number('first-reference-note-number', prefix='n')]])
         return choice(conditions, self.pick([[text('ib')], [text('Q'), number('locator')], []]), otherwise,
                       self.pick(['all', 'any', 'none']))
 
     def elements(self):
         """What a citation writes: names and a date for the most part."""
-        parts = [self.names()] if self.chance(0.93) else []
+        if self.chance(0.06):
+            return [variable('citation-label')] + ([self.asks()] if self.chance(0.2) else [])
+        parts = [self.names() if self.chance(0.95) else self.by_position()] if self.chance(0.93) else []
         parts += [self.date()] if self.chance(0.85) else []
         for p, make in ((0.1, lambda: variable('citation-label')), (0.05, lambda: number('citation-number')),
                         (0.02 if self.of_names else 0.15, lambda: variable('title')),
@@ -201,7 +208,7 @@ class CiteGenerator:
         if self.chance(0.15):
             mark = choice([{'variable': 'title'}], [mark], [text('x')])
         parts = [mark]
-        for p, make in ((0.1, lambda: number('locator', prefix=':')), (0.1, self.names), (0.1, self.by_position)):
+        for p, make in ((0.1, lambda: number('locator', prefix=':')), (0.2, self.names), (0.15, self.by_position)):
             if self.chance(p):
                 parts.insert(self.r.randint(0, len(parts)), make())
         return parts
@@ -306,7 +313,8 @@ class CiteGenerator:
             return self.style()
         s = copy.deepcopy(style)
         c = s['citation']
-        change = self.pick(['ways', 'ways', 'affixes', 'elements', 'variables', 'variables', 'together', 'options', 'class'])
+        change = self.pick(['ways'] * 4 + ['affixes', 'elements', 'variables', 'variables', 'asks', 'asks', 'together',
+                                           'options', 'class'])
         if change == 'ways':
             for key in ('add_names', 'add_givenname', 'givenname_rule', 'add_year_suffix'):
                 c.pop(key, None)
@@ -314,6 +322,9 @@ class CiteGenerator:
         elif change == 'variables':
             for e in names_in(c['elements']):
                 e['variables'] = self.pick([['editor', 'author'], ['editor'], ['author', 'editor']])
+        elif change == 'asks':
+            c['elements'] = [e for e in c['elements'] if e['kind'] != 'choose'] or c['elements']
+            style['citation']['elements'] = c['elements'] + [choice(['disambiguate'], [text('!')], [])]
         elif change == 'affixes':
             c.update(prefix='{', suffix='}')
         elif change == 'elements':
@@ -382,6 +393,8 @@ class CiteGenerator:
         entries = self.entries(count)
         keys = [e['key'] for e in entries[:count]]
         d = {'styles': styles, 'entries': entries, 'requests': self.requests(list(styles), keys)}
+        if len(styles) > 1 and self.chance(0.2):
+            d['requests'].insert(0, {'style': self.pick(list(styles)), 'items': []})
         if self.kind == 'numeric' and self.chance(0.7):
             d['requests'].insert(0, {'style': 's', 'items': [{'entry': key} for key in keys]})
         d['bibliography'] = {'style': self.pick(list(styles))}
