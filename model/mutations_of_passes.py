@@ -166,7 +166,7 @@ MUTATIONS = [
     ("year first all dates", "(form == FIRST_DATE and self.no_date_yet)", "form == FIRST_DATE"),
     ("year verdict names", "if form in DATE_FORMS:\n            return Call([], True, False)\n        options", "if False:\n            pass\n        options"),
     # bibliography
-    ("item first of the document", "        for row in rows:\n            for cite in row:\n                first_cites", "        for row in rows:\n            for cite in sorted(row, key=lambda c: self.requests[c.request]['items'].index(c.item)):\n                first_cites"),
+    ("item first of the document", "        for row in rows:\n            for cite in row:\n                first_cites", "        for row in rows:\n            for cite in sorted(row, key=lambda c: [id(i) for i in self.requests[c.request]['items']].index(id(c.item))):\n                first_cites"),
     ("item last cite", "first_cites.setdefault(cite.key, cite)", "first_cites[cite.key] = cite"),
     ("item with locator", ".without_locator()", ""),
     ("item without state", "properties = at_last(cite, self.table.get(key, NO_STATE)).without_locator()", "properties = at_last(cite, NO_STATE).without_locator()"),
@@ -187,6 +187,7 @@ MUTATIONS = [
     ("partial-first all", "1 if rule == 'partial-first' else count)", "count)"),
     ("partial at 0", "    if count == 0:\n        return None\n", ""),
     ("substitute first names of the tree", "names, base_names = first_names(item), first_names(base)", "names, base_names = with_meta(item, 'names')[-1], first_names(base)"),
+    ("substitute in the last names", "            first_names(item).children = children\n", "            with_meta(item, 'names')[-1].children = children\n"),
     ("first field before substitution", None, None),
     ("first field always", "field = first_field(item) if 'second_field_align' in layout else None", "field = first_field(item)"),
     ("first field stays", "return item.pop(place)", "return item[place]"),
