@@ -1,8 +1,9 @@
-"""compare.py PROGRAM FIRST COUNT: compares the program with the model on random documents and makes each failing
+"""compare.py PROGRAM FIRST COUNT [STAGE]: compares the program with the model on random documents and makes each failing
 document small. The small documents go to `found/`, the counts to standard output."""
 import copy
 import json
 import os
+import re
 import subprocess
 import sys
 import time
@@ -10,21 +11,30 @@ from collections import Counter
 
 import generate
 import model
+from form import read, refusal
+from stages import STAGE
 
 
-def run(program, document):
-    done = subprocess.run([program], input=json.dumps(document).encode(), capture_output=True)
+def run(program, source):
+    """The status and the text that the program answers to the text of a document."""
+    done = subprocess.run([program], input=source, capture_output=True)
     return done.returncode, done.stdout.decode()
 
 
-def differs(program, document):
+def answer(source, stage, events=None):
+    """What the model answers to the text of a document, and why it is refused, where it is."""
+    reason = refusal(source)
+    if reason is not None:
+        return (2, ''), reason
+    return model.answer(read(source), events, stage), None
+
+
+def differs(program, document, stage):
     """Whether both answer, and differently; a document that either refuses doesn't count."""
-    try:
-        expected = model.answer(document)
-    except Exception:
-        return False
-    got = run(program, document)
-    return got[0] in (0, 3, 4, 101) and got != expected
+    source = json.dumps(document).encode()
+    expected, reason = answer(source, stage)
+    got = run(program, source)
+    return reason is None and got[0] in (0, 3, 4, 101) and got != expected
 
 
 def smaller(value):
@@ -52,14 +62,14 @@ def smaller(value):
             yield value[:i] + value[i + 1 :]
 
 
-def minimise(program, document):
+def minimise(program, document, stage):
     tries = 0
     while True:
         for part in smaller(document):
             tries += 1
             if tries > 20000:
                 return document
-            if differs(program, part):
+            if differs(program, part, stage):
                 document = part
                 break
         else:
@@ -94,30 +104,62 @@ def walk(value, counts):
             walk(inner, counts)
 
 
+class Tally:
+    """What was compared, and how it went."""
+
+    def __init__(self, program, stage):
+        self.program, self.stage = program, stage
+        self.parts, self.kinds, self.statuses, self.reasons = Counter(), Counter(), Counter(), Counter()
+        self.events = {}
+        self.failed = 0
+
+    def compare(self, seed):
+        kind, source = generate.kind(seed, self.stage), generate.source(seed, self.stage)
+        events = self.events.setdefault(kind, Counter())
+        expected, reason = answer(source, self.stage, events)
+        self.kinds[kind] += 1
+        if reason is None:
+            walk(read(source), self.parts)
+        else:
+            self.reasons[re.sub('`[^`]*`', '..', reason.split(': ', 1)[-1])] += 1
+        got = run(self.program, source)
+        self.statuses[got[0]] += 1
+        if got != expected:
+            self.failed += 1
+            if self.failed <= 12:
+                self.show(seed, source, expected, got, reason)
+
+    def show(self, seed, source, expected, got, reason):
+        """A failing document, small, goes to a file; where either side refuses it, it stays as it is."""
+        if reason is None and differs(self.program, read(source), self.stage):
+            small = minimise(self.program, read(source), self.stage)
+            source = json.dumps(small, ensure_ascii=False).encode()
+            expected, got = answer(source, self.stage)[0], run(self.program, source)
+        print('seed', seed, source.decode(errors='replace'), reason or '')
+        print('   model  ', expected, '\n   program', got, flush=True)
+        with open('found/%d.json' % seed, 'wb') as h:
+            h.write(source)
+
+    def report(self):
+        print('statuses', dict(self.statuses))
+        print('kinds', dict(self.kinds))
+        for kind, events in sorted(self.events.items()):
+            print('events of kind', kind, json.dumps(dict(events.most_common())))
+        print('parts', json.dumps(dict(self.parts.most_common())))
+        print('refused for', json.dumps(dict(self.reasons.most_common())))
+
+
 def main():
     program, first, count = sys.argv[1], int(sys.argv[2]), int(sys.argv[3])
+    stage = sys.argv[4] if len(sys.argv) > 4 else STAGE
     os.makedirs('found', exist_ok=True)
-    parts, events, statuses = Counter(), Counter(), Counter()
-    failed, began = 0, time.time()
+    tally, began = Tally(program, stage), time.time()
     for seed in range(first, first + count):
-        document = generate.document(seed)
-        expected = model.answer(document, events)
-        got = run(program, document)
-        statuses[got[0]] += 1
-        walk(document, parts)
-        if got != expected:
-            failed += 1
-            if failed <= 12:
-                small = minimise(program, document)
-                print('seed', seed, json.dumps(small, ensure_ascii=False))
-                print('   model  ', model.answer(small), '\n   program', run(program, small), flush=True)
-                with open('found/%d.json' % seed, 'w') as h:
-                    json.dump(small, h, ensure_ascii=False)
-    print('%d documents from seed %d, %d differ, %.0f s' % (count, first, failed, time.time() - began))
-    print('statuses', dict(statuses))
-    print('parts', json.dumps(dict(parts.most_common())))
-    print('events', json.dumps(dict(events.most_common())))
-    return 1 if failed else 0
+        tally.compare(seed)
+    print('%d documents from seed %d at the stage `%s`, %d differ, %.0f s'
+          % (count, first, stage, tally.failed, time.time() - began))
+    tally.report()
+    return 1 if tally.failed else 0
 
 
 if __name__ == '__main__':

@@ -1,17 +1,24 @@
-"""An independent model of the renderer: from a document to the text that the program must print.
+"""An independent model of the program: from a document to the text that it must print.
 
-The model reads a valid document (a value of `json.load`) and answers the exit status and the text. It knows the
-stage at which every cite is rendered once, with its purpose, at the first-look properties: no rounds of
-disambiguation, no grouping, no positions, no collapsing, no substitution of authors and no first fields.
+`answer(document)` takes a valid document (a value of `json.load`) and gives the exit status and the text, at the stage
+that the program has now (`STAGE`) or at another. `form` tells which documents are refused.
 
-The parts: `trees`, `locales`, `picking` (elements to pieces), `writing` (pieces to a tree), `rendering` (a cite by its
-purpose), and the document here.
+The parts: `trees`, `locales`, `states`, `pieces`, `names` and `picking` (elements to pieces), `writing` (pieces to a
+tree), `rendering` (a cite by its purpose), `cites` (first properties), `rounds`, `grouping`, `collapse`,
+`bibliography`, and the document here.
 """
 from collections import Counter
 
-from picking import Properties
+from bibliography import first_field, substitute_authors
+from cites import at_last, first_look
+from collapse import collapse
+from grouping import final_numbers, grouped, settle_positions
+from pieces import Properties
 from rendering import Renderer
-from trees import Elem, Text, last_text, plain
+from rounds import all_rounds
+from stages import STAGE, reaches
+from states import NO_STATE
+from trees import Elem, Text, last_text, plain, simplified
 from writing import NORMAL
 
 USIZE_MAX = 2 ** 64 - 1
@@ -50,11 +57,12 @@ def distinct(values):
 
 
 class Document:
-    """The whole answer to a document."""
+    """The whole answer to a document, at a stage."""
 
-    def __init__(self, document, events=None):
+    def __init__(self, document, events=None, stage=STAGE):
         self.document = document
         self.events = Counter() if events is None else events
+        self.stage = stage
         self.files = document.get('locales', [])
         self.entries = {}
         for entry in document['entries']:
@@ -62,6 +70,7 @@ class Document:
         self.requests = document['requests']
         self.wanted = document['bibliography']
         self.styles = document['styles']
+        self.table = {}
 
     def answer(self):
         """The exit status and the text: 3 for a ring of macros, 4 for a number out of range, else 0."""
@@ -73,22 +82,80 @@ class Document:
         if offset + len(cited) > USIZE_MAX:
             return 4, ''
         style = self.styles[self.wanted['style']]
+        is_ordered = 'order' in self.wanted and 'bibliography' in style
         listed = cited
-        if 'order' in self.wanted and 'bibliography' in style:
+        if is_ordered:
             listed = distinct([key for key in self.wanted['order'] if key in cited] + cited)
-        self.numbers = {key: offset + place for place, key in enumerate(listed)}
-        lines = [plain(self.citation(request)) for request in self.requests]
+        numbers = {key: offset + place for place, key in enumerate(listed)}
+        rows = self.settled(numbers, None if is_ordered else offset)
+        lines = [plain(self.citation(request, row)) for request, row in zip(self.requests, rows)]
         if 'bibliography' in style:
-            lines.append('')
-            lines += [key + '\t' + plain(self.item(style, key)) for key in listed]
+            lines += [''] + self.bibliography(style, listed, rows)
         return 0, ''.join(line + '\n' for line in lines)
 
-    def citation(self, request):
-        """The shown cites between prefix and suffix, which stand only where no item has a purpose; nothing where no
-        cite is shown."""
-        style = self.styles[request['style']]
-        layout = style['citation']
-        shown = [item for item in request['items'] if not item.get('hidden', False)]
+    # The cites, from their first look to the last
+
+    def settled(self, numbers, offset):
+        """The cites of each request in their final order, with all that is known of them before the final render.
+        Where there is an offset, the final numbers go by the final order."""
+        rows = first_look(self.document, self.entries, numbers)
+        flat = [cite for row in rows for cite in row]
+        for cite in flat:
+            cite.number, cite.position = numbers[cite.key], cite.first.position
+        if not reaches(self.stage, 'disambiguation') or not flat:
+            return rows
+        for cite in flat:
+            self.look_first(cite)
+        first_style = self.styles[self.requests[0]['style']]
+        self.table = all_rounds(flat, first_style, self.look_again, self.events)
+        if not reaches(self.stage, 'grouping'):
+            return rows
+        rows = [grouped(row, self.events) for row in rows]
+        settle_positions(rows)
+        if offset is not None:
+            numbers = final_numbers(rows, offset)
+        for cite in flat:
+            cite.number = numbers[cite.key]
+        if reaches(self.stage, 'collapsing'):
+            for request, row in zip(self.requests, rows):
+                collapse(row, self.styles[request['style']]['citation'], self.table, self.events)
+        return rows
+
+    def renderer(self, style, override, entry, properties, events=None):
+        return Renderer(style, override, self.files, entry, properties, self.events if events is None else events)
+
+    def look_first(self, cite):
+        """The first render, whose tests, name forms and usage stay."""
+        renderer = self.renderer(cite.style, self.requests[cite.request].get('locale'), cite.entry, cite.first, Counter())
+        cite.show(renderer.cite(cite.item.get('purpose')))
+        cite.checked = renderer.picker.checked
+        cite.first_name = renderer.picker.first_name
+        cite.usage = frozenset(renderer.picker.usage)
+
+    def look_again(self, cite, state):
+        properties = cite.first.with_state(state, cite.usage)
+        renderer = self.renderer(cite.style, self.requests[cite.request].get('locale'), cite.entry, properties, Counter())
+        return renderer.cite(cite.item.get('purpose'))
+
+    def final_properties(self, cite):
+        if not reaches(self.stage, 'disambiguation'):
+            return Properties(cite.number, cite.item.get('locator'))
+        return at_last(cite, self.table.get(cite.key, NO_STATE))
+
+    def final_cite(self, cite):
+        request = self.requests[cite.request]
+        renderer = self.renderer(cite.style, request.get('locale'), cite.entry, self.final_properties(cite))
+        if cite.item.get('purpose') == 'year':
+            return renderer.date_text()
+        return renderer.cite(cite.item.get('purpose'), cite.verdict)
+
+    # What is printed
+
+    def citation(self, request, row):
+        """The shown cites between prefix and suffix, which stand only where no item has a purpose; nothing where the
+        request shows no cite."""
+        layout = self.styles[request['style']]['citation']
+        shown = [cite for cite in row if not cite.is_hidden and not cite.collapsed]
         if not shown:
             return []
         affixes = all('purpose' not in item for item in request['items'])
@@ -99,10 +166,10 @@ class Document:
                 children.append(Text(text, NORMAL))
         if affixes:
             add(layout.get('prefix'))
-        for i, item in enumerate(shown):
+        for i, cite in enumerate(shown):
             if i:
-                add(layout.get('delimiter'))
-            children.append(Elem(self.cite(style, request, item), None, ('entry',)))
+                add(layout.get('delimiter') if cite.override is None else cite.override)
+            children.append(Elem(self.final_cite(cite), None, ('entry',)))
         suffix = layout.get('suffix')
         if affixes and suffix:
             last = last_text(children)
@@ -112,19 +179,33 @@ class Document:
                 self.events['layout suffix left out'] += 1
         return children
 
-    def cite(self, style, request, item):
-        key = item['entry']
-        properties = Properties(self.numbers[key], item.get('locator'))
-        renderer = Renderer(style, request.get('locale'), self.files, self.entries[key], properties, self.events)
-        if item.get('purpose') == 'year':
-            return renderer.date_text()
-        return renderer.cite(item.get('purpose'))
+    def bibliography(self, style, listed, rows):
+        """A line for each listed entry: its key, a tab, the first field if any, and the rest."""
+        first_cites = {}
+        for row in rows:
+            for cite in row:
+                first_cites.setdefault(cite.key, cite)
+        items = [simplified(self.item(style, key, first_cites[key])) for key in listed]
+        layout = style['bibliography']
+        if not reaches(self.stage, 'whole'):
+            return [key + '\t' + plain(item) for key, item in zip(listed, items)]
+        if 'substitute' in layout:
+            rule = layout.get('substitute_rule', 'complete-all')
+            substitute_authors(items, layout['substitute'], rule, self.events)
+        lines = []
+        for key, item in zip(listed, items):
+            field = first_field(item) if 'second_field_align' in layout else None
+            self.events['first field'] += field is not None
+            lines.append(key + '\t' + plain(([] if field is None else [field]) + item))
+        return lines
 
-    def item(self, style, key):
-        properties = Properties(self.numbers[key], None)
-        renderer = Renderer(style, self.wanted.get('locale'), self.files, self.entries[key], properties, self.events)
-        return renderer.bibliography_item()
+    def item(self, style, key, cite):
+        """An item has the properties of its entry's first cite in the final order, but for the locator."""
+        properties = Properties(cite.number)
+        if reaches(self.stage, 'whole'):
+            properties = at_last(cite, self.table.get(key, NO_STATE)).without_locator()
+        return self.renderer(style, self.wanted.get('locale'), self.entries[key], properties).bibliography_item()
 
 
-def answer(document, events=None):
-    return Document(document, events).answer()
+def answer(document, events=None, stage=STAGE):
+    return Document(document, events, stage).answer()

@@ -1,92 +1,50 @@
 """Picking turns the elements of a layout into pieces: leaves, and nodes with children."""
 from collections import Counter
-from dataclasses import dataclass
-from typing import Optional
 
-from trees import is_blank, is_white, right_trimmed
-
-EMPTY_FORMAT = (None, None)
+from names import NamesPicking
+from pieces import ALL, DATE_FORMS, FIRST_DATE, NAME_VARIABLES, PLAIN_FORMS, YEAR_SUFFIX, Call, Leaf, leaf, node, year_text
+from states import CHOOSE, has_suffix, letters
 
 
-@dataclass
-class Leaf:
-    text: str
-    is_link: bool = False
+def inner_lists(e):
+    """The lists of elements that stand directly in an element."""
+    return [e.get('children', []), e.get('else', [])] + [branch['children'] for branch in e.get('branches', [])]
 
 
-@dataclass
-class Node:
-    children: list
-    prefix: Optional[str] = None
-    suffix: Optional[str] = None
-    format: tuple = EMPTY_FORMAT
-    display: Optional[str] = None
-    quotes: bool = False
-    strip_periods: bool = False
-    meta: Optional[tuple] = None
-    delimiter: Optional[str] = None
+def has_year_suffix_text(style, macros):
+    """Whether a text of the variable `year-suffix` stands in either layout, at any depth, through macros too."""
+    waiting = [style['citation']['elements']] + ([style['bibliography']['elements']] if 'bibliography' in style else [])
+    seen = set()
+    while waiting:
+        for e in waiting.pop():
+            if e.get('kind') == 'text' and e.get('variable') == 'year-suffix':
+                return True
+            waiting.extend(inner_lists(e))
+            name = e.get('macro')
+            if name is not None and name not in seen:
+                seen.add(name)
+                waiting.append(macros.get(name, []))
+    return False
 
 
-@dataclass
-class Properties:
-    """What the renderer is told of a cite: its number and, where it has one, its locator (kind and text)."""
-    number: int
-    locator: Optional[list]
-
-
-def year_text(year, ad, bc):
-    """The year where it is above 0, else its absolute value plus 1; then `bc` for years up to 0, `ad` up to 999."""
-    if year <= 0:
-        return str(abs(year) + 1) + bc
-    return str(year) + (ad if year < 1000 else '')
-
-
-NAME_VARIABLES = ('author', 'editor', 'translator')
-DATE_VARIABLES = ('issued', 'accessed', 'available-date', 'event-date', 'submitted', 'original-date')
-
-# Forms: what of a layout is written.
-ALL = ('all',)
-SUPPRESS_AUTHOR = ('suppress-author',)
-
-
-def only(variable):
-    return ('only', variable)
-
-
-def format_of(value):
-    return ('italic' if value.get('italic') else None, 'bold' if value.get('bold') else None)
-
-
-def initials(given):
-    """The first characters of the nonempty parts between white space and hyphens."""
-    parts = ''.join(' ' if is_white(c) or c == '-' else c for c in given).split(' ')
-    return [part[0] for part in parts if part]
-
-
-def author_variable(entry):
-    """Editor where the entry has editors and no author, else author."""
-    return 'editor' if entry.get('editor') and not entry.get('author') else 'author'
-
-
-@dataclass
-class Call:
-    """What an element gives: its pieces, and whether it calls a variable, and one with content."""
-    pieces: list
-    called: bool = False
-    content: bool = False
-
-
-class Picker:
-    """Picking turns elements into pieces, from left to right. `suppressed` are the name variables that stood as a
-    substitute; they aren't written again."""
+class Picker(NamesPicking):
+    """Picking turns elements into pieces, from left to right. Along with it go the name variables that stood as a
+    substitute and aren't written again, whether no date was written yet, whether `disambiguate` was tested, the own
+    forms of the first names, and the usage."""
 
     def __init__(self, style, entry, properties, locale, events):
         self.style = style
         self.entry = entry
         self.properties = properties
+        self.position = properties.position
         self.locale = locale
         self.events = events
+        self.in_bibliography = False
         self.suppressed = set()
+        self.no_date_yet = True
+        self.checked = False
+        self.first_name = None
+        self.usage = set(properties.usage)
         self.macros = {}
         for macro in style.get('macros', []):
             self.macros.setdefault(macro['name'], macro['children'])
@@ -94,7 +52,12 @@ class Picker:
     def trial(self):
         """A picker of the same state whose changes are forgotten."""
         other = Picker(self.style, self.entry, self.properties, self.locale, Counter())
+        other.position = self.position
+        other.in_bibliography = self.in_bibliography
         other.suppressed = set(self.suppressed)
+        other.no_date_yet = self.no_date_yet
+        other.first_name = self.first_name
+        other.usage = set(self.usage)
         return other
 
     def layout(self, elements, form, options):
@@ -108,17 +71,6 @@ class Picker:
     def element(self, e, form, options):
         return getattr(self, e['kind'])(e, form, options)
 
-    def node(self, e, children, **more):
-        """A node of the element's affixes, format and display; none without children."""
-        if not children:
-            return []
-        return [Node(children, e.get('prefix'), e.get('suffix'), format_of(e), e.get('display'), **more)]
-
-    @staticmethod
-    def leaf(text):
-        """A leaf, unless the text is absent or blank."""
-        return [] if text is None or is_blank(text) else [Leaf(text)]
-
     # Texts
 
     def text(self, e, form, options):
@@ -127,139 +79,94 @@ class Picker:
             return Call(self.text_node(e, inner.pieces), inner.called, inner.content)
         if 'variable' in e:
             pieces = []
-            if form in (ALL, SUPPRESS_AUTHOR):
+            if form in PLAIN_FORMS or (e['variable'] == 'year-suffix' and form in DATE_FORMS):
                 pieces = self.standard(e, e['variable'])
             return Call(pieces, True, bool(pieces))
-        if form not in (ALL, SUPPRESS_AUTHOR):
+        if form not in PLAIN_FORMS:
             return Call([])
         if 'value' in e:
-            return Call(self.text_node(e, self.leaf(e['value'])))
+            return Call(self.text_node(e, leaf(e['value'])))
         term = self.locale.term(e['term'], e.get('form', 'long'), e.get('plural', False))
-        return Call(self.text_node(e, self.leaf(term)))
+        return Call(self.text_node(e, leaf(term)))
 
     def text_node(self, e, children, meta=None):
-        return self.node(e, children, meta=meta, quotes=e.get('quotes', False),
-                         strip_periods=e.get('strip_periods', False))
+        return node(e, children, meta=meta, quotes=e.get('quotes', False),
+                    strip_periods=e.get('strip_periods', False))
 
     def standard(self, e, variable):
-        """A link of the URL's text to itself, the label, or the entry's value; no year suffix in this stage."""
-        if variable == 'year-suffix':
-            return []
+        """A link of the URL's text to itself, the letters of a suffix, the label, or the entry's value."""
         if variable == 'citation-label':
-            return self.text_node(e, self.leaf(self.entry.get('label')), ('citation-label',))
+            return self.label_or_number(e, 'label')
+        if variable == 'year-suffix':
+            return self.text_node(e, leaf(self.suffix()))
         value = self.entry.get(variable)
         if variable == 'url':
             return self.text_node(e, [] if value is None else [Leaf(value, is_link=True)])
-        return self.text_node(e, self.leaf(value))
+        return self.text_node(e, leaf(value))
 
-    # Numbers and dates
+    def suffix(self):
+        state = self.properties.state
+        return letters(state[1]) if has_suffix(state) else None
+
+    def implicit_suffix(self):
+        """The letters of a suffix, at the first date or label, where no layout of the style writes them itself."""
+        if self.suffix() is None or not self.no_date_yet or has_year_suffix_text(self.style, self.macros):
+            return None
+        self.events['implicit suffix'] += 1
+        return self.suffix()
+
+    # Labels, numbers and dates
+
+    def label_or_number(self, e, named):
+        """The label or the number of a cite, which is noted in the usage. In an item of the bibliography each stands
+        for the other where the entry's first cite showed the other alone."""
+        if not self.in_bibliography:
+            self.usage.add(named)
+        elif self.usage == {'label', 'number'} - {named}:
+            named, = self.usage
+            self.events['%s in the place of the other' % named] += 1
+        if named == 'number':
+            return self.text_node(e, leaf(str(self.properties.number + 1)), ('citation-number',))
+        label = self.entry.get('label')
+        children = [] if label is None else leaf(label) + leaf(self.implicit_suffix())
+        pieces = self.text_node(e, children, ('citation-label',))
+        if pieces:
+            self.no_date_yet = False
+        return pieces
 
     def number(self, e, form, options):
         pieces = []
-        if form in (ALL, SUPPRESS_AUTHOR):
-            variable = e['variable']
-            meta = ('citation-number',) if variable == 'citation-number' else None
-            pieces = self.node(e, self.leaf(self.number_text(variable)), meta=meta)
+        variable = e['variable']
+        if variable == 'citation-number':
+            if form in PLAIN_FORMS:
+                pieces = self.label_or_number(e, 'number')
+        elif form in PLAIN_FORMS or (variable == 'locator' and form in DATE_FORMS):
+            pieces = node(e, leaf(self.number_text(variable)))
         return Call(pieces, True, bool(pieces))
 
     def number_text(self, variable):
-        if variable == 'citation-number':
-            return str(self.properties.number + 1)
         if variable == 'locator':
             return self.properties.locator[1] if self.properties.locator else None
         if variable == 'first-reference-note-number':
-            return None
+            return None if self.properties.first_note is None else str(self.properties.first_note)
         return self.entry.get(variable)
 
     def date(self, e, form, options):
-        """The year, with the terms for the eras."""
-        pieces = []
-        if form in (ALL, SUPPRESS_AUTHOR) and e['variable'] in self.entry:
-            pieces = self.node(e, self.leaf(self.year(self.entry[e['variable']])), meta=('date',))
+        """The year, with the terms for the eras, and the implicit suffix; or the suffix alone."""
+        children = []
+        if e['variable'] in self.entry:
+            if form in PLAIN_FORMS or (form == FIRST_DATE and self.no_date_yet):
+                children = leaf(self.year(self.entry[e['variable']])) + leaf(self.implicit_suffix())
+            elif form == YEAR_SUFFIX:
+                children = leaf(self.implicit_suffix())
+        pieces = node(e, children, meta=('date',))
+        if pieces:
+            self.no_date_yet = False
         return Call(pieces, True, bool(pieces))
 
     def year(self, year):
         ad, bc = self.locale.term('ad'), self.locale.term('bc')
         return year_text(year, ' AD' if ad is None else ad, ' BC' if bc is None else bc)
-
-    # Names
-
-    def names(self, e, form, options):
-        """The listed variables that have persons and aren't suppressed, else the first such substitute, which is
-        suppressed from then on. A form that asks for one variable keeps its blocks alone; the author is left out
-        with the whole element."""
-        options = {**options, **e.get('options', {})}
-        blocks = [v for v in e['variables'] if self.has_free(v)]
-        substitute = None
-        if not blocks:
-            substitute = next((v for v in e.get('substitute', []) if self.has_free(v)), None)
-            blocks = [] if substitute is None else [substitute]
-        if form[0] == 'only':
-            blocks = [v for v in blocks if v == form[1]]
-        if form == SUPPRESS_AUTHOR and author_variable(self.entry) in blocks:
-            self.events['author suppressed'] += 1
-            blocks = []
-        children = []
-        for variable in blocks:
-            block = self.block(variable, options)
-            if children and block:
-                children.append(Leaf(options.get('names_delimiter', ', ')))
-            children.extend(block)
-        pieces = self.node(e, children, meta=('names',))
-        if pieces and substitute is not None:
-            self.suppressed.add(substitute)
-            self.events['substitute used'] += 1
-        return Call(pieces, True, bool(pieces))
-
-    def has_free(self, variable):
-        return bool(self.entry.get(variable)) and variable not in self.suppressed
-
-    def block(self, variable, options):
-        """The persons that are written, with what stands between them, and the mark of those left out. The joints
-        alone are no piece: where no person is written, nothing is."""
-        persons = self.entry[variable]
-        shown = persons
-        if 'et_al_min' in options and len(persons) >= options['et_al_min']:
-            shown = persons[:max(options.get('et_al_use_first', 1), 1)]
-        left_out = len(shown) < len(persons)
-        self.events['persons left out'] += left_out
-        nodes = []
-        for place, person in enumerate(shown):
-            leaf = self.leaf(self.person(person, options))
-            if leaf:
-                nodes.append(Node(leaf, meta=('name', variable, place)))
-        if not nodes:
-            self.events['block without a written person left out'] += 1
-            return []
-        delimiter = options.get('name_delimiter', ', ')
-        answer = []
-        for i, node in enumerate(nodes):
-            if i:
-                joint = delimiter
-                if i == len(nodes) - 1 and not left_out and 'and' in options:
-                    joint = (' ' if len(nodes) == 2 else delimiter) + self.and_word(options) + ' '
-                answer.append(Leaf(joint))
-            answer.append(node)
-        if left_out:
-            term = self.locale.term('et-al')
-            answer.append(Leaf(' ' + ('et al.' if term is None else term)))
-        return answer
-
-    def and_word(self, options):
-        if options['and'] == 'symbol':
-            return '&'
-        term = self.locale.term('and')
-        return 'and' if term is None else term
-
-    @staticmethod
-    def person(person, options):
-        """The family alone; or the given name, or its initials, a space and the family."""
-        family, given = person[0], person[1] if len(person) > 1 else ''
-        if options.get('name_form') == 'short':
-            return family
-        if 'initialize_with' in options:
-            given = right_trimmed(''.join(i + options['initialize_with'] for i in initials(given)))
-        return given + ' ' + family if given else family
 
     # Groups and choices
 
@@ -270,7 +177,7 @@ class Picker:
         if inner.called and not inner.content:
             self.events['group without content left out'] += bool(inner.pieces)
             return Call([], True, False)
-        pieces = self.node(e, inner.pieces, delimiter=e.get('delimiter'))
+        pieces = node(e, inner.pieces, delimiter=e.get('delimiter'))
         if pieces:
             return Call(pieces, True, True)
         return Call([], inner.called, inner.content)
@@ -286,16 +193,27 @@ class Picker:
         return self.elements(e.get('else', []), form, options)
 
     def holds(self, condition):
-        """In this stage no cite is first, near, at a position or disambiguated."""
-        if not isinstance(condition, dict):
-            return condition == 'subsequent'
-        variable = condition['variable']
+        """A test of the state, which is noted, of the position, or of a variable."""
+        if isinstance(condition, dict):
+            return self.has_variable(condition['variable'])
+        if condition == 'disambiguate':
+            self.checked = True
+            return self.properties.state == CHOOSE
+        if condition in ('first', 'subsequent'):
+            return self.properties.is_first == (condition == 'first')
+        if condition == 'near-note':
+            return self.properties.is_near
+        return self.position == condition or (condition == 'ibid' and self.position == 'ibid-with-locator')
+
+    def has_variable(self, variable):
         if variable == 'citation-number':
             return True
         if variable == 'locator':
             return self.properties.locator is not None
-        if variable in ('first-reference-note-number', 'year-suffix'):
-            return False
+        if variable == 'first-reference-note-number':
+            return self.properties.first_note is not None
+        if variable == 'year-suffix':
+            return has_suffix(self.properties.state)
         if variable in NAME_VARIABLES:
             return bool(self.entry.get(variable))
         return ('label' if variable == 'citation-label' else variable) in self.entry

@@ -76,3 +76,34 @@ def has_content(child):
     if isinstance(child, Elem):
         return any(map(has_content, child.children))
     return True
+
+
+def elements_of(children):
+    """All elements, in preorder."""
+    for child in children:
+        if isinstance(child, Elem):
+            yield child
+            yield from elements_of(child.children)
+
+
+def with_meta(children, kind):
+    """The elements of one kind of meta, in preorder."""
+    return [e for e in elements_of(children) if e.meta is not None and e.meta[0] == kind]
+
+
+def first_names(children):
+    """The first names element in preorder, or none."""
+    return next(iter(with_meta(children, 'names')), None)
+
+
+def simplified(children):
+    """Adjacent texts of one format joined, at every depth."""
+    answer = []
+    for child in children:
+        if isinstance(child, Elem):
+            answer.append(Elem(simplified(child.children), child.display, child.meta))
+        elif isinstance(child, Text) and answer and isinstance(answer[-1], Text) and answer[-1].format == child.format:
+            answer[-1] = Text(answer[-1].text + child.text, child.format)
+        else:
+            answer.append(child)
+    return answer

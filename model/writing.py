@@ -1,5 +1,5 @@
 """Writing turns pieces into a tree: a buffer, open frames and formats, and the rules for texts that meet."""
-from picking import EMPTY_FORMAT, Leaf
+from pieces import EMPTY_FORMAT, Leaf
 from trees import Elem, Link, Text, has_content, has_letter, is_blank, is_white, last_text, only_text, right_trimmed
 
 NORMAL = ('normal', 'normal')
