@@ -115,11 +115,10 @@ abbrev pub et_al_parts : Terms → Bool → List Part
 et_al_parts terms false = []
 et_al_parts terms true = joint_part (32 ∷ words_for terms OtherTerm.EtAl (codes "et al.")) ∷ []
 
--- names, with what stands between and behind them
+-- names, with what stands between and behind them; where some are cut the term stands also if none is written
 abbrev pub joined_names : Terms → Rules → Bool → List Part → List Part
-joined_names terms r cut [] = []
-joined_names terms r cut (p ∷ ps) =
-    joined_parts r.name_delimiter (last_words terms r cut (length (p ∷ ps))) (p ∷ ps) ++ et_al_parts terms cut
+joined_names terms r cut ps =
+    joined_parts r.name_delimiter (last_words terms r cut (length ps)) ps ++ et_al_parts terms cut
 
 -- a block, whose names have these forms
 abbrev pub block_parts : Terms → Rules → NameVariable → Forms → List Person → List Part

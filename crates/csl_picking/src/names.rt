@@ -319,10 +319,10 @@ fn push_block<'a>(
 {
     let alloc = *pieces.allocator();
     let names = written_names(alloc, rules.initial_end, block.forms, block.persons)?;
-    if names.is_empty() {
+    let is_cut = are_cut(block.forms);
+    if !is_cut && names.is_empty() {
         return Ok(false);
     }
-    let is_cut = are_cut(block.forms);
     push_before(before, pieces)?;
     push_names(setting, rules, is_cut, block.variable, names, pieces)?;
     push_et_al(setting, is_cut, pieces)?;
