@@ -4,7 +4,8 @@ use Rattle.std.proofs.Math.Dec.{eqb-suc-zero}
 use Rattle.std.proofs.lemmas.List.{append-nil}
 use Rattle.csl_picking.specs.Pieces.{Part, part_tokens, tokens, Token, leaf_token, LeafValue, text_leaf}
 use Rattle.csl_picking.specs.NameRules.{Rules}
-use Rattle.csl_picking.specs.Names.{Terms, joined_behind, joined_parts, last_words, et_al_parts, joined_names, before_parts, preceded}
+use Rattle.csl_picking.specs.Names.{Terms, joined_behind, joined_parts, last_words, et_al_parts, joined_names}
+use Rattle.csl_picking.specs.BlockRun.{before_parts, preceded}
 use Rattle.csl_picking.specs.Picked.{gives}
 use Rattle.csl_picking.proofs.Tokens.{tokens-append}
 

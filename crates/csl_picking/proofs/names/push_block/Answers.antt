@@ -1,7 +1,8 @@
 use Rattle.std.proofs.Common.{◌≡◌, ◌∙◌, ◌++◌, ◌==◌, List, ℕ, Bool, true, false, length, ap, sym, map, option_map}
 use Rattle.csl_picking.specs.InputView.{term_for}
 use Rattle.csl_picking.specs.NameRulesView.{rules_view}
-use Rattle.csl_picking.specs.Names.{joined_names, name_part, preceded, written_names}
+use Rattle.csl_picking.specs.Names.{joined_names, name_part, written_names}
+use Rattle.csl_picking.specs.BlockRun.{preceded}
 use Rattle.csl_picking.specs.NamesView.{name_view}
 use Rattle.csl_picking.specs.Picked.{gives}
 use Rattle.csl_picking.specs.Pieces.{LeafValue, tokens}
