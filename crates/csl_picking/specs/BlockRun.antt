@@ -1,5 +1,5 @@
 -- For the code: blocks one after the other, where another one before them may have given a part.
-use Rattle.std.specs.Prelude.{ℕ, List, [], ◌∷◌, ◌++◌, Bool, false, ◌||◌, Option, Some, None, if◌then◌else◌}
+use Rattle.std.specs.Prelude.{ℕ, List, [], ◌∷◌, ◌++◌, Bool, ◌||◌, Option, Some, None, if◌then◌else◌}
 use Rattle.csl_picking.specs.Pieces.{Part}
 use Rattle.csl_picking.specs.Picked.{gives}
 use Rattle.csl_picking.specs.Names.{joint_part}

@@ -8,8 +8,8 @@ use Rattle.csl_picking.specs.Picked.{gives}
 use Rattle.csl_picking.specs.Pieces.{LeafValue, tokens}
 use Rattle.csl_picking.specs.PiecesView.{tokens_of}
 use Rattle.csl_picking.proofs.NameParts.{block_written, block_gives, length-mapped}
-use Rattle.csl_picking.proofs.names.push_block.Goals as goal
-use Rattle.csl_picking.proofs.names.push_block.Goals.{else-not-is_cut-via-then-not-is_cut+else-is_empty, else-not-is_cut-via-else-not-is_cut}
+use Rattle.csl_picking.proofs.name_pieces.push_block.Goals as goal
+use Rattle.csl_picking.proofs.name_pieces.push_block.Goals.{else-not-is_cut-via-then-not-is_cut+else-is_empty, else-not-is_cut-via-else-not-is_cut}
 
 pub returns-clause-pieces : goal.returns-clause-pieces
 returns-clause-pieces c =
