@@ -1,5 +1,6 @@
 -- The pieces of blocks, one block further, and the node that holds them.
-use Rattle.std.proofs.Common.{◌≡◌, ℕ, List, [], ◌∷◌, ◌++◌, append_assoc, length, take, Bool, true, false, ◌||◌, Option, Some, None, cond, sym, ap, ◌∙◌, refl, if◌then◌else◌}
+use Rattle.std.proofs.Common.{◌≡◌, ℕ, List, [], ◌∷◌, ◌++◌, append_assoc, length, take, filter, Bool, true, false, ◌||◌, Option, Some, None, cond, sym, ap, ◌∙◌, refl, if◌then◌else◌}
+use Rattle.std.specs.List.{flat_map}
 use Rattle.std.proofs.lemmas.List.{append-nil, take_at}
 use Rattle.csl_picking.specs.Pieces.{NodeValue, Part, tokens, Token, opening, closing, node_of}
 use Rattle.csl_base.specs.declared.taxonomy.NameVariable.{NameVariable}
@@ -10,7 +11,8 @@ use Rattle.csl_picking.specs.Notes.{joined}
 use Rattle.csl_picking.specs.Env.{Env}
 use Rattle.csl_picking.specs.Options.{applied_options}
 use Rattle.csl_picking.specs.NameRules.{Rules, rules_of}
-use Rattle.csl_picking.specs.Names.{preceded, blocks_after, blocks_parts, author_variable, blocks, stand_in, written_blocks, names_node, noted_forms, noted_stand_in, pick_names}
+use Rattle.csl_picking.specs.Names.{joint_part, joined_blocks, blocks_parts, author_variable, blocks, stand_in, written_blocks, names_node, noted_forms, noted_stand_in, pick_names}
+use Rattle.csl_picking.specs.BlockRun.{preceded, blocks_after}
 use Rattle.csl_picking.specs.Picked.{Picked, Held, gives, called_with, added}
 use Rattle.csl_picking.proofs.Tokens.{tokens-append}
 
@@ -27,6 +29,17 @@ pub given_further : (words : List ℕ) (behind : Bool) (b : List Part) (bs : Lis
 given_further words true b bs = refl
 given_further words false [] bs = refl
 given_further words false (p ∷ ps) bs = refl
+
+behind_joined : (words : List ℕ) (bs : List (List Part)) → blocks_after words true bs ≡ flat_map (λ o. joint_part words ∷ o) (filter gives bs)
+behind_joined words [] = refl
+behind_joined words ([] ∷ bs) = behind_joined words bs
+behind_joined words ((p ∷ ps) ∷ bs) = ap (λ rest. (joint_part words ∷ p ∷ ps) ++ rest) (behind_joined words bs)
+
+-- one after the other they are those that give a part, joined
+pub blocks_joined : (words : List ℕ) (bs : List (List Part)) → blocks_after words false bs ≡ joined_blocks words bs
+blocks_joined words [] = refl
+blocks_joined words ([] ∷ bs) = blocks_joined words bs
+blocks_joined words ((p ∷ ps) ∷ bs) = ap (λ rest. (p ∷ ps) ++ rest) (behind_joined words bs)
 
 -- a node that is cut back where nothing stands in it
 pub node_closed : (node : NodeValue) (ps : List Part) (given : Bool) (start : ℕ) (old opened filled closed : List Token)

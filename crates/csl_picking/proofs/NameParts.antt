@@ -1,10 +1,11 @@
 -- The pieces of names, one name further, and of blocks, one block further.
-use Rattle.std.proofs.Common.{◌≡◌, ℕ, suc, List, [], ◌∷◌, ◌++◌, map, length, append_assoc, ◌==◌, Bool, false, Option, Some, None, cond, sym, ap, ◌∙◌, refl}
+use Rattle.std.proofs.Common.{◌≡◌, ℕ, suc, List, [], ◌∷◌, ◌++◌, map, length, append_assoc, ◌==◌, Bool, true, false, Option, Some, None, cond, sym, ap, ◌∙◌, refl}
 use Rattle.std.proofs.Math.Dec.{eqb-suc-zero}
 use Rattle.std.proofs.lemmas.List.{append-nil}
 use Rattle.csl_picking.specs.Pieces.{Part, part_tokens, tokens, Token, leaf_token, LeafValue, text_leaf}
 use Rattle.csl_picking.specs.NameRules.{Rules}
-use Rattle.csl_picking.specs.Names.{Terms, joined_behind, joined_parts, last_words, et_al_parts, joined_names, before_parts, preceded}
+use Rattle.csl_picking.specs.Names.{Terms, joined_behind, joined_parts, last_words, et_al_parts, joined_names}
+use Rattle.csl_picking.specs.BlockRun.{before_parts, preceded}
 use Rattle.csl_picking.specs.Picked.{gives}
 use Rattle.csl_picking.proofs.Tokens.{tokens-append}
 
@@ -47,27 +48,33 @@ module _ {X Y : Type 0} (f : X → Part) (g : Y → X) where
       ∙ ap (λ zs. before ++ tokens (joined_parts words (last count) (map f (map g zs)))) (sym e)
       ∙ ap (λ m. before ++ tokens (joined_parts words (last m) (map f (map g all)))) (k ∙ sym (length-mapped g all))
 
-preceded_tokens : (before : Option (List ℕ)) (p : Part) (ps : List Part) → tokens (preceded before (p ∷ ps)) ≡ tokens (before_parts before) ++ tokens (p ∷ ps)
-preceded_tokens None p ps = refl
-preceded_tokens (Some words) p ps = refl
+preceded_tokens : (before : Option (List ℕ)) (ps : List Part) → gives ps ≡ true → tokens (preceded before ps) ≡ tokens (before_parts before) ++ tokens ps
+preceded_tokens before [] some = cc
+preceded_tokens None (p ∷ ps) some = refl
+preceded_tokens (Some words) (p ∷ ps) some = refl
 
--- a block that has names, of which some may be cut
+-- a block gives something where some names are cut or some are written
+module _ {X : Type 0} (f : X → Part) (terms : Terms) (r : Rules) where
+  pub block_gives : (cut : Bool) (xs : List X) → (cut ≡ false → (length xs == 0) ≡ false) → gives (joined_names terms r cut (map f xs)) ≡ true
+  block_gives true [] some = refl
+  block_gives false [] some = absurd (cc (some refl))
+  block_gives cut (x ∷ xs) some = refl
+
+-- a block that gives something, of whose names some may be cut
 module _ {X : Type 0} (f : X → Part) (terms : Terms) (r : Rules) (cut : Bool) (before : Option (List ℕ)) (old first between after : List Token) where
-  pub block_written : (xs : List X) → (length xs == 0) ≡ false
+  pub block_written : (xs : List X) → gives (joined_names terms r cut (map f xs)) ≡ true
       → first ≡ old ++ tokens (before_parts before)
       → between ≡ first ++ tokens (joined_parts r.name_delimiter (last_words terms r cut (length xs)) (map f xs))
       → after ≡ between ++ tokens (et_al_parts terms cut)
       → after ≡ old ++ tokens (preceded before (joined_names terms r cut (map f xs)))
-  block_written [] some a b d = cc
-  block_written (x ∷ xs) some a b d =
-      let last = last_words terms r cut in
-      let behind = λ (n : ℕ). joined_behind r.name_delimiter (last n) (map f xs) in
+  block_written xs some a b d =
+      let joined = λ (n : ℕ). joined_parts r.name_delimiter (last_words terms r cut n) (map f xs) in
       let end = et_al_parts terms cut in
-      let names = tokens (f x ∷ behind (length (x ∷ xs))) in
+      let names = tokens (joined (length xs)) in
       d
       ∙ ap (λ ts. ts ++ tokens end) (b ∙ ap (λ ts. ts ++ names) a)
       ∙ append_assoc (old ++ tokens (before_parts before)) names (tokens end)
       ∙ append_assoc old (tokens (before_parts before)) (names ++ tokens end)
-      ∙ ap (λ ts. old ++ (tokens (before_parts before) ++ ts)) (sym (tokens-append (f x ∷ behind (length (x ∷ xs))) end))
-      ∙ ap (λ n. old ++ (tokens (before_parts before) ++ tokens ((f x ∷ behind n) ++ end))) (sym (length-mapped f (x ∷ xs)))
-      ∙ ap (λ ts. old ++ ts) (sym (preceded_tokens before (f x) (behind (length (map f (x ∷ xs))) ++ end)))
+      ∙ ap (λ ts. old ++ (tokens (before_parts before) ++ ts)) (sym (tokens-append (joined (length xs)) end))
+      ∙ ap (λ n. old ++ (tokens (before_parts before) ++ tokens (joined n ++ end))) (sym (length-mapped f xs))
+      ∙ ap (λ ts. old ++ ts) (sym (preceded_tokens before (joined_names terms r cut (map f xs)) some))

@@ -1,4 +1,4 @@
--- Names of macros, gathered without repetition.
+-- For the code: names of macros, gathered without repetition.
 use Rattle.std.specs.Prelude.{List, [], ◌∷◌, ◌++◌, Bool, true, false, is_some}
 use Rattle.csl_base.specs.Element.{Name, Macro}
 use Rattle.csl_base.specs.Calls.{Names}

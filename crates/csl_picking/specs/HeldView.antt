@@ -1,4 +1,4 @@
--- The plain data that a picking stands for.
+-- For the code: the plain data that a picking stands for.
 use Rattle.csl_picking.specs.declared.held.Picking.{Picking}
 use Rattle.csl_picking.specs.PiecesView.{tokens_of}
 use Rattle.csl_picking.specs.Picked.{Held}

@@ -12,6 +12,7 @@ pub mod NameRules
 pub mod NameRulesView
 pub mod NameText
 pub mod Names
+pub mod BlockRun
 pub mod NamesView
 pub mod Pick
 pub mod InputView

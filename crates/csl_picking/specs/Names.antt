@@ -1,6 +1,6 @@
 -- What a names element gives (CSL 1.0.2, names).
-use Rattle.std.specs.Prelude.{ℕ, ◌==◌, List, [], ◌∷◌, ◌++◌, map, filter, find, length, Bool, true, false, not, ◌||◌, ◌&&◌, Option, Some, None, option_map, option_to_list, is_none, codes, if◌then◌else◌}
-use Rattle.std.specs.List.{list_any, filter_map, zip, enumerate_from}
+use Rattle.std.specs.Prelude.{ℕ, ◌==◌, List, [], ◌∷◌, ◌++◌, map, filter, find, length, Bool, true, false, not, ◌&&◌, Option, Some, None, option_map, option_to_list, is_none, codes, if◌then◌else◌}
+use Rattle.std.specs.List.{list_any, filter_map, flat_map, zip, enumerate_from}
 use Rattle.csl_base.specs.declared.taxonomy.NameVariable.{NameVariable}
 use Rattle.csl_base.specs.declared.taxonomy.Variable.{Variable}
 use Rattle.csl_base.specs.declared.taxonomy.OtherTerm.{OtherTerm}
@@ -115,11 +115,10 @@ abbrev pub et_al_parts : Terms → Bool → List Part
 et_al_parts terms false = []
 et_al_parts terms true = joint_part (32 ∷ words_for terms OtherTerm.EtAl (codes "et al.")) ∷ []
 
--- names, with what stands between and behind them
+-- names, with what stands between and behind them; where some are cut the term stands also if none is written
 abbrev pub joined_names : Terms → Rules → Bool → List Part → List Part
-joined_names terms r cut [] = []
-joined_names terms r cut (p ∷ ps) =
-    joined_parts r.name_delimiter (last_words terms r cut (length (p ∷ ps))) (p ∷ ps) ++ et_al_parts terms cut
+joined_names terms r cut ps =
+    joined_parts r.name_delimiter (last_words terms r cut (length ps)) ps ++ et_al_parts terms cut
 
 -- a block, whose names have these forms
 abbrev pub block_parts : Terms → Rules → NameVariable → Forms → List Person → List Part
@@ -138,23 +137,13 @@ abbrev pub first_block : Env → Rules → Notes → NameVariable → List Part
 first_block env r n v =
     block_parts env.term r v (first_forms env.cite.state n (forms_by r (length (env.answers.names v)))) (env.answers.names v)
 
--- parts with a text before them, if there are any
-abbrev pub before_parts : Option (List ℕ) → List Part
-before_parts None = []
-before_parts (Some words) = joint_part words ∷ []
-
-abbrev pub preceded : Option (List ℕ) → List Part → List Part
-preceded before [] = []
-preceded before (p ∷ ps) = before_parts before ++ p ∷ ps
-
--- blocks, one after the other; a text goes before each that gives a part, where one before it did
-abbrev pub blocks_after : List ℕ → Bool → List (List Part) → List Part
-blocks_after words behind [] = []
-blocks_after words behind (b ∷ bs) = preceded (if behind then Some words else None) b ++ blocks_after words (behind || gives b) bs
+-- the blocks that give a part, with a text between them
+abbrev pub joined_blocks : List ℕ → List (List Part) → List Part
+joined_blocks words bs = elim (filter gives bs) [ [] ↦ [] | b ∷ others ↦ b ++ flat_map (λ o. joint_part words ∷ o) others ]
 
 abbrev pub blocks_parts : Env → Rules → Notes → List NameVariable → List Part
 blocks_parts env r n [] = []
-blocks_parts env r n (v ∷ vs) = blocks_after r.names_delimiter false (first_block env r n v ∷ map (plain_block env r) vs)
+blocks_parts env r n (v ∷ vs) = joined_blocks r.names_delimiter (first_block env r n v ∷ map (plain_block env r) vs)
 
 -- each block's persons and variable
 abbrev pub block_persons : Answers → NameVariable → List Person × NameVariable

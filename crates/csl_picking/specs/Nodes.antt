@@ -1,4 +1,4 @@
--- What a picking holds where a node is opened, and where it is closed again.
+-- For the code: what a picking holds where a node is opened, and where it is closed again.
 use Rattle.std.specs.Prelude.{◌+◌, [], ◌∷◌, ◌++◌, take, length, nat_le, Bool, true, false, ◌||◌}
 use Rattle.std.specs.Bool.{if◌then◌else◌}
 use Rattle.csl_picking.specs.declared.notes.Called.{Called}

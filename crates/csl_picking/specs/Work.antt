@@ -1,4 +1,4 @@
--- What a picking has still to do, as a list of steps of which the last comes next.
+-- For the code: what a picking has still to do, as a list of steps of which the last comes next.
 use Rattle.std.specs.Prelude.{ℕ, zero, suc, ◌+◌, ◌*◌, List, [], ◌∷◌, map, Option, Some, None}
 use Rattle.csl_base.specs.Element.{Name, macro_target, Element, text_element, group_element, choose_element, Elements, Macro}
 use Rattle.csl_base.specs.ElementView.{elements_view}

@@ -1,14 +1,12 @@
 //! What a picking holds, and nodes in it.
-ghost use Rattle.std.specs.Prelude.{◌≡◌, [], OnOk, IfOk};
-ghost use Rattle.csl_picking.specs.Notes.{first_notes};
+ghost use Rattle.std.specs.Prelude.{◌≡◌, OnOk, IfOk};
 ghost use Rattle.csl_picking.specs.PiecesView.{node_view};
 ghost use Rattle.csl_picking.specs.HeldView.{held};
 ghost use Rattle.csl_picking.specs.Nodes.{inside, opened, is_empty_node, is_without_content, cut_back, closed_as, macro_closed, group_closed};
 
-use crate::notes::{Called, Notes, Suppressed};
+use crate::notes::{Called, Notes};
 use crate::pieces::{Node, Piece};
-use csl_lookup::state::IdentifierUsage;
-use std::alloc::{AllocError, Global};
+use std::alloc::AllocError;
 
 /// What is picked so far, what was called, and what is noted.
 #[derive(Drop)]
@@ -21,36 +19,15 @@ pub struct Picking<'a> {
 /// Where a node was opened: how many pieces stood before it and with its opening, and what was
 /// called before it.
 #[derive(Clone, Copy)]
-pub struct Opened {
+pub(crate) struct Opened {
     before: usize,
     inside: usize,
     called: Called,
 }
 
 impl<'a> Picking<'a> {
-    /// Nothing yet, for a cite that has written these identifiers.
-    pub fn new(alloc: Global, usage: IdentifierUsage) -> Picking<'a>
-        ensures { held result ≡ record { tokens = []; called = Called.None; noted = first_notes usage } }
-    {
-        Picking {
-            pieces: Vec::new(alloc),
-            called: Called::None,
-            notes: Notes {
-                first_date: true,
-                suppressed: Suppressed {
-                    author: false,
-                    editor: false,
-                    translator: false,
-                },
-                checked_disambiguate: false,
-                first_name: None,
-                usage,
-            },
-        }
-    }
-
     /// Opens a node. It is closed by one of the two calls below, or cut back where it is empty.
-    pub fn open(&mut self, node: Node<'a>) -> Result<Opened, AllocError>
+    pub(crate) fn open(&mut self, node: Node<'a>) -> Result<Opened, AllocError>
         ensures inside { OnOk result (held self.new ≡ inside (node_view node.entry) (held self.old)) }
         ensures opened { IfOk result (λ o. o ≡ opened (held self.old)) }
     {
@@ -86,7 +63,7 @@ impl<'a> Picking<'a> {
     }
 
     /// Closes the node of a macro.
-    pub fn close_macro(&mut self, opened: Opened) -> Result<(), AllocError>
+    pub(crate) fn close_macro(&mut self, opened: Opened) -> Result<(), AllocError>
         ensures { OnOk result (held self.new ≡ macro_closed opened (held self.old)) }
     {
         if self.is_empty_node(opened) {
@@ -97,7 +74,7 @@ impl<'a> Picking<'a> {
     }
 
     /// Closes a group, which is nothing where variables were called and none had content.
-    pub fn close_group(&mut self, opened: Opened) -> Result<(), AllocError>
+    pub(crate) fn close_group(&mut self, opened: Opened) -> Result<(), AllocError>
         ensures { OnOk result (held self.new ≡ group_closed opened (held self.old)) }
     {
         if self.called.is_without_content() || self.is_empty_node(opened) {

@@ -4,6 +4,8 @@
 mod choices;
 pub mod held;
 pub mod input;
+mod name_blocks;
+mod name_pieces;
 mod name_rules;
 mod name_text;
 pub mod names;

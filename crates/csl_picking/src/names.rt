@@ -1,111 +1,32 @@
 //! Names elements (CSL 1.0.2, names).
-ghost use Rattle.std.specs.Prelude.{◌≡◌, ◌==◌, [], ◌∷◌, ◌++◌, IfOk, OnOk, false, Some, None, ◌||◌, unwrap_or, take, map, length, codes, option_map, filter, find, if◌then◌else◌};
-ghost use Rattle.std.specs.List.{list_any};
-ghost use Rattle.csl_base.specs.declared.taxonomy.OtherTerm.{OtherTerm};
+ghost use Rattle.std.specs.Prelude.{◌≡◌, [], ◌∷◌, ◌++◌, IfOk, OnOk, false, Some, None, ◌||◌, unwrap_or, take, map, option_map, if◌then◌else◌};
 ghost use Rattle.csl_base.specs.declared.elem.ElemMeta.TheVariants as meta;
 ghost use Rattle.csl_base.specs.ElementView.{options_view};
-ghost use Rattle.csl_picking.specs.Names.{is_present, stand_in, blocks, author_variable, is_variable, written_blocks, written_names, name_part, and_words, last_joint, is_count, joined_parts, last_words, et_al_parts, block_parts, plain_block, first_block, before_parts, preceded, blocks_after, first_forms, with_forms, noted_stand_in, blocks_parts, block_persons, names_node, noted_forms, pick_names};
-ghost use Rattle.csl_picking.specs.NamesView.{name_view};
+ghost use Rattle.csl_picking.specs.Names.{stand_in, blocks, author_variable, plain_block, first_block, first_forms, with_forms, noted_stand_in, blocks_parts, block_persons, names_node, noted_forms, pick_names};
+ghost use Rattle.csl_picking.specs.BlockRun.{preceded, blocks_after};
 ghost use Rattle.csl_picking.specs.NameRulesView.{rules_view};
-ghost use Rattle.csl_picking.specs.Pieces.{opening, leaf_token, closing, text_leaf, part_tokens, tokens, plain_node};
-ghost use Rattle.csl_picking.specs.PiecesView.{leaf_view, node_view, shape_look, tokens_of};
-ghost use Rattle.csl_picking.specs.Variables.{words_for};
+ghost use Rattle.csl_picking.specs.Pieces.{opening, closing, tokens, plain_node};
+ghost use Rattle.csl_picking.specs.PiecesView.{node_view, shape_look, tokens_of};
 ghost use Rattle.csl_picking.specs.Picked.{gives, added};
 ghost use Rattle.csl_picking.specs.HeldView.{held};
-ghost use Rattle.csl_picking.specs.InputView.{term_for, env_of};
+ghost use Rattle.csl_picking.specs.InputView.{env_of};
 
 use crate::held::Picking;
-use crate::input::{Input, Setting};
+use crate::input::Input;
+use crate::name_blocks::{Blocks, blocks_of, keep_written};
+use crate::name_pieces::{Block, push_block};
 use crate::name_rules::{NameRules, own_forms};
-use crate::name_text::name_leaf;
-use crate::notes::{Called, Form, Notes};
-use crate::pieces::{Leaf, Node, Piece, Shape};
+use crate::notes::Notes;
+use crate::pieces::{Node, Piece, Shape};
 use crate::variables::called_with;
 use csl_base::elem::ElemMeta;
-use csl_base::element::{InheritableNameOptions, NameAnd};
-use csl_base::entry::{EntryLike, Person};
-use csl_base::formatting::StyleFormatting;
+use csl_base::element::InheritableNameOptions;
+use csl_base::entry::EntryLike;
 use csl_base::names::{DisambiguatedNameForm, NameDisambiguationProperties};
 use csl_base::seq::Seq;
-use csl_base::taxonomy::{NameVariable, OtherTerm, Variable};
-use csl_base::text::Text;
+use csl_base::taxonomy::NameVariable;
 use csl_lookup::state::DisambiguateState;
 use std::alloc::{AllocError, Global};
-
-// Whether a variable has persons, and hasn't stood in for others.
-fn is_present<T: EntryLike>(entry: &T, notes: &Notes, variable: NameVariable) -> bool
-    ensures { result ≡ is_present (T.answers entry.now) notes.now variable }
-{
-    !entry.resolve_name_variable(variable).is_empty() && !notes.suppressed.contains(variable)
-}
-
-// The first substitute that is present.
-fn first_present<T: EntryLike>(
-    entry: &T,
-    notes: &Notes,
-    substitute: &[NameVariable],
-) -> Option<NameVariable>
-    ensures { result ≡ find (is_present (T.answers entry.now) notes.now) substitute.now }
-{
-    for variable in substitute {
-        if is_present(entry, notes, *variable) {
-            return Some(*variable);
-        }
-    }
-    None
-}
-
-// The variables that are present.
-fn present<T: EntryLike>(
-    alloc: Global,
-    entry: &T,
-    notes: &Notes,
-    variables: &[NameVariable],
-) -> Result<Vec<NameVariable>, AllocError>
-    ensures { IfOk result (λ vs. vs.items ≡ filter (is_present (T.answers entry.now) notes.now) variables.now) }
-{
-    let mut present = Vec::new(alloc);
-    for variable in variables {
-        if is_present(entry, notes, *variable) {
-            present.push(*variable)?;
-        }
-    }
-    Ok(present)
-}
-
-// What an element writes: names of these variables, and which one of them stands in for others.
-#[derive(Drop)]
-struct Blocks {
-    variables: Vec<NameVariable>,
-    stand_in: Option<NameVariable>,
-}
-
-fn blocks_of<T: EntryLike>(
-    alloc: Global,
-    entry: &T,
-    notes: &Notes,
-    variables: &[NameVariable],
-    substitute: &[NameVariable],
-) -> Result<Blocks, AllocError>
-    ensures variables { IfOk result (λ b. b.variables.items ≡ blocks (T.answers entry.now) notes.now variables.now substitute.now) }
-    ensures stand_in { IfOk result (λ b. b.stand_in ≡ stand_in (T.answers entry.now) notes.now variables.now substitute.now) }
-{
-    let mut variables = present(alloc, entry, notes, variables)?;
-    if !variables.is_empty() {
-        return Ok(Blocks {
-            variables,
-            stand_in: None,
-        });
-    }
-    let stand_in = first_present(entry, notes, substitute);
-    if let Some(variable) = stand_in {
-        variables.push(variable)?;
-    }
-    Ok(Blocks {
-        variables,
-        stand_in,
-    })
-}
 
 /// The variable that holds the author.
 pub fn author_variable<T: EntryLike>(entry: &T) -> NameVariable
@@ -118,258 +39,6 @@ pub fn author_variable<T: EntryLike>(entry: &T) -> NameVariable
     } else {
         NameVariable::Author
     }
-}
-
-// Whether a variable is this one of names.
-fn is_variable(variable: Variable, name: NameVariable) -> bool
-    ensures { result ≡ is_variable variable name }
-{
-    variable == Variable::Name(name)
-}
-
-// Whether a variable has a block.
-fn has_block(variable: Variable, blocks: &[NameVariable]) -> bool
-    ensures { result ≡ list_any (is_variable variable) blocks.now }
-{
-    blocks.iter().any(|v| is_variable(variable, *v))
-}
-
-// Leaves the blocks that are written in a form.
-fn keep_written(form: Form, author: NameVariable, blocks: &mut Vec<NameVariable>)
-    ensures { blocks.new.items ≡ written_blocks form author blocks.old.items }
-{
-    match form {
-        Form::Full => {}
-        Form::SuppressAuthor => {
-            if has_block(Variable::Name(author), blocks) {
-                blocks.clear();
-            }
-        }
-        Form::VarOnly(only) => blocks.retain(|v| is_variable(only, *v)),
-        Form::OnlyFirstDate => blocks.clear(),
-        Form::OnlyYearSuffix => blocks.clear(),
-    }
-}
-
-// The names that are written, each with its place, where `end` follows each initial.
-fn written_names<'a>(
-    alloc: Global,
-    end: &str,
-    forms: &[DisambiguatedNameForm],
-    persons: &'a [Person],
-) -> Result<Vec<(usize, Leaf<'a>)>, AllocError>
-    requires { length forms.now ≡ length persons.now }
-    ensures { IfOk result (λ names. map name_view names.items ≡ written_names end.now forms.now persons.now) }
-{
-    let mut names = Vec::new(alloc);
-    for (place, person) in persons.iter().enumerate() {
-        if let Some(leaf) = name_leaf(alloc, end, forms[place], person)? {
-            names.push((place, leaf))?;
-        }
-    }
-    Ok(names)
-}
-
-// The word before the last name.
-fn and_words<'a>(setting: &Setting<'a>, and: NameAnd) -> &'a str
-    ensures { result.now ≡ and_words (term_for setting.now) and }
-{
-    match and {
-        NameAnd::Symbol => "&",
-        NameAnd::Text => setting.words_for(OtherTerm::And, "and"),
-    }
-}
-
-// The term behind names that are cut.
-fn et_al_words<'a>(setting: &Setting<'a>) -> &'a str
-    ensures { result.now ≡ words_for (term_for setting.now) OtherTerm.EtAl (codes "et al.") }
-{
-    setting.words_for(OtherTerm::EtAl, "et al.")
-}
-
-// What stands between the last two of so many names.
-fn last_joint<'a>(
-    alloc: Global,
-    setting: &Setting<'a>,
-    rules: &NameRules<'a>,
-    count: usize,
-) -> Result<Leaf<'a>, AllocError>
-    ensures { IfOk result (λ leaf. leaf_view leaf ≡ text_leaf (last_joint (term_for setting.now) (rules_view rules.now) count)) }
-{
-    let and = match rules.and {
-        Some(and) => and,
-        None => return Ok(Leaf::Text(rules.name_delimiter)),
-    };
-    let before = if count == 2 {
-        " "
-    } else {
-        rules.name_delimiter
-    };
-    let mut joint = String::new(alloc);
-    joint.push_str(before)?;
-    joint.push_str(and_words(setting, and))?;
-    joint.push_str(" ")?;
-    Ok(Leaf::Owned(Text::new(joint)))
-}
-
-// Adds a leaf.
-fn push_leaf<'a>(leaf: Leaf<'a>, pieces: &mut Vec<Piece<'a>>) -> Result<(), AllocError>
-    ensures { OnOk result (tokens_of pieces.new.items ≡ tokens_of pieces.old.items ++ leaf_token (leaf_view leaf.entry) ∷ []) }
-{
-    pieces.push(Piece::Leaf(leaf))?;
-    Ok(())
-}
-
-// Adds a name.
-fn push_name<'a>(
-    variable: NameVariable,
-    place: usize,
-    leaf: Leaf<'a>,
-    pieces: &mut Vec<Piece<'a>>,
-) -> Result<(), AllocError>
-    ensures { OnOk result (tokens_of pieces.new.items ≡ tokens_of pieces.old.items ++ part_tokens (name_part variable (place, leaf_view leaf.entry))) }
-{
-    pieces.push(Piece::Open(Node {
-        affixes: None,
-        formatting: StyleFormatting {
-            font_style: None,
-            font_weight: None,
-        },
-        display: None,
-        quotes: false,
-        strip_periods: false,
-        delimiter: None,
-        meta: Some(ElemMeta::Name(variable, place)),
-    }))?;
-    pieces.push(Piece::Leaf(leaf))?;
-    pieces.push(Piece::Close)?;
-    Ok(())
-}
-
-// What stands before the next name, behind which so many are left.
-fn next_joint<'a>(
-    alloc: Global,
-    setting: &Setting<'a>,
-    rules: &NameRules<'a>,
-    is_cut: bool,
-    count: usize,
-    left: usize,
-) -> Result<Leaf<'a>, AllocError>
-    ensures { IfOk result (λ leaf. leaf_view leaf
-        ≡ text_leaf (if left == 0 then last_words (term_for setting.now) (rules_view rules.now) is_cut count else (rules_view rules.now).name_delimiter)) }
-{
-    if left > 0 || is_cut {
-        return Ok(Leaf::Text(rules.name_delimiter));
-    }
-    last_joint(alloc, setting, rules, count)
-}
-
-// Adds names, with what stands between them.
-fn push_names<'a>(
-    setting: &Setting<'a>,
-    rules: &NameRules<'a>,
-    is_cut: bool,
-    variable: NameVariable,
-    names: Vec<(usize, Leaf<'a>)>,
-    pieces: &mut Vec<Piece<'a>>,
-) -> Result<(), AllocError>
-    ensures { let names = map name_view names.entry.items in let r = rules_view rules.now in
-        OnOk result (tokens_of pieces.new.items
-        ≡ tokens_of pieces.old.items ++ tokens (joined_parts r.name_delimiter (last_words (term_for setting.now) r is_cut (length names)) (map (name_part variable) names))) }
-{
-    let alloc = *pieces.allocator();
-    let count = names.len();
-    let mut names = names.into_iter();
-    let (place, leaf) = match names.next() {
-        Some(name) => name,
-        None => return Ok(()),
-    };
-    push_name(variable, place, leaf, pieces)?;
-    let mut left = count - 1;
-    for (place, leaf) in names {
-        left -= 1;
-        let joint = next_joint(alloc, setting, rules, is_cut, count, left)?;
-        push_leaf(joint, pieces)?;
-        push_name(variable, place, leaf, pieces)?;
-    }
-    Ok(())
-}
-
-// The names of one variable, in these forms.
-#[derive(Clone, Copy)]
-struct Block<'a, 'b> {
-    variable: NameVariable,
-    persons: &'a [Person],
-    forms: &'b [DisambiguatedNameForm],
-}
-
-// Adds a block, with a text before it, and tells whether it gives anything.
-fn push_block<'a>(
-    setting: &Setting<'a>,
-    rules: &NameRules<'a>,
-    block: Block<'a, '_>,
-    before: Option<&'a str>,
-    pieces: &mut Vec<Piece<'a>>,
-) -> Result<bool, AllocError>
-    requires { length block.forms.now ≡ length block.persons.now }
-    ensures pieces { OnOk result (tokens_of pieces.new.items
-        ≡ tokens_of pieces.old.items
-        ++ tokens (preceded (option_map (λ t. t.now) before.entry) (block_parts (term_for setting.now) (rules_view rules.now) block.entry.variable block.entry.forms.now block.entry.persons.now))) }
-    ensures given { IfOk result (λ b. b ≡ gives (block_parts (term_for setting.now) (rules_view rules.now) block.entry.variable block.entry.forms.now block.entry.persons.now)) }
-{
-    let alloc = *pieces.allocator();
-    let names = written_names(alloc, rules.initial_end, block.forms, block.persons)?;
-    if names.is_empty() {
-        return Ok(false);
-    }
-    let is_cut = are_cut(block.forms);
-    push_before(before, pieces)?;
-    push_names(setting, rules, is_cut, block.variable, names, pieces)?;
-    push_et_al(setting, is_cut, pieces)?;
-    Ok(true)
-}
-
-// Whether a name only counts.
-fn is_count(form: DisambiguatedNameForm) -> bool
-    ensures { result ≡ is_count form }
-{
-    match form {
-        DisambiguatedNameForm::Count => true,
-        _ => false,
-    }
-}
-
-// Whether some names only count.
-fn are_cut(forms: &[DisambiguatedNameForm]) -> bool
-    ensures { result ≡ list_any is_count forms.now }
-{
-    forms.iter().any(|form| is_count(*form))
-}
-
-// Adds a text before a block, if there is one.
-fn push_before<'a>(before: Option<&'a str>, pieces: &mut Vec<Piece<'a>>) -> Result<(), AllocError>
-    ensures { OnOk result (tokens_of pieces.new.items ≡ tokens_of pieces.old.items ++ tokens (before_parts (option_map (λ t. t.now) before.entry))) }
-{
-    match before {
-        Some(words) => push_leaf(Leaf::Text(words), pieces),
-        None => Ok(()),
-    }
-}
-
-// Adds a space and the term behind names that are cut.
-fn push_et_al<'a>(
-    setting: &Setting<'a>,
-    is_cut: bool,
-    pieces: &mut Vec<Piece<'a>>,
-) -> Result<(), AllocError>
-    ensures { OnOk result (tokens_of pieces.new.items ≡ tokens_of pieces.old.items ++ tokens (et_al_parts (term_for setting.now) is_cut)) }
-{
-    if !is_cut {
-        return Ok(());
-    }
-    let mut words = String::from_str(*pieces.allocator(), " ")?;
-    words.push_str(et_al_words(setting))?;
-    push_leaf(Leaf::Owned(Text::new(words)), pieces)
 }
 
 // Adds a block by the rules alone, with a text before it, and tells whether it gives anything.
@@ -581,7 +250,7 @@ fn close_node(pieces: &mut Vec<Piece>, start: usize, given: bool) -> Result<(), 
 }
 
 /// A names element.
-pub fn pick_names<'a, T: EntryLike>(
+pub(crate) fn pick_names<'a, T: EntryLike>(
     input: &Input<'a, T>,
     variables: &'a Vec<NameVariable>,
     substitute: &'a Vec<NameVariable>,

@@ -55,7 +55,7 @@ pub enum Piece<'a> {
 
 /// How an element is written.
 #[derive(Clone, Copy)]
-pub struct Shape<'a> {
+pub(crate) struct Shape<'a> {
     pub affixes: &'a Affixes,
     pub formatting: StyleFormatting,
     pub display: Option<Display>,
@@ -65,7 +65,7 @@ pub struct Shape<'a> {
 
 impl<'a> Shape<'a> {
     /// A node of this shape, without a delimiter.
-    pub fn node(self, meta: Option<ElemMeta>) -> Node<'a>
+    pub(crate) fn node(self, meta: Option<ElemMeta>) -> Node<'a>
         ensures { node_view result ≡ plain_node (shape_look self.entry) self.entry.quotes self.entry.strip_periods meta }
     {
         Node {
@@ -82,7 +82,7 @@ impl<'a> Shape<'a> {
 
 /// Adds a node of a leaf and a suffix behind it, where one of them is there, and tells whether it
 /// did.
-pub fn add_node<'a>(
+pub(crate) fn add_node<'a>(
     pieces: &mut Vec<Piece<'a>>,
     node: Node<'a>,
     leaf: Option<Leaf<'a>>,

@@ -1,13 +1,14 @@
-use Rattle.std.proofs.Common.{◌≡◌, ◌∙◌, ◌++◌, ◌||◌, Bool, List, ap, sym, map, false}
+use Rattle.std.proofs.Common.{◌≡◌, ◌∙◌, ◌++◌, ◌∷◌, ◌||◌, Bool, List, ap, sym, map, false}
 use Rattle.std.proofs.lemmas.Result.{on_ok_weaker, IfOk-weaker}
 use Rattle.csl_base.specs.declared.taxonomy.NameVariable.{NameVariable}
 use Rattle.csl_picking.specs.InputView.{env_of}
 use Rattle.csl_picking.specs.NameRulesView.{rules_view}
-use Rattle.csl_picking.specs.Names.{blocks_after, blocks_parts, first_block, plain_block}
+use Rattle.csl_picking.specs.Names.{blocks_parts, first_block, plain_block}
+use Rattle.csl_picking.specs.BlockRun.{blocks_after}
 use Rattle.csl_picking.specs.Picked.{gives}
 use Rattle.csl_picking.specs.Pieces.{tokens}
 use Rattle.csl_picking.specs.PiecesView.{tokens_of}
-use Rattle.csl_picking.proofs.NameBlocks.{blocks_further, given_further}
+use Rattle.csl_picking.proofs.NameBlocks.{blocks_further, given_further, blocks_joined}
 use Rattle.csl_picking.proofs.names.push_blocks.Goals as goal
 
 pub returns-clause-pieces : goal.returns-clause-pieces
@@ -23,6 +24,7 @@ returns-clause-pieces g c =
     e
     ∙ ap (λ (t : Bool). between ++ tokens (blocks_after r.names_delimiter t rest)) c.in_ok-given.ensures.given
     ∙ blocks_further r.names_delimiter false first rest old between c.in_ok-given.ensures.pieces
+    ∙ ap (λ ps. old ++ tokens ps) (blocks_joined r.names_delimiter (first ∷ rest))
     ∙ ap (λ (vs : List NameVariable). old ++ tokens (blocks_parts env r n vs)) (sym c.in-Some.ensures.cases.0)) c.push_others.ensures.pieces
 
 pub returns-clause-given : goal.returns-clause-given
@@ -36,4 +38,5 @@ returns-clause-given g c =
     e
     ∙ ap (λ (t : Bool). t || gives (blocks_after r.names_delimiter t rest)) c.in_ok-given.ensures.given
     ∙ given_further r.names_delimiter false first rest
+    ∙ ap gives (blocks_joined r.names_delimiter (first ∷ rest))
     ∙ ap (λ (vs : List NameVariable). gives (blocks_parts env r n vs)) (sym c.in-Some.ensures.cases.0)) c.push_others.ensures.given

@@ -3,7 +3,8 @@ use Rattle.std.proofs.lemmas.List.{at_drop_more}
 use Rattle.csl_base.specs.declared.taxonomy.NameVariable.{NameVariable}
 use Rattle.csl_picking.specs.InputView.{env_of}
 use Rattle.csl_picking.specs.NameRulesView.{rules_view}
-use Rattle.csl_picking.specs.Names.{blocks_after, plain_block, preceded}
+use Rattle.csl_picking.specs.Names.{plain_block}
+use Rattle.csl_picking.specs.BlockRun.{blocks_after, preceded}
 use Rattle.csl_picking.specs.Picked.{gives}
 use Rattle.csl_picking.specs.Pieces.{tokens}
 use Rattle.csl_picking.specs.PiecesView.{tokens_of}

@@ -1,7 +1,8 @@
 use Rattle.std.proofs.Common.{◌≡◌, ◌++◌, ◌||◌, map, drop}
 use Rattle.csl_picking.specs.InputView.{env_of}
 use Rattle.csl_picking.specs.NameRulesView.{rules_view}
-use Rattle.csl_picking.specs.Names.{blocks_after, plain_block}
+use Rattle.csl_picking.specs.Names.{plain_block}
+use Rattle.csl_picking.specs.BlockRun.{blocks_after}
 use Rattle.csl_picking.specs.Picked.{gives}
 use Rattle.csl_picking.specs.Pieces.{tokens}
 use Rattle.csl_picking.specs.PiecesView.{tokens_of}

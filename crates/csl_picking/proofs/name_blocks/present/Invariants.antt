@@ -1,6 +1,6 @@
 use Rattle.std.proofs.Common.{◌≡◌, ◌++◌, filter, drop}
 use Rattle.csl_picking.specs.Names.{is_present}
-use Rattle.csl_picking.proofs.names.present.Given as goal
+use Rattle.csl_picking.proofs.name_blocks.present.Given as goal
 
 abbrev pub invariant-loop-variable : goal.invariant-loop-variable
 invariant-loop-variable g l =

@@ -7,7 +7,7 @@ use Rattle.csl_picking.specs.Names.{last_words, name_part}
 use Rattle.csl_picking.specs.NamesView.{name_view}
 use Rattle.csl_picking.specs.PiecesView.{leaf_view, tokens_of}
 use Rattle.csl_picking.proofs.NameParts.{name_further, names_ended}
-use Rattle.csl_picking.proofs.names.push_names.Goals as goal
+use Rattle.csl_picking.proofs.name_pieces.push_names.Goals as goal
 
 pub loop-place-preserved : goal.loop-place-preserved
 loop-place-preserved c =

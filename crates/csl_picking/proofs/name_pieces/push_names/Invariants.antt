@@ -6,7 +6,7 @@ use Rattle.csl_picking.specs.Names.{joined_behind, last_words, name_part}
 use Rattle.csl_picking.specs.NamesView.{name_view}
 use Rattle.csl_picking.specs.Pieces.{tokens}
 use Rattle.csl_picking.specs.PiecesView.{tokens_of}
-use Rattle.csl_picking.proofs.names.push_names.Given as goal
+use Rattle.csl_picking.proofs.name_pieces.push_names.Given as goal
 
 abbrev pub invariant-loop-place : goal.invariant-loop-place
 invariant-loop-place l =

@@ -1,0 +1,19 @@
+-- For the code: blocks one after the other, where another one before them may have given a part.
+use Rattle.std.specs.Prelude.{ℕ, List, [], ◌∷◌, ◌++◌, Bool, ◌||◌, Option, Some, None, if◌then◌else◌}
+use Rattle.csl_picking.specs.Pieces.{Part}
+use Rattle.csl_picking.specs.Picked.{gives}
+use Rattle.csl_picking.specs.Names.{joint_part}
+
+-- parts with a text before them, if there are any
+abbrev pub before_parts : Option (List ℕ) → List Part
+before_parts None = []
+before_parts (Some words) = joint_part words ∷ []
+
+abbrev pub preceded : Option (List ℕ) → List Part → List Part
+preceded before [] = []
+preceded before (p ∷ ps) = before_parts before ++ p ∷ ps
+
+-- a text goes before each block that gives a part, where one before it did
+abbrev pub blocks_after : List ℕ → Bool → List (List Part) → List Part
+blocks_after words behind [] = []
+blocks_after words behind (b ∷ bs) = preceded (if behind then Some words else None) b ++ blocks_after words (behind || gives b) bs
