@@ -67,7 +67,7 @@ class CiteGenerator:
         self.p_copy = r.choice([0.6, 0.9, 1] if self.of_names else [0.3, 0.6, 0.9])
         self.p_locator = r.choice([0, 0.2, 0.6])
         self.p_hidden = r.choice([0, 0, 0.1, 0.3])
-        self.p_purpose = r.choice([0, 0, 0, 0.15, 0.4])
+        self.p_purpose = r.choice([0, 0.2, 0.5] if kind == 'notes' else [0, 0, 0, 0.15, 0.4])
 
     def chance(self, p):
         return self.r.random() < p
@@ -90,7 +90,7 @@ class CiteGenerator:
         e = {'key': key}
         if self.chance(0.9):
             e['author'] = self.persons()
-        if self.chance(0.25):
+        if self.chance(0.45 if self.kind == 'ambiguous' else 0.25):
             e['editor'] = self.persons() if 'author' not in e or self.chance(0.6) else copy.deepcopy(e['author'])
         if self.chance(0.95):
             e['issued'] = self.pick(self.years)
