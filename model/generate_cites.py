@@ -63,6 +63,7 @@ class CiteGenerator:
         self.titles = r.sample(TITLES, r.choice([1, 2, 3]))
         self.labels = r.sample(LABELS, r.choice([1, 2, 3]))
         self.most_persons = r.choice([2, 3, 4, 5] if self.of_names else [1, 1, 2, 3, 4])
+        self.p_issued = r.choice([0.95, 0.95, 0.95, 0.3])
         self.p_blank = r.choice([0, 0, 0, 0, 0.1, 0.4])
         self.p_copy = r.choice([0.6, 0.9, 1] if self.of_names else [0.3, 0.6, 0.9])
         self.p_locator = r.choice([0, 0.2, 0.6])
@@ -92,7 +93,7 @@ class CiteGenerator:
             e['author'] = self.persons()
         if self.chance(0.45 if self.kind == 'ambiguous' else 0.25):
             e['editor'] = self.persons() if 'author' not in e or self.chance(0.6) else copy.deepcopy(e['author'])
-        if self.chance(0.95):
+        if self.chance(self.p_issued):
             e['issued'] = self.pick(self.years)
         if self.chance(0.15):
             e[self.pick(DATES)] = self.pick(self.years)
@@ -109,7 +110,7 @@ class CiteGenerator:
         e = {**copy.deepcopy(other), 'key': key}
         author = e.get('author', [])
         changes = ['none', 'none', 'title', 'year', 'editor'] if not self.of_names else ['none']
-        change = self.pick(changes + ['person', 'given', 'given', 'more', 'order'])
+        change = self.pick(changes + ['person', 'given', 'given', 'more', 'order', 'other editors'])
         if change in ('person', 'given') and author:
             at = self.r.randrange(len(author))
             given = self.person()[1:]
@@ -124,6 +125,8 @@ class CiteGenerator:
             e['issued'] = self.pick(self.years)
         elif change == 'editor' and author:
             e['editor'] = e.pop('author')
+        elif change == 'other editors' and 'editor' in e:
+            e['editor'] = e['editor'][:1] + self.persons()
         return e
 
     def entries(self, count):
@@ -188,7 +191,9 @@ class CiteGenerator:
         """What a citation writes: names and a date for the most part."""
         if self.chance(0.06):
             return [variable('citation-label')] + ([self.asks()] if self.chance(0.2) else [])
-        parts = [self.names() if self.chance(0.95) else self.by_position()] if self.chance(0.93) else []
+        usual = 6 if self.kind == 'grouped' else 12
+        make = self.pick([self.names] * usual + [self.by_position, self.editor_first])
+        parts = [make()] if self.chance(0.93) else []
         parts += [self.date()] if self.chance(0.85) else []
         for p, make in ((0.1, lambda: variable('citation-label')), (0.05, lambda: number('citation-number')),
                         (0.02 if self.of_names else 0.15, lambda: variable('title')),
@@ -202,6 +207,11 @@ class CiteGenerator:
             at = self.r.randrange(len(parts))
             parts[at] = group([parts[at]], prefix='<', suffix='>')
         return [group(parts, self.pick([' ', ' ', ', ', '/']))] if self.chance(0.8) else parts
+
+    def editor_first(self):
+        """A first cite by its editors, a later one by its authors."""
+        names = {'kind': 'names', 'options': {'name_form': 'short'}}
+        return choice(['first'], [{**names, 'variables': ['editor'], 'substitute': ['author']}], [{**names, 'variables': ['author']}])
 
     def numeric_elements(self):
         mark = number('citation-number', **({'prefix': '#'} if self.chance(0.15) else {}))
@@ -270,7 +280,7 @@ class CiteGenerator:
         parts = [self.names()] if self.chance(0.9) else []
         parts += [self.date()] if self.chance(0.5) else []
         parts += [variable('title')] if self.chance(0.8) else []
-        for p, make in ((0.1, self.asks), (0.1, self.by_position), (0.1, self.names), (0.05, lambda: number('locator')),
+        for p, make in ((0.1, self.asks), (0.2, self.by_position), (0.1, self.names), (0.05, lambda: number('locator')),
                         (0.1, lambda: variable('year-suffix'))):
             if self.chance(p):
                 parts.insert(self.r.randint(0, len(parts)), make())
