@@ -56,6 +56,8 @@ class CiteGenerator:
         self.kind = kind
         r = self.r
         self.of_names = r.random() < (0.5 if kind == 'ambiguous' else 0.15)
+        # First cites by their editors, later ones by their authors, so that blocks change which cite is read first.
+        self.editors_first = kind == 'grouped' and r.random() < 0.12
         self.waiting = []
         self.families = r.sample(FAMILIES, r.choice([1, 2, 2, 3]))
         self.given = r.sample(GIVEN, r.choice([1, 2, 3, 5]))
@@ -123,6 +125,8 @@ class CiteGenerator:
             e['title'] = self.pick(self.titles)
         elif change == 'year':
             e['issued'] = self.pick(self.years)
+        elif self.editors_first and 'editor' not in e:
+            e['editor'] = self.persons()
         elif change == 'editor' and author:
             e['editor'] = e.pop('author')
         elif change == 'other editors' and 'editor' in e:
@@ -191,8 +195,7 @@ class CiteGenerator:
         """What a citation writes: names and a date for the most part."""
         if self.chance(0.06):
             return [variable('citation-label')] + ([self.asks()] if self.chance(0.2) else [])
-        usual = 6 if self.kind == 'grouped' else 12
-        make = self.pick([self.names] * usual + [self.by_position, self.editor_first])
+        make = self.editor_first if self.editors_first else self.pick([self.names] * 12 + [self.by_position, self.editor_first])
         parts = [make()] if self.chance(0.93) else []
         parts += [self.date()] if self.chance(0.85) else []
         for p, make in ((0.1, lambda: variable('citation-label')), (0.05, lambda: number('citation-number')),
@@ -284,6 +287,8 @@ class CiteGenerator:
                         (0.1, lambda: variable('year-suffix'))):
             if self.chance(p):
                 parts.insert(self.r.randint(0, len(parts)), make())
+        if self.editors_first:
+            parts.append(choice(['first'], [text('F')], [number('citation-number', prefix='L')]))
         if self.chance(0.2):
             parts = [group(parts[:1], display=self.pick(['block', 'indent']))] + parts[1:]
         whole = [group(parts, self.pick([', ', ' ', '. ']))] if self.chance(0.6) else parts
@@ -308,7 +313,7 @@ class CiteGenerator:
             s['options'] = self.options(0.3)
         if self.chance(0.2):
             s['categories'] = self.pick([['author-date'], ['numeric'], ['label']])
-        if self.chance(0.9 if self.kind == 'bibliography' else 0.4):
+        if self.chance(0.9 if self.kind == 'bibliography' or self.editors_first else 0.4):
             s['bibliography'] = self.bibliography()
         if self.chance(0.1):
             s['locale'] = [{'terms': [{'name': 'et-al', 'single': 'u. a.'}, {'name': 'and', 'single': 'und'}]}]
