@@ -141,6 +141,12 @@ class Tally:
             h.write(source)
 
     def report(self):
+        for kind, events in sorted(self.events.items()):
+            rounds = [events['documents of %d rounds' % n] for n in range(4)]
+            if sum(rounds[1:]):
+                by = ', '.join('%s in %d' % (n, events['documents marked by ' + n]) for n in ('names', 'choose', 'suffix'))
+                print('%s: %d of %d documents marked in some round (%d, %d, %d in one, two, three rounds): %s'
+                      % (kind, sum(rounds[1:]), sum(rounds), *rounds[1:], by))
         print('statuses', dict(self.statuses))
         print('kinds', dict(self.kinds))
         for kind, events in sorted(self.events.items()):

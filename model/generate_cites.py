@@ -56,6 +56,8 @@ class CiteGenerator:
         self.kind = kind
         r = self.r
         self.of_names = r.random() < (0.5 if kind == 'ambiguous' else 0.15)
+        # First cites by their editors, later ones by their authors, so that blocks change which cite is read first.
+        self.editors_first = kind == 'grouped' and r.random() < 0.12
         self.waiting = []
         self.families = r.sample(FAMILIES, r.choice([1, 2, 2, 3]))
         self.given = r.sample(GIVEN, r.choice([1, 2, 3, 5]))
@@ -63,11 +65,12 @@ class CiteGenerator:
         self.titles = r.sample(TITLES, r.choice([1, 2, 3]))
         self.labels = r.sample(LABELS, r.choice([1, 2, 3]))
         self.most_persons = r.choice([2, 3, 4, 5] if self.of_names else [1, 1, 2, 3, 4])
+        self.p_issued = r.choice([0.95, 0.95, 0.95, 0.3])
         self.p_blank = r.choice([0, 0, 0, 0, 0.1, 0.4])
         self.p_copy = r.choice([0.6, 0.9, 1] if self.of_names else [0.3, 0.6, 0.9])
         self.p_locator = r.choice([0, 0.2, 0.6])
         self.p_hidden = r.choice([0, 0, 0.1, 0.3])
-        self.p_purpose = r.choice([0, 0, 0, 0.15, 0.4])
+        self.p_purpose = r.choice([0, 0.2, 0.5] if kind == 'notes' else [0, 0, 0, 0.15, 0.4])
 
     def chance(self, p):
         return self.r.random() < p
@@ -90,9 +93,9 @@ class CiteGenerator:
         e = {'key': key}
         if self.chance(0.9):
             e['author'] = self.persons()
-        if self.chance(0.25):
+        if self.chance(0.45 if self.kind == 'ambiguous' else 0.25):
             e['editor'] = self.persons() if 'author' not in e or self.chance(0.6) else copy.deepcopy(e['author'])
-        if self.chance(0.95):
+        if self.chance(self.p_issued):
             e['issued'] = self.pick(self.years)
         if self.chance(0.15):
             e[self.pick(DATES)] = self.pick(self.years)
@@ -109,7 +112,7 @@ class CiteGenerator:
         e = {**copy.deepcopy(other), 'key': key}
         author = e.get('author', [])
         changes = ['none', 'none', 'title', 'year', 'editor'] if not self.of_names else ['none']
-        change = self.pick(changes + ['person', 'given', 'given', 'more', 'order'])
+        change = self.pick(changes + ['person', 'given', 'given', 'more', 'order', 'other editors'])
         if change in ('person', 'given') and author:
             at = self.r.randrange(len(author))
             given = self.person()[1:]
@@ -122,8 +125,12 @@ class CiteGenerator:
             e['title'] = self.pick(self.titles)
         elif change == 'year':
             e['issued'] = self.pick(self.years)
+        elif self.editors_first and 'editor' not in e:
+            e['editor'] = self.persons()
         elif change == 'editor' and author:
             e['editor'] = e.pop('author')
+        elif change == 'other editors' and 'editor' in e:
+            e['editor'] = e['editor'][:1] + self.persons()
         return e
 
     def entries(self, count):
@@ -188,7 +195,8 @@ class CiteGenerator:
         """What a citation writes: names and a date for the most part."""
         if self.chance(0.06):
             return [variable('citation-label')] + ([self.asks()] if self.chance(0.2) else [])
-        parts = [self.names() if self.chance(0.95) else self.by_position()] if self.chance(0.93) else []
+        make = self.editor_first if self.editors_first else self.pick([self.names] * 12 + [self.by_position, self.editor_first])
+        parts = [make()] if self.chance(0.93) else []
         parts += [self.date()] if self.chance(0.85) else []
         for p, make in ((0.1, lambda: variable('citation-label')), (0.05, lambda: number('citation-number')),
                         (0.02 if self.of_names else 0.15, lambda: variable('title')),
@@ -202,6 +210,11 @@ class CiteGenerator:
             at = self.r.randrange(len(parts))
             parts[at] = group([parts[at]], prefix='<', suffix='>')
         return [group(parts, self.pick([' ', ' ', ', ', '/']))] if self.chance(0.8) else parts
+
+    def editor_first(self):
+        """A first cite by its editors, a later one by its authors."""
+        names = {'kind': 'names', 'options': {'name_form': 'short'}}
+        return choice(['first'], [{**names, 'variables': ['editor'], 'substitute': ['author']}], [{**names, 'variables': ['author']}])
 
     def numeric_elements(self):
         mark = number('citation-number', **({'prefix': '#'} if self.chance(0.15) else {}))
@@ -270,10 +283,12 @@ class CiteGenerator:
         parts = [self.names()] if self.chance(0.9) else []
         parts += [self.date()] if self.chance(0.5) else []
         parts += [variable('title')] if self.chance(0.8) else []
-        for p, make in ((0.1, self.asks), (0.1, self.by_position), (0.1, self.names), (0.05, lambda: number('locator')),
+        for p, make in ((0.1, self.asks), (0.2, self.by_position), (0.1, self.names), (0.05, lambda: number('locator')),
                         (0.1, lambda: variable('year-suffix'))):
             if self.chance(p):
                 parts.insert(self.r.randint(0, len(parts)), make())
+        if self.editors_first:
+            parts.append(choice(['first'], [text('F')], [number('citation-number', prefix='L')]))
         if self.chance(0.2):
             parts = [group(parts[:1], display=self.pick(['block', 'indent']))] + parts[1:]
         whole = [group(parts, self.pick([', ', ' ', '. ']))] if self.chance(0.6) else parts
@@ -298,7 +313,7 @@ class CiteGenerator:
             s['options'] = self.options(0.3)
         if self.chance(0.2):
             s['categories'] = self.pick([['author-date'], ['numeric'], ['label']])
-        if self.chance(0.9 if self.kind == 'bibliography' else 0.4):
+        if self.chance(0.9 if self.kind == 'bibliography' or self.editors_first else 0.4):
             s['bibliography'] = self.bibliography()
         if self.chance(0.1):
             s['locale'] = [{'terms': [{'name': 'et-al', 'single': 'u. a.'}, {'name': 'and', 'single': 'und'}]}]
