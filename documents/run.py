@@ -1,7 +1,8 @@
 #!/usr/bin/env python3
 """run.py PROGRAM: runs a built cite_run on each document of this folder and of examples/, side by side, and compares
 standard output, exit status and the line on standard error. Then it tries what only a process can show, holds the
-documents to docs/document.schema.json, and compares PROGRAM with model/ on random documents.
+documents to docs/document.schema.json, compares PROGRAM with model/ on random documents, and the model with documents
+that were worked out by hand (model/worked).
 
 A document is NAME.json. NAME.txt is what it must print; where the status isn't 0, NAME.status has it, and nothing is
 printed. What is expected was worked out by hand from the rules, never taken from the program. The folders:
@@ -81,10 +82,14 @@ def hold(got, status, text=b''):
 # Documents
 
 
+def folders_of(base):
+    return sorted(it.path for it in os.scandir(base) if it.is_dir())
+
+
 def documents():
     """Each document's path, without its ending."""
     found = []
-    for folder in [*sorted(it.path for it in os.scandir(HERE) if it.is_dir()), ROOT + '/examples']:
+    for folder in [*folders_of(HERE), ROOT + '/examples']:
         for name in sorted(os.listdir(folder)) if os.path.isdir(folder) else []:
             if name.endswith('.json'):
                 found.append(folder + '/' + name[: -len('.json')])
@@ -340,6 +345,14 @@ def model(program):
         raise Failed(shortened(done.stdout, 4000))
 
 
+def worked(folder):
+    """The model gives what was worked out by hand, whole."""
+    words = [sys.executable, 'rows.py', folder, 'whole']
+    done = subprocess.run(words, cwd=ROOT + '/model', stdout=subprocess.PIPE, stderr=subprocess.STDOUT)
+    if done.returncode:
+        raise Failed(shortened(done.stdout, 4000))
+
+
 def main():
     if len(sys.argv) != 2 or not os.access(sys.argv[1], os.X_OK):
         print(__doc__, file=sys.stderr)
@@ -353,6 +366,7 @@ def main():
     tests = [('model: %d random documents' % RANDOM_DOCUMENTS, model, program)]
     tests += [('process: ' + it.__name__.replace('_', ' '), it, program) for it in reversed(PROCESSES)]
     tests += [(name_of(it), document, program, it) for it in bases]
+    tests += [('model: ' + name_of(it), worked, it) for it in folders_of(ROOT + '/model/worked')]
     tests.append(('files of the folders', strays))
     by_schema = [('schema: ' + name_of(it), schema, validator, it) for it in bases if validator]
     failed = []
