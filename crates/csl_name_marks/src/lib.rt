@@ -1,0 +1,6 @@
+//! Cites that read alike are told apart by their names (CSL 1.0.2, disambiguation).
+#![tactic(auto)]
+
+mod cut;
+mod member;
+mod persons;
