@@ -1,5 +1,5 @@
 -- The marks that tell the cites of an ambiguous group apart by their names.
-use Rattle.std.specs.Prelude.{ℕ, ◌-◌, Bool, true, false, ◌&&◌, List, [], ◌∷◌, Option, Some, fold, if◌then◌else◌, option_map}
+use Rattle.std.specs.Prelude.{ℕ, Bool, true, false, ◌&&◌, List, [], ◌∷◌, Option, Some, fold, if◌then◌else◌, option_map}
 use Rattle.std.specs.List.{filter_map}
 use Rattle.csl_base.specs.Forms.{Forms, add_name}
 use Rattle.csl_base.specs.declared.style.DisambiguationRule.{DisambiguationRule}
@@ -15,22 +15,23 @@ abbrev pub is_by_cite : Option DisambiguationRule → Bool
 is_by_cite (Some DisambiguationRule.ByCite) = true
 is_by_cite _ = false
 
-module _ (group : List Member) (greatest : ℕ) where
-  -- the forms of a member after a step of the group
-  abbrev pub after_step : Member → Forms → ℕ → Forms
-  after_step x forms i =
-      add_name i (if is_by_cite x.rule && is_at i (step group greatest x) then raise group x (i - 1) forms else forms)
+-- the forms of a member, whose own step this is, after a step of its group
+abbrev pub after_step : List Member → Member → Option ℕ → Forms → ℕ → Forms
+after_step group x own forms i = add_name i (if is_by_cite x.rule && is_at i own then raise group x i forms else forms)
 
-  -- the mark of a member that has forms to start from: those that it has after all steps
-  abbrev pub mark : Member → Option (Place × DisambiguateState)
-  mark x = option_map (λ start. (x.place, DisambiguateState.NameDisambiguation (record { forms = fold (after_step x) start.forms (steps group greatest) }))) x.start
+-- the mark of a member that has forms to start from: those that it has after all steps of its group
+abbrev pub mark : List Member → List ℕ → Member → Option ℕ → Option (Place × DisambiguateState)
+mark group steps x own =
+    option_map (λ start. (x.place, DisambiguateState.NameDisambiguation (record { forms = fold (after_step group x own) start.forms steps }))) x.start
 
-  -- where there are no steps, there are no marks
-  abbrev pub marks : List (Place × DisambiguateState)
-  marks = elim (steps group greatest) [ [] ↦ [] | _ ∷ _ ↦ filter_map mark group ]
+-- the marks of a group with these steps: none where there are no steps
+abbrev pub marks_after : List Member → List ℕ → (Member → Option ℕ) → List (Place × DisambiguateState)
+marks_after group [] step_of = []
+marks_after group (i ∷ is) step_of = filter_map (λ x. mark group (i ∷ is) x (step_of x)) group
 
 -- the marks of a group, in its order
-abbrev pub name_marks : {E P : Type 0} → List (CiteRender E P) → List Place → List (Place × DisambiguateState)
+unfoldable pub name_marks : {E P : Type 0} → List (CiteRender E P) → List Place → List (Place × DisambiguateState)
 name_marks renders group =
     let found = members renders group in
-    marks found (greatest_step (first_adds_names renders) found)
+    let m = greatest_step (first_adds_names renders) found in
+    marks_after found (steps found m) (step found m)

@@ -1,5 +1,5 @@
 -- How far a given name is written to tell a person apart from persons of other cites.
-use Rattle.std.specs.Prelude.{ℕ, Bool, not, ◌&&◌, List, [], ◌∷◌, Option, None, Some, bytes_eq, filter, if◌then◌else◌, option_map, slice_get, slice_set, unwrap_or}
+use Rattle.std.specs.Prelude.{ℕ, zero, suc, Bool, not, ◌&&◌, List, [], ◌∷◌, Option, None, Some, bytes_eq, filter, if◌then◌else◌, option_map, slice_get, slice_set, unwrap_or}
 use Rattle.std.specs.List.{flat_map, list_any}
 use Rattle.csl_base.specs.Forms.{Forms}
 use Rattle.csl_base.specs.Initials.{given_initials}
@@ -32,6 +32,7 @@ abbrev pub raised_at : ℕ → Option Person → List Person → Forms → Forms
 raised_at place None qs forms = forms
 raised_at place (Some p) qs forms = unwrap_or (option_map (λ form. slice_set forms place (raised p qs form)) (slice_get forms place)) forms
 
--- the form of a member at a place raised, among all persons of the other members
-unfoldable pub raise : List Member → Member → ℕ → Forms → Forms
-raise group x place forms = raised_at place (slice_get x.persons place) (flat_map (λ y. y.persons) (others group x)) forms
+-- name i of a member, counted from one, raised among all persons of the other members; nothing where it has no such person or no such form
+abbrev pub raise : List Member → Member → ℕ → Forms → Forms
+raise group x zero forms = forms
+raise group x (suc place) forms = raised_at place (slice_get x.persons place) (flat_map (λ y. y.persons) (others group x)) forms

@@ -4,3 +4,5 @@
 mod cut;
 mod member;
 mod persons;
+mod raising;
+mod steps;
