@@ -1,5 +1,5 @@
 -- The members of an ambiguous group, as name marks see them.
-use Rattle.std.specs.Prelude.{◌≡◌, ◌≢◌, ℕ, Bool, false, List, [], ◌∷◌, Option, None, Some, All, AllPairs, IsSome, if◌then◌else◌, length, map, max, slice_get}
+use Rattle.std.specs.Prelude.{◌≢◌, ℕ, Bool, false, List, [], ◌∷◌, Option, None, Some, All, AllPairs, IsSome, if◌then◌else◌, length, map, max, slice_get}
 use Rattle.std.specs.List.{filter_map}
 use Rattle.std.specs.Option.{option_and_then, option_map}
 use Rattle.csl_base.specs.Style.{CitationValue}

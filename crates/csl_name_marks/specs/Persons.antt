@@ -1,5 +1,5 @@
 -- The persons that a tree shows.
-use Rattle.std.specs.Prelude.{Bool, List, [], Option, None, Some}
+use Rattle.std.specs.Prelude.{Bool, List, [], Option, Some}
 use Rattle.std.specs.List.{flat_map}
 use Rattle.csl_base.specs.Child.{Child}
 use Rattle.csl_base.specs.Elements.{elements}

@@ -2,6 +2,8 @@
 #![tactic(auto)]
 
 mod cut;
+mod group;
+pub mod marks;
 mod member;
 mod persons;
 mod raising;
