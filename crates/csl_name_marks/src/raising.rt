@@ -61,16 +61,17 @@ fn raised_by(
     }
 }
 
+/// The form of a person, raised among those of another member.
 fn raised(
     alloc: Global,
     person: &Person,
-    others: &[Person],
+    member: &Member,
     form: DisambiguatedNameForm,
 ) -> Result<DisambiguatedNameForm, AllocError>
-    ensures { IfOk result (λ r. r ≡ raised person.now others.now form) }
+    ensures { IfOk result (λ r. r ≡ raised person.now member.now.persons form) }
 {
     let mut form = form;
-    for other in others {
+    for other in member.persons.as_slice() {
         form = raised_by(alloc, person, other, form)?;
     }
     Ok(form)
@@ -89,7 +90,7 @@ fn raised_in_group(
     let mut form = form;
     for other in group {
         if !same_place(member.place, other.place) {
-            form = raised(alloc, person, other.persons.as_slice(), form)?;
+            form = raised(alloc, person, other, form)?;
         }
     }
     Ok(form)

@@ -10,7 +10,7 @@ loop-other-preserved c =
       | then-not-same_place+in_ok-form w ↦
           w.form-is
           ∙ among-more c.args.person.now c.args.member.now c.args.group.now c.loop-other.other-index c.other-item.result c.args.form c.loop-other-test.true c.other-item.is
-          (sym c.same_place.ensures ∙ w.if-not-same_place.true) (w.in_ok-form.ensures ∙ ap (λ l. raised c.args.person.now l c.loop-other.form) w.as_slice.ensures) c.loop-other.invariant
+          (sym c.same_place.ensures ∙ w.if-not-same_place.true) w.in_ok-form.ensures c.loop-other.invariant
       | else-not-same_place w ↦
           w.form-is
           ∙ among-same c.args.person.now c.args.member.now c.args.group.now c.loop-other.other-index c.other-item.result c.args.form c.loop-other-test.true c.other-item.is
