@@ -3,11 +3,11 @@ use Rattle.std.specs.Prelude.{List, Option, Some, None, map, option_map}
 use Rattle.std.specs.Borrow.{Bor}
 use Rattle.csl_base.specs.StyleView.{code_view, locale_view, style_view}
 use Rattle.csl_lookup.specs.PropertiesView.{locator_view}
-use Rattle.csl_driver.specs.declared.item.CitationItem.{CitationItem}
-use Rattle.csl_driver.specs.declared.request.BibliographyRequest.{BibliographyRequest}
-use Rattle.csl_driver.specs.declared.request.CitationRequest.{CitationRequest}
-use Rattle.csl_driver.specs.declared.request.Order.{Order}
-use Rattle.csl_driver.specs.Request.{Cite, Request, Wanted}
+use Rattle.csl_passes.specs.declared.item.CitationItem.{CitationItem}
+use Rattle.csl_passes.specs.declared.request.BibliographyRequest.{BibliographyRequest}
+use Rattle.csl_passes.specs.declared.request.CitationRequest.{CitationRequest}
+use Rattle.csl_passes.specs.declared.request.Order.{Order}
+use Rattle.csl_passes.specs.Request.{Cite, Request, Wanted}
 
 module _ {T P : Type 0} where
   abbrev pub cite_view : CitationItem T P → Cite T P

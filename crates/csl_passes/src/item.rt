@@ -2,11 +2,11 @@
 ghost use Rattle.std.specs.Prelude.{◌≡◌, false, None, Some, option_map};
 ghost use Rattle.csl_base.specs.StyleView.{code_view};
 ghost use Rattle.csl_lookup.specs.PropertiesView.{locator_view};
-ghost use Rattle.csl_driver.specs.RequestView.{cite_view};
+ghost use Rattle.csl_passes.specs.RequestView.{cite_view};
 
 use csl_base::locale::LocaleCode;
-use csl_writing::locator::SpecificLocator;
-use csl_writing::purpose::CitePurpose;
+use csl_lookup::locator::SpecificLocator;
+use csl_lookup::purpose::CitePurpose;
 
 /// An entry that is cited in a request.
 #[derive(PartialEq, Eq, Drop)]
@@ -22,8 +22,6 @@ pub struct CitationItem<'a, T, P> {
     pub purpose: Option<CitePurpose>,
     /// Its place in the items of its request, once the driver has it; 0 before.
     pub(crate) initial_idx: usize,
-    /// The place of its entry among all that are cited, while an answer is made; 0 before.
-    pub(crate) entry_idx: usize,
 }
 
 impl<'a, T, P> CitationItem<'a, T, P> {
@@ -64,8 +62,14 @@ impl<'a, T, P> CitationItem<'a, T, P> {
             hidden,
             purpose,
             initial_idx: 0,
-            entry_idx: 0,
         }
+    }
+
+    /// Its place in the items of its request, once the driver has it; 0 before.
+    pub fn initial_idx(&self) -> usize
+        ensures { result ≡ (cite_view self.now).place }
+    {
+        self.initial_idx
     }
 
     /// The same cite, written for this purpose.

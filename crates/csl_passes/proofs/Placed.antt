@@ -1,7 +1,7 @@
 -- The places of a request's cites, set one after another.
 use Rattle.std.proofs.Common.{◌≡◌, ℕ, zero, suc, ◌+◌, ◌<◌, List, [], ◌∷◌, ◌++◌, take, drop, length, get_or, ap, arith, add-one}
 use Rattle.std.proofs.Math.ListN.{set}
-use Rattle.csl_driver.specs.Request.{Cite, placed_from}
+use Rattle.csl_passes.specs.Request.{Cite, placed_from}
 
 module _ {E P : Type 0} where
   -- the cites of which the first n have their places

@@ -1,9 +1,8 @@
 //! What a caller asks for: citations, and a bibliography.
 ghost use Rattle.std.specs.Prelude.{◌≡◌, None, if◌then◌else◌, map, option_map};
 ghost use Rattle.csl_base.specs.StyleView.{code_view, locale_view, style_view};
-ghost use Rattle.csl_driver.specs.Class.{is_note};
-ghost use Rattle.csl_driver.specs.Request.{placed_from};
-ghost use Rattle.csl_driver.specs.RequestView.{cites_view, request_view};
+ghost use Rattle.csl_passes.specs.Class.{is_note};
+ghost use Rattle.csl_passes.specs.RequestView.{cites_view, request_view};
 
 use crate::item::CitationItem;
 use csl_base::locale::{Locale, LocaleCode};
@@ -44,6 +43,20 @@ impl<'a, T, P> CitationRequest<'a, T, P> {
                 StyleClass::InText => None,
             },
         }
+    }
+
+    /// The style that its cites are written in.
+    pub fn style(&self) -> &'a IndependentStyle
+        ensures { style_view result.now ≡ (request_view self.now).style }
+    {
+        self.style
+    }
+
+    /// The number of the note in which the citation stands; none outside of notes.
+    pub fn note_number(&self) -> Option<usize>
+        ensures { result ≡ (request_view self.now).note_number }
+    {
+        self.note_number
     }
 
     /// A request for a citation in the style's own locale and without a note number.
@@ -91,14 +104,5 @@ impl<'o, 'a, T> BibliographyRequest<'o, 'a, T> {
             locale_files,
             order: None,
         }
-    }
-}
-
-/// Sets each item's place to where it stands.
-pub(crate) fn number_items<'a, T, P>(items: &mut [CitationItem<'a, T, P>])
-    ensures { cites_view items.new ≡ placed_from 0 (cites_view items.old) }
-{
-    for (k, item) in items.iter_mut().enumerate() {
-        item.initial_idx = k;
     }
 }

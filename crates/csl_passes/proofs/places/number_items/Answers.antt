@@ -1,9 +1,9 @@
 use Rattle.std.proofs.Common.{ap, sym, ◌∙◌, ◌<◌, length}
 use Rattle.std.proofs.lemmas.List.{map-set}
 use Rattle.std.proofs.Math.ListN.{get_or-map, set, length-map}
-use Rattle.csl_driver.specs.RequestView.{cites_view, cite_view}
-use Rattle.csl_driver.proofs.Places.{place_more}
-use Rattle.csl_driver.proofs.request.number_items.Goals as goal
+use Rattle.csl_passes.specs.RequestView.{cites_view, cite_view}
+use Rattle.csl_passes.proofs.Placed.{place_more}
+use Rattle.csl_passes.proofs.places.number_items.Goals as goal
 
 pub loop-k-preserved : goal.loop-k-preserved
 loop-k-preserved g c =

@@ -1,0 +1,4 @@
+pub mod Shown
+pub mod Telling
+pub mod Namesakes
+pub mod Marking

@@ -1,0 +1,69 @@
+//! The members of an ambiguous group, found by their places.
+ghost use Rattle.std.specs.Prelude.{◌≡◌, ◌<◌, length, IfOk};
+ghost use Rattle.csl_passes.specs.RendersView.{item_view, renders_view};
+ghost use Rattle.csl_passes.specs.RequestView.{request_view};
+ghost use Rattle.csl_name_marks.specs.Members.{ArePlaces, first_adds_names, greatest_step, member, members};
+
+use crate::member::{Member, rule_of, start_of};
+use crate::persons::persons_of;
+use csl_passes::renders::{SpeculativeCiteRender, SpeculativeItemRender};
+use csl_passes::request::CitationRequest;
+use std::alloc::{AllocError, Global};
+
+fn member_of<T, P>(
+    alloc: Global,
+    place: (usize, usize),
+    request: &CitationRequest<'_, T, P>,
+    item: &SpeculativeItemRender<'_, T, P>,
+) -> Result<Member, AllocError>
+    ensures { IfOk result (λ m. m ≡ member place (request_view request.now) (item_view item.now)) }
+{
+    let state = &item.cite_props.speculative.disambiguation;
+    Ok(Member {
+        place,
+        persons: persons_of(alloc, &item.rendered)?,
+        rule: rule_of(&request.style().citation),
+        may_be_named: state.may_disambiguate_names(),
+        start: start_of(state, &item.first_name)?,
+    })
+}
+
+/// The members of a group, in its order.
+pub(crate) fn members_of<T, P>(
+    alloc: Global,
+    renders: &[SpeculativeCiteRender<'_, '_, T, P>],
+    group: &[(usize, usize)],
+) -> Result<Vec<Member>, AllocError>
+    requires { ArePlaces (renders_view renders.now) group.now }
+    ensures { IfOk result (λ v. v.items ≡ members (renders_view renders.now) group.now) }
+{
+    let mut found = Vec::new(alloc);
+    for place in group {
+        let cite = &renders[place.0];
+        let item = &cite.items[place.1];
+        found.push(member_of(alloc, *place, cite.request, item)?)?;
+    }
+    Ok(found)
+}
+
+/// Whether the style of the first request adds names.
+pub(crate) fn first_adds_names<T, P>(renders: &[SpeculativeCiteRender<'_, '_, T, P>]) -> bool
+    requires { 0 < length renders.now }
+    ensures { result ≡ first_adds_names (renders_view renders.now) }
+{
+    renders[0].request.style().citation.disambiguate_add_names
+}
+
+/// How many names may be tried.
+pub(crate) fn greatest_step(adds_names: bool, group: &[Member]) -> usize
+    ensures { result ≡ greatest_step adds_names group.now }
+{
+    if !adds_names {
+        return 1;
+    }
+    let mut greatest = 0;
+    for member in group {
+        greatest = member.persons.as_slice().len().max(greatest);
+    }
+    greatest
+}

@@ -1,0 +1,10 @@
+//! Cites that read alike are told apart by their names (CSL 1.0.2, disambiguation).
+#![tactic(auto)]
+
+mod cut;
+mod group;
+pub mod marks;
+mod member;
+mod persons;
+mod raising;
+mod steps;

@@ -1,0 +1,32 @@
+-- The renders of cites as plain data: no capacity and no address is seen.
+use Rattle.std.specs.Prelude.{ℕ, Bool, List, Option}
+use Rattle.csl_base.specs.Child.{Child}
+use Rattle.csl_base.specs.declared.names.NameDisambiguationProperties.{NameDisambiguationProperties}
+use Rattle.csl_lookup.specs.Properties.{LocatorValue, Properties}
+use Rattle.csl_lookup.specs.declared.purpose.CitePurpose.{CitePurpose}
+use Rattle.csl_lookup.specs.declared.state.CollapseVerdict.{CollapseVerdict}
+use Rattle.csl_passes.specs.Request.{Request}
+
+-- a cite as it was rendered last, and what is known of it
+pub record ItemRender (E P : Type 0) : Type 0 where
+  pub rendered : List Child
+  pub entry : E
+  pub properties : Properties P
+  pub checked_disambiguate : Bool
+  pub first_name : Option NameDisambiguationProperties
+  pub delimiter_override : Option (List ℕ)
+  pub group : Option ℕ
+  pub locator : Option (LocatorValue P)
+  pub hidden : Bool
+  pub locale : Option (List ℕ)
+  pub purpose : Option CitePurpose
+  pub verdict : Option CollapseVerdict
+
+-- the cites of a request
+pub record CiteRender (E P : Type 0) : Type 0 where
+  pub items : List (ItemRender E P)
+  pub request : Request E P
+
+-- the place of a cite: that of its request, and its own there
+abbrev pub Place : Type 0
+Place = ℕ × ℕ

@@ -1,0 +1,61 @@
+//! The renders of cites, on which the passes work.
+use crate::request::CitationRequest;
+use csl_base::elem::ElemChildren;
+use csl_base::locale::LocaleCode;
+use csl_base::names::NameDisambiguationProperties;
+use csl_lookup::locator::SpecificLocator;
+use csl_lookup::properties::CiteProperties;
+use csl_lookup::purpose::CitePurpose;
+use csl_lookup::state::{CollapseVerdict, DisambiguateState};
+
+/// A cite as it was rendered last, and what is known of it.
+#[derive(Drop)]
+pub struct SpeculativeItemRender<'a, T, P> {
+    /// What was written.
+    pub rendered: ElemChildren,
+    pub entry: &'a T,
+    /// The properties that it was written by.
+    pub cite_props: CiteProperties<'a, P>,
+    /// Whether its first render tested `disambiguate`.
+    pub checked_disambiguate: bool,
+    /// The forms of the names that its first render wrote first, if it wrote any.
+    pub first_name: Option<NameDisambiguationProperties>,
+    /// What stands before it in place of the layout's delimiter, where it isn't the first that shows.
+    pub delim_override: Option<&'a str>,
+    /// The place of its block among those with names, from 0; none outside of blocks.
+    pub group_idx: Option<usize>,
+    /// Where in the entry the cite points.
+    pub locator: Option<SpecificLocator<'a, P>>,
+    /// Whether it isn't printed.
+    pub hidden: bool,
+    pub locale: Option<LocaleCode>,
+    pub purpose: Option<CitePurpose>,
+    /// How it is cut behind others of the same authors.
+    pub collapse_verdict: Option<CollapseVerdict>,
+}
+
+/// The cites of a request.
+pub struct SpeculativeCiteRender<'r, 'a, T, P> {
+    pub items: Vec<SpeculativeItemRender<'a, T, P>>,
+    pub request: &'r CitationRequest<'a, T, P>,
+}
+
+/// The places of cites that read alike: those of their requests, and in them.
+pub type AmbiguousGroup = Vec<(usize, usize)>;
+
+/// States for the entries of the cites at some places.
+pub type Marks = Vec<((usize, usize), DisambiguateState)>;
+
+/// Lets the cites go one by one: a list that holds references to a type parameter can't be let go as a
+/// whole.
+fn discard<T, P: Drop>(mut items: Vec<SpeculativeItemRender<'_, T, P>>) {
+    while let Some(_item) = items.pop() {}
+    items.destroy_empty();
+}
+
+impl<'r, 'a, T, P: Drop> Drop for SpeculativeCiteRender<'r, 'a, T, P> {
+    fn drop(self) {
+        let SpeculativeCiteRender { items, request: _ } = self;
+        discard(items);
+    }
+}
