@@ -6,3 +6,4 @@ pub mod Replacing
 pub mod Counting
 pub mod Planning
 pub mod Staying
+pub mod Latest

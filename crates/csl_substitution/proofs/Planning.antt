@@ -12,9 +12,9 @@ use Rattle.csl_base.specs.declared.style.SubsequentAuthorSubstituteRule.TheVaria
 use Rattle.csl_substitution.specs.Names.{names_of, names_element}
 use Rattle.csl_substitution.specs.Rewriting.{without_names, name_replaced}
 use Rattle.csl_substitution.specs.Rules.{none_of, rule_for, rewritten_by}
-use Rattle.csl_substitution.specs.Substitution.{Item, is_replaced, kept_of, base, names_after, tree_after, item_after, substitute_text, substituted}
+use Rattle.csl_substitution.specs.Substitution.{Item, is_replaced, base, names_after, tree_after, item_after, substitute_text, substituted}
 use Rattle.csl_substitution.specs.ItemView.{items_view}
-use Rattle.csl_substitution.specs.Changes.{changed, change_by, change_of, planned, plan, elem_changed, tree_changed, trees_changed}
+use Rattle.csl_substitution.specs.Changes.{changed, change_by, change_of, planned, next_base, plan, elem_changed, tree_changed, trees_changed}
 use Rattle.csl_substitution.specs.declared.changes.Change.{Change}
 use Rattle.csl_substitution.specs.declared.changes.Change.TheVariants.{TextAlone, WithoutNames}
 use Rattle.csl_substitution.proofs.Replacing.{up_to_all}
@@ -62,11 +62,11 @@ planned_changed t rule (Some kept) tree = with_change-tree t (planned rule (Some
 
 -- trees one after another
 abbrev trees_after : Formatted → SubsequentAuthorSubstituteRule → Option Elem → List (List Child) → List (List Child)
-trees_after t rule = scan (λ b tree. kept_of rule b (names_element tree)) (tree_after t rule)
+trees_after t rule = scan (next_base rule) (tree_after t rule)
 
 plan_changed : (t : Formatted) (rule : SubsequentAuthorSubstituteRule) (b : Option Elem) (trees : List (List Child)) → trees_changed t (plan rule b trees) trees ≡ trees_after t rule b trees
 plan_changed t rule b [] = refl
-plan_changed t rule b (tree ∷ trees) = ap₂ (λ c cs. c ∷ cs) (planned_changed t rule b tree) (plan_changed t rule (kept_of rule b (names_element tree)) trees)
+plan_changed t rule b (tree ∷ trees) = ap₂ (λ c cs. c ∷ cs) (planned_changed t rule b tree) (plan_changed t rule (next_base rule b tree) trees)
 
 -- and each against the base of those before it
 each_after : (t : Formatted) (rule : SubsequentAuthorSubstituteRule) (before items all : List Item) → before ++ items ≡ all
@@ -105,7 +105,7 @@ all_after t rule xs ys e k =
 -- as many changes as trees
 pub plan-length : (rule : SubsequentAuthorSubstituteRule) (b : Option Elem) (trees : List (List Child)) → length (plan rule b trees) ≡ length trees
 plan-length rule b [] = refl
-plan-length rule b (tree ∷ trees) = ap suc (plan-length rule (kept_of rule b (names_element tree)) trees)
+plan-length rule b (tree ∷ trees) = ap suc (plan-length rule (next_base rule b tree) trees)
 
 -- trees changed one by one
 module _ {K : Type 0} where

@@ -37,18 +37,18 @@ holds_name c = is_some (child_find is_name c)
 -- the text in place of what the first Name element in preorder has as children
 abbrev mutual
   pub name_replaced : Formatted → Child → Child
-  name_replaced t (text f) = text f
-  name_replaced t (elem ks d m) = cond (is_name (elem_of ks d m)) (elem (kid (text t) no_kids) d m) (elem (kids_of (kids_name_replaced t ks)) d m)
-  name_replaced t (markup s) = markup s
-  name_replaced t (link f s) = link f s
-  name_replaced t (transparent i f) = transparent i f
+  name_replaced substitute (text f) = text f
+  name_replaced substitute (elem ks d m) = cond (is_name (elem_of ks d m)) (elem (kid (text substitute) no_kids) d m) (elem (kids_of (kids_name_replaced substitute ks)) d m)
+  name_replaced substitute (markup s) = markup s
+  name_replaced substitute (link f s) = link f s
+  name_replaced substitute (transparent i f) = transparent i f
 
   pub kids_name_replaced : Formatted → Kids → List Child
-  kids_name_replaced t no_kids = []
-  kids_name_replaced t (kid c ks) = cond (holds_name c) (name_replaced t c ∷ list_of ks) (c ∷ kids_name_replaced t ks)
+  kids_name_replaced substitute no_kids = []
+  kids_name_replaced substitute (kid c ks) = cond (holds_name c) (name_replaced substitute c ∷ list_of ks) (c ∷ kids_name_replaced substitute ks)
 
 abbrev pub first_name_replaced : Formatted → List Child → List Child
-first_name_replaced t cs = kids_name_replaced t (kids_of cs)
+first_name_replaced substitute cs = kids_name_replaced substitute (kids_of cs)
 
 -- the children up to the first that holds a name, then those up to the next such, and so on n times; all where fewer do
 abbrev pub up_to_names : ℕ → List Child → List Child

@@ -24,31 +24,39 @@ same_names kept own = pointwise same_elem (names_of kept) (names_of own)
 abbrev pub names_in_common : Elem → Elem → ℕ
 names_in_common kept own = common_prefix_len same_elem (names_of kept) (names_of own)
 
--- the tests: `own` is compared with `kept`
+-- The tests: `own` is compared with `kept`.
+-- the names are equal and, where there are none, so are the two names elements
 abbrev pub complete_all_holds : Elem → Elem → Bool
 complete_all_holds kept own = same_names kept own && (not (none_of (names_of own)) || same_elem kept own)
 
+-- the names are equal
 abbrev pub complete_each_holds : Elem → Elem → Bool
 complete_each_holds kept own = same_names kept own
 
+-- at least the first name is equal
 abbrev pub partial_each_holds : Elem → Elem → Bool
 partial_each_holds kept own = nat_lt 0 (names_in_common kept own)
 
+-- the same
 abbrev pub partial_first_holds : Elem → Elem → Bool
 partial_first_holds kept own = nat_lt 0 (names_in_common kept own)
 
--- the rewritings: the new children of `own`
+-- The rewritings: the new children of `own`.
+-- the substitute and, unless there are no names, the children without them
 abbrev pub complete_all : Formatted → Elem → Elem → List Child
-complete_all t kept own = text t ∷ (if none_of (names_of own) then [] else without_names own.children)
+complete_all substitute kept own = text substitute ∷ (if none_of (names_of own) then [] else without_names own.children)
 
+-- the substitute, and the children with the substitute in the first name of each
 abbrev pub complete_each : Formatted → Elem → Elem → List Child
-complete_each t kept own = text t ∷ map (name_replaced t) own.children
+complete_each substitute kept own = text substitute ∷ map (name_replaced substitute) own.children
 
+-- the substitute, and the children so written, up to as many names as are equal
 abbrev pub partial_each : Formatted → Elem → Elem → List Child
-partial_each t kept own = text t ∷ map (name_replaced t) (up_to_names (names_in_common kept own) own.children)
+partial_each substitute kept own = text substitute ∷ map (name_replaced substitute) (up_to_names (names_in_common kept own) own.children)
 
+-- the same up to the first name
 abbrev pub partial_first : Formatted → Elem → Elem → List Child
-partial_first t kept own = text t ∷ map (name_replaced t) (up_to_names 1 own.children)
+partial_first substitute kept own = text substitute ∷ map (name_replaced substitute) (up_to_names 1 own.children)
 
 -- the rule that an item goes by: one without names by CompleteAll, whatever the style's rule
 abbrev pub rule_for : SubsequentAuthorSubstituteRule → Elem → SubsequentAuthorSubstituteRule

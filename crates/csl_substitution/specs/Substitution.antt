@@ -1,6 +1,7 @@
 -- Subsequent-author substitution of a bibliography, over all of its items.
 use Rattle.std.specs.Prelude.{ℕ, Bool, false, List, [], ◌∷◌, Option, None, Some, map, take, reverse, if◌then◌else◌}
 use Rattle.std.specs.List.{enumerate_from}
+use Rattle.std.specs.Option.{option_and_then, option_or}
 use Rattle.csl_base.specs.Child.{Child}
 use Rattle.csl_base.specs.FirstNames.{put_names}
 use Rattle.csl_base.specs.Formatting.{normal}
@@ -20,17 +21,15 @@ module _ (rule : SubsequentAuthorSubstituteRule) where
   is_replaced None own = false
   is_replaced (Some kept) own = holds_by (rule_for rule own) kept own
 
-  -- of the names element to compare with and an item's own, which may be missing, the one that the next item is
-  -- compared with
-  abbrev pub kept_of : Option Elem → Option Elem → Option Elem
-  kept_of base None = base
-  kept_of base (Some own) = if is_replaced base own then base else Some own
+  -- a tree's names element, where it has one and it isn't replaced
+  abbrev pub stayed : Option Elem → List Child → Option Elem
+  stayed base tree = option_and_then (λ own. if is_replaced base own then None else Some own) (names_element tree)
 
-  -- what comes after these items, given with the latest first, is compared with the names element of the latest that
-  -- has one and wasn't replaced
+  -- what an item after these is compared with, the latest given first: the names element of the latest that has one and
+  -- wasn't replaced
   abbrev pub base : List Item → Option Elem
   base [] = None
-  base (item ∷ before) = kept_of (base before) (names_element item.0)
+  base (item ∷ before) = option_or (stayed (base before) item.0) (base before)
 
 module _ (text : Formatted) (rule : SubsequentAuthorSubstituteRule) where
   -- a names element with what its rule writes as its children
@@ -47,7 +46,7 @@ module _ (text : Formatted) (rule : SubsequentAuthorSubstituteRule) where
 
   -- item k after substitution, against the base of the k items before it
   abbrev pub item_after : List Item → ℕ × Item → Item
-  item_after items p = (tree_after (base rule (reverse (take p.0 items))) p.1.0, p.1.1)
+  item_after items (k, (tree, key)) = (tree_after (base rule (reverse (take k items))) tree, key)
 
 -- the substitute as it is put in
 abbrev pub substitute_text : List ℕ → Formatted

@@ -1,9 +1,8 @@
 //! Substitution over all items of a bibliography.
 ghost use Rattle.std.specs.Prelude.{◌≡◌, ◌≤◌, ◌++◌, ◌∷◌, [], None, map, option_map, length, OnOk, IfOk};
-ghost use Rattle.csl_substitution.specs.Names.{names_element};
-ghost use Rattle.csl_substitution.specs.Substitution.{kept_of, substituted};
+ghost use Rattle.csl_substitution.specs.Substitution.{substituted};
 ghost use Rattle.csl_substitution.specs.ItemView.{items_view};
-ghost use Rattle.csl_substitution.specs.Changes.{plan, planned, trees_changed};
+ghost use Rattle.csl_substitution.specs.Changes.{next_base, plan, planned, trees_changed};
 
 use crate::changes::{Change, change_of};
 use crate::names::{Named, with_names};
@@ -70,7 +69,7 @@ fn plan_next<'a>(
     tree: &'a ElemChildren,
     changes: &mut Vec<Option<Change>>,
 ) -> Result<Option<Named<'a>>, AllocError>
-    ensures next { IfOk result (λ next. option_map (λ n. n.elem.now) next ≡ kept_of rule (option_map (λ n. n.elem.now) base.entry) (names_element tree.now)) }
+    ensures next { IfOk result (λ next. option_map (λ n. n.elem.now) next ≡ next_base rule (option_map (λ n. n.elem.now) base.entry) tree.now) }
     ensures added { OnOk result (changes.new.items ≡ changes.old.items ++ planned rule (option_map (λ n. n.elem.now) base.entry) tree.now ∷ []) }
 {
     match tree.find_names() {
