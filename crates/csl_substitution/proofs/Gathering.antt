@@ -1,0 +1,22 @@
+-- The names that a child is or holds.
+use Rattle.std.proofs.Common.{◌≡◌, true, List, [], ◌∷◌, ◌++◌, map, Bor, sym, ap, ◌∙◌}
+use Rattle.std.proofs.lemmas.List.{map-append}
+use Rattle.csl_base.specs.Child.{kids_of, list_of-kids_of}
+use Rattle.csl_base.specs.ChildView.{child_view}
+use Rattle.csl_base.specs.Tree.{elem_of}
+use Rattle.csl_base.specs.declared.elem.Elem.{Elem}
+use Rattle.csl_base.specs.declared.elem.ElemChild.{ElemChild}
+use Rattle.csl_base.specs.declared.elem.ElemChild.TheVariants as v
+use Rattle.csl_substitution.specs.Names.{is_name, child_names}
+
+elem_back : (e : Elem) → elem_of (kids_of e.children) e.display e.meta ≡ e
+elem_back e = λ i. record { children = list_of-kids_of e.children i; display = e.display; meta = e.meta }
+
+-- a name is the one that a child is
+own_name : (e : Elem) → is_name e ≡ true → child_names (child_view (v.Elem e)) ≡ e ∷ []
+own_name e t = rw (elem_back e, t)
+
+pub name_added : (bs cs : List (Bor Elem)) (b : Bor Elem) (c : ElemChild) → cs ≡ bs ++ b ∷ [] → c ≡ v.Elem b.now → is_name b.now ≡ true → map (λ e. e.now) cs ≡ map (λ e. e.now) bs ++ child_names (child_view c)
+name_added bs cs b c e i t =
+    ap (map (λ e. e.now)) e ∙ map-append (λ e. e.now) bs (b ∷ [])
+    ∙ ap (λ es. map (λ e. e.now) bs ++ es) (sym (ap (λ x. child_names (child_view x)) i ∙ own_name b.now t))

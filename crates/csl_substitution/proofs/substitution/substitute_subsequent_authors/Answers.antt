@@ -1,0 +1,17 @@
+-- What is planned is carried out.
+use Rattle.std.proofs.Common.{length, map, arith, ap, ◌∙◌, None}
+use Rattle.std.proofs.lemmas.List.{length-map}
+use Rattle.csl_substitution.proofs.Planning.{all_substituted, plan-length}
+use Rattle.csl_substitution.proofs.substitution.substitute_subsequent_authors.Goals as goal
+
+pub carry_out-requires : goal.carry_out-requires
+carry_out-requires c =
+    let items = c.args.items.now in
+    let whole = ap length (c.deref.ensures.value ∙ c.in_ok-plan-in-Some.ensures) ∙ plan-length c.args.rule None (map (λ p. p.0) items) ∙ length-map items (λ p. p.0) in
+    omega (arith, whole)
+
+pub returns-in_ok-plan-in-Some : goal.returns-in_ok-plan-in-Some
+returns-in_ok-plan-in-Some c =
+    let text = c.add_text-text.ensures ∙ (λ i. record { text = c.in_ok-from_str-in-Some.ensures.ok i; formatting = c.default.ensures i }) in
+    all_substituted c.carry_out.result c.args.rule c.args.substitute c.in-Some.substitute c.add_text-text.result c.deref.result.now c.carry_out.new.items c.args.items.now
+    c.in-Some.is text (c.deref.ensures.value ∙ c.in_ok-plan-in-Some.ensures) c.carry_out.ensures.trees c.carry_out.ensures.keys
