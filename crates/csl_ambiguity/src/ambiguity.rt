@@ -1,0 +1,1 @@
+//! Cites that read alike and don't all cite the same entry.
