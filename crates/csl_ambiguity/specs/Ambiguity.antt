@@ -22,9 +22,9 @@ module _ {E P : Type 0} where
   abbrev pub classes : List (Member E P) → List (List (Member E P))
   classes cites = map (λ m. class_of cites (text_of m)) (seconds cites)
 
-  -- the cites of the document whose entry has no suffix
-  abbrev pub without_suffix : List (CiteRender E P) → List (Member E P)
-  without_suffix renders = filter (λ m. may_get_suffix (state_of m)) (document renders)
+  -- those of the cites whose entry has no suffix
+  abbrev pub without_suffix : List (Member E P) → List (Member E P)
+  without_suffix cites = filter (λ m. may_get_suffix (state_of m)) cites
 
   module _ (eq : E → E → Bool) where
     -- some two of them cite different entries
@@ -33,4 +33,4 @@ module _ {E P : Type 0} where
 
     -- the ambiguous groups of a document, as places
     abbrev pub ambiguous_groups : List (CiteRender E P) → List (List Place)
-    ambiguous_groups renders = map (map place_of) (filter cite_different (classes (without_suffix renders)))
+    ambiguous_groups renders = map (map place_of) (filter cite_different (classes (without_suffix (document renders))))

@@ -5,5 +5,6 @@
 pub mod ambiguity;
 pub mod choose;
 mod classes;
+mod first_cites;
 mod members;
 pub mod suffixes;

@@ -20,10 +20,10 @@ pub(crate) fn cite_at<'x, 'a, T, P>(
 }
 
 /// The style of the cite at a place.
-pub(crate) fn style_at<'x, T, P>(
-    renders: &'x [SpeculativeCiteRender<'_, 'x, T, P>],
+pub(crate) fn style_at<'a, T, P>(
+    renders: &[SpeculativeCiteRender<'_, 'a, T, P>],
     place: (usize, usize),
-) -> &'x IndependentStyle
+) -> &'a IndependentStyle
     requires exists { IsPlace (renders_view renders.now) place }
     ensures { option_map (λ m. m.style) (member_at (renders_view renders.now) place) ≡ Some (style_view result.now) }
 {
