@@ -1,3 +1,6 @@
 pub mod Joined
 pub mod Walks
 pub mod Chosen
+pub mod Enumerated
+pub mod Distinct
+pub mod FirstOnes

@@ -3,7 +3,7 @@ ghost use Rattle.std.specs.Prelude.{◌≡◌, All, IfOk, map};
 ghost use Rattle.std.specs.List.{enumerate_from, list_any};
 ghost use Rattle.csl_ambiguity.specs.FirstCites.{firsts_view};
 ghost use Rattle.csl_ambiguity.specs.Members.{IsPlace, members};
-ghost use Rattle.csl_ambiguity.specs.SuffixMarks.{adds_suffix, has_date, shows, shows_date, shows_dates, year_suffix_marks};
+ghost use Rattle.csl_ambiguity.specs.SuffixMarks.{adds_suffix, has_date, shows, shows_date, shows_dates, suffix_marks, year_suffix_marks};
 ghost use Rattle.csl_lookup.specs.declared.state.DisambiguateState.TheVariants.{YearSuffix};
 ghost use Rattle.csl_passes.specs.RendersView.{item_view, items_view, renders_view};
 
@@ -95,6 +95,36 @@ fn numbered<T>(alloc: Global, firsts: &[FirstCite<'_, T>]) -> Result<Marks, Allo
     Ok(marks)
 }
 
+/// A suffix mark for each entry that is cited at these places, at its first cite.
+fn suffix_marks<T: EntryLike, P>(
+    alloc: Global,
+    renders: &[SpeculativeCiteRender<'_, '_, T, P>],
+    group: &[(usize, usize)],
+) -> Result<Marks, AllocError>
+    requires exist { All (IsPlace (renders_view renders.now)) group.now }
+    ensures { IfOk result (λ v. v.items ≡ suffix_marks T.eq (members (renders_view renders.now) group.now)) }
+{
+    let firsts = first_cites(alloc, renders, group)?;
+    numbered(alloc, firsts.as_slice())
+}
+
+/// The same, where the document shows dates and the style of one of the cites adds suffixes; else none.
+fn year_suffix_marks<T: EntryLike, P>(
+    alloc: Global,
+    renders: &[SpeculativeCiteRender<'_, '_, T, P>],
+    group: &[(usize, usize)],
+    dated: bool,
+) -> Result<Marks, AllocError>
+    requires exist { All (IsPlace (renders_view renders.now)) group.now }
+    ensures { IfOk result (λ v. v.items ≡ year_suffix_marks T.eq dated (members (renders_view renders.now) group.now)) }
+{
+    if dated && adds_suffix(renders, group) {
+        suffix_marks(alloc, renders, group)
+    } else {
+        Ok(Vec::new(alloc))
+    }
+}
+
 /// The suffix marks of an ambiguous group: one for each entry, at its first cite there. The suffix is
 /// the place of the entry among those of the group, in the order of their first cites. There are none
 /// where no cite of the document shows a date (`shows_dates`), and none where the style of no cite of
@@ -129,9 +159,5 @@ pub fn disambiguate_dated_year_suffix<T: EntryLike, P>(
     requires exist { All (IsPlace (renders_view renders.now)) group.now.items }
     ensures { IfOk result (λ v. v.items ≡ year_suffix_marks T.eq dated (members (renders_view renders.now) group.now.items)) }
 {
-    if !(dated && adds_suffix(renders, group)) {
-        return Ok(Vec::new(alloc));
-    }
-    let firsts = first_cites(alloc, renders, group)?;
-    numbered(alloc, firsts.as_slice())
+    year_suffix_marks(alloc, renders, group, dated)
 }
