@@ -1,10 +1,18 @@
 -- The distinct members of a list, as the code gathers them one by one.
 use Rattle.std.proofs.Common.{◌≡◌, ℕ, ◌+◌, Bool, true, false, cond, not, ◌||◌, List, [], ◌∷◌, ◌++◌, map, filter, refl, ap, sym, ◌∙◌, append-nil, append_assoc, arith}
-use Rattle.std.specs.List.{AllByRecursion, enumerate_from, list_any, position_or_len}
+use Rattle.std.specs.List.{AllByRecursion, enumerate_from, list_any}
 use Rattle.std.specs.Cmp.{IsEquivalence}
 use Rattle.std.proofs.lemmas.List.{map-append}
 use Rattle.std.proofs.lemmas.List.Elements.{filter-append}
 use Rattle.csl_passes.specs.Entries.{distinct, is_in, place, with_all_new, with_new}
+
+pub all-filter : {E : Type 0} (Q : E → Type 0) (p : E → Bool) (xs : List E) → AllByRecursion Q xs → AllByRecursion Q (filter p xs)
+all-filter Q p [] h = h
+all-filter Q p (x ∷ xs) h = by (p x) (all-filter Q p xs h.1)
+  where
+    by : (b : Bool) → AllByRecursion Q (filter p xs) → AllByRecursion Q (cond b (x ∷ filter p xs) (filter p xs))
+    by true k = (h.0, k)
+    by false k = k
 
 module _ {E : Type 0} (eq : E → E → Bool) where
   abbrev pub others : E → List E → List E
@@ -57,14 +65,6 @@ module _ {E : Type 0} (eq : E → E → Bool) where
   abbrev pub NoTwoEqual : List E → Type 0
   NoTwoEqual [] = Unit {0}
   NoTwoEqual (x ∷ xs) = AllByRecursion (λ y. eq x y ≡ false) xs × NoTwoEqual xs
-
-  all-filter : (Q : E → Type 0) (p : E → Bool) (xs : List E) → AllByRecursion Q xs → AllByRecursion Q (filter p xs)
-  all-filter Q p [] h = h
-  all-filter Q p (x ∷ xs) h = by (p x) (all-filter Q p xs h.1)
-    where
-      by : (b : Bool) → AllByRecursion Q (filter p xs) → AllByRecursion Q (cond b (x ∷ filter p xs) (filter p xs))
-      by true k = (h.0, k)
-      by false k = k
 
   distinct-filter : (p : E → Bool) (xs : List E) → NoTwoEqual xs → NoTwoEqual (filter p xs)
   distinct-filter p [] h = h

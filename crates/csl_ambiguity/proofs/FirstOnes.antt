@@ -1,5 +1,5 @@
 -- The first cites of entries, gathered place by place, and the suffixes that they get.
-use Rattle.std.proofs.Common.{◌≡◌, ℕ, ◌+◌, ◌<◌, ◌≤◌, Bool, true, cond, List, [], ◌∷◌, ◌++◌, length, drop, map, get_or, refl, ap, sym, ◌∙◌, zero-add}
+use Rattle.std.proofs.Common.{◌≡◌, ℕ, ◌+◌, ◌≤◌, Bool, cond, List, [], ◌∷◌, ◌++◌, length, drop, map, get_or, refl, ap, sym, ◌∙◌, zero-add}
 use Rattle.std.specs.List.{enumerate_from, list_any}
 use Rattle.std.specs.Cmp.{IsEquivalence}
 use Rattle.csl_lookup.specs.declared.state.DisambiguateState.{DisambiguateState}
@@ -7,7 +7,7 @@ use Rattle.csl_lookup.specs.declared.state.DisambiguateState.TheVariants.{YearSu
 use Rattle.csl_passes.specs.Entries.{distinct, place, with_all_new, with_new}
 use Rattle.csl_passes.specs.Renders.{CiteRender, ItemRender, Place}
 use Rattle.csl_ambiguity.specs.FirstCites.{first_of, firsts_view, same_entry}
-use Rattle.csl_ambiguity.specs.Members.{Member, entry_of, member_at, members}
+use Rattle.csl_ambiguity.specs.Members.{Member, entry_of, members}
 use Rattle.csl_ambiguity.specs.SuffixMarks.{first_cites, suffix_among, suffix_marks}
 use Rattle.csl_ambiguity.specs.declared.first_cites.FirstCite.{FirstCite}
 use Rattle.csl_ambiguity.proofs.Distinct.{all_new_is_distinct, are-distinct, distinct-map, insert-view, own-places}

@@ -34,7 +34,7 @@ module _ {E P : Type 0} (renders : List (CiteRender E P)) where
 
       outer : (o : Option (CiteRender E P))
           → elim o [
-            None ↦ None
+            | None ↦ None
             | Some c ↦ option_map (λ i. record { place = (r, n); item = i; style = c.request.style }) (slice_get c.items n)
           ] ≡ Some m → m.place ≡ (r, n)
       outer None h = cc

@@ -19,16 +19,21 @@ class_at c text = get string_eq c.by_text text
 abbrev pub groups_in : Classes → List (List Place)
 groups_in c = map (λ g. g.items) c.groups.items
 
+module _ {E P : Type 0} where
+  -- where the cites of a text are found that are these: one alone, or all in the i-th group
+  abbrev pub class_found : List (Member E P) → ℕ → Option Class
+  class_found [] i = None
+  class_found (m ∷ []) i = Some (Single m.place)
+  class_found (m ∷ n ∷ ms) i = Some (Group i)
+
 module _ {E P : Type 0} (cites : List (Member E P)) where
-  -- where the cites of this text are found: one alone, or all in a group
+  -- the texts of the groups
+  abbrev pub texts : List (List ℕ)
+  texts = map text_of (seconds cites)
+
+  -- where the cites of this text are found
   abbrev pub found : List ℕ → Option Class
-  found text = elim (class_of cites text) [
-    | [] ↦ None
-    | m ∷ ms ↦ elim ms [
-      | [] ↦ Some (Single m.place)
-      | _ ∷ _ ↦ Some (Group (position_or_len (bytes_eq text) (map text_of (seconds cites))))
-    ]
-  ]
+  found text = class_found (class_of cites text) (position_or_len (bytes_eq text) texts)
 
   -- they are the classes of these cites
   pub record AreClassesOf (c : Classes) : Type 0 where
@@ -54,12 +59,11 @@ pub record JoinsGroup (i : ℕ) (p : Place) (old new : Classes) : Type 0 where
   pub at : (q : HeapText) → class_at new q ≡ class_at old q
   pub groups : groups_in new ≡ slice_set (groups_in old) i (slice_index_or (groups_in old) i [] ++ p ∷ [])
 
--- a cite at p with this text was added
+-- a cite at p with this text was added, of which this had been found
+abbrev pub AddsTo : Option Class → Place → HeapText → Classes → Classes → Type 0
+AddsTo None p text old new = StartsClass p text old new
+AddsTo (Some (Single first)) p text old new = MakesGroup first p text old new
+AddsTo (Some (Group i)) p text old new = JoinsGroup i p old new
+
 abbrev pub Adds : Place → HeapText → Classes → Classes → Type 0
-Adds p text old new = elim (class_at old text) [
-  | None ↦ StartsClass p text old new
-  | Some class ↦ elim class [
-    | Single first ↦ MakesGroup first p text old new
-    | Group i ↦ JoinsGroup i p old new
-  ]
-]
+Adds p text old new = AddsTo (class_at old text) p text old new

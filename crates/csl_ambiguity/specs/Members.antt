@@ -41,7 +41,8 @@ module _ {E P : Type 0} where
     | Some c ↦ option_map (λ i. record { place = (r, k); item = i; style = c.request.style }) (slice_get c.items k)
   ]
 
-  abbrev one_or_none : Option (Member E P) → List (Member E P)
+  -- a list of it, if there is one
+  abbrev pub one_or_none : Option (Member E P) → List (Member E P)
   one_or_none None = []
   one_or_none (Some m) = m ∷ []
 

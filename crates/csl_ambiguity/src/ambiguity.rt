@@ -1,5 +1,5 @@
 //! Cites that read alike and don't all cite the same entry.
-ghost use Rattle.std.specs.Prelude.{◌≡◌, ◌++◌, ◌∷◌, [], All, IfOk, List, OnOk, map, not};
+ghost use Rattle.std.specs.Prelude.{◌≡◌, ◌++◌, ◌∷◌, [], All, IfOk, List, OnOk, if◌then◌else◌, map, not};
 ghost use Rattle.std.specs.List.{list_any};
 ghost use Rattle.csl_ambiguity.specs.Ambiguity.{ambiguous_groups, cite_different, classes, without_suffix};
 ghost use Rattle.csl_ambiguity.specs.ClassesSoFar.{AreClassesOf};
@@ -96,6 +96,22 @@ fn cite_different<T: EntryLike, P>(
     }
 }
 
+/// Adds the places to the groups, if the cites there cite different entries.
+fn keep_if_different<T: EntryLike, P>(
+    renders: &[SpeculativeCiteRender<'_, '_, T, P>],
+    places: AmbiguousGroup,
+    groups: &mut Vec<AmbiguousGroup>,
+) -> Result<(), AllocError>
+    requires exist { All (IsPlace (renders_view renders.now)) places.items }
+    ensures { OnOk result (map (λ g. g.items) groups.new.items
+        ≡ map (λ g. g.items) groups.old.items ++ (if cite_different T.eq (members (renders_view renders.now) places.items) then places.items ∷ [] else [])) }
+{
+    if cite_different(renders, &places) {
+        groups.push(places)?;
+    }
+    Ok(())
+}
+
 /// The ambiguous groups of a document (CSL 1.0.2, disambiguation): the places of the cites that have
 /// equal plain texts, where they cite two entries at least. Cites whose entry has a suffix stand in no
 /// group. The places of a group are in document order, and the groups in the order of their second
@@ -112,9 +128,7 @@ pub fn find_ambiguous_sets<T: EntryLike, P>(
 {
     let mut groups = Vec::new(alloc);
     for class in classes(alloc, renders)? {
-        if cite_different(renders, &class) {
-            groups.push(class)?;
-        }
+        keep_if_different(renders, class, &mut groups)?;
     }
     Ok(groups)
 }

@@ -28,11 +28,21 @@ fn has_date<T: EntryLike>(entry: &T) -> bool
     ensures { result ≡ has_date (T.answers entry.now) }
 {
     entry.resolve_date_variable(DateVariable::Issued).is_some()
-        || entry.resolve_date_variable(DateVariable::Accessed).is_some()
-        || entry.resolve_date_variable(DateVariable::AvailableDate).is_some()
-        || entry.resolve_date_variable(DateVariable::EventDate).is_some()
-        || entry.resolve_date_variable(DateVariable::Submitted).is_some()
-        || entry.resolve_date_variable(DateVariable::OriginalDate).is_some()
+        || entry
+            .resolve_date_variable(DateVariable::Accessed)
+            .is_some()
+        || entry
+            .resolve_date_variable(DateVariable::AvailableDate)
+            .is_some()
+        || entry
+            .resolve_date_variable(DateVariable::EventDate)
+            .is_some()
+        || entry
+            .resolve_date_variable(DateVariable::Submitted)
+            .is_some()
+        || entry
+            .resolve_date_variable(DateVariable::OriginalDate)
+            .is_some()
 }
 
 /// Whether the cite shows a date, or the citation label of an entry that has one.
@@ -77,7 +87,10 @@ fn adds_suffix<T, P>(
     ensures { result ≡ adds_suffix (members (renders_view renders.now) group.now) }
 {
     for place in group {
-        if style_at(renders, *place).citation.disambiguate_add_year_suffix {
+        if style_at(renders, *place)
+            .citation
+            .disambiguate_add_year_suffix
+        {
             return true;
         }
     }
