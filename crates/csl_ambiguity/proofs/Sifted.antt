@@ -137,3 +137,17 @@ module _ {E P : Type 0} (renders : List (CiteRender E P)) where
 
     pub sift-end : (made left : List (List Place)) → left ≡ [] → IsSifted made left → made ≡ ambiguous_groups eq renders
     sift-end made left none h = sym (append-nil made) ∙ ap (λ gs. made ++ filter differ gs) (sym none) ∙ h.groups
+
+    places-all : (cs : List (List (Member E P))) → AllByRecursion (AllByRecursion StandsThere) cs → AllByRecursion (All (IsPlace renders)) (map (map place_of) cs)
+    places-all [] h = tt
+    places-all (c ∷ cs) h = (are-places c h.0, places-all cs h.1)
+
+    -- the cites of the groups exist
+    pub groups-exist : {V : Type 0} (items : V → List Place) (vs : List V) → map items vs ≡ ambiguous_groups eq renders → All (λ v. All (IsPlace renders) (items v)) vs
+    groups-exist {V} items vs same =
+        let cs = filter (cite_different eq) (classes (without_suffix (document renders))) in
+        by vs (subst (AllByRecursion (All (IsPlace renders))) (sym same) (places-all cs (all-filter (AllByRecursion StandsThere) (cite_different eq) (classes (without_suffix (document renders))) classes-stand)))
+      where
+        by : (ws : List V) → AllByRecursion (All (IsPlace renders)) (map items ws) → All (λ v. All (IsPlace renders) (items v)) ws
+        by [] h = λ k d within. absurd (omega (arith, within))
+        by (w ∷ ws) h = All-cons (λ v. All (IsPlace renders) (items v)) w ws h.0 (by ws h.1)

@@ -4,6 +4,7 @@ ghost use Rattle.std.specs.List.{list_any};
 ghost use Rattle.csl_ambiguity.specs.Ambiguity.{ambiguous_groups, cite_different, classes, without_suffix};
 ghost use Rattle.csl_ambiguity.specs.ClassesSoFar.{AreClassesOf};
 ghost use Rattle.csl_ambiguity.specs.Members.{IsPlace, Member, document, entry_of, members, place_of, request_cites};
+ghost use Rattle.csl_lookup.specs.States.{may_get_suffix};
 ghost use Rattle.csl_passes.specs.RendersView.{item_view, render_view, renders_view};
 
 use crate::classes::Classes;
@@ -11,6 +12,14 @@ use crate::members::cite_at;
 use csl_base::entry::EntryLike;
 use csl_passes::renders::{AmbiguousGroup, SpeculativeCiteRender, SpeculativeItemRender};
 use std::alloc::{AllocError, Global};
+
+/// Whether the entry of the cite has no suffix.
+fn has_no_suffix<T, P>(item: &SpeculativeItemRender<'_, T, P>) -> bool
+    ensures { result ≡ may_get_suffix item.now.cite_props.speculative.disambiguation }
+{
+    let state = &item.cite_props.speculative.disambiguation;
+    state.may_disambiguate_with_year_suffix()
+}
 
 /// Adds a cite to those of its text, unless its entry has a suffix. The text is written into `text`.
 fn add_cite<T, P>(
@@ -23,8 +32,7 @@ fn add_cite<T, P>(
     ensures { OnOk result ((cites : List (Member T P)) (m : Member T P) → m.place ≡ place → m.item ≡ item_view item.now
         → AreClassesOf (without_suffix cites) classes.old → AreClassesOf (without_suffix (cites ++ m ∷ [])) classes.new) }
 {
-    let state = &item.cite_props.speculative.disambiguation;
-    if state.may_disambiguate_with_year_suffix() {
+    if has_no_suffix(item) {
         text.clear();
         item.rendered.write_plain(text)?;
         classes.add(alloc, place, text)?;
@@ -124,7 +132,8 @@ pub fn find_ambiguous_sets<T: EntryLike, P>(
     alloc: Global,
     renders: &[SpeculativeCiteRender<'_, '_, T, P>],
 ) -> Result<Vec<AmbiguousGroup>, AllocError>
-    ensures { IfOk result (λ v. map (λ g. g.items) v.items ≡ ambiguous_groups T.eq (renders_view renders.now)) }
+    ensures groups { IfOk result (λ v. map (λ g. g.items) v.items ≡ ambiguous_groups T.eq (renders_view renders.now)) }
+    ensures exist { IfOk result (λ v. All (λ g. All (IsPlace (renders_view renders.now)) g.items) v.items) }
 {
     let mut groups = Vec::new(alloc);
     for class in classes(alloc, renders)? {
