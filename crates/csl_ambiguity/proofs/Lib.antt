@@ -1,0 +1,12 @@
+pub mod Joined
+pub mod Walks
+pub mod Chosen
+pub mod Enumerated
+pub mod Distinct
+pub mod FirstOnes
+pub mod Seconds
+pub mod Groups
+pub mod Growing
+pub mod Document
+pub mod Different
+pub mod Sifted

@@ -1,0 +1,11 @@
+use Rattle.std.proofs.Common.{◌≡◌, drop}
+use Rattle.std.specs.Prelude.{find, option_map}
+use Rattle.csl_passes.specs.RendersView.{renders_view}
+use Rattle.csl_ambiguity.specs.ChooseMarks.{asks}
+use Rattle.csl_ambiguity.specs.Members.{entry_of, members}
+use Rattle.csl_ambiguity.proofs.choose.first_asking.Given as goal
+
+abbrev pub invariant-loop-place : goal.invariant-loop-place
+invariant-loop-place g l =
+    option_map entry_of (find asks (members (renders_view l.renders) l.group))
+    ≡ option_map entry_of (find asks (members (renders_view l.renders) (drop l.place-index l.group)))

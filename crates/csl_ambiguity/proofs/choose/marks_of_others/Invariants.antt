@@ -1,0 +1,12 @@
+use Rattle.std.proofs.Common.{◌≡◌, ◌++◌, drop, filter, map, not, ◌&&◌}
+use Rattle.csl_lookup.specs.declared.state.DisambiguateState.TheVariants.{Choose}
+use Rattle.csl_passes.specs.RendersView.{renders_view}
+use Rattle.csl_ambiguity.specs.ChooseMarks.{asks}
+use Rattle.csl_ambiguity.specs.Members.{entry_of, members}
+use Rattle.csl_ambiguity.proofs.choose.marks_of_others.Given as goal
+
+abbrev pub invariant-loop-place : goal.invariant-loop-place
+invariant-loop-place g l =
+    l.marks.items
+    ++ map (λ m. (m.place, Choose)) (filter (λ m. asks m && not (g.T.PartialEq.eq l.spared (entry_of m))) (members (renders_view l.renders) (drop l.place-index l.group)))
+    ≡ map (λ m. (m.place, Choose)) (filter (λ m. asks m && not (g.T.PartialEq.eq l.spared (entry_of m))) (members (renders_view l.renders) l.group))

@@ -1,0 +1,10 @@
+//! Cites that read alike though they cite different entries, and what tells them apart but names: the
+//! test of `disambiguate`, and suffixes of the year (CSL 1.0.2, disambiguation).
+#![tactic(auto)]
+
+pub mod ambiguity;
+pub mod choose;
+mod classes;
+mod first_cites;
+mod members;
+pub mod suffixes;

@@ -1,0 +1,32 @@
+//! The cites at places.
+ghost use Rattle.std.specs.Prelude.{◌≡◌, Some, option_map};
+ghost use Rattle.csl_base.specs.StyleView.{style_view};
+ghost use Rattle.csl_ambiguity.specs.Members.{IsPlace, member_at};
+ghost use Rattle.csl_passes.specs.RendersView.{item_view, renders_view};
+
+use csl_base::style::IndependentStyle;
+use csl_passes::renders::{SpeculativeCiteRender, SpeculativeItemRender};
+
+/// The cite at a place.
+pub(crate) fn cite_at<'x, 'a, T, P>(
+    renders: &'x [SpeculativeCiteRender<'_, 'a, T, P>],
+    place: (usize, usize),
+) -> &'x SpeculativeItemRender<'a, T, P>
+    requires exists { IsPlace (renders_view renders.now) place }
+    ensures { option_map (λ m. m.item) (member_at (renders_view renders.now) place) ≡ Some (item_view result.now) }
+{
+    let (request, cite) = place;
+    &renders[request].items[cite]
+}
+
+/// The style of the cite at a place.
+pub(crate) fn style_at<'a, T, P>(
+    renders: &[SpeculativeCiteRender<'_, 'a, T, P>],
+    place: (usize, usize),
+) -> &'a IndependentStyle
+    requires exists { IsPlace (renders_view renders.now) place }
+    ensures { option_map (λ m. m.style) (member_at (renders_view renders.now) place) ≡ Some (style_view result.now) }
+{
+    let (request, _) = place;
+    renders[request].request.style()
+}
