@@ -1,0 +1,5 @@
+pub mod ByPlaces
+pub mod RunLemmas
+pub mod StretchLemmas
+pub mod Tests
+pub mod Wholes

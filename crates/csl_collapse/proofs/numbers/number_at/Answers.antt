@@ -1,0 +1,12 @@
+use Rattle.std.proofs.Common.{None, sym, ◌∙◌}
+use Rattle.std.proofs.lemmas.Bool.Decides.{Decides-ltb}
+use Rattle.csl_passes.specs.RendersView.{item_view}
+use Rattle.csl_collapse.specs.NumberRuns.{shown_number}
+use Rattle.csl_collapse.proofs.ByPlaces.{viewed}
+use Rattle.csl_collapse.proofs.numbers.number_at.Goals as goal
+
+pub returns-in-Some : goal.returns-in-Some
+returns-in-Some g c =
+    let found = c.in-Some.ensures.lookup in
+    c.shown_number.ensures
+    ∙ sym (viewed item_view shown_number c.args.items.now c.args.k c.in-Some.cite.now None ((Decides-ltb _ _).0 (sym found.0)) found.1)

@@ -1,0 +1,5 @@
+pub mod Stretches
+pub mod NumberRuns
+pub mod YearStretches
+pub mod Collapsed
+pub mod Steps

@@ -1,0 +1,6 @@
+//! Drawing together the cites of a request: runs of citation numbers, and years behind the same names.
+#![tactic(auto)]
+
+pub mod collapse;
+mod numbers;
+mod years;

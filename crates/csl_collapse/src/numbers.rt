@@ -1,0 +1,109 @@
+//! Runs of citation numbers.
+ghost use Rattle.std.specs.Prelude.{◌≡◌, ◌<◌, length, map, option_map};
+ghost use Rattle.csl_passes.specs.RendersView.{item_view, items_view};
+ghost use Rattle.csl_collapse.specs.NumberRuns.{number_at, number_collapsed, shown_number};
+ghost use Rattle.csl_collapse.specs.Steps.{is_next, next_rises, number_step};
+ghost use Rattle.csl_collapse.specs.Stretches.{by_places};
+
+use csl_base::elem::ElemMeta;
+use csl_passes::renders::SpeculativeItemRender;
+
+/// Whether numbers rise by one from each cite to the next, around one of them.
+#[derive(Clone, Copy)]
+struct Rises {
+    /// To the cite before the one before, from the cite before that.
+    earlier: bool,
+    /// To the cite before, from the one before that.
+    before: bool,
+    /// To the cite, from the one before.
+    here: bool,
+    /// To the cite behind.
+    behind: bool,
+}
+
+impl Rises {
+    /// The same around the cite at k, from that around the cite before.
+    fn next<T, P>(self, items: &[SpeculativeItemRender<'_, T, P>], k: usize) -> Rises
+        requires { k < length items.now }
+        ensures { result ≡ next_rises (map shown_number (items_view items.now)) k self }
+    {
+        let behind = is_next(number_at(items, k), number_at(items, k + 1));
+        Rises {
+            earlier: self.before,
+            before: self.here,
+            here: self.behind,
+            behind,
+        }
+    }
+}
+
+/// Draws runs of numbers together; `after` stands before a run that follows one with inner cites.
+pub(crate) fn collapse_numbers<'a, T, P>(
+    items: &mut [SpeculativeItemRender<'a, T, P>],
+    after: Option<&'a str>,
+)
+    ensures { items_view items.new
+        ≡ by_places (number_collapsed (option_map (λ s. s.now) after.entry) (items_view items.old)) (items_view items.old) }
+{
+    let mut rises = Rises {
+        earlier: false,
+        before: false,
+        here: false,
+        behind: false,
+    };
+    for k in 0..items.len() {
+        rises = rises.next(items, k);
+        collapse_number(&mut items[k], rises, after);
+    }
+}
+
+/// Hides a cite inside a run, or gives it what stands before the last of a run or before one behind.
+fn collapse_number<'a, T, P>(
+    cite: &mut SpeculativeItemRender<'a, T, P>,
+    rises: Rises,
+    after: Option<&'a str>,
+)
+    ensures { item_view cite.new ≡ number_step rises (option_map (λ s. s.now) after.entry) (item_view cite.old) }
+{
+    let has_number = shown_number(cite).is_some();
+    if rises.here && rises.behind {
+        cite.hidden = true;
+    }
+    if rises.before && rises.here && !rises.behind {
+        cite.delim_override = Some("–");
+    } else if rises.earlier && rises.before && !rises.here && has_number {
+        cite.delim_override = after;
+    }
+}
+
+/// The number of a cite that isn't hidden and shows one.
+fn shown_number<T, P>(cite: &SpeculativeItemRender<'_, T, P>) -> Option<usize>
+    ensures { result ≡ shown_number (item_view cite.now) }
+{
+    let tree = &cite.rendered;
+    if !cite.hidden && tree.find_meta(&ElemMeta::CitationNumber).is_some() {
+        Some(cite.cite_props.speculative.citation_number)
+    } else {
+        None
+    }
+}
+
+/// The number that the cite at a place shows, if there is a cite.
+fn number_at<T, P>(items: &[SpeculativeItemRender<'_, T, P>], k: usize) -> Option<usize>
+    ensures { result ≡ number_at (map shown_number (items_view items.now)) k }
+{
+    match items.get(k) {
+        Some(cite) => shown_number(cite),
+        None => None,
+    }
+}
+
+/// Whether both numbers are there, and the second is one more.
+fn is_next(before: Option<usize>, here: Option<usize>) -> bool
+    ensures { result ≡ is_next before here }
+{
+    match (before, here) {
+        (Some(before), Some(here)) => before < here && here - before == 1,
+        _ => false,
+    }
+}
