@@ -72,12 +72,10 @@ fn member(
 fn written(alloc: Global, marks: &Marks) -> Result<String, AllocError> {
     let mut text = String::new(alloc);
     for mark in marks {
-        text.push_str(if mark.0.0 == 0 {
-            "a"
-        } else if mark.0.0 == 1 {
-            "b"
-        } else {
-            "c"
+        text.push(match mark.0.0 {
+            0 => 'a',
+            1 => 'b',
+            _ => 'c',
         })?;
         if let DisambiguateState::NameDisambiguation(names) = &mark.1 {
             for form in names.forms.as_slice() {
@@ -89,178 +87,148 @@ fn written(alloc: Global, marks: &Marks) -> Result<String, AllocError> {
     Ok(text)
 }
 
-fn marks_of(alloc: Global, group: &[Member], greatest: usize) -> Result<String, AllocError> {
-    written(alloc, &group_marks(alloc, group, greatest)?)
+/// A cite: the rule of its style, its persons, and the letters of the forms that its names start in.
+type Cite<'c> = (
+    Option<DisambiguationRule>,
+    &'c [(&'c str, &'c str)],
+    &'c str,
+);
+
+fn marks_of(alloc: Global, cites: &[Cite<'_>], greatest: usize) -> Result<String, AllocError> {
+    let mut group = Vec::new(alloc);
+    for (k, cite) in cites.iter().enumerate() {
+        group.push(member(alloc, k, cite.0, cite.1, cite.2)?)?;
+    }
+    written(alloc, &group_marks(alloc, &group, greatest)?)
 }
 
 const BY_CITE: Option<DisambiguationRule> = Some(DisambiguationRule::ByCite);
 
-/// The marks of two cites of one person each, under one rule.
-fn pair(
-    alloc: Global,
-    rule: Option<DisambiguationRule>,
-    a: (&str, &str),
-    b: (&str, &str),
-) -> Result<String, AllocError> {
-    let group = vec![in alloc;
-        member(alloc, 0, rule, &[a], "S")?,
-        member(alloc, 1, rule, &[b], "S")?,
-    ]?;
-    marks_of(alloc, &group, 1)
-}
+const ALL: Option<DisambiguationRule> = Some(DisambiguationRule::AllNames);
+
+const INITIALS: Option<DisambiguationRule> = Some(DisambiguationRule::AllNamesWithInitials);
+
+const PRIMARY: Option<DisambiguationRule> = Some(DisambiguationRule::PrimaryName);
+
+const PRIMARY_INITIALS: Option<DisambiguationRule> = Some(
+    DisambiguationRule::PrimaryNameWithInitials,
+);
 
 #[test]
 fn names_are_added_up_to_the_one_that_differs(rt: HostRuntime) -> Result<(), Fail> {
-    let alloc = rt.alloc();
     let a = [("Chen", ""), ("Frey", ""), ("He", "")];
     let b = [("Chen", ""), ("He", ""), ("Frey", "")];
-    let group = vec![in alloc;
-        member(alloc, 0, None, &a, "SCC")?,
-        member(alloc, 1, None, &b, "SCC")?,
-    ]?;
-    assert_eq!(rt; marks_of(alloc, &group, 3)?.as_str(), "aSSC bSSC ");
-    assert_eq!(rt;
-        marks_of(alloc, &group, 1)?.as_str(),
-        "",
-        "no names are added"
-    );
+    for (greatest, marks) in [(3, "aSSC bSSC "), (1, "")] {
+        let shown = marks_of(
+            rt.alloc(),
+            &[(None, &a, "SCC"), (None, &b, "SCC")],
+            greatest,
+        )?;
+        assert_eq!(rt; shown.as_str(), marks);
+    }
     Ok(())
 }
 
 #[test]
 fn a_name_past_those_of_another_differs(rt: HostRuntime) -> Result<(), Fail> {
-    let alloc = rt.alloc();
     let a = [("Lee", ""), ("Kim", ""), ("Cho", "")];
     let b = [("Lee", ""), ("Kim", ""), ("Cho", ""), ("Han", "")];
-    let group = vec![in alloc;
-        member(alloc, 0, BY_CITE, &a, "SCC")?,
-        member(alloc, 1, BY_CITE, &b, "SCCC")?,
-    ]?;
-    assert_eq!(rt; marks_of(alloc, &group, 4)?.as_str(), "aSCC bSCCS ");
+    let shown = marks_of(
+        rt.alloc(),
+        &[(BY_CITE, &a, "SCC"), (BY_CITE, &b, "SCCC")],
+        4,
+    )?;
+    assert_eq!(rt; shown.as_str(), "aSCC bSCCS ");
     Ok(())
 }
 
 #[test]
 fn each_rule_of_given_names(rt: HostRuntime) -> Result<(), Fail> {
-    let alloc = rt.alloc();
-    let (jane, john, anna, bert) = (
-        ("Doe", "Jane"),
-        ("Doe", "John"),
-        ("Doe", "Anna"),
-        ("Doe", "Bert"),
-    );
-    assert_eq!(rt; pair(alloc, BY_CITE, jane, john)?.as_str(), "aF bF ");
-    assert_eq!(rt; pair(alloc, BY_CITE, anna, bert)?.as_str(), "aI bI ");
-    let all = Some(DisambiguationRule::AllNames);
-    assert_eq!(rt; pair(alloc, all, jane, john)?.as_str(), "aS bS ");
-    let initials = Some(DisambiguationRule::AllNamesWithInitials);
-    assert_eq!(rt; pair(alloc, initials, jane, john)?.as_str(), "");
-    assert_eq!(rt; pair(alloc, initials, anna, bert)?.as_str(), "aS bS ");
-    let primary = Some(DisambiguationRule::PrimaryName);
-    assert_eq!(rt; pair(alloc, primary, jane, john)?.as_str(), "aS bS ");
-    let primary_initials = Some(DisambiguationRule::PrimaryNameWithInitials);
-    assert_eq!(rt; pair(alloc, primary_initials, jane, john)?.as_str(), "");
-    assert_eq!(rt;
-        pair(alloc, primary_initials, anna, bert)?.as_str(),
-        "aS bS "
-    );
-    assert_eq!(rt; pair(alloc, None, jane, john)?.as_str(), "");
+    for (rule, a, b, marks) in [
+        (BY_CITE, "Jane", "John", "aF bF "),
+        (BY_CITE, "Anna", "Bert", "aI bI "),
+        (ALL, "Jane", "John", "aS bS "),
+        (INITIALS, "Jane", "John", ""),
+        (INITIALS, "Anna", "Bert", "aS bS "),
+        (PRIMARY, "Jane", "John", "aS bS "),
+        (PRIMARY_INITIALS, "Jane", "John", ""),
+        (PRIMARY_INITIALS, "Anna", "Bert", "aS bS "),
+        (None, "Jane", "John", ""),
+    ] {
+        let shown = marks_of(
+            rt.alloc(),
+            &[(rule, &[("Doe", a)], "S"), (rule, &[("Doe", b)], "S")],
+            1,
+        )?;
+        assert_eq!(rt; shown.as_str(), marks);
+    }
     Ok(())
 }
 
 #[test]
 fn primary_rules_keep_no_later_given_name(rt: HostRuntime) -> Result<(), Fail> {
-    let alloc = rt.alloc();
     let a = [("Doe", "Jane"), ("Roe", "Ann"), ("Poe", "")];
     let b = [("Doe", "Jane"), ("Roe", "Bea"), ("Moe", "")];
-    let primary = Some(DisambiguationRule::PrimaryName);
-    let group = vec![in alloc;
-        member(alloc, 0, primary, &a, "SCC")?,
-        member(alloc, 1, primary, &b, "SCC")?,
-    ]?;
-    assert_eq!(rt; marks_of(alloc, &group, 3)?.as_str(), "aSCS bSCS ");
-    let all = Some(DisambiguationRule::AllNames);
-    let group = vec![in alloc;
-        member(alloc, 0, all, &a, "SCC")?,
-        member(alloc, 1, primary, &b, "SCC")?,
-    ]?;
-    assert_eq!(rt;
-        marks_of(alloc, &group, 3)?.as_str(),
-        "aSSS bSSS ",
-        "each is cut by its own rule"
-    );
+    // Each is cut by its own rule.
+    for (rule, marks) in [(PRIMARY, "aSCS bSCS "), (ALL, "aSSS bSSS ")] {
+        let shown = marks_of(rt.alloc(), &[(rule, &a, "SCC"), (PRIMARY, &b, "SCC")], 3)?;
+        assert_eq!(rt; shown.as_str(), marks);
+    }
     Ok(())
 }
 
 #[test]
 fn another_cite_of_the_same_entry_counts(rt: HostRuntime) -> Result<(), Fail> {
-    let alloc = rt.alloc();
-    let jane = [("Doe", "Jane")];
-    let group = vec![in alloc;
-        member(alloc, 0, BY_CITE, &jane, "S")?,
-        member(alloc, 1, BY_CITE, &jane, "S")?,
-        member(alloc, 2, BY_CITE, &[("Doe", "John")], "S")?,
-    ]?;
-    assert_eq!(rt; marks_of(alloc, &group, 1)?.as_str(), "aS bS cF ");
+    let cites: [Cite<'_>; 3] = [
+        (BY_CITE, &[("Doe", "Jane")], "S"),
+        (BY_CITE, &[("Doe", "Jane")], "S"),
+        (BY_CITE, &[("Doe", "John")], "S"),
+    ];
+    assert_eq!(rt; marks_of(rt.alloc(), &cites, 1)?.as_str(), "aS bS cF ");
     Ok(())
 }
 
 #[test]
 fn persons_at_every_place_raise(rt: HostRuntime) -> Result<(), Fail> {
-    let alloc = rt.alloc();
-    let b = [("Roe", "Rex"), ("Doe", "Jim")];
-    let group = vec![in alloc;
-        member(alloc, 0, BY_CITE, &[("Doe", "Jane")], "S")?,
-        member(alloc, 1, BY_CITE, &b, "SC")?,
-    ]?;
-    assert_eq!(rt; marks_of(alloc, &group, 2)?.as_str(), "aF bSC ");
+    let cites: [Cite<'_>; 2] = [
+        (BY_CITE, &[("Doe", "Jane")], "S"),
+        (BY_CITE, &[("Roe", "Rex"), ("Doe", "Jim")], "SC"),
+    ];
+    assert_eq!(rt; marks_of(rt.alloc(), &cites, 2)?.as_str(), "aF bSC ");
     Ok(())
 }
 
 #[test]
 fn equal_initials_outweigh_others(rt: HostRuntime) -> Result<(), Fail> {
-    let alloc = rt.alloc();
-    let group = vec![in alloc;
-        member(alloc, 0, BY_CITE, &[("Doe", "Anna")], "S")?,
-        member(alloc, 1, BY_CITE, &[("Doe", "Bert")], "S")?,
-        member(alloc, 2, BY_CITE, &[("Doe", "Alan")], "I")?,
-    ]?;
-    assert_eq!(rt; marks_of(alloc, &group, 1)?.as_str(), "aF bI cF ");
+    let cites: [Cite<'_>; 3] = [
+        (BY_CITE, &[("Doe", "Anna")], "S"),
+        (BY_CITE, &[("Doe", "Bert")], "S"),
+        (BY_CITE, &[("Doe", "Alan")], "I"),
+    ];
+    assert_eq!(rt; marks_of(rt.alloc(), &cites, 1)?.as_str(), "aF bI cF ");
     Ok(())
+}
+
+/// Of two cites of Doe, told apart by their given names, the first has no forms.
+fn without_forms(alloc: Global, may_be_named: bool) -> Result<String, AllocError> {
+    let a = Member {
+        start: None,
+        may_be_named,
+        ..member(alloc, 0, BY_CITE, &[("Doe", "Jane")], "")?
+    };
+    let b = member(alloc, 1, None, &[("Doe", "John")], "C")?;
+    written(alloc, &group_marks(alloc, &vec![in alloc; a, b]?, 1)?)
 }
 
 #[test]
 fn who_has_no_forms_is_not_marked(rt: HostRuntime) -> Result<(), Fail> {
-    let alloc = rt.alloc();
-    let a = Member {
-        start: None,
-        ..member(alloc, 0, BY_CITE, &[("Doe", "Jane")], "")?
-    };
-    let b = member(alloc, 1, None, &[("Doe", "John")], "C")?;
-    let group = vec![in alloc; a, b]?;
-    assert_eq!(rt;
-        marks_of(alloc, &group, 1)?.as_str(),
-        "bS ",
-        "the step of another still counts"
-    );
+    // The step of the first still counts.
+    assert_eq!(rt; without_forms(rt.alloc(), true)?.as_str(), "bS ");
     Ok(())
 }
 
 #[test]
 fn who_may_not_be_named_has_no_step(rt: HostRuntime) -> Result<(), Fail> {
-    let alloc = rt.alloc();
-    let a = Member {
-        may_be_named: false,
-        start: None,
-        ..member(alloc, 0, BY_CITE, &[("Doe", "Jane")], "")?
-    };
-    let b = member(alloc, 1, None, &[("Doe", "John")], "C")?;
-    let group = vec![in alloc; a, b]?;
-    assert_eq!(rt;
-        marks_of(alloc, &group, 1)?.as_str(),
-        "",
-        "no step, so no mark"
-    );
-    assert_eq!(rt; marks_of(alloc, &[], 1)?.as_str(), "");
+    assert_eq!(rt; without_forms(rt.alloc(), false)?.as_str(), "");
     Ok(())
 }

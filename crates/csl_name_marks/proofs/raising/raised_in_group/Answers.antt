@@ -1,5 +1,4 @@
-use Rattle.std.proofs.Common.{ap, sym, ◌∙◌}
-use Rattle.csl_name_marks.specs.Raising.{raised}
+use Rattle.std.proofs.Common.{sym, ◌∙◌}
 use Rattle.csl_name_marks.proofs.Namesakes.{among-more, among-same}
 use Rattle.csl_name_marks.proofs.raising.raised_in_group.Goals as goal
 use Rattle.csl_name_marks.proofs.raising.raised_in_group.Goals.{then-not-same_place+in_ok-form, else-not-same_place}
