@@ -47,6 +47,7 @@ abbrev mutual
   kids_name_replaced substitute no_kids = []
   kids_name_replaced substitute (kid c ks) = cond (holds_name c) (name_replaced substitute c ∷ list_of ks) (c ∷ kids_name_replaced substitute ks)
 
+-- the same among the children of a tree
 abbrev pub first_name_replaced : Formatted → List Child → List Child
 first_name_replaced substitute cs = kids_name_replaced substitute (kids_of cs)
 

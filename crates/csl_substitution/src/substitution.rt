@@ -21,6 +21,12 @@ use std::alloc::{AllocError, Global};
 /// nothing was substituted. The first item never changes, and in the others at most the children of
 /// the first names element do.
 ///
+/// By `CompleteAll` and `CompleteEach` it is substituted where all names are equal, by `PartialEach` and
+/// `PartialFirst` where the first one is. The substitute then comes first in the names element. Behind
+/// it stands by `CompleteAll` what is left without the names, and by `CompleteEach` what was there, with
+/// the substitute in the first name of each child. So it does by `PartialEach` and `PartialFirst`, up
+/// to as many names as are equal from the first on, or up to one; the children after that are dropped.
+///
 /// An item with a names element but no names goes by `CompleteAll`, whatever the rule: it is
 /// substituted where the two names elements are equal.
 ///
