@@ -1,0 +1,4 @@
+pub mod BlockKeys
+pub mod Blocks
+pub mod Steps
+pub mod Moves

@@ -1,0 +1,6 @@
+//! Bringing together the cites of a request that have the same names.
+#![tactic(auto)]
+
+mod blocks;
+pub mod grouping;
+mod moving;
