@@ -7,14 +7,14 @@ ghost use Rattle.csl_context.specs.WritingState.{state, heights, begun, with_spa
 ghost use Rattle.csl_context.specs.Wording.{pushed, quotes_opened, quotes_closed, pulling_if_asked, chunks_pushed, linked, marked, suffixed};
 ghost use Rattle.csl_context.specs.ContextView.{words_of, locator_of, IsOfSameCite};
 
-use csl_lookup::lookup::StyleLocales;
-use csl_lookup::properties::CiteProperties;
 use crate::token::DisplayLoc;
 use crate::wording;
 use crate::writing::{WritingContext, text_of};
 use csl_base::element::{Affixes, InheritableNameOptions};
 use csl_base::entry::ChunkedString;
 use csl_base::taxonomy::{Term, TermForm};
+use csl_lookup::lookup::StyleLocales;
+use csl_lookup::properties::CiteProperties;
 use std::alloc::{AllocError, Global};
 use std::fmt;
 

@@ -3,7 +3,7 @@
 
 pub mod context;
 mod frames;
-pub mod text;
+mod text;
 pub mod token;
 pub mod wording;
 pub mod writing;

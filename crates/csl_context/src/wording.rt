@@ -6,7 +6,6 @@ ghost use Rattle.csl_context.specs.WritingState.{state, heights, prefixed, strip
 ghost use Rattle.csl_context.specs.Steps.{term_text};
 ghost use Rattle.csl_context.specs.Wording.{plain_term, closing_quotes, pushed, term_pushed, opening_quote, closing_quote, quotes_opened, quotes_closed, pulling_if_asked, chunk_pushed, chunks_pushed, joined_values, linked, marked, with_suffix, suffixed};
 
-use csl_lookup::lookup::StyleLocales;
 use crate::text::ClosingQuotes;
 use crate::token::DisplayLoc;
 use crate::writing::WritingContext;
@@ -14,6 +13,7 @@ use csl_base::elem::ElemChild;
 use csl_base::entry::{Chunk, ChunkKind, ChunkedString};
 use csl_base::taxonomy::{OtherTerm, Term, TermForm};
 use csl_base::text::Text;
+use csl_lookup::lookup::StyleLocales;
 use std::alloc::{AllocError, Global};
 
 #[tactic(auto, unfolding(crate::specs::Wording::plain_term))]
@@ -209,10 +209,7 @@ pub fn push_link(
 ///
 /// Where memory is refused.
 #[tactic(auto, unfolding(crate::specs::Wording::marked))]
-pub fn push_transparent(
-    writing: &mut WritingContext<'_>,
-    cite_idx: usize,
-) -> Result<(), AllocError>
+pub fn push_transparent(writing: &mut WritingContext<'_>, cite_idx: usize) -> Result<(), AllocError>
     ensures done { OnOk result (state writing.new ≡ marked cite_idx (state writing.old)) }
     ensures heights { heights (state writing.new) ≡ heights (state writing.old) }
 {

@@ -5,10 +5,10 @@ ghost use Rattle.csl_picking.specs.InputView.{cite_facts, env_of};
 
 use crate::input::{CiteFacts, Input};
 use crate::notes::Notes;
-use csl_lookup::state::{DisambiguateState, IbidState};
 use csl_base::element::{ChooseMatch, Condition, TestPosition};
 use csl_base::entry::EntryLike;
 use csl_base::taxonomy::{NumberVariable, StandardVariable, Variable};
+use csl_lookup::state::{DisambiguateState, IbidState};
 
 // Whether the cite has a variable: of its entry, or of its own properties.
 fn has_variable<T: EntryLike>(input: &Input<T>, variable: Variable) -> bool

@@ -1,11 +1,11 @@
 //! What a picking only reads.
 
-use csl_lookup::lookup::StyleLocales;
 use crate::notes::Form;
-use csl_lookup::state::{DisambiguateState, IbidState, IdentifierUsage};
 use csl_base::element::InheritableNameOptions;
 use csl_base::entry::EntryLike;
 use csl_base::taxonomy::{Locator, OtherTerm, Term, TermForm};
+use csl_lookup::lookup::StyleLocales;
+use csl_lookup::state::{DisambiguateState, IbidState, IdentifierUsage};
 
 /// A cite's locator: what it counts, and its text; none where it is the caller's own.
 #[derive(Clone, Copy)]

@@ -7,10 +7,10 @@ ghost use Rattle.csl_picking.specs.Options.{applied_options};
 ghost use Rattle.csl_picking.specs.NameRules.{base_form, rules_of, written_count, forms_by, forms_in};
 ghost use Rattle.csl_picking.specs.NameRulesView.{rules_view};
 
-use csl_lookup::state::DisambiguateState;
 use csl_base::element::{InheritableNameOptions, NameAnd, NameForm};
 use csl_base::names::DisambiguatedNameForm;
 use csl_base::seq::Seq;
+use csl_lookup::state::DisambiguateState;
 use std::alloc::{AllocError, Global};
 
 /// The name options that hold in the end.

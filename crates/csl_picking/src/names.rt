@@ -20,7 +20,6 @@ use crate::name_rules::{NameRules, own_forms};
 use crate::name_text::name_leaf;
 use crate::notes::{Called, Form, Notes};
 use crate::pieces::{Leaf, Node, Piece, Shape};
-use csl_lookup::state::DisambiguateState;
 use crate::variables::called_with;
 use csl_base::elem::ElemMeta;
 use csl_base::element::{InheritableNameOptions, NameAnd};
@@ -30,6 +29,7 @@ use csl_base::names::{DisambiguatedNameForm, NameDisambiguationProperties};
 use csl_base::seq::Seq;
 use csl_base::taxonomy::{NameVariable, OtherTerm, Variable};
 use csl_base::text::Text;
+use csl_lookup::state::DisambiguateState;
 use std::alloc::{AllocError, Global};
 
 // Whether a variable has persons, and hasn't stood in for others.

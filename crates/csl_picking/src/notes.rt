@@ -2,9 +2,9 @@
 ghost use Rattle.std.specs.Prelude.{◌≡◌};
 ghost use Rattle.csl_picking.specs.Notes.{joined, is_suppressed, with_suppressed};
 
-use csl_lookup::state::IdentifierUsage;
 use csl_base::names::NameDisambiguationProperties;
 use csl_base::taxonomy::{NameVariable, Variable};
+use csl_lookup::state::IdentifierUsage;
 
 /// Which elements are written.
 #[derive(Clone, Copy, PartialEq, Eq)]

@@ -14,12 +14,12 @@ use crate::held::Picking;
 use crate::input::{Input, Setting};
 use crate::notes::{Called, Form, Notes};
 use crate::pieces::{Leaf, Shape, add_node};
-use csl_lookup::state::IdentifierUsage;
 use csl_base::elem::ElemMeta;
 use csl_base::entry::{Chunk, ChunkKind, ChunkedString, EntryLike};
 use csl_base::taxonomy::{
     DateVariable, NumberVariable, OtherTerm, StandardVariable, Term, TermForm, Variable,
 };
+use csl_lookup::state::IdentifierUsage;
 use std::alloc::AllocError;
 
 impl Form {

@@ -1,6 +1,5 @@
 //! The whole answer, as far as no document tells it: entries that are equal at two places, rings by
 //! their places, note numbers, marks, and equality of what goes in and comes out.
-use crate::styles::{entry, numeric, numeric_with_macros, value_style};
 use csl_base::elem::{ElemChildren, ElemMeta};
 use csl_base::entry::PlainEntry;
 use csl_base::style::{IndependentStyle, StyleClass};
@@ -11,6 +10,7 @@ use csl_driver::laws::{bibliography_holds_each_once, numbers_have_no_gaps};
 use csl_driver::rendered::Rendered;
 use csl_driver::request::{BibliographyRequest, CitationRequest, Order};
 use csl_writing::purpose::CitePurpose;
+use row_styles::styles::{entry, numeric, numeric_with_macros, value_style};
 use std::alloc::{AllocError, Global};
 use std::convert::Infallible;
 use std::test::Fail;

@@ -1,31 +1,8 @@
-//! Tests that cross crates.
+//! Tests of the driver, and the public paths of the crates that users know.
 #![tactic(auto)]
 
 #[cfg(test)]
-mod cites;
-#[cfg(test)]
-mod entries;
-#[cfg(test)]
 mod finish;
-#[cfg(test)]
-mod initials;
-#[cfg(test)]
-mod lookup;
-#[cfg(test)]
-mod names;
-#[cfg(test)]
-mod places;
-#[cfg(test)]
-mod rings;
-#[cfg(test)]
-mod small;
-#[cfg(test)]
-mod stacks;
+pub mod paths;
 #[cfg(test)]
 mod standalone;
-#[cfg(test)]
-mod styles;
-#[cfg(test)]
-mod trees;
-#[cfg(test)]
-mod writing;

@@ -1,5 +1,4 @@
 //! Citations that stand for themselves.
-use crate::styles::{author_date, dated, entry, numeric_with_macros};
 use csl_base::entry::PlainEntry;
 use csl_base::style::IndependentStyle;
 use csl_driver::error::{DriverError, RingPlace};
@@ -7,6 +6,7 @@ use csl_driver::item::CitationItem;
 use csl_driver::request::CitationRequest;
 use csl_driver::standalone::standalone_citation;
 use csl_writing::purpose::CitePurpose;
+use row_styles::styles::{author_date, dated, entry, numeric_with_macros};
 use std::alloc::{AllocError, Global};
 use std::convert::Infallible;
 use std::test::Fail;

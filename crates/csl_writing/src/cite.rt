@@ -1,7 +1,7 @@
 //! What a cite is rendered to.
-use csl_lookup::state::IdentifierUsage;
 use csl_base::elem::ElemChildren;
 use csl_base::names::NameDisambiguationProperties;
+use csl_lookup::state::IdentifierUsage;
 
 /// A rendered cite, and what was found out on the way.
 #[derive(Drop)]

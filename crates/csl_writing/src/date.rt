@@ -3,12 +3,12 @@ ghost use Rattle.std.specs.Prelude.{◌≡◌, IfOk, option_map, string_bytes};
 ghost use Rattle.csl_writing.specs.DateText as text;
 ghost use Rattle.csl_lookup.specs.SourceView.{source_view};
 
-use csl_lookup::lookup::StyleLocales;
-use csl_lookup::year::year_in_words;
 use csl_base::elem::{ElemChild, ElemChildren};
 use csl_base::entry::{Date, EntryLike};
 use csl_base::formatting::Formatting;
 use csl_base::taxonomy::{DateVariable, OtherTerm, Term, TermForm};
+use csl_lookup::lookup::StyleLocales;
+use csl_lookup::year::year_in_words;
 use std::alloc::{AllocError, Global};
 
 // The first date that the entry has, of those that stand for it.

@@ -3,9 +3,8 @@
 //! What stands below is passed on: the small values of a cite, and the context in which it is written.
 #![tactic(auto)]
 
-pub use csl_context::{context, text, token, writing};
+pub use csl_context::{context, token, writing};
 pub use csl_lookup::{brackets, laws, locator, properties, purpose, state, year};
-pub use csl_picking::picking;
 
 pub mod cite;
 pub mod counter;
@@ -14,6 +13,7 @@ mod first_field;
 pub mod lookup;
 mod open_node;
 mod parts;
+pub mod picking;
 mod purposes;
 mod render;
 mod section;

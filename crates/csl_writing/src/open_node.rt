@@ -3,8 +3,8 @@ ghost use Rattle.std.specs.Prelude.{◌≡◌, ◌+◌, length};
 ghost use Rattle.csl_picking.specs.PiecesView.{node_view};
 ghost use Rattle.csl_context.specs.Steps.{term_text};
 
-use csl_picking::pieces::Node;
 use csl_context::token::DisplayLoc;
+use csl_picking::pieces::Node;
 
 /// A node whose parts are being written, and the two frames that it opened.
 #[derive(Drop)]

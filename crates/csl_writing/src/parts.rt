@@ -10,17 +10,17 @@ ghost use Rattle.csl_writing.specs.PartsWritten.{leaf_written, node_begun, node_
 ghost use Rattle.csl_writing.specs.PieceRun.{innermost, delimiter_of, separated, after_leaf, after_opening, closed_run, after_token, after_tokens};
 ghost use Rattle.csl_writing.specs.OpenNodes.{open_view, open_views, IsNested, run_of};
 
-use csl_lookup::lookup::StyleLocales;
 use crate::open_node::OpenNode;
-use csl_picking::pieces::{Leaf, Node, Piece};
+use csl_base::entry::ChunkedString;
 use csl_context::wording::{
     allocator, apply_suffix, begin_prefix, joined_values, may_pull_punctuation, may_strip_periods,
     pop_quotes, push_chunked, push_link, push_quotes, push_str, push_transparent,
     stop_stripping_periods,
 };
 use csl_context::writing::{WritingContext, text_of};
+use csl_lookup::lookup::StyleLocales;
 use csl_lookup::year::{letters_of_suffix, year_in_words};
-use csl_base::entry::ChunkedString;
+use csl_picking::pieces::{Leaf, Node, Piece};
 use std::alloc::{AllocError, Global};
 
 fn prefix_of<'a>(node: &Node<'a>) -> Option<&'a str>

@@ -11,18 +11,18 @@ ghost use Rattle.csl_writing.specs.StepsWritten.{IsCarriedOut, IsWritten};
 ghost use Rattle.csl_writing.specs.SubjectView.{subject_view};
 ghost use Rattle.csl_context.specs.WritingState.{state};
 
-use csl_picking::held::Picking;
-use csl_lookup::lookup::StyleLocales;
-use csl_picking::notes::{Form, Notes};
 use crate::parts::write_pieces;
-use csl_lookup::purpose::CitePurpose;
 use crate::section::{Section, first_notes, names_alone};
-use csl_lookup::state::CollapseVerdict;
 use crate::subject::Subject;
-use csl_context::wording::push_str;
-use csl_context::writing::WritingContext;
 use csl_base::entry::EntryLike;
 use csl_base::style::{CitationFormat, IndependentStyle, Layout, StyleCategory};
+use csl_context::wording::push_str;
+use csl_context::writing::WritingContext;
+use csl_lookup::lookup::StyleLocales;
+use csl_lookup::purpose::CitePurpose;
+use csl_lookup::state::CollapseVerdict;
+use csl_picking::held::Picking;
+use csl_picking::notes::{Form, Notes};
 use std::alloc::{AllocError, Global};
 
 /// Writes a section in its formatting, and hands its notes on.

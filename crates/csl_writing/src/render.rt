@@ -16,20 +16,20 @@ use crate::counter::Renders;
 use crate::date::date_text;
 use crate::first_field::put_first_field_first;
 use crate::lookup::StyleContext;
-use csl_picking::notes::Form;
-use csl_lookup::properties::CiteProperties;
-use csl_lookup::purpose::CitePurpose;
 use crate::purposes::write_section;
 use crate::section::first_notes;
-use csl_lookup::state::{CollapseVerdict, DisambiguateState};
 use crate::subject::{Subject, cite_facts};
-use csl_picking::suffix_text::explicit_suffix;
-use csl_context::wording::{apply_suffix, begin_prefix};
-use csl_context::writing::{WritingContext, text_of};
 use csl_base::elem::ElemChildren;
 use csl_base::entry::EntryLike;
 use csl_base::locale::LocaleCode;
 use csl_base::style::{Bibliography, IndependentStyle};
+use csl_context::wording::{apply_suffix, begin_prefix};
+use csl_context::writing::{WritingContext, text_of};
+use csl_lookup::properties::CiteProperties;
+use csl_lookup::purpose::CitePurpose;
+use csl_lookup::state::{CollapseVerdict, DisambiguateState};
+use csl_picking::notes::Form;
+use csl_picking::suffix_text::explicit_suffix;
 use std::alloc::{AllocError, Global};
 
 /// Whether the second fields of the bibliography are aligned.

@@ -9,18 +9,18 @@ ghost use Rattle.csl_writing.specs.SectionView.{IsSection};
 ghost use Rattle.csl_writing.specs.Sections as sections;
 ghost use Rattle.csl_writing.specs.SubjectView.{subject_view};
 
-use csl_picking::held::Picking;
-use csl_picking::input::Input;
-use csl_picking::names::author_variable;
-use csl_picking::notes::{Called, Form, Notes, Suppressed};
-use csl_picking::picking::pick_layout;
-use csl_lookup::state::{CollapseVerdict, IbidState, IdentifierUsage};
 use crate::subject::Subject;
 use csl_base::element::{Affixes, InheritableNameOptions, LayoutRenderingElement};
 use csl_base::entry::EntryLike;
 use csl_base::formatting::StyleFormatting;
 use csl_base::style::Bibliography;
 use csl_base::taxonomy::{NameVariable, Variable};
+use csl_lookup::state::{CollapseVerdict, IbidState, IdentifierUsage};
+use csl_picking::held::Picking;
+use csl_picking::input::Input;
+use csl_picking::names::author_variable;
+use csl_picking::notes::{Called, Form, Notes, Suppressed};
+use csl_picking::picking::pick_layout;
 use std::alloc::{AllocError, Global};
 
 /// What is picked, and the formatting in which it is written.

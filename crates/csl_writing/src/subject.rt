@@ -8,14 +8,14 @@ ghost use Rattle.csl_lookup.specs.SourceView.{source_view};
 ghost use Rattle.csl_writing.specs.Subject as plain;
 ghost use Rattle.csl_writing.specs.SubjectView.{subject_view};
 
-use csl_picking::input::{CiteFacts, Input, LocatorFacts, Setting};
-use csl_lookup::locator::{LocatorPayload, SpecificLocator};
-use csl_lookup::lookup::StyleLocales;
-use csl_picking::notes::Form;
-use csl_lookup::properties::CiteProperties;
-use csl_lookup::state::IbidState;
 use csl_base::element::InheritableNameOptions;
 use csl_base::entry::EntryLike;
+use csl_lookup::locator::{LocatorPayload, SpecificLocator};
+use csl_lookup::lookup::StyleLocales;
+use csl_lookup::properties::CiteProperties;
+use csl_lookup::state::IbidState;
+use csl_picking::input::{CiteFacts, Input, LocatorFacts, Setting};
+use csl_picking::notes::Form;
 
 fn locator_facts<'a, P>(locator: &'a SpecificLocator<'_, P>) -> LocatorFacts<'a>
     ensures { input.locator_facts result ≡ plain.locator_read (locator_view locator.now) }

@@ -1,13 +1,14 @@
 //! Small values: years, letters, brackets, states, properties.
-use csl_driver::brackets::Brackets;
-use csl_driver::locator::{LocatorPayload, SpecificLocator, TransparentLocator};
-use csl_driver::properties::CiteProperties;
-use csl_driver::state::{DisambiguateState, IdentifierUsage};
-use csl_driver::taxonomy::Locator;
-use csl_driver::year::{letters_of_suffix, write_year};
+use csl_base::taxonomy::Locator;
+use csl_writing::brackets::Brackets;
 use csl_writing::laws::{
     copies_are_equal, states_have_a_greatest, suffixes_differ, usage_counts_once,
 };
+use csl_writing::locator::{LocatorPayload, SpecificLocator, TransparentLocator};
+use csl_writing::picking::macros_unfold;
+use csl_writing::properties::CiteProperties;
+use csl_writing::state::{DisambiguateState, IdentifierUsage};
+use csl_writing::year::{letters_of_suffix, write_year};
 use std::test::Fail;
 
 #[test]
@@ -46,6 +47,7 @@ fn letters(rt: HostRuntime) -> Result<(), Fail> {
 fn small_values(rt: HostRuntime) -> Result<(), Fail> {
     states_have_a_greatest();
     usage_counts_once();
+    macros_unfold();
     assert!(rt; Brackets::Square.left() == Some('['));
     assert!(rt; Brackets::Square.right() == Some(']'));
     assert!(rt; Brackets::None.left() == None);

@@ -1,7 +1,6 @@
 //! Rings of macros that call each other.
-use crate::styles::{call, group, numeric};
 use csl_base::element::{ChooseBranch, ChooseMatch, Condition, CslMacro, LayoutRenderingElement};
-use csl_writing::picking::macros_unfold;
+use row_styles::styles::{call, group, numeric};
 use std::alloc::AllocError;
 use std::test::Fail;
 
@@ -43,7 +42,6 @@ fn ring_of(rt: &HostRuntime, rows: &[(&str, &[&str])]) -> Result<Option<usize>, 
 
 #[test]
 fn finds_the_first_macro_on_a_ring(rt: HostRuntime) -> Result<(), Fail> {
-    macros_unfold();
     assert!(rt; ring_of(&rt, &[])? == None);
     assert!(rt; ring_of(&rt, &[("p", &["q"]), ("q", &["p"])])? == Some(0));
     assert!(rt; ring_of(&rt, &[("p", &["q"]), ("q", &["q"])])? == Some(1));

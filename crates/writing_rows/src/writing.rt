@@ -2,7 +2,6 @@
 ghost use Rattle.std.specs.Prelude.{◌≡◌, IfOk, length};
 ghost use Rattle.csl_context.specs.WritingState.{state};
 
-use crate::styles::numeric;
 use csl_base::elem::{ElemChild, ElemChildren};
 use csl_base::element::{Affixes, InheritableNameOptions};
 use csl_base::entry::{Chunk, ChunkKind, ChunkedString};
@@ -15,6 +14,7 @@ use csl_base::text::Text;
 use csl_writing::context::Context;
 use csl_writing::lookup::StyleContext;
 use csl_writing::properties::CiteProperties;
+use row_styles::styles::numeric;
 use std::alloc::{AllocError, Global};
 use std::fmt::Write;
 use std::test::Fail;

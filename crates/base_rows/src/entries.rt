@@ -1,9 +1,9 @@
 //! Entries: what they answer, and copies of what they hold.
-use crate::styles::entry;
 use csl_base::entry::{Chunk, ChunkKind, ChunkedString, Date, EntryLike, Person, PlainEntry};
 use csl_base::seq::Seq;
 use csl_base::taxonomy::{DateVariable, NameVariable, NumberVariable, StandardVariable};
 use csl_base::text::Text;
+use row_styles::styles::entry;
 use std::alloc::{AllocError, Global};
 use std::collections::HashSet;
 use std::test::Fail;

@@ -2,12 +2,8 @@
 //! by a verdict, with marks and pieces of other kinds.
 ghost use Rattle.std.specs.Prelude.{IfOk};
 ghost use Rattle.csl_base.specs.Ring.{HasNoRing};
-ghost use Rattle.csl_lookup.specs.SourceView.{source_view};
+ghost use Rattle.csl_writing.specs.ContextSource.{context_source};
 
-use crate::styles::{
-    author_date, authors, bibliography_of, dated, entry, layout_of, no_affixes, number, numeric,
-    text_of, value, writing, written_by,
-};
 use csl_base::elem::{ElemChild, ElemChildren};
 use csl_base::element::{
     ChooseBranch, ChooseMatch, Condition, LayoutRenderingElement, TestPosition, TextTarget,
@@ -26,6 +22,10 @@ use csl_writing::lookup::StyleContext;
 use csl_writing::properties::{CertainCiteProperties, CiteProperties, SpeculativeCiteProperties};
 use csl_writing::purpose::CitePurpose;
 use csl_writing::state::{CollapseVerdict, DisambiguateState, IbidState, IdentifierUsage};
+use row_styles::styles::{
+    author_date, authors, bibliography_of, dated, entry, layout_of, no_affixes, number, numeric,
+    text_of, value, writing, written_by,
+};
 use std::alloc::{AllocError, Global};
 use std::test::Fail;
 
@@ -33,7 +33,7 @@ type Properties<'a> = CiteProperties<'a, u8>;
 
 /// The style without locales.
 fn ringless<'a>(alloc: Global, style: &'a IndependentStyle) -> Result<StyleContext<'a>, Fail>
-    ensures { IfOk result (λ context. HasNoRing (source_view context).style.macros) }
+    ensures { IfOk result (λ context. HasNoRing (context_source context).style.macros) }
 {
     match style.ring(alloc)? {
         Some(_) => Err(Fail::new("the style has a ring")),

@@ -1,8 +1,8 @@
 //! Which locale answers.
-use crate::styles::numeric;
-use csl_driver::locale::{Locale, LocaleCode, LocalizedTerm};
-use csl_driver::lookup::StyleContext;
-use csl_driver::taxonomy::{OtherTerm, Term, TermForm};
+use csl_base::locale::{Locale, LocaleCode, LocalizedTerm};
+use csl_base::taxonomy::{OtherTerm, Term, TermForm};
+use csl_writing::lookup::StyleContext;
+use row_styles::styles::numeric;
 use std::alloc::{AllocError, Global};
 use std::test::Fail;
 

@@ -1,0 +1,4 @@
+//! Styles and entries that tests share.
+#![tactic(auto)]
+
+pub mod styles;
