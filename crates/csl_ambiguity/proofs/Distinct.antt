@@ -4,7 +4,7 @@ use Rattle.std.specs.List.{AllByRecursion, enumerate_from, list_any}
 use Rattle.std.specs.Cmp.{IsEquivalence}
 use Rattle.std.proofs.lemmas.List.{map-append}
 use Rattle.std.proofs.lemmas.List.Elements.{filter-append}
-use Rattle.csl_passes.specs.Entries.{distinct, is_in, place, with_all_new, with_new}
+use Rattle.csl_entries.specs.Entries.{distinct, is_in, place, with_all_new, with_new}
 
 pub all-filter : {E : Type 0} (Q : E → Type 0) (p : E → Bool) (xs : List E) → AllByRecursion Q xs → AllByRecursion Q (filter p xs)
 all-filter Q p [] h = h

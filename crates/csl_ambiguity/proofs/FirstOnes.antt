@@ -4,7 +4,7 @@ use Rattle.std.specs.List.{enumerate_from, list_any}
 use Rattle.std.specs.Cmp.{IsEquivalence}
 use Rattle.csl_lookup.specs.declared.state.DisambiguateState.{DisambiguateState}
 use Rattle.csl_lookup.specs.declared.state.DisambiguateState.TheVariants.{YearSuffix}
-use Rattle.csl_passes.specs.Entries.{distinct, place, with_all_new, with_new}
+use Rattle.csl_entries.specs.Entries.{distinct, place, with_all_new, with_new}
 use Rattle.csl_passes.specs.Renders.{CiteRender, ItemRender, Place}
 use Rattle.csl_ambiguity.specs.FirstCites.{first_of, firsts_view, same_entry}
 use Rattle.csl_ambiguity.specs.Members.{Member, entry_of, members}

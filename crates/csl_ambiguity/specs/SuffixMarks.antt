@@ -10,7 +10,7 @@ use Rattle.csl_base.specs.declared.elem.ElemMeta.TheVariants as meta
 use Rattle.csl_base.specs.declared.taxonomy.DateVariable.TheVariants.{Issued, Accessed, AvailableDate, EventDate, Submitted, OriginalDate}
 use Rattle.csl_lookup.specs.declared.state.DisambiguateState.{DisambiguateState}
 use Rattle.csl_lookup.specs.declared.state.DisambiguateState.TheVariants.{YearSuffix}
-use Rattle.csl_passes.specs.Entries.{distinct, place}
+use Rattle.csl_entries.specs.Entries.{distinct, place}
 use Rattle.csl_passes.specs.Renders.{CiteRender, ItemRender, Place}
 use Rattle.csl_ambiguity.specs.Members.{Member, entry_of}
 

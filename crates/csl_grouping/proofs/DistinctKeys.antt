@@ -2,7 +2,7 @@
 use Rattle.std.proofs.Common.{◌≡◌, Bool, true, false, cond, not, ◌||◌, List, [], ◌∷◌, ◌++◌, filter, refl, ap, ◌∙◌, sym, append-nil}
 use Rattle.std.specs.Cmp.{IsEquivalence}
 use Rattle.std.proofs.lemmas.List.Elements.{filter-append}
-use Rattle.csl_passes.specs.Entries.{distinct, is_in, with_new}
+use Rattle.csl_entries.specs.Entries.{distinct, is_in, with_new}
 
 module _ {E : Type 0} (eq : E → E → Bool) where
   abbrev pub others : E → List E → List E

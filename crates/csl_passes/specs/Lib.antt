@@ -1,6 +1,5 @@
 pub mod Class
 pub mod Request
 pub mod RequestView
-pub mod Entries
 pub mod Renders
 pub mod RendersView

@@ -1,0 +1,7 @@
+pub mod Entries
+pub mod Laws
+pub mod Table
+pub mod TableView
+pub mod Listed
+pub mod ListingView
+pub mod Gathering
