@@ -22,6 +22,7 @@ mod cites;
 pub mod driver;
 pub mod error;
 mod finish;
+pub mod passes;
 pub mod rendered;
 mod rings;
 pub mod standalone;
