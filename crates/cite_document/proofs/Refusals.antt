@@ -4,8 +4,9 @@ use Rattle.std.specs.declared.convert.Infallible.{Infallible}
 use Rattle.csl_base.specs.PlainEntry.{plain_answers}
 use Rattle.csl_base.specs.declared.entry.PlainEntry.{PlainEntry}
 use Rattle.csl_driver.specs.Answer.{rendered}
-use Rattle.csl_driver.specs.Entries.{distinct}
-use Rattle.csl_driver.specs.Request.{Driver, cited}
+use Rattle.csl_entries.specs.Entries.{distinct}
+use Rattle.csl_driver.specs.Driver.{Driver}
+use Rattle.csl_passes.specs.Request.{cited}
 use Rattle.csl_driver.specs.Rings.{NoRingAtAll, Overflows, Refuses}
 use Rattle.csl_driver.specs.declared.error.DriverError.{DriverError}
 use Rattle.csl_driver.specs.declared.error.DriverError.TheVariants.{NumberOverflow}

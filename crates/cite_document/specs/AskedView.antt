@@ -4,8 +4,8 @@ use Rattle.std.specs.declared.convert.Infallible.{Infallible}
 use Rattle.csl_base.specs.StyleView.{code_view, style_view}
 use Rattle.csl_base.specs.Style.{LocaleValue}
 use Rattle.csl_base.specs.declared.entry.PlainEntry.{PlainEntry}
-use Rattle.csl_driver.specs.Class.{is_note}
-use Rattle.csl_driver.specs.Request.{Cite, Request}
+use Rattle.csl_passes.specs.Class.{is_note}
+use Rattle.csl_passes.specs.Request.{Cite, Request}
 use Rattle.csl_lookup.specs.Properties.{text_payload, LocatorValue}
 use Rattle.cite_document.specs.declared.document.requests.AskedCite.{AskedCite}
 use Rattle.cite_document.specs.declared.document.requests.AskedLocator.{AskedLocator}

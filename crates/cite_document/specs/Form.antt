@@ -6,7 +6,7 @@ use Rattle.serde_json.specs.Data.{Data}
 use Rattle.serde_json.specs.Read.{read}
 use Rattle.csl_base.specs.declared.entry.PlainEntry.{PlainEntry}
 use Rattle.csl_base.specs.Style.{LocaleValue, StyleValue}
-use Rattle.csl_driver.specs.Request.{Request}
+use Rattle.csl_passes.specs.Request.{Request}
 use Rattle.cite_document.specs.Words.{◌>>=◌, object_with, required, optional, items_at, optional_items, whole}
 use Rattle.cite_document.specs.Locales.{locale_form}
 use Rattle.cite_document.specs.Styles.{styles_form, style_named}

@@ -5,9 +5,9 @@ use Rattle.serde_json.specs.Data.{Data, Items, no_items, item}
 use Rattle.serde_json.specs.Find.{as_array, as_str}
 use Rattle.csl_base.specs.declared.entry.PlainEntry.{PlainEntry}
 use Rattle.csl_base.specs.Style.{LocaleValue, StyleValue}
-use Rattle.csl_driver.specs.Class.{is_note}
+use Rattle.csl_passes.specs.Class.{is_note}
 use Rattle.csl_lookup.specs.Properties.{text_payload, LocatorValue}
-use Rattle.csl_driver.specs.Request.{Cite, Request}
+use Rattle.csl_passes.specs.Request.{Cite, Request}
 use Rattle.cite_document.specs.Words.{◌>>=◌, object_with, required, where_present, flag, list_of, items_at, whole, name_form}
 use Rattle.cite_document.specs.Names.{one_of}
 use Rattle.cite_document.specs.Tables.{locators, purposes}

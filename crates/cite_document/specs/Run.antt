@@ -6,8 +6,8 @@ use Rattle.csl_base.specs.PlainEntry.{plain_answers}
 use Rattle.csl_base.specs.declared.entry.PlainEntry.{PlainEntry}
 use Rattle.csl_base.specs.contracts.entry.PlainEntryPartialEq.TheImpl as plain_entry_eq
 use Rattle.csl_driver.specs.Answer.{rendered}
-use Rattle.csl_driver.specs.Entries.{distinct}
-use Rattle.csl_driver.specs.Request.{Request, Wanted, cited, with_places}
+use Rattle.csl_entries.specs.Entries.{distinct}
+use Rattle.csl_passes.specs.Request.{Request, Wanted, cited, with_places}
 use Rattle.csl_driver.specs.Rings.{NoRingAtAll, IsFirstRingOf, Overflows}
 use Rattle.csl_driver.specs.declared.error.RingPlace.{RingPlace}
 use Rattle.csl_driver.specs.declared.rendered.Rendered.{Rendered}

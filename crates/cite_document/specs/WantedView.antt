@@ -3,7 +3,7 @@ use Rattle.std.specs.Prelude.{ℕ, List, Option, option_map}
 use Rattle.csl_base.specs.declared.entry.PlainEntry.{PlainEntry}
 use Rattle.csl_base.specs.Style.{StyleValue}
 use Rattle.csl_base.specs.StyleView.{code_view, style_view}
-use Rattle.csl_driver.specs.RequestView.{entries_view}
+use Rattle.csl_passes.specs.RequestView.{entries_view}
 use Rattle.cite_document.specs.declared.document.requests.Wanted.{Wanted}
 
 -- the style, the locale and the order

@@ -4,7 +4,7 @@ ghost use Rattle.std.specs.Io.KnownBytes.{Appends, Keeps};
 ghost use Rattle.serde_json.specs.View.{view};
 ghost use Rattle.csl_base.specs.StyleView.{locale_view};
 ghost use Rattle.csl_driver.specs.DriverView.{driver_view};
-ghost use Rattle.csl_driver.specs.RequestView.{entries_view, order_view};
+ghost use Rattle.csl_passes.specs.RequestView.{entries_view, order_view};
 ghost use Rattle.csl_driver.specs.declared.error.RingPlace.{RingPlace};
 ghost use Rattle.cite_document.specs.AskedView.{asked_requests_view};
 ghost use Rattle.cite_document.specs.DocumentView.{document_view};

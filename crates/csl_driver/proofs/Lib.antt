@@ -1,12 +1,4 @@
-pub mod Distinct
-pub mod Places
-pub mod Placed
-pub mod Placing
-pub mod Listings
-pub mod Cited
-pub mod Once
 pub mod Joined
 pub mod RingLemmas
+pub mod Lists
 pub mod Answered
-mod Sets
-pub mod Items

@@ -6,7 +6,7 @@ use Rattle.std.proofs.lemmas.List.Elements.{All-more}
 use Rattle.std.proofs.lemmas.Option.{slice_get-get_or}
 use Rattle.csl_base.specs.Ring.{HasNoRing, IsFirstRing}
 use Rattle.csl_base.specs.Style.{StyleValue}
-use Rattle.csl_driver.specs.Request.{Request}
+use Rattle.csl_passes.specs.Request.{Request}
 use Rattle.csl_driver.specs.Rings.{NoRingIn, IsFirstRingOf}
 use Rattle.csl_driver.specs.declared.error.RingPlace.TheVariants as places
 

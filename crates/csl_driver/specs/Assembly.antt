@@ -9,7 +9,7 @@ use Rattle.csl_base.specs.Simplify.{simplified}
 use Rattle.csl_base.specs.declared.elem.ElemMeta.TheVariants.{Entry}
 use Rattle.csl_base.specs.declared.formatting.Formatted.{Formatted}
 use Rattle.csl_base.specs.declared.formatting.Formatting.{Formatting}
-use Rattle.csl_driver.specs.Request.{Cite, Request}
+use Rattle.csl_passes.specs.Request.{Cite, Request}
 
 -- the formatting that a layout's own texts have
 abbrev pub layout_formatting : LayoutValue → Formatting

@@ -8,7 +8,7 @@ use Rattle.csl_lookup.specs.NoProperties.{nothing_certain, speculated}
 use Rattle.csl_lookup.specs.Properties.{LocatorValue, Properties}
 use Rattle.csl_lookup.specs.declared.purpose.CitePurpose.{CitePurpose}
 use Rattle.csl_lookup.specs.declared.state.IbidState.{IbidState}
-use Rattle.csl_driver.specs.Request.{Cite}
+use Rattle.csl_passes.specs.Request.{Cite}
 
 -- the properties of a cite that stands for itself, with this locator, number and place in its request
 abbrev pub properties_of : {P : Type 0} → Option (LocatorValue P) → ℕ → ℕ → Properties P

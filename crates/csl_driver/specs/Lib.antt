@@ -1,13 +1,8 @@
-pub mod Class
-pub mod Request
-pub mod RequestView
-pub mod Entries
+pub mod Driver
+pub mod DriverView
 pub mod CiteTree
 pub mod Assembly
 pub mod Answer
-pub mod EntryPlaces
-pub mod Listed
+pub mod Cited
 pub mod StandaloneCitation
-pub mod Laws
-pub mod DriverView
 pub mod Rings

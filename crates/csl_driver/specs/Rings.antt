@@ -2,8 +2,8 @@
 use Rattle.std.specs.Prelude.{◌≡◌, ℕ, ◌+◌, ◌≤◌, ◌^◌, Bool, List, length, take, slice_get, Some, All}
 use Rattle.csl_base.specs.Ring.{HasNoRing, IsFirstRing}
 use Rattle.csl_base.specs.Style.{StyleValue}
-use Rattle.csl_driver.specs.Entries.{distinct}
-use Rattle.csl_driver.specs.Request.{Request, cited}
+use Rattle.csl_entries.specs.Entries.{distinct}
+use Rattle.csl_passes.specs.Request.{Request, cited}
 use Rattle.csl_driver.specs.declared.error.DriverError.{DriverError}
 use Rattle.csl_driver.specs.declared.error.DriverError.TheVariants as errors
 use Rattle.csl_driver.specs.declared.error.RingPlace.{RingPlace}

@@ -6,7 +6,7 @@ use Rattle.csl_base.specs.Tree.{has_content}
 use Rattle.csl_lookup.specs.Lookup.{Source}
 use Rattle.csl_driver.specs.Assembly.{shown, assembled}
 use Rattle.csl_driver.specs.CiteTree.{properties_of, cite_tree}
-use Rattle.csl_driver.specs.Request.{Cite, Request, source_of}
+use Rattle.csl_passes.specs.Request.{Cite, Request, source_of}
 
 module _ {E P : Type 0} (answers : E → Answers) where
   -- the tree of a cite that has no number and no place of its own

@@ -1,25 +1,27 @@
 //! The bibliography of an answer.
-ghost use Rattle.std.specs.Prelude.{◌≡◌, ◌+◌, ◌<◌, ◌^◌, IfOk, length, map, option_map};
+ghost use Rattle.std.specs.Prelude.{◌≡◌, ◌<◌, All, IfOk, length, option_map};
+ghost use Rattle.std.specs.List.{filter_map};
 ghost use Rattle.csl_base.specs.Ring.{HasNoRing};
 ghost use Rattle.csl_base.specs.StyleView.{bibliography_view, style_view};
 ghost use Rattle.csl_lookup.specs.PropertiesView.{properties_view};
 ghost use Rattle.csl_writing.specs.ContextSource.{context_source};
 ghost use Rattle.csl_driver.specs.Answer.{bibliography_item};
-ghost use Rattle.csl_driver.specs.Laws.{NoTwoEqual};
-ghost use Rattle.csl_driver.specs.Listed.{listed, listed_bibliography, listed_item};
-ghost use Rattle.csl_driver.specs.Request.{wanted_source};
-ghost use Rattle.csl_driver.specs.RequestView.{wanted_view};
+ghost use Rattle.csl_driver.specs.Cited.{NumbersFit, bibliography_by, item_at};
+ghost use Rattle.csl_entries.specs.ListingView.{listing_view};
+ghost use Rattle.csl_entries.specs.TableView.{table_view};
+ghost use Rattle.csl_passes.specs.Request.{wanted_source};
+ghost use Rattle.csl_passes.specs.RequestView.{wanted_view};
 
+use crate::cited::Cited;
 use crate::cites::{cite_properties, wanted_context};
-use crate::listing::Listing;
 use crate::rendered::{BibliographyItem, RenderedBibliography};
-use crate::request::BibliographyRequest;
 use csl_base::elem::ElemChildren;
 use csl_base::entry::EntryLike;
 use csl_base::locale::LocaleCode;
 use csl_base::seq::Seq;
 use csl_base::style::Bibliography;
 use csl_base::text::Text;
+use csl_passes::request::BibliographyRequest;
 use csl_writing::counter::Renders;
 use csl_writing::lookup::StyleContext;
 use csl_writing::properties::CiteProperties;
@@ -46,26 +48,27 @@ fn bibliography_item<T: EntryLike, P>(
     })
 }
 
-/// An item for each of the entries.
+/// An item for each of the entries, in their order.
 fn bibliography_items<'a, T: EntryLike, P: Drop>(
     alloc: Global,
     wanted: &BibliographyRequest<'_, 'a, T>,
-    listing: &Listing<'a, T>,
-    offset: usize,
+    cited: &Cited<'a, T>,
     renders: &mut Renders,
 ) -> Result<Vec<BibliographyItem>, AllocError>
-    requires fits { offset + length (listed listing.now) < 2 ^ 64 }
-    requires once { NoTwoEqual T.eq (listed listing.now) }
+    requires fits { NumbersFit cited.now }
+    requires within { All (λ p. p < length (table_view cited.now.table).entries) (listing_view cited.now.listing).order }
     requires no_ring { HasNoRing (style_view wanted.now.style.now).macros }
     ensures { IfOk result (λ items. items.items
-        ≡ map (listed_item P T.eq T.answers (wanted_source (wanted_view wanted.now)) listing.now offset) listing.now.entries.items) }
+        ≡ filter_map (item_at P T.answers (wanted_source (wanted_view wanted.now)) cited.now) (listing_view cited.now.listing).order) }
 {
     let context = wanted_context(wanted);
     let locale = wanted.locale.as_ref();
-    let mut items = Vec::with_capacity(alloc, listing.entries.len())?;
-    for (k, listed) in listing.entries.iter().enumerate() {
-        let properties = cite_properties::<P>(&None, offset + k, listed.first_place)?;
-        let entry = listed.entry;
+    let order = cited.listing.order();
+    let mut items = Vec::with_capacity(alloc, order.len())?;
+    for place in order {
+        let entry = cited.table.entry(*place);
+        let first_place = cited.table.first_place(*place);
+        let properties = cite_properties::<P>(&None, cited.number_of(*place), first_place)?;
         items.push(bibliography_item(alloc, &context, locale, entry, &properties, renders)?)?;
     }
     Ok(items)
@@ -75,17 +78,16 @@ fn rendered_bibliography<'a, T: EntryLike, P: Drop>(
     alloc: Global,
     bibliography: &Bibliography,
     wanted: &BibliographyRequest<'_, 'a, T>,
-    listing: &Listing<'a, T>,
-    offset: usize,
+    cited: &Cited<'a, T>,
     renders: &mut Renders,
 ) -> Result<RenderedBibliography, AllocError>
-    requires fits { offset + length (listed listing.now) < 2 ^ 64 }
-    requires once { NoTwoEqual T.eq (listed listing.now) }
+    requires fits { NumbersFit cited.now }
+    requires within { All (λ p. p < length (table_view cited.now.table).entries) (listing_view cited.now.listing).order }
     requires no_ring { HasNoRing (style_view wanted.now.style.now).macros }
     ensures { IfOk result
-        (λ r. r ≡ listed_bibliography P T.eq T.answers (wanted_source (wanted_view wanted.now)) listing.now offset (bibliography_view bibliography.now)) }
+        (λ r. r ≡ bibliography_by P T.answers (wanted_source (wanted_view wanted.now)) cited.now (bibliography_view bibliography.now)) }
 {
-    let items = bibliography_items::<T, P>(alloc, wanted, listing, offset, renders)?;
+    let items = bibliography_items::<T, P>(alloc, wanted, cited, renders)?;
     Ok(RenderedBibliography {
         hanging_indent: bibliography.hanging_indent,
         second_field_align: bibliography.second_field_align,
@@ -99,23 +101,21 @@ fn rendered_bibliography<'a, T: EntryLike, P: Drop>(
 pub(crate) fn wanted_bibliography<'a, T: EntryLike, P: Drop>(
     alloc: Global,
     wanted: &BibliographyRequest<'_, 'a, T>,
-    listing: &Listing<'a, T>,
-    offset: usize,
+    cited: &Cited<'a, T>,
     renders: &mut Renders,
 ) -> Result<Option<RenderedBibliography>, AllocError>
-    requires fits { offset + length (listed listing.now) < 2 ^ 64 }
-    requires once { NoTwoEqual T.eq (listed listing.now) }
+    requires fits { NumbersFit cited.now }
+    requires within { All (λ p. p < length (table_view cited.now.table).entries) (listing_view cited.now.listing).order }
     requires no_ring { HasNoRing (style_view wanted.now.style.now).macros }
     ensures { IfOk result
-        (λ r. r ≡ option_map (listed_bibliography P T.eq T.answers (wanted_source (wanted_view wanted.now)) listing.now offset) (style_view wanted.now.style.now).bibliography) }
+        (λ r. r ≡ option_map (bibliography_by P T.answers (wanted_source (wanted_view wanted.now)) cited.now) (style_view wanted.now.style.now).bibliography) }
 {
     match &wanted.style.bibliography {
         Some(bibliography) => Ok(Some(rendered_bibliography::<T, P>(
             alloc,
             bibliography,
             wanted,
-            listing,
-            offset,
+            cited,
             renders,
         )?)),
         None => Ok(None),

@@ -1,5 +1,5 @@
 //! Why the driver refuses.
-use crate::request::CitationRequest;
+use csl_passes::request::CitationRequest;
 use std::alloc::AllocError;
 
 /// Why no answer is given.

@@ -1,26 +1,29 @@
 //! The whole answer, from all requests at once.
 ghost use Rattle.std.specs.Prelude.{◌≡◌, ◌+◌, ◌<◌, ◌^◌, length, OnOk, IfOk, IfErr};
 ghost use Rattle.csl_base.specs.StyleView.{style_view};
-ghost use Rattle.csl_driver.specs.Answer.{first_place, rendered};
+ghost use Rattle.csl_driver.specs.Answer.{rendered};
 ghost use Rattle.csl_driver.specs.DriverView.{driver_view};
-ghost use Rattle.csl_driver.specs.Entries.{bibliography_order, distinct, used_order};
-ghost use Rattle.csl_driver.specs.Laws.{NoTwoEqual};
-ghost use Rattle.csl_driver.specs.Listed.{AllNumbered, KnowFirsts, listed};
-ghost use Rattle.csl_driver.specs.Request.{cited};
-ghost use Rattle.csl_driver.specs.RequestView.{order_view, requests_view, wanted_view};
+ghost use Rattle.csl_entries.specs.Entries.{bibliography_order, distinct, used_order};
+ghost use Rattle.csl_entries.specs.Listed.{IsListingOf};
+ghost use Rattle.csl_entries.specs.ListingView.{listing_view};
+ghost use Rattle.csl_entries.specs.Table.{table_of};
+ghost use Rattle.csl_entries.specs.TableView.{table_view};
+ghost use Rattle.csl_passes.specs.Request.{cited};
+ghost use Rattle.csl_passes.specs.RequestView.{order_view, requests_view, wanted_view};
 ghost use Rattle.csl_driver.specs.Rings.{NoRingAtAll, Refuses};
 
 use crate::bibliography::wanted_bibliography;
 use crate::citation::rendered_citations;
+use crate::cited::Cited;
 use crate::driver::{BibliographyDriver, discard};
-use crate::entries::cited_entries;
 use crate::error::DriverError;
-use crate::listing::Listing;
 use crate::rendered::Rendered;
-use crate::request::{BibliographyRequest, CitationRequest, Order};
 use crate::rings::refuse_rings;
 use csl_base::entry::EntryLike;
 use csl_base::seq::Seq;
+use csl_entries::listing::Listing;
+use csl_entries::table::EntryTable;
+use csl_passes::request::{BibliographyRequest, CitationRequest, Order};
 use csl_writing::counter::Renders;
 use std::alloc::Global;
 
@@ -34,52 +37,52 @@ fn used_order<'o, 'a, T>(wanted: &BibliographyRequest<'o, 'a, T>) -> Option<Orde
     }
 }
 
-/// The bibliography's list of what the requests cite, where its numbers fit. Each item gets the place
-/// of its entry.
-fn listing_of<'a, T: EntryLike, P>(
+/// The entries that the requests cite, in the bibliography's order, where the numbers fit.
+fn cited_by<'a, T: EntryLike, P>(
     alloc: Global,
-    requests: &mut [CitationRequest<'a, T, P>],
+    requests: &[CitationRequest<'a, T, P>],
     wanted: &BibliographyRequest<'_, 'a, T>,
     offset: usize,
-) -> Result<Listing<'a, T>, DriverError>
-    requires no_ring { NoRingAtAll (requests_view requests.old) (style_view wanted.now.style.now) }
-    ensures listed { IfOk result (λ l. listed l
-        ≡ bibliography_order T.eq (used_order (wanted_view wanted.now).style (wanted_view wanted.now).order) (cited (requests_view requests.old))) }
-    ensures once { IfOk result (λ l. NoTwoEqual T.eq (listed l)) }
-    ensures firsts { IfOk result (KnowFirsts (first_place T.eq (requests_view requests.old))) }
-    ensures numbered { IfOk result (λ l. AllNumbered T.eq l requests.new) }
-    ensures kept { requests_view requests.new ≡ requests_view requests.old }
-    ensures fits { OnOk result (offset + length (distinct T.eq (cited (requests_view requests.old))) < 2 ^ 64) }
-    ensures all_fit { IfOk result (λ l. offset + length (listed l) < 2 ^ 64) }
-    ensures refused { IfErr result (Refuses T.eq (requests_view requests.old) (style_view wanted.now.style.now) offset) }
+) -> Result<Cited<'a, T>, DriverError>
+    requires no_ring { NoRingAtAll (requests_view requests.now) (style_view wanted.now.style.now) }
+    ensures table { IfOk result (λ c. table_view c.table ≡ table_of T.eq (requests_view requests.now)) }
+    ensures listed { IfOk result (λ c. IsListingOf T.eq (distinct T.eq (cited (requests_view requests.now)))
+        (bibliography_order T.eq (used_order (wanted_view wanted.now).style (wanted_view wanted.now).order) (cited (requests_view requests.now))) (listing_view c.listing)) }
+    ensures offset { IfOk result (λ c. c.offset ≡ offset) }
+    ensures fits { OnOk result (offset + length (distinct T.eq (cited (requests_view requests.now))) < 2 ^ 64) }
+    ensures refused { IfErr result (Refuses T.eq (requests_view requests.now) (style_view wanted.now.style.now) offset) }
 {
-    let entries = cited_entries(alloc, requests)?;
-    if entries.len() > usize::MAX - offset {
+    let table = EntryTable::of_requests(alloc, requests)?;
+    if table.len() > usize::MAX - offset {
         return Err(DriverError::NumberOverflow);
     }
-    let listing = Listing::of_cited(alloc, used_order(wanted), &entries)?;
-    Ok(listing)
+    let listing = Listing::of_table(alloc, &table, used_order(wanted))?;
+    Ok(Cited {
+        table,
+        listing,
+        offset,
+    })
 }
 
 /// The answer to the requests.
 fn answer<'a, T: EntryLike, P: Drop>(
     alloc: Global,
-    requests: &mut [CitationRequest<'a, T, P>],
+    requests: &[CitationRequest<'a, T, P>],
     wanted: &BibliographyRequest<'_, 'a, T>,
     offset: usize,
 ) -> Result<Rendered, DriverError>
-    ensures ok { IfOk result (λ r. r ≡ rendered T.eq T.answers (wanted_view wanted.now) (requests_view requests.old) offset) }
-    ensures ringless { OnOk result (NoRingAtAll (requests_view requests.old) (style_view wanted.now.style.now)) }
-    ensures fits { OnOk result (offset + length (distinct T.eq (cited (requests_view requests.old))) < 2 ^ 64) }
-    ensures refused { IfErr result (Refuses T.eq (requests_view requests.old) (style_view wanted.now.style.now) offset) }
+    ensures ok { IfOk result (λ r. r ≡ rendered T.eq T.answers (wanted_view wanted.now) (requests_view requests.now) offset) }
+    ensures ringless { OnOk result (NoRingAtAll (requests_view requests.now) (style_view wanted.now.style.now)) }
+    ensures fits { OnOk result (offset + length (distinct T.eq (cited (requests_view requests.now))) < 2 ^ 64) }
+    ensures refused { IfErr result (Refuses T.eq (requests_view requests.now) (style_view wanted.now.style.now) offset) }
 {
     refuse_rings(alloc, requests, wanted.style)?;
-    let listing = listing_of(alloc, requests, wanted, offset)?;
+    let cited = cited_by(alloc, requests, wanted, offset)?;
     let mut renders = Renders::new();
-    let citations = rendered_citations(alloc, requests, &listing, offset, &mut renders)?;
+    let citations = rendered_citations(alloc, requests, &cited, &mut renders)?;
     Ok(Rendered {
         citations: Seq::new(citations),
-        bibliography: wanted_bibliography::<T, P>(alloc, wanted, &listing, offset, &mut renders)?,
+        bibliography: wanted_bibliography::<T, P>(alloc, wanted, &cited, &mut renders)?,
     })
 }
 
@@ -102,8 +105,8 @@ impl<'a, T: EntryLike, P: Drop> BibliographyDriver<'a, T, P> {
         ensures fits { OnOk result ((driver_view self.entry).offset + length (distinct T.eq (cited (driver_view self.entry).requests)) < 2 ^ 64) }
         ensures refused { IfErr result (Refuses T.eq (driver_view self.entry).requests (style_view request.entry.style.now) (driver_view self.entry).offset) }
     {
-        let (mut citations, offset, alloc) = self.into_parts();
-        let result = answer(alloc, &mut citations, &request, offset);
+        let (citations, offset, alloc) = self.into_parts();
+        let result = answer(alloc, &citations, &request, offset);
         discard(citations);
         result
     }

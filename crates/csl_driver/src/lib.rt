@@ -7,20 +7,21 @@
 pub use csl_base::{
     elem, element, entry, formatting, initials, locale, names, seq, stack, style, taxonomy, text,
 };
-pub use csl_writing::{brackets, counter, locator, lookup, properties, purpose, state, year};
+pub use csl_entries::laws;
+pub use csl_passes::{item, request};
+pub use csl_writing::{
+    brackets, cite, context, counter, locator, lookup, properties, purpose, state, token, writing,
+    year,
+};
 
 mod assemble;
 mod bibliography;
 mod citation;
+mod cited;
 mod cites;
 pub mod driver;
-mod entries;
 pub mod error;
 mod finish;
-pub mod item;
-pub mod laws;
-mod listing;
 pub mod rendered;
-pub mod request;
 mod rings;
 pub mod standalone;

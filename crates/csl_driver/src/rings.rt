@@ -2,13 +2,13 @@
 ghost use Rattle.std.specs.Prelude.{◌≡◌, ℕ, IfOk, IfErr, IfSome, OnOk, None};
 ghost use Rattle.csl_base.specs.Ring.{HasNoRing};
 ghost use Rattle.csl_base.specs.StyleView.{style_view};
-ghost use Rattle.csl_driver.specs.RequestView.{requests_view};
+ghost use Rattle.csl_passes.specs.RequestView.{requests_view};
 ghost use Rattle.csl_driver.specs.Rings.{IsFirstRingOf, NoRingAtAll, NoRingIn, RefusesRing};
 ghost use Rattle.csl_driver.specs.declared.error.RingPlace.{RingPlace};
 
 use crate::error::{DriverError, RingPlace};
-use crate::request::CitationRequest;
 use csl_base::style::IndependentStyle;
+use csl_passes::request::CitationRequest;
 use std::alloc::{AllocError, Global};
 
 /// The place of the first request whose style has a ring, and that of its first macro on one.
@@ -21,7 +21,7 @@ fn request_ring<T, P>(
     ensures none { IfOk result (λ r. r ≡ None → NoRingIn (requests_view requests.now)) }
 {
     for (k, request) in requests.iter().enumerate() {
-        if let Some(macro_idx) = request.style.ring(alloc)? {
+        if let Some(macro_idx) = request.style().ring(alloc)? {
             return Ok(Some((k, macro_idx)));
         }
     }

@@ -4,20 +4,20 @@ ghost use Rattle.csl_base.specs.ElementView.{text_view};
 ghost use Rattle.csl_base.specs.Ring.{HasNoRing};
 ghost use Rattle.csl_base.specs.StyleView.{style_view};
 ghost use Rattle.csl_writing.specs.ContextSource.{context_source};
-ghost use Rattle.csl_driver.specs.Request.{source_of};
-ghost use Rattle.csl_driver.specs.RequestView.{cite_view, request_view};
+ghost use Rattle.csl_passes.specs.Request.{source_of};
+ghost use Rattle.csl_passes.specs.RequestView.{cite_view, request_view};
 ghost use Rattle.csl_driver.specs.Rings.{RefusesAlone};
 ghost use Rattle.csl_driver.specs.StandaloneCitation.{lone_tree, lone_trees, standalone};
 
 use crate::assemble::assembled;
 use crate::cites::{cite_properties, cite_tree, request_context};
 use crate::error::{DriverError, RingPlace};
-use crate::item::CitationItem;
-use crate::request::CitationRequest;
 use csl_base::elem::ElemChildren;
 use csl_base::entry::EntryLike;
 use csl_base::locale::LocaleCode;
 use csl_base::style::Layout;
+use csl_passes::item::CitationItem;
+use csl_passes::request::CitationRequest;
 use csl_writing::counter::Renders;
 use csl_writing::lookup::StyleContext;
 use std::alloc::{AllocError, Global};
@@ -88,11 +88,11 @@ pub fn standalone_citation<T: EntryLike, P: Drop>(
     ensures ringless { OnOk result (HasNoRing (request_view request.entry).style.macros) }
     ensures refused { IfErr result (RefusesAlone (request_view request.entry).style) }
 {
-    if let Some(macro_idx) = request.style.ring(alloc)? {
+    if let Some(macro_idx) = request.style().ring(alloc)? {
         let place = RingPlace::Request(0);
         return Err(DriverError::MacroRing { place, macro_idx });
     }
     let cites = lone_cites(alloc, &request)?;
-    let layout = &request.style.citation.layout;
+    let layout = &request.style().citation.layout;
     Ok(assembled(alloc, layout, Some(delimiter_of(layout)), cites, true)?)
 }

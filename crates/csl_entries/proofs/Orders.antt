@@ -1,8 +1,8 @@
 -- The order of entries by their places, and that of the entries themselves.
-use Rattle.std.proofs.Common.{◌≡◌, ℕ, zero, suc, ◌+◌, ◌<◌, ◌≤◌, nat_lt, nat_eq, Bool, true, false, cond, not, ◌||◌, ◌&&◌, Option, Some, None, List, [], ◌∷◌, ◌++◌, length, map, filter, take, get_or, is_some, append-nil, refl, ap, sym, subst, ◌∙◌, arith}
-use Rattle.std.specs.Prelude.{unwrap_or}
+use Rattle.std.proofs.Common.{◌≡◌, ℕ, suc, ◌+◌, ◌<◌, ◌≤◌, nat_lt, nat_eq, Bool, true, false, cond, not, ◌||◌, Option, Some, None, List, [], ◌∷◌, ◌++◌, length, map, filter, take, get_or, is_some, refl, ap, sym, subst, ◌∙◌, arith}
+use Rattle.std.specs.Prelude.{slice_get, unwrap_or}
 use Rattle.std.specs.Cmp.{IsEquivalence}
-use Rattle.std.specs.List.{cons_option, filter_map, list_all, position, range_with_len}
+use Rattle.std.specs.List.{cons_option, filter_map, position, range_with_len}
 use Rattle.std.specs.Option.{option_map_or}
 use Rattle.std.proofs.Math.ListN.{length-map}
 use Rattle.std.proofs.lemmas.Bool.Decides.{nat_tests}
@@ -11,13 +11,12 @@ use Rattle.std.proofs.lemmas.List.Elements.{filter_map-append}
 use Rattle.std.proofs.lemmas.List.Sums.{fold-append, prefix_len-le-length}
 use Rattle.csl_entries.specs.Entries.{bibliography_order, distinct, is_in, place, with_new, with_all_new}
 use Rattle.csl_entries.specs.Laws.{NoTwoEqual}
-use Rattle.csl_entries.specs.Listed.{Listed, ListsAll, listed_by}
+use Rattle.csl_entries.specs.Listed.{Listed, ListsAll}
 use Rattle.csl_entries.specs.ListingView.{listing_view}
 use Rattle.csl_entries.specs.declared.listing.Listing.{Listing}
 use Rattle.csl_entries.proofs.Distinct.{all_new-all_new, all_new_is_distinct, bib_made, is_in-distinct}
 use Rattle.csl_entries.proofs.Numbers.{number_in, numbered}
-use Rattle.csl_entries.proofs.Once.{NoTwoEqual-distinct, without_gaps}
-use Rattle.csl_entries.proofs.Placed.{map-map}
+use Rattle.csl_entries.proofs.Once.{NoTwoEqual-distinct, holds_each_once, length-bibliography_order, without_gaps}
 use Rattle.csl_entries.proofs.Placing.{all_in, all_in-added, both, grown, left, right}
 
 module _ {E : Type 0} (eq : E → E → Bool) (laws : IsEquivalence eq) where
@@ -174,6 +173,44 @@ all-among : {E : Type 0} (eq : E → E → Bool) (laws : IsEquivalence eq) (a b 
 all-among eq laws a b [] h = refl
 all-among eq laws a b (x ∷ xs) h = rw (h x, all-among eq laws a b xs h) refl
 
+not-there : {E : Type 0} (eq : E → E → Bool) (e : E) (es : List E) → is_in eq e es ≡ false → place eq e es ≡ length es
+not-there eq e [] out = refl
+not-there eq e (x ∷ xs) out = by (eq e x) out (not-there eq e xs)
+  where
+    by : (b : Bool) → (b || is_in eq e xs) ≡ false → (is_in eq e xs ≡ false → place eq e xs ≡ length xs) → cond (not b) (1 + place eq e xs) 0 ≡ suc (length xs)
+    by true h k = cc
+    by false h k = ap (λ n. 1 + n) (k h) ∙ omega arith
+
+behind-all : {X : Type 0} (xs : List X) → slice_get xs (length xs) ≡ None
+behind-all [] = refl
+behind-all (x ∷ xs) = behind-all xs
+
+-- the place of an entry in a list, looked up at its place among others
+looked-up : {E : Type 0} (eq : E → E → Bool) (laws : IsEquivalence eq) (order : List E) (e : E) (es : List E) → is_in eq e order ≡ is_in eq e es
+    → unwrap_or (slice_get (map (λ x. place eq x order) es) (place eq e es)) (length order) ≡ place eq e order
+looked-up eq laws order e es same = by (is_in eq e es) refl
+  where
+    alike : (a b : _) (xs : List _) → eq a b ≡ true → place eq a xs ≡ place eq b xs
+    alike a b [] h = refl
+    alike a b (x ∷ xs) h = rw (laws.congr a b x h, alike a b xs h) refl
+
+    at : (fs : List _) → is_in eq e fs ≡ true → slice_get (map (λ x. place eq x order) fs) (place eq e fs) ≡ Some (place eq e order)
+    at [] there = cc
+    at (f ∷ fs) there = of (eq e f) refl there (at fs)
+      where
+        of : (b : Bool) → eq e f ≡ b → (b || is_in eq e fs) ≡ true → (is_in eq e fs ≡ true → slice_get (map (λ x. place eq x order) fs) (place eq e fs) ≡ Some (place eq e order))
+            → slice_get (map (λ x. place eq x order) (f ∷ fs)) (cond (not b) (1 + place eq e fs) 0) ≡ Some (place eq e order)
+        of true q there k = ap Some (sym (alike e f order q))
+        of false q there k =
+            let next : 1 + place eq e fs ≡ suc (place eq e fs) = omega arith in
+            rw next (k there)
+
+    by : (b : Bool) → is_in eq e es ≡ b → unwrap_or (slice_get (map (λ x. place eq x order) es) (place eq e es)) (length order) ≡ place eq e order
+    by true there = ap (λ o. unwrap_or o (length order)) (at es there)
+    by false out =
+        ap (λ k. unwrap_or (slice_get (map (λ x. place eq x order) es) k) (length order)) (not-there eq e es out ∙ sym (length-map es (λ x. place eq x order)))
+        ∙ ap (λ o. unwrap_or o (length order)) (behind-all (map (λ x. place eq x order) es)) ∙ sym (not-there eq e order (same ∙ out))
+
 -- what was listed, as the entries show it
 pub listing-is : {E : Type 0} (eq : E → E → Bool) (laws : IsEquivalence eq) (order : Option (List E)) (es : List E) (l : Listing)
     → l.order.items ≡ with_all_new nat_eq (with_all_new nat_eq [] (filter_map (λ e. position (eq e) es) (unwrap_or order []))) (range_with_len 0 (length es))
@@ -195,9 +232,18 @@ listing-is {E} eq laws order es l made count sound cited known =
     ∙ ap (λ l. with_all_new nat_eq l (map (λ e. place eq e es) es)) (placed-all_new eq laws es [] kept refl (kept-in eq laws es (unwrap_or order [])))
     ∙ placed-all_new eq laws es (with_all_new eq [] kept) es first-in own ∙ ap (λ l. map (λ e. place eq e es) l) from in
     let range : range_with_len 0 (length l.numbers.items) ≡ map (λ e. place eq e es) es = ap (λ n. range_with_len 0 n) count ∙ range-placed eq laws es once in
-    as-listed ordered
+    let numbered : (listing_view l).numbers ≡ map (λ e. place eq e bib) es =
     (numbers-or l.numbers.items l.order.items (range_with_len 0 (length l.numbers.items)) sound ∙ ap (λ ps. map (λ p. place nat_eq p l.order.items) ps) range
-    ∙ ap (λ os. map (λ p. place nat_eq p os) (map (λ e. place eq e es) es)) ordered ∙ numbers-placed eq laws es es bib own bib-in)
+    ∙ ap (λ os. map (λ p. place nat_eq p os) (map (λ e. place eq e es) es)) ordered ∙ numbers-placed eq laws es es bib own bib-in) in
+    let same : (e : E) → is_in eq e bib ≡ is_in eq e es = λ e. (holds_each_once eq laws order cited).same e ∙ sym (ap (λ l. is_in eq e l) known ∙ is_in-distinct eq laws e cited) in
+    record {
+      listed = as-listed ordered numbered;
+      same = same;
+      count = length-bibliography_order eq laws order cited ∙ sym (ap length known);
+      numbered = λ e.
+          ap (λ ns. unwrap_or (slice_get ns (place eq e es)) (length l.order.items)) numbered ∙ ap (λ n. unwrap_or (slice_get (map (λ x. place eq x bib) es) (place eq e es)) n)
+          (ap length ordered ∙ length-map bib (λ x. place eq x es)) ∙ looked-up eq laws bib e es (same e);
+    }
 
 -- one more of the handed entries
 pub handed-more : {E X : Type 0} (eq : E → E → Bool) (now : X → E) (es : List E) (xs : List X) (k : ℕ) (x : X) → k < length xs → x ≡ get_or xs k x

@@ -1,5 +1,5 @@
 -- The plain data that a table of entries stands for.
-use Rattle.std.specs.Prelude.{ℕ, List, map}
+use Rattle.std.specs.Prelude.{map}
 use Rattle.csl_entries.specs.Gathering.{entries_in}
 use Rattle.csl_entries.specs.Table.{Table}
 use Rattle.csl_entries.specs.declared.table.EntryTable.{EntryTable}

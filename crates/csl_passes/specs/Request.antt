@@ -1,5 +1,5 @@
 -- Requests as plain data: no capacity and no address is seen.
-use Rattle.std.specs.Prelude.{ℕ, ◌+◌, Bool, List, [], ◌∷◌, ◌++◌, Option, map}
+use Rattle.std.specs.Prelude.{ℕ, ◌+◌, Bool, List, [], ◌∷◌, Option, map}
 use Rattle.std.specs.List.{flat_map}
 use Rattle.csl_base.specs.Style.{StyleValue, LocaleValue}
 use Rattle.csl_lookup.specs.Lookup.{Source}
@@ -29,11 +29,6 @@ pub record Wanted (E : Type 0) : Type 0 where
   pub locales : List LocaleValue
   pub order : Option (List E)
 
--- a driver: the requests that it accepted, in order, and the number of the first entry
-pub record Driver (E P : Type 0) : Type 0 where
-  pub requests : List (Request E P)
-  pub offset : ℕ
-
 module _ {E P : Type 0} where
   -- the cites with the places k, k + 1 and on
   abbrev pub placed_from : ℕ → List (Cite E P) → List (Cite E P)
@@ -43,10 +38,6 @@ module _ {E P : Type 0} where
   -- the request with each cite's place set to where it stands
   abbrev pub with_places : Request E P → Request E P
   with_places r = record r { cites = placed_from 0 r.cites }
-
-  -- the driver that has taken one more request
-  abbrev pub with_request : Driver E P → Request E P → Driver E P
-  with_request d r = record d { requests = d.requests ++ with_places r ∷ [] }
 
   -- what is cited, in order
   abbrev pub entries_of : List (Cite E P) → List E

@@ -3,7 +3,7 @@ ghost use Rattle.std.specs.Prelude.{◌≡◌, codes, map, option_map, IfOk};
 ghost use Rattle.serde_json.specs.View.{view, items_view};
 ghost use Rattle.csl_base.specs.StyleView.{code_view, locale_view, style_view};
 ghost use Rattle.csl_lookup.specs.PropertiesView.{locator_view};
-ghost use Rattle.csl_driver.specs.RequestView.{cite_view, cites_view, entries_view, request_view};
+ghost use Rattle.csl_passes.specs.RequestView.{cite_view, cites_view, entries_view, request_view};
 ghost use Rattle.cite_document.specs.AskedView.{asked_cite_view, asked_cites_view, asked_locator_view, asked_request_view, asked_requests_view};
 ghost use Rattle.cite_document.specs.Words.{all_items, items_at, list_of, name_form, required, where_present};
 ghost use Rattle.cite_document.specs.Finders.{entry_in, style_in};

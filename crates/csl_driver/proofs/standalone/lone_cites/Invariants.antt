@@ -1,6 +1,6 @@
 use Rattle.std.proofs.Common.{◌≡◌, ◌++◌, drop}
-use Rattle.csl_driver.specs.Request.{source_of}
-use Rattle.csl_driver.specs.RequestView.{cites_view, request_view}
+use Rattle.csl_passes.specs.Request.{source_of}
+use Rattle.csl_passes.specs.RequestView.{cites_view, request_view}
 use Rattle.csl_driver.specs.StandaloneCitation.{lone_trees}
 use Rattle.csl_driver.proofs.standalone.lone_cites.Given as goal
 

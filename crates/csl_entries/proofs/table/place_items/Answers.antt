@@ -1,4 +1,4 @@
-use Rattle.std.proofs.Common.{ap, ◌∙◌}
+use Rattle.std.proofs.Common.{◌∙◌}
 use Rattle.csl_entries.specs.Gathering.{firsts_view}
 use Rattle.csl_passes.specs.RequestView.{cite_view}
 use Rattle.csl_entries.proofs.Placing.{items-more}

@@ -1,5 +1,5 @@
 -- Keys are looked up one after another.
-use Rattle.csl_driver.specs.RequestView.{entries_view}
+use Rattle.csl_passes.specs.RequestView.{entries_view}
 use Rattle.cite_document.specs.Words.{name_form}
 use Rattle.cite_document.specs.Finders.{entry_in}
 use Rattle.cite_document.proofs.Progress.{Progress}

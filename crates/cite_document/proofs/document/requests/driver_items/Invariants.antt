@@ -1,5 +1,5 @@
 use Rattle.std.proofs.Common.{◌≡◌, take}
-use Rattle.csl_driver.specs.RequestView.{cites_view}
+use Rattle.csl_passes.specs.RequestView.{cites_view}
 use Rattle.cite_document.specs.AskedView.{asked_cites_view}
 use Rattle.cite_document.proofs.document.requests.driver_items.Given as goal
 

@@ -1,6 +1,6 @@
 use Rattle.std.proofs.Common.{ap, ◌∙◌, subst, OnOk, IfErr}
 use Rattle.csl_base.specs.StyleView.{style_view}
-use Rattle.csl_driver.specs.RequestView.{requests_view}
+use Rattle.csl_passes.specs.RequestView.{requests_view}
 use Rattle.csl_driver.specs.Rings.{NoRingAtAll, Refuses}
 use Rattle.csl_driver.proofs.driver.BibliographyDriver.finish.Goals as goal
 
@@ -8,10 +8,10 @@ use Rattle.csl_driver.proofs.driver.BibliographyDriver.finish.Goals as goal
 pub returns-clause-ringless : goal.returns-clause-ringless
 returns-clause-ringless g c =
     subst (λ requests. OnOk c.answer-result.result (NoRingAtAll requests (style_view c.args.request.style.now)))
-    (ap requests_view c.deref_mut.ensures.value ∙ c.into_parts-citations.ensures.requests) c.answer-result.ensures.ringless
+    (ap requests_view c.deref.ensures.value ∙ c.into_parts-citations.ensures.requests) c.answer-result.ensures.ringless
 
 pub returns-clause-refused : goal.returns-clause-refused
 returns-clause-refused g c =
     subst (λ requests. IfErr c.answer-result.result (Refuses g.T.PartialEq.eq requests (style_view c.args.request.style.now) c.args.self.citation_number_offset))
-    (ap requests_view c.deref_mut.ensures.value ∙ c.into_parts-citations.ensures.requests)
-    (subst (λ offset. IfErr c.answer-result.result (Refuses g.T.PartialEq.eq (requests_view c.deref_mut.result.now) (style_view c.args.request.style.now) offset)) c.into_parts-citations.ensures.offset c.answer-result.ensures.refused)
+    (ap requests_view c.deref.ensures.value ∙ c.into_parts-citations.ensures.requests)
+    (subst (λ offset. IfErr c.answer-result.result (Refuses g.T.PartialEq.eq (requests_view c.deref.result.now) (style_view c.args.request.style.now) offset)) c.into_parts-citations.ensures.offset c.answer-result.ensures.refused)

@@ -1,5 +1,4 @@
-use Rattle.std.proofs.Common.{Some, ap, length, map, nat_eq, not, ◌∷◌, ◌++◌, [], ◌∙◌}
-use Rattle.std.proofs.Math.ListN.{set}
+use Rattle.std.proofs.Common.{ap, not, ◌∙◌}
 use Rattle.csl_entries.proofs.Numbers.{list-new, list-old, numbers-new}
 use Rattle.csl_entries.proofs.listing.Listing.list.Goals as goal
 

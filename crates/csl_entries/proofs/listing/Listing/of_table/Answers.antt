@@ -9,7 +9,6 @@ use Rattle.csl_entries.proofs.Numbers.{unnumbered}
 use Rattle.csl_entries.proofs.Orders.{listing-is}
 use Rattle.csl_entries.proofs.listing.Listing.of_table.Goals as goal
 
-
 pub list_order-requires : goal.list_order-requires
 list_order-requires g c = record {
   count = ap length c.in_ok-listing.ensures.numbers ∙ length-replicate c.len.result None ∙ c.len.ensures;
