@@ -64,47 +64,104 @@ pub mod of_driver {
     pub use csl_driver::brackets::Brackets;
     pub use csl_driver::counter::Renders;
     pub use csl_driver::driver::BibliographyDriver;
-    pub use csl_driver::elem::{BufWriteFormat, Elem, ElemChild, ElemChildren, ElemMeta};
-    pub use csl_driver::element::{
-        Affixes, ChooseBranch, ChooseMatch, Condition, CslMacro, InheritableNameOptions,
-        LayoutRenderingElement, NameAnd, NameForm, TestPosition, TextTarget,
-    };
-    pub use csl_driver::entry::{
-        Chunk, ChunkKind, ChunkedString, Date, EntryLike, Person, PlainEntry,
-    };
-    pub use csl_driver::error::{CitationRefused, DriverError, RingPlace};
-    pub use csl_driver::formatting::{
-        Display, FontStyle, FontWeight, Formatted, Formatting, StyleFormatting,
-    };
+    pub use csl_driver::elem::BufWriteFormat;
+    pub use csl_driver::elem::Elem;
+    pub use csl_driver::elem::ElemChild;
+    pub use csl_driver::elem::ElemChildren;
+    pub use csl_driver::elem::ElemMeta;
+    pub use csl_driver::element::Affixes;
+    pub use csl_driver::element::ChooseBranch;
+    pub use csl_driver::element::ChooseMatch;
+    pub use csl_driver::element::Condition;
+    pub use csl_driver::element::CslMacro;
+    pub use csl_driver::element::InheritableNameOptions;
+    pub use csl_driver::element::LayoutRenderingElement;
+    pub use csl_driver::element::NameAnd;
+    pub use csl_driver::element::NameForm;
+    pub use csl_driver::element::TestPosition;
+    pub use csl_driver::element::TextTarget;
+    pub use csl_driver::entry::Chunk;
+    pub use csl_driver::entry::ChunkKind;
+    pub use csl_driver::entry::ChunkedString;
+    pub use csl_driver::entry::Date;
+    pub use csl_driver::entry::EntryLike;
+    pub use csl_driver::entry::Person;
+    pub use csl_driver::entry::PlainEntry;
+    pub use csl_driver::error::CitationRefused;
+    pub use csl_driver::error::DriverError;
+    pub use csl_driver::error::RingPlace;
+    pub use csl_driver::formatting::Display;
+    pub use csl_driver::formatting::FontStyle;
+    pub use csl_driver::formatting::FontWeight;
+    pub use csl_driver::formatting::Formatted;
+    pub use csl_driver::formatting::Formatting;
+    pub use csl_driver::formatting::StyleFormatting;
     pub use csl_driver::item::CitationItem;
-    pub use csl_driver::laws::{bibliography_holds_each_once, numbers_have_no_gaps};
-    pub use csl_driver::locale::{Locale, LocaleCode, LocalizedTerm};
-    pub use csl_driver::locator::{LocatorPayload, SpecificLocator, TransparentLocator};
+    pub use csl_driver::laws::bibliography_holds_each_once;
+    pub use csl_driver::laws::numbers_have_no_gaps;
+    pub use csl_driver::locale::Locale;
+    pub use csl_driver::locale::LocaleCode;
+    pub use csl_driver::locale::LocalizedTerm;
+    pub use csl_driver::locator::LocatorPayload;
+    pub use csl_driver::locator::SpecificLocator;
+    pub use csl_driver::locator::TransparentLocator;
     pub use csl_driver::lookup::StyleContext;
-    pub use csl_driver::names::{
-        DisambiguatedNameForm, NameDisambiguationProperties, forms_are_in_order,
-    };
-    pub use csl_driver::properties::{
-        CertainCiteProperties, CiteProperties, SpeculativeCiteProperties,
-    };
+    pub use csl_driver::names::DisambiguatedNameForm;
+    pub use csl_driver::names::NameDisambiguationProperties;
+    pub use csl_driver::names::forms_are_in_order;
+    pub use csl_driver::passes::AmbiguousGroup;
+    pub use csl_driver::passes::Marks;
+    pub use csl_driver::passes::SpeculativeCiteRender;
+    pub use csl_driver::passes::SpeculativeItemRender;
+    pub use csl_driver::passes::collapse_items;
+    pub use csl_driver::passes::disambiguate_names;
+    pub use csl_driver::passes::disambiguate_with_choose;
+    pub use csl_driver::passes::disambiguate_year_suffix;
+    pub use csl_driver::passes::find_ambiguous_sets;
+    pub use csl_driver::passes::group_cites;
+    pub use csl_driver::passes::substitute_subsequent_authors;
+    pub use csl_driver::properties::CertainCiteProperties;
+    pub use csl_driver::properties::CiteProperties;
+    pub use csl_driver::properties::SpeculativeCiteProperties;
     pub use csl_driver::purpose::CitePurpose;
-    pub use csl_driver::rendered::{
-        BibliographyItem, Rendered, RenderedBibliography, RenderedCitation,
-    };
-    pub use csl_driver::request::{BibliographyRequest, CitationRequest, Order};
+    pub use csl_driver::rendered::BibliographyItem;
+    pub use csl_driver::rendered::Rendered;
+    pub use csl_driver::rendered::RenderedBibliography;
+    pub use csl_driver::rendered::RenderedCitation;
+    pub use csl_driver::request::BibliographyRequest;
+    pub use csl_driver::request::CitationRequest;
+    pub use csl_driver::request::Order;
     pub use csl_driver::seq::Seq;
     pub use csl_driver::stack::NonEmptyStack;
     pub use csl_driver::standalone::standalone_citation;
-    pub use csl_driver::state::{CollapseVerdict, DisambiguateState, IbidState, IdentifierUsage};
-    pub use csl_driver::style::{
-        Bibliography, Citation, CitationFormat, Collapse, DisambiguationRule, IndependentStyle,
-        Layout, SecondFieldAlign, StyleCategory, StyleClass, StyleInfo, StyleSettings,
-        SubsequentAuthorSubstituteRule,
-    };
-    pub use csl_driver::taxonomy::{
-        DateVariable, Locator, NameVariable, NumberVariable, OtherTerm, StandardVariable, Term,
-        TermForm, Variable,
-    };
-    pub use csl_driver::text::{Text, has_content};
-    pub use csl_driver::year::{letters_of_suffix, write_year};
+    pub use csl_driver::state::CollapseVerdict;
+    pub use csl_driver::state::DisambiguateState;
+    pub use csl_driver::state::IbidState;
+    pub use csl_driver::state::IdentifierUsage;
+    pub use csl_driver::style::Bibliography;
+    pub use csl_driver::style::Citation;
+    pub use csl_driver::style::CitationFormat;
+    pub use csl_driver::style::Collapse;
+    pub use csl_driver::style::DisambiguationRule;
+    pub use csl_driver::style::IndependentStyle;
+    pub use csl_driver::style::Layout;
+    pub use csl_driver::style::SecondFieldAlign;
+    pub use csl_driver::style::StyleCategory;
+    pub use csl_driver::style::StyleClass;
+    pub use csl_driver::style::StyleInfo;
+    pub use csl_driver::style::StyleSettings;
+    pub use csl_driver::style::SubsequentAuthorSubstituteRule;
+    pub use csl_driver::taxonomy::DateVariable;
+    pub use csl_driver::taxonomy::Locator;
+    pub use csl_driver::taxonomy::NameVariable;
+    pub use csl_driver::taxonomy::NumberVariable;
+    pub use csl_driver::taxonomy::OtherTerm;
+    pub use csl_driver::taxonomy::StandardVariable;
+    pub use csl_driver::taxonomy::Term;
+    pub use csl_driver::taxonomy::TermForm;
+    pub use csl_driver::taxonomy::Variable;
+    pub use csl_driver::text::Text;
+    pub use csl_driver::text::has_content;
+    pub use csl_driver::year::letters_of_suffix;
+    pub use csl_driver::year::write_year;
 }
