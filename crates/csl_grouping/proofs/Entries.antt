@@ -12,19 +12,8 @@ use Rattle.csl_passes.specs.Renders.{ItemRender}
 use Rattle.csl_grouping.specs.BlockKeys.{BlockKey, key_of, same_key}
 use Rattle.csl_grouping.specs.Steps.{blocks_of, entries_view, key_view, with_place}
 use Rattle.csl_grouping.specs.declared.blocks.Key.{Key}
-use Rattle.csl_grouping.specs.declared.blocks.Key.TheVariants as variant
-use Rattle.csl_grouping.specs.contracts.blocks.KeyPartialEq.TheImpl as key_eq
 use Rattle.csl_grouping.proofs.Classes.{added, classes, classes-push}
-use Rattle.csl_grouping.proofs.KeyLaws.{key_laws}
-
-abbrev pub same : Key → Key → Bool
-same = (key_eq.ghosts).eq
-
-same-view : (a b : Key) → same a b ≡ same_key (key_view a) (key_view b)
-same-view (variant.Named a) (variant.Named b) = refl
-same-view (variant.Named a) (variant.Alone k) = refl
-same-view (variant.Alone j) (variant.Named b) = refl
-same-view (variant.Alone j) (variant.Alone k) = refl
+use Rattle.csl_grouping.specs.KeyLaws.{key_laws, same}
 
 module _ {A : Type 0} (key : Key) (k : ℕ) where
   -- a place is pushed in the block at i, which is that of the key
@@ -38,7 +27,7 @@ module _ {A : Type 0} (key : Key) (k : ℕ) where
 
       by : (b : Bool) → same key x.0 ≡ b → zero ≡ cond (not b) (1 + position_or_len (same key) (keys_of es)) 0
           → ((key_view x.0, w.items) ∷ entries_view es) ≡ with_place (entries_view (x ∷ es)) (key_view key) k
-      by true q p = rw (sym (same-view key x.0) ∙ q) (ap (λ ps. (key_view x.0, ps) ∷ entries_view es) (e ∙ ap (λ u. u.items ++ k ∷ []) (sym (held x.1 v at))))
+      by true q p = rw (q) (ap (λ ps. (key_view x.0, ps) ∷ entries_view es) (e ∙ ap (λ u. u.items ++ k ∷ []) (sym (held x.1 v at))))
       by false q p = absurd (omega arith)
   pushed (x ∷ es) (suc i) v w p at e = by (same key x.0) refl p (pushed es i v w)
     where
@@ -46,7 +35,7 @@ module _ {A : Type 0} (key : Key) (k : ℕ) where
           → (i ≡ position_or_len (same key) (keys_of es) → slice_get (map (λ e. e.1) es) i ≡ Some v → w.items ≡ v.items ++ k ∷ [] → entries_view (set_value_at es i w) ≡ with_place (entries_view es) (key_view key) k)
           → ((key_view x.0, x.1.items) ∷ entries_view (set_value_at es i w)) ≡ with_place (entries_view (x ∷ es)) (key_view key) k
       by true q p r = absurd (omega arith)
-      by false q p r = rw (sym (same-view key x.0) ∙ q) (ap (λ bs. (key_view x.0, x.1.items) ∷ bs) (r (omega arith) at e))
+      by false q p r = rw (q) (ap (λ bs. (key_view x.0, x.1.items) ∷ bs) (r (omega arith) at e))
 
   -- a new block comes last
   pub inserted : (es : List (Key × Vec ℕ A)) (v : Vec ℕ A) → length (keys_of es) ≤ position_or_len (same key) (keys_of es) → v.items ≡ k ∷ []
@@ -58,7 +47,7 @@ module _ {A : Type 0} (key : Key) (k : ℕ) where
           → (length (keys_of es) ≤ position_or_len (same key) (keys_of es) → v.items ≡ k ∷ [] → entries_view (insert_entry same es key v) ≡ with_place (entries_view es) (key_view key) k)
           → entries_view (cond b ((x.0, v) ∷ es) (x ∷ insert_entry same es key v)) ≡ with_place (entries_view (x ∷ es)) (key_view key) k
       by true q h r = absurd (omega arith)
-      by false q h r = rw (sym (same-view key x.0) ∙ q) (ap (λ bs. (key_view x.0, x.1.items) ∷ bs) (r (omega arith) e))
+      by false q h r = rw (q) (ap (λ bs. (key_view x.0, x.1.items) ∷ bs) (r (omega arith) e))
 
 pub found-at : (n len i : ℕ) → Some i ≡ cond (nat_lt n len) (Some n) None → i ≡ n
 found-at n len i h = by (nat_lt n len) h

@@ -1,7 +1,6 @@
 pub mod Classes
 pub mod DistinctKeys
 pub mod Entries
-pub mod KeyLaws
 pub mod Marks
 pub mod Placing
 pub mod Swaps

@@ -15,7 +15,7 @@ use Rattle.csl_grouping.specs.Steps.{all_marked, blocks_of, marked, placed_block
 use Rattle.csl_grouping.specs.declared.blocks.Placed.{Placed}
 use Rattle.csl_grouping.proofs.Classes.{classes-permuted, numbers}
 use Rattle.csl_grouping.proofs.DistinctKeys.{NoTwoEqual, NoTwoEqual-distinct, kept_out}
-use Rattle.csl_grouping.proofs.KeyLaws.{key_laws}
+use Rattle.csl_grouping.specs.KeyLaws.{key_laws}
 
 -- of each member
 abbrev pub Every : {X : Type 0} → (X → Type 0) → List X → Type 0

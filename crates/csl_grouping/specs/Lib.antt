@@ -2,3 +2,4 @@ pub mod BlockKeys
 pub mod Blocks
 pub mod Steps
 pub mod Moves
+pub mod KeyLaws

@@ -8,14 +8,53 @@ use csl_base::elem::Elem;
 use csl_passes::renders::SpeculativeItemRender;
 use indexmap::IndexMap;
 use std::alloc::{AllocError, Global};
+use std::hash::{Hash, Hasher};
 
 /// What the cites of a block have in common.
-#[derive(PartialEq, Eq, Hash, Drop)]
+#[derive(Drop)]
 pub(crate) enum Key<'r> {
     /// The first names element.
     Named(&'r Elem),
     /// The place of a cite without names.
     Alone(usize),
+}
+
+impl PartialEq for Key<'_> {
+    ghost use Rattle.std.specs.Cmp.{partial_equiv_from_equiv};
+    ghost use Rattle.csl_grouping.specs.KeyLaws.{same, same_laws};
+
+    ghost eq = { same };
+
+    ghost laws = { partial_equiv_from_equiv same_laws };
+
+    fn eq(&self, other: &Self) -> bool {
+        match (self, other) {
+            (Key::Named(names), Key::Named(others)) => *names == *others,
+            (Key::Alone(place), Key::Alone(other)) => *place == *other,
+            _ => false,
+        }
+    }
+}
+
+impl Eq for Key<'_> {
+    ghost use Rattle.csl_grouping.specs.KeyLaws.{same_laws};
+
+    ghost laws = { same_laws };
+}
+
+impl Hash for Key<'_> {
+    ghost use Rattle.csl_grouping.specs.KeyLaws.{fed_alike, key_fed};
+
+    ghost hash_input = { λ key. key_fed (key_view key) };
+
+    ghost respects_eq = { fed_alike };
+
+    fn hash<H: Hasher>(&self, state: &mut H) {
+        match self {
+            Key::Named(names) => names.hash(state),
+            Key::Alone(place) => place.hash(state),
+        }
+    }
 }
 
 /// Where a cite goes.

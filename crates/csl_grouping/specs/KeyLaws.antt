@@ -1,7 +1,11 @@
--- Equality of the keys of blocks.
+-- For the code: equality and hash of the keys of blocks are lawful.
 use Rattle.std.proofs.Common.{◌≡◌, Bool, true, false, refl, ap, sym, subst, true≢false}
 use Rattle.std.specs.Cmp.{IsEquivalence, unsigned_Decides}
 use Rattle.csl_base.specs.EqualTrees.{elem_Decides}
+use Rattle.std.specs.Hash as fed
+use Rattle.csl_base.specs.contracts.elem.ElemHash.TheImpl as elem_hash
+use Rattle.csl_grouping.specs.Steps.{key_view}
+use Rattle.csl_grouping.specs.declared.blocks.Key.{Key}
 use Rattle.csl_grouping.specs.BlockKeys.{BlockKey, named, alone, same_key}
 
 equal : (a b : BlockKey) → same_key a b ≡ true → a ≡ b
@@ -27,3 +31,22 @@ key_laws = record {
   symm = λ a b. same_test (same_key a b) (same_key b a) (flip a b) (flip b a);
   congr = λ a b c e. ap (λ x. same_key x c) (equal a b e);
 }
+
+-- those of the code
+abbrev pub same : Key → Key → Bool
+same a b = same_key (key_view a) (key_view b)
+
+pub same_laws : IsEquivalence same
+same_laws = record {
+  refl = λ a. key_laws.refl (key_view a);
+  symm = λ a b. key_laws.symm (key_view a) (key_view b);
+  congr = λ a b c. key_laws.congr (key_view a) (key_view b) (key_view c);
+}
+
+-- what the hash of a key feeds
+abbrev pub key_fed : BlockKey → fed.HashWrites
+key_fed (named names) = (elem_hash.ghosts).hash_input names
+key_fed (alone k) = fed.usize k
+
+pub fed_alike : (a b : Key) → same a b ≡ true → key_fed (key_view a) ≡ key_fed (key_view b)
+fed_alike a b e = ap key_fed (equal (key_view a) (key_view b) e)
