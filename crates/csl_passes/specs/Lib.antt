@@ -3,3 +3,4 @@ pub mod Request
 pub mod RequestView
 pub mod Renders
 pub mod RendersView
+pub mod Positions

@@ -3,5 +3,6 @@
 
 pub mod item;
 pub mod places;
+pub mod positions;
 pub mod renders;
 pub mod request;

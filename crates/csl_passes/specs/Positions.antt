@@ -1,0 +1,34 @@
+-- The position of a cite against the one before it.
+use Rattle.std.specs.Prelude.{Bool, true, false, not, ◌&&◌, Option, Some, None, if◌then◌else◌, nat_eq, is_some}
+use Rattle.std.specs.Cmp.Lexicographic.{pointwise}
+use Rattle.csl_base.specs.contracts.taxonomy.LocatorPartialEq.TheImpl as locator_eq
+use Rattle.csl_lookup.specs.Properties.{LocatorValue, Payload, own_payload, text_payload}
+use Rattle.csl_lookup.specs.declared.state.IbidState.{IbidState}
+use Rattle.csl_passes.specs.Request.{Cite}
+
+module _ {P : Type 0} (eq : P → P → Bool) where
+  -- the same text, or equal payloads
+  abbrev pub same_payload : Payload P → Payload P → Bool
+  same_payload (text_payload a) (text_payload b) = pointwise nat_eq a b
+  same_payload (own_payload a) (own_payload b) = eq a b
+  same_payload _ _ = false
+
+  -- the same locator: of one kind and with one payload; or none on both sides
+  abbrev pub same_locators : Option (LocatorValue P) → Option (LocatorValue P) → Bool
+  same_locators None None = true
+  same_locators (Some a) (Some b) = (locator_eq.ghosts).eq a.kind b.kind && same_payload a.payload b.payload
+  same_locators _ _ = false
+
+module _ {E P : Type 0} (entry_eq : E → E → Bool) (payload_eq : P → P → Bool) where
+  -- a cite repeats the last one before it where that is shown and has an equal entry
+  abbrev pub repeats : Cite E P → Cite E P → Bool
+  repeats this last = not last.hidden && entry_eq this.entry last.entry
+
+  -- the position of a cite that repeats the last one, or doesn't
+  abbrev pub with_last : Cite E P → Option (Cite E P) → IbidState
+  with_last this None = IbidState.Different
+  with_last this (Some last) =
+      if not (repeats this last) then IbidState.Different
+      else if same_locators payload_eq this.locator last.locator then IbidState.Ibid
+      else if is_some this.locator then IbidState.IbidWithLocator
+      else IbidState.Different
