@@ -10,12 +10,13 @@ use Rattle.std.proofs.lemmas.Option.{slice_get-get_or, slice_get-map}
 use Rattle.std.proofs.lemmas.Result.{IfOk-weaker}
 use Rattle.std.proofs.lemmas.Slice.Zip.{get_or-zip, length-zip}
 use Rattle.csl_lookup.specs.declared.state.DisambiguateState.{DisambiguateState}
-use Rattle.csl_passes.specs.Renders.{CiteRender, Place}
+use Rattle.csl_passes.specs.Renders.{CiteRender, ItemRender, Place}
 use Rattle.csl_passes.specs.RendersView.{item_view, items_view, render_view, renders_view}
+use Rattle.csl_passes.specs.Request.{Request}
 use Rattle.csl_passes.specs.RequestView.{request_view}
 use Rattle.csl_passes.specs.declared.renders.SpeculativeCiteRender.{SpeculativeCiteRender}
 use Rattle.csl_passes.specs.declared.renders.SpeculativeItemRender.{SpeculativeItemRender}
-use Rattle.csl_name_marks.specs.Members.{first_adds_names, greatest_step, member, member_at, members}
+use Rattle.csl_name_marks.specs.Members.{cite_at, first_adds_names, greatest_step, member, member_at, members}
 use Rattle.csl_name_marks.specs.NameMarks.{mark, marks_after, name_marks}
 use Rattle.csl_name_marks.specs.Steps.{is_at, step, steps}
 use Rattle.csl_name_marks.specs.declared.member.Member.{Member}
@@ -84,17 +85,19 @@ seen-at v xs i x h e = slice_get-map v xs i ∙ ap (option_map v) (slice_get-get
 
 module _ {T P : Type 0} (renders : List (SpeculativeCiteRender T P)) (place : Place) (cite : SpeculativeCiteRender T P) (item : SpeculativeItemRender T P) where
   -- the member at a place, from the cite and the item there
-  pub member-found : (m : Member) → IsSome (member_at (renders_view renders) place) → cite ≡ get_or renders place.0 cite
+  pub member-found : (m : Member) → IsSome (cite_at (renders_view renders) place) → cite ≡ get_or renders place.0 cite
       → item ≡ get_or cite.items.items place.1 item → m ≡ member place (request_view cite.request.now) (item_view item)
       → member_at (renders_view renders) place ≡ Some m
   member-found m some c i e =
       let request = request_view cite.request.now in
       let within : place.0 < length renders = inside-then render_view renders place.0 _ some in
       let here : slice_get (renders_view renders) place.0 ≡ Some (render_view cite) = seen-at render_view renders place.0 cite within c in
-      let there : member_at (renders_view renders) place ≡ option_map (member place request) (slice_get (items_view cite.items.items) place.1) =
-      ap (option_and_then (λ (r : CiteRender T P). option_map (member place r.request) (slice_get r.items place.1))) here in
-      let among : place.1 < length cite.items.items = inside-map item_view cite.items.items place.1 (member place request) (subst IsSome there some) in
-      there ∙ ap (option_map (member place request)) (seen-at item_view cite.items.items place.1 item among i) ∙ ap Some (sym e)
+      let there : cite_at (renders_view renders) place ≡ option_map (λ (it : ItemRender T P). (request, it)) (slice_get (items_view cite.items.items) place.1) =
+      ap (option_and_then (λ (r : CiteRender T P). option_map (λ (it : ItemRender T P). (r.request, it)) (slice_get r.items place.1))) here in
+      let among : place.1 < length cite.items.items = inside-map item_view cite.items.items place.1 (λ (it : ItemRender T P). (request, it)) (subst IsSome there some) in
+      ap (option_map (λ (x : Request T P × ItemRender T P). member place x.0 x.1))
+      (there ∙ ap (option_map (λ (it : ItemRender T P). (request, it))) (seen-at item_view cite.items.items place.1 item among i))
+      ∙ ap Some (sym e)
 
 filter-same : {X : Type 0} (p q : X → Bool) (xs : List X) → ((x : X) → p x ≡ q x) → filter p xs ≡ filter q xs
 filter-same p q [] h = refl

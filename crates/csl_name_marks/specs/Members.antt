@@ -33,17 +33,20 @@ module _ {E P : Type 0} where
     start = start item.properties.speculative.disambiguation item.first_name;
   }
 
-  -- the cite at a place, if there is one
+  -- the cite at a place, with its request, if there is one
+  abbrev pub cite_at : List (CiteRender E P) → Place → Option (Request E P × ItemRender E P)
+  cite_at renders place =
+      option_and_then (λ cite. option_map (λ item. (cite.request, item)) (slice_get cite.items place.1)) (slice_get renders place.0)
+
   abbrev pub member_at : List (CiteRender E P) → Place → Option Member
-  member_at renders place =
-      option_and_then (λ cite. option_map (member place cite.request) (slice_get cite.items place.1)) (slice_get renders place.0)
+  member_at renders place = option_map (λ cite. member place cite.0 cite.1) (cite_at renders place)
 
   abbrev pub members : List (CiteRender E P) → List Place → List Member
   members renders group = filter_map (member_at renders) group
 
   -- each place of the group is that of a cite
   abbrev pub ArePlaces : List (CiteRender E P) → List Place → Type 0
-  ArePlaces renders group = All (λ place. IsSome (member_at renders place)) group
+  ArePlaces renders group = All (λ place. IsSome (cite_at renders place)) group
 
   -- the style of the document's first request adds names
   abbrev pub first_adds_names : List (CiteRender E P) → Bool
