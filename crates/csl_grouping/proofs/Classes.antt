@@ -91,7 +91,7 @@ module _ {K : Type 0} (eq : K → K → Bool) where
           by true e h k = cc
           by false e h k = λ i. (d, members-miss d (laws.symm d (key x) ∙ e) i) ∷ k h i
 
-    no-members : (d : K) (xs : List X) → is_in eq d (map key xs) ≡ false → members xs d ≡ []
+    pub no-members : (d : K) (xs : List X) → is_in eq d (map key xs) ≡ false → members xs d ≡ []
     no-members d [] h = refl
     no-members d (x ∷ xs) h = by (eq d (key x)) h (no-members d xs)
       where

@@ -23,7 +23,7 @@ Every P [] = Unit {0}
 Every P (x ∷ xs) = P x × Every P xs
 
 module _ {X : Type 0} (P : X → Type 0) where
-  every-filter : (p : X → Bool) (xs : List X) → Every P xs → Every P (filter p xs)
+  pub every-filter : (p : X → Bool) (xs : List X) → Every P xs → Every P (filter p xs)
   every-filter p [] h = tt
   every-filter p (x ∷ xs) h = by (p x) (every-filter p xs h.1)
     where
@@ -35,7 +35,7 @@ module _ {X : Type 0} (P : X → Type 0) where
   every-append [] ys h k = k
   every-append (x ∷ xs) ys h k = (h.0, every-append xs ys h.1 k)
 
-  every-flat : {Y : Type 0} (f : Y → List X) → ((y : Y) → Every P (f y)) → (ys : List Y) → Every P (flat_map f ys)
+  pub every-flat : {Y : Type 0} (f : Y → List X) → ((y : Y) → Every P (f y)) → (ys : List Y) → Every P (flat_map f ys)
   every-flat f h [] = tt
   every-flat f h (y ∷ ys) = every-append (f y) (flat_map f ys) (h y) (every-flat f h ys)
 

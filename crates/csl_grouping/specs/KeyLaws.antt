@@ -8,7 +8,7 @@ use Rattle.csl_grouping.specs.Steps.{key_view}
 use Rattle.csl_grouping.specs.declared.blocks.Key.{Key}
 use Rattle.csl_grouping.specs.BlockKeys.{BlockKey, named, alone, same_key}
 
-equal : (a b : BlockKey) → same_key a b ≡ true → a ≡ b
+pub equal : (a b : BlockKey) → same_key a b ≡ true → a ≡ b
 equal (named a) (named b) e = ap named ((elem_Decides a b).0 e)
 equal (alone j) (alone k) e = ap alone ((unsigned_Decides j k).0 e)
 equal _ _ e = absurd (true≢false (sym e))

@@ -3,3 +3,4 @@ pub mod Blocks
 pub mod Steps
 pub mod Moves
 pub mod KeyLaws
+pub mod Laws

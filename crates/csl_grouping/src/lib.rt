@@ -3,4 +3,7 @@
 
 mod blocks;
 pub mod grouping;
+pub mod laws;
 mod moving;
+#[cfg(test)]
+mod tests;
