@@ -8,7 +8,7 @@ use Rattle.std.proofs.lemmas.List.Elements.{filter_agree}
 use Rattle.csl_base.specs.EqualTrees.{same_elem}
 use Rattle.csl_base.specs.Tree.{find_elem, has_names}
 use Rattle.csl_base.specs.declared.elem.Elem.{Elem}
-use Rattle.csl_passes.specs.Entries.{is_in}
+use Rattle.csl_entries.specs.Entries.{is_in}
 use Rattle.csl_passes.specs.Renders.{ItemRender}
 use Rattle.csl_grouping.specs.BlockKeys.{BlockKey, named, alone, key_of, same_key}
 use Rattle.csl_grouping.specs.Blocks.{block, block_index, block_keys, final_order, grouped_cites, in_block, with_group}
