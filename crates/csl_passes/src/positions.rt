@@ -19,7 +19,7 @@ fn same_payload<P: PartialEq>(a: &LocatorPayload<'_, P>, b: &LocatorPayload<'_, 
 }
 
 /// Whether both are the same locator, or both are none.
-fn same_locators<P: PartialEq>(
+pub fn same_locators<P: PartialEq>(
     a: &Option<SpecificLocator<'_, P>>,
     b: &Option<SpecificLocator<'_, P>>,
 ) -> bool
