@@ -1,0 +1,1 @@
+//! The properties of cites in their final order.

@@ -1,0 +1,1 @@
+//! The properties of cites before anything is rendered.

@@ -1,0 +1,1 @@
+//! The first renders of cites.

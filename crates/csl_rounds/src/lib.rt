@@ -1,0 +1,5 @@
+//! The first renders of cites, and the rounds in which cites that read alike are told apart.
+#![tactic(auto)]
+
+pub mod first_renders;
+pub mod rounds;

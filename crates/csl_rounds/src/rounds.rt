@@ -1,0 +1,1 @@
+//! The rounds in which cites that read alike are told apart.
