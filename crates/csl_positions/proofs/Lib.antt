@@ -1,0 +1,11 @@
+pub mod Earlier
+pub mod LastPlaces
+pub mod Updates
+pub mod Known
+pub mod Tables
+pub mod Steps
+pub mod Halves
+pub mod FinalItems
+pub mod FinalRenders
+pub mod FinalPlaces
+pub mod FinalFirsts

@@ -1,5 +1,9 @@
 //! The first renders of cites, and the rounds in which cites that read alike are told apart.
 #![tactic(auto)]
 
+pub mod contexts;
 pub mod first_renders;
+mod marks;
+mod rerender;
 pub mod rounds;
+mod states;

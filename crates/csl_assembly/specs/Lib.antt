@@ -1,0 +1,6 @@
+pub mod Assembly
+pub mod LastTree
+pub mod CitationTree
+pub mod ShownView
+pub mod ChildOf
+pub mod BibliographyItems
