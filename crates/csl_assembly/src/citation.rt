@@ -85,7 +85,7 @@ fn shown_cites<'a, T: EntryLike, P: Drop>(
     requires no_ring { HasNoRing (render_view render.now).request.style.macros }
     ensures { IfOk result (λ cites. shown_views cites.items
         ≡ map (shown_cite T.answers (source_of (render_view render.now).request) (render_view render.now).request.style.citation.layout)
-            (shown (render_view render.now).items)) }
+        (shown (render_view render.now).items)) }
 {
     let context = request_context(render.request);
     let locale = render.request.locale.as_ref();
