@@ -1,12 +1,15 @@
 //! The cited entries, their order and their numbers.
-ghost use Rattle.std.specs.Prelude.{◌≡◌};
-ghost use Rattle.csl_driver.specs.Cited.{NumbersFit, number_at};
+ghost use Rattle.std.specs.Prelude.{◌≡◌, ◌<◌, ◌^◌, IfOk, length, ℕ};
+ghost use Rattle.csl_entries.specs.ListingView.{listing_view};
+ghost use Rattle.csl_entries.specs.TableView.{table_view};
+ghost use Rattle.csl_driver.specs.Cited.{number_at, numbers_at};
 
 use csl_base::entry::EntryLike;
 use csl_entries::listing::Listing;
 use csl_entries::table::EntryTable;
+use std::alloc::{AllocError, Global};
 
-/// The entries that are cited, and the order and the numbers that they have.
+/// The entries that are cited, in the order of their first cites and in that of the bibliography.
 #[derive(Drop)]
 pub(crate) struct Cited<'a, T: EntryLike> {
     pub(crate) table: EntryTable<'a, T>,
@@ -15,12 +18,19 @@ pub(crate) struct Cited<'a, T: EntryLike> {
     pub(crate) offset: usize,
 }
 
-impl<'a, T: EntryLike> Cited<'a, T> {
-    /// The number of the entry at a place of the table.
-    pub(crate) fn number_of(&self, place: usize) -> usize
-        requires fits { NumbersFit self.now }
-        ensures { result ≡ number_at self.now place }
-    {
-        self.offset + self.listing.number_of(place)
+/// The numbers of so many entries, by their places, where those of the listing begin at the offset.
+pub(crate) fn numbers_by(
+    alloc: Global,
+    listing: &Listing,
+    offset: usize,
+    count: usize,
+) -> Result<Vec<usize>, AllocError>
+    requires fits { (p : ℕ) → number_at (listing_view listing.now) offset p < 2 ^ 64 }
+    ensures { IfOk result (λ v. v.items ≡ numbers_at (listing_view listing.now) offset count) }
+{
+    let mut numbers = Vec::with_capacity(alloc, count)?;
+    for place in 0..count {
+        numbers.push(offset + listing.number_of(place))?;
     }
+    Ok(numbers)
 }

@@ -1,32 +1,43 @@
 //! The whole answer, from all requests at once.
-ghost use Rattle.std.specs.Prelude.{◌≡◌, ◌+◌, ◌<◌, ◌^◌, length, OnOk, IfOk, IfErr};
+ghost use Rattle.std.specs.Prelude.{◌≡◌, ◌+◌, ◌<◌, ◌≤◌, ◌^◌, All, length, map, OnOk, IfOk, IfErr};
+ghost use Rattle.csl_assembly.specs.CitationTree.{citation_tree};
+ghost use Rattle.csl_base.specs.Ring.{HasNoRing};
 ghost use Rattle.csl_base.specs.StyleView.{style_view};
-ghost use Rattle.csl_driver.specs.Answer.{rendered};
+ghost use Rattle.csl_driver.specs.Answer.{drawn_together, in_final_order, in_the_end, rendered, rendered_citation, told_apart};
 ghost use Rattle.csl_driver.specs.DriverView.{driver_view};
+ghost use Rattle.csl_driver.specs.Rings.{NoRingAtAll, NoRingIn, Refuses};
 ghost use Rattle.csl_entries.specs.Entries.{bibliography_order, distinct, used_order};
 ghost use Rattle.csl_entries.specs.Listed.{IsListingOf};
 ghost use Rattle.csl_entries.specs.ListingView.{listing_view};
 ghost use Rattle.csl_entries.specs.Table.{table_of};
 ghost use Rattle.csl_entries.specs.TableView.{table_view};
+ghost use Rattle.csl_grouping.specs.Blocks.{grouped};
+ghost use Rattle.csl_passes.specs.RendersView.{render_view, renders_view};
 ghost use Rattle.csl_passes.specs.Request.{cited};
+ghost use Rattle.csl_positions.specs.FirstProperties.{numbered_by};
 ghost use Rattle.csl_passes.specs.RequestView.{order_view, requests_view, wanted_view};
-ghost use Rattle.csl_driver.specs.Rings.{NoRingAtAll, Refuses};
 
 use crate::bibliography::wanted_bibliography;
-use crate::citation::rendered_citations;
-use crate::cited::Cited;
+use crate::cited::{Cited, numbers_by};
 use crate::driver::{BibliographyDriver, discard};
 use crate::error::DriverError;
-use crate::rendered::Rendered;
 use crate::rings::refuse_rings;
+use csl_assembly::citation::{citation_tree, has_no_purpose};
+use csl_assembly::rendered::{Rendered, RenderedCitation};
 use csl_base::entry::EntryLike;
 use csl_base::seq::Seq;
+use csl_collapse::collapse::collapse_items;
 use csl_entries::listing::Listing;
 use csl_entries::table::EntryTable;
+use csl_grouping::grouping::group_cites;
+use csl_passes::renders::SpeculativeCiteRender;
 use csl_passes::request::{BibliographyRequest, CitationRequest, Order};
+use csl_positions::final_order::{final_listing, set_final_properties};
+use csl_positions::first::first_properties;
+use csl_rounds::first_renders::first_renders;
+use csl_rounds::rounds::disambiguate;
 use csl_writing::counter::Renders;
-use std::alloc::Global;
-
+use std::alloc::{AllocError, Global};
 /// The order that the bibliography goes by, if its style has one and an order was handed in.
 fn used_order<'o, 'a, T>(wanted: &BibliographyRequest<'o, 'a, T>) -> Option<Order<'o, 'a, T>>
     ensures { order_view result ≡ used_order (wanted_view wanted.now).style (wanted_view wanted.now).order }
@@ -64,14 +75,114 @@ fn cited_by<'a, T: EntryLike, P>(
     })
 }
 
+/// The cites of all requests, rendered by their first properties and then told apart.
+fn told_apart<'r, 'a, T: EntryLike, P: Eq + Drop>(
+    alloc: Global,
+    requests: &'r [CitationRequest<'a, T, P>],
+    table: &EntryTable<'a, T>,
+    numbers: &[usize],
+    renders: &mut Renders,
+) -> Result<Vec<SpeculativeCiteRender<'r, 'a, T, P>>, AllocError>
+    requires no_ring { NoRingIn (requests_view requests.now) }
+    requires table { table_view table.now ≡ table_of T.eq (requests_view requests.now) }
+    requires numbered { length (table_view table.now).entries ≤ length numbers.now }
+    ensures { IfOk result (λ v. renders_view v.items
+        ≡ told_apart T.eq P.eq T.answers (numbered_by T.eq numbers.now (table_view table.now).entries) (requests_view requests.now)) }
+{
+    let firsts = first_properties(alloc, requests, table, numbers)?;
+    let mut cites = first_renders(alloc, requests, &firsts, renders)?;
+    disambiguate(alloc, &mut cites, table, renders)?;
+    Ok(cites)
+}
+
+/// Brings the cites of each request into their blocks.
+fn group_all<T, P>(
+    alloc: Global,
+    cites: &mut [SpeculativeCiteRender<'_, '_, T, P>],
+) -> Result<(), AllocError>
+    ensures { OnOk result (renders_view cites.new ≡ map grouped (renders_view cites.old)) }
+{
+    for cite in cites.iter_mut() {
+        group_cites(alloc, cite)?;
+    }
+    Ok(())
+}
+
+/// The numbers of the entries in the end: those of the bibliography where an order is used, else those of the
+/// cites in their final order.
+fn final_numbers<'a, T: EntryLike, P>(
+    alloc: Global,
+    wanted: &BibliographyRequest<'_, 'a, T>,
+    cited: &Cited<'a, T>,
+    cites: &[SpeculativeCiteRender<'_, 'a, T, P>],
+) -> Result<Vec<usize>, AllocError>
+{
+    let count = cited.table.len();
+    match used_order(wanted) {
+        Some(_) => numbers_by(alloc, &cited.listing, cited.offset, count),
+        None => {
+            let listing = final_listing(alloc, cites, &cited.table)?;
+            numbers_by(alloc, &listing, cited.offset, count)
+        }
+    }
+}
+
+/// The cites of all requests in their final order, with their final positions and numbers.
+fn cites_in_the_end<'r, 'a, T: EntryLike, P: Eq + Drop>(
+    alloc: Global,
+    requests: &'r [CitationRequest<'a, T, P>],
+    wanted: &BibliographyRequest<'_, 'a, T>,
+    cited: &Cited<'a, T>,
+    renders: &mut Renders,
+) -> Result<Vec<SpeculativeCiteRender<'r, 'a, T, P>>, AllocError>
+{
+    let numbers = numbers_by(alloc, &cited.listing, cited.offset, cited.table.len())?;
+    let mut cites = told_apart(alloc, requests, &cited.table, &numbers, renders)?;
+    group_all(alloc, &mut cites)?;
+    let numbers = final_numbers(alloc, wanted, cited, &cites)?;
+    set_final_properties(&mut cites, &cited.table, &numbers);
+    Ok(cites)
+}
+
+/// Draws the cites of each request together, where none of them has a purpose.
+fn draw_together<T, P>(cites: &mut [SpeculativeCiteRender<'_, '_, T, P>])
+    ensures { renders_view cites.new ≡ map drawn_together (renders_view cites.old) }
+{
+    for cite in cites.iter_mut() {
+        if has_no_purpose(&cite.items) {
+            collapse_items(cite);
+        }
+    }
+}
+
+/// The citation of each request, from its cites as they stand in the end.
+fn rendered_citations<T: EntryLike, P: Drop>(
+    alloc: Global,
+    cites: &[SpeculativeCiteRender<'_, '_, T, P>],
+    renders: &mut Renders,
+) -> Result<Vec<RenderedCitation>, AllocError>
+    requires no_ring { All (λ c. HasNoRing c.request.style.macros) (renders_view cites.now) }
+    ensures { IfOk result (λ v. v.items
+        ≡ map (λ c. record { note_number = c.request.note_number; citation = citation_tree T.answers c }) (renders_view cites.now)) }
+{
+    let mut citations = Vec::with_capacity(alloc, cites.len())?;
+    for cite in cites {
+        citations.push(RenderedCitation {
+            note_number: cite.request.note_number(),
+            citation: citation_tree(alloc, cite, renders)?,
+        })?;
+    }
+    Ok(citations)
+}
+
 /// The answer to the requests.
-fn answer<'a, T: EntryLike, P: Drop>(
+fn answer<'a, T: EntryLike, P: Eq + Drop>(
     alloc: Global,
     requests: &[CitationRequest<'a, T, P>],
     wanted: &BibliographyRequest<'_, 'a, T>,
     offset: usize,
 ) -> Result<Rendered, DriverError>
-    ensures ok { IfOk result (λ r. r ≡ rendered T.eq T.answers (wanted_view wanted.now) (requests_view requests.now) offset) }
+    ensures ok { IfOk result (λ r. r ≡ rendered T.eq P.eq T.answers (wanted_view wanted.now) (requests_view requests.now) offset) }
     ensures ringless { OnOk result (NoRingAtAll (requests_view requests.now) (style_view wanted.now.style.now)) }
     ensures fits { OnOk result (offset + length (distinct T.eq (cited (requests_view requests.now))) < 2 ^ 64) }
     ensures refused { IfErr result (Refuses T.eq (requests_view requests.now) (style_view wanted.now.style.now) offset) }
@@ -79,14 +190,17 @@ fn answer<'a, T: EntryLike, P: Drop>(
     refuse_rings(alloc, requests, wanted.style)?;
     let cited = cited_by(alloc, requests, wanted, offset)?;
     let mut renders = Renders::new();
-    let citations = rendered_citations(alloc, requests, &cited, &mut renders)?;
+    let mut cites = cites_in_the_end(alloc, requests, wanted, &cited, &mut renders)?;
+    let bibliography = wanted_bibliography(alloc, wanted, &cited, &cites, &mut renders)?;
+    draw_together(&mut cites);
+    let citations = rendered_citations(alloc, &cites, &mut renders)?;
     Ok(Rendered {
         citations: Seq::new(citations),
-        bibliography: wanted_bibliography::<T, P>(alloc, wanted, &cited, &mut renders)?,
+        bibliography,
     })
 }
 
-impl<'a, T: EntryLike, P: Drop> BibliographyDriver<'a, T, P> {
+impl<'a, T: EntryLike, P: Eq + Drop> BibliographyDriver<'a, T, P> {
     /// Answers all requests: a citation for each, and the bibliography, where its style has one.
     ///
     /// Each shown cite is rendered once, for its purpose, by its locator and its number; a cite of the
@@ -100,7 +214,7 @@ impl<'a, T: EntryLike, P: Drop> BibliographyDriver<'a, T, P> {
     /// `usize::MAX`; `OutOfMemory` where memory runs out, at any point.
     pub fn finish(self, request: BibliographyRequest<'_, 'a, T>) -> Result<Rendered, DriverError>
         ensures ok { IfOk result
-            (λ r. r ≡ rendered T.eq T.answers (wanted_view request.entry) (driver_view self.entry).requests (driver_view self.entry).offset) }
+            (λ r. r ≡ rendered T.eq P.eq T.answers (wanted_view request.entry) (driver_view self.entry).requests (driver_view self.entry).offset) }
         ensures ringless { OnOk result (NoRingAtAll (driver_view self.entry).requests (style_view request.entry.style.now)) }
         ensures fits { OnOk result ((driver_view self.entry).offset + length (distinct T.eq (cited (driver_view self.entry).requests)) < 2 ^ 64) }
         ensures refused { IfErr result (Refuses T.eq (driver_view self.entry).requests (style_view request.entry.style.now) (driver_view self.entry).offset) }

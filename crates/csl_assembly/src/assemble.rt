@@ -3,12 +3,20 @@ ghost use Rattle.std.specs.Prelude.{◌≡◌, ◌++◌, Some, IfOk, OnOk, if◌
 ghost use Rattle.csl_base.specs.ElementView.{text_view};
 ghost use Rattle.csl_base.specs.StyleView.{layout_view};
 ghost use Rattle.csl_base.specs.Tree.{last_text};
-ghost use Rattle.csl_driver.specs.Assembly.{assembled, enclosed, joined, layout_formatting, text_child, text_ends_with, with_suffix};
+ghost use Rattle.csl_assembly.specs.Assembly.{assembled, delimited, enclosed, joined, layout_formatting, text_child, text_ends_with, with_suffix};
+ghost use Rattle.csl_assembly.specs.ShownView.{shown_view, shown_views};
 
 use csl_base::elem::{ElemChild, ElemChildren};
 use csl_base::formatting::Formatting;
 use csl_base::style::Layout;
 use std::alloc::{AllocError, Global};
+
+/// The tree of a cite that is shown, and the delimiter that stands before it where it isn't the first.
+#[derive(Drop)]
+pub struct ShownCite<'a> {
+    pub delimiter: Option<&'a str>,
+    pub tree: ElemChildren,
+}
 
 /// The formatting that a layout's own texts have.
 fn layout_formatting(layout: &Layout) -> Formatting
@@ -58,37 +66,35 @@ fn push_children(tree: &mut ElemChildren, children: ElemChildren) -> Result<(), 
     Ok(())
 }
 
-/// Adds a cite, behind the delimiter unless it is the first.
+/// Adds a cite, behind its delimiter unless it is the first.
 fn push_cite(
     alloc: Global,
     tree: &mut ElemChildren,
-    cite: ElemChildren,
+    cite: ShownCite<'_>,
     is_first: bool,
-    delimiter: Option<&str>,
     formatting: Formatting,
 ) -> Result<(), AllocError>
     ensures { OnOk result (tree.new
-        ≡ tree.old ++ ((if is_first then [] else text_child formatting (option_map (λ t. t.now) delimiter.entry)) ++ cite)) }
+        ≡ tree.old ++ (if is_first then (shown_view cite.entry).tree else delimited formatting (shown_view cite.entry))) }
 {
     if !is_first {
-        push_optional_text(alloc, tree, delimiter, formatting)?;
+        push_optional_text(alloc, tree, cite.delimiter, formatting)?;
     }
-    push_children(tree, cite)
+    push_children(tree, cite.tree)
 }
 
-/// Adds the cites with the delimiter before each but the first.
+/// Adds the cites, each but the first behind its delimiter.
 fn push_cites(
     alloc: Global,
     tree: &mut ElemChildren,
-    cites: Vec<ElemChildren>,
-    delimiter: Option<&str>,
+    cites: Vec<ShownCite<'_>>,
     formatting: Formatting,
 ) -> Result<(), AllocError>
-    ensures { OnOk result (tree.new ≡ tree.old ++ joined (text_child formatting (option_map (λ t. t.now) delimiter.entry)) cites.items) }
+    ensures { OnOk result (tree.new ≡ tree.old ++ joined formatting (shown_views cites.items)) }
 {
     let mut is_first = true;
     for cite in cites {
-        push_cite(alloc, tree, cite, is_first, delimiter, formatting)?;
+        push_cite(alloc, tree, cite, is_first, formatting)?;
         is_first = false;
     }
     Ok(())
@@ -125,7 +131,7 @@ fn push_suffix(
 }
 
 /// A text that may be lacking, as a slice.
-pub(crate) fn optional_str(text: &Option<String>) -> Option<&str>
+pub fn optional_str(text: &Option<String>) -> Option<&str>
     ensures { option_map (λ t. t.now) result ≡ text_view text.now }
 {
     match text {
@@ -142,42 +148,45 @@ fn room_for(alloc: Global, cites: usize) -> Result<ElemChildren, AllocError>
     Ok(ElemChildren(Vec::with_capacity(alloc, children)?))
 }
 
-/// The cites joined by the delimiter, between the layout's prefix and suffix where it encloses them.
+/// The cites joined, between the layout's prefix and suffix where it encloses them.
 fn enclosed(
     alloc: Global,
     layout: &Layout,
-    delimiter: Option<&str>,
-    cites: Vec<ElemChildren>,
+    cites: Vec<ShownCite<'_>>,
     encloses: bool,
 ) -> Result<ElemChildren, AllocError>
-    ensures { IfOk result (λ tree. tree ≡ enclosed encloses (layout_view layout.now) (option_map (λ t. t.now) delimiter.entry) cites.items) }
+    ensures { IfOk result (λ tree. tree ≡ enclosed encloses (layout_view layout.now) (shown_views cites.items)) }
 {
     let formatting = layout_formatting(layout);
     let mut tree = room_for(alloc, cites.len())?;
     if !encloses {
-        push_cites(alloc, &mut tree, cites, delimiter, formatting)?;
+        push_cites(alloc, &mut tree, cites, formatting)?;
         return Ok(tree);
     }
     push_optional_text(alloc, &mut tree, optional_str(&layout.prefix), formatting)?;
-    push_cites(alloc, &mut tree, cites, delimiter, formatting)?;
+    push_cites(alloc, &mut tree, cites, formatting)?;
     push_suffix(alloc, &mut tree, &layout.suffix, formatting)?;
     Ok(tree)
 }
 
-/// The tree of a citation from those of its cites: empty where there is none.
-pub(crate) fn assembled(
+/// The tree of a citation from its shown cites: empty where there is none. Each cite but the first stands
+/// behind its delimiter, if it has one; the layout's prefix and suffix stand around them where it encloses
+/// them, the suffix unless the last text ends with it. Empty texts give no child.
+///
+/// # Errors
+/// Where memory is refused.
+pub fn assembled(
     alloc: Global,
     layout: &Layout,
-    delimiter: Option<&str>,
-    cites: Vec<ElemChildren>,
+    cites: Vec<ShownCite<'_>>,
     encloses: bool,
 ) -> Result<ElemChildren, AllocError>
-    ensures { IfOk result (λ tree. tree ≡ assembled encloses (layout_view layout.now) (option_map (λ t. t.now) delimiter.entry) cites.items) }
+    ensures { IfOk result (λ tree. tree ≡ assembled encloses (layout_view layout.now) (shown_views cites.items)) }
 {
     if cites.is_empty() {
         return Ok(ElemChildren::new(alloc));
     }
-    let mut tree = enclosed(alloc, layout, delimiter, cites, encloses)?;
+    let mut tree = enclosed(alloc, layout, cites, encloses)?;
     tree.simplify_children()?;
     Ok(tree)
 }

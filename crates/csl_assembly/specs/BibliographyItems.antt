@@ -1,0 +1,42 @@
+-- The items of a bibliography, from the first cites of its entries.
+use Rattle.std.specs.Prelude.{Bool, List, [], map, Option, None, if◌then◌else◌, is_some, unwrap_or}
+use Rattle.std.specs.List.{find, remove, position_or_len}
+use Rattle.csl_base.specs.Answers.{Answers}
+use Rattle.csl_base.specs.Child.{Child}
+use Rattle.csl_base.specs.Metas.{child_has_any_meta}
+use Rattle.csl_base.specs.Simplify.{simplified}
+use Rattle.csl_base.specs.Style.{BibliographyValue}
+use Rattle.csl_lookup.specs.Lookup.{Source}
+use Rattle.csl_lookup.specs.Properties.{Properties}
+use Rattle.csl_passes.specs.Renders.{ItemRender}
+use Rattle.csl_substitution.specs.Substitution.{Item, substituted}
+use Rattle.csl_writing.specs.CiteText.{bibliography_text}
+use Rattle.csl_assembly.specs.declared.rendered.BibliographyItem.{BibliographyItem}
+use Rattle.csl_assembly.specs.declared.rendered.RenderedBibliography.{RenderedBibliography}
+
+-- an item of the bibliography from its tree and its key: where second fields are aligned, its first field, which is the
+-- first child that stands for something, stands apart
+abbrev pub with_first_field : Bool → Item → BibliographyItem
+with_first_field aligned (tree, key) =
+    if aligned then record { key = key; first_field = find child_has_any_meta tree; content = remove tree (position_or_len child_has_any_meta tree) }
+    else record { key = key; first_field = None; content = tree }
+
+module _ {E P : Type 0} (answers : E → Answers) (source : Source) where
+  -- what holds of a cite, without its locator
+  abbrev pub unlocated : ItemRender E P → Properties P
+  unlocated i = record i.properties { speculative = record i.properties.speculative { locator = None } }
+
+  -- the entry of a cite as the bibliography writes it by what holds of the cite, and its key
+  abbrev pub written_item : ItemRender E P → Item
+  written_item i = (simplified (unwrap_or (bibliography_text source (answers i.entry) (unlocated i)) []), (answers i.entry).key)
+
+  -- the bibliography, where these are the first cites of its entries, in its order
+  abbrev pub bibliography_of : BibliographyValue → List (ItemRender E P) → RenderedBibliography
+  bibliography_of bibliography firsts = record {
+    hanging_indent = bibliography.hanging_indent;
+    second_field_align = bibliography.second_field_align;
+    line_spacing = bibliography.line_spacing;
+    entry_spacing = bibliography.entry_spacing;
+    items = map (with_first_field (is_some bibliography.second_field_align))
+        (substituted bibliography.subsequent_author_substitute bibliography.subsequent_author_substitute_rule (map written_item firsts));
+  }

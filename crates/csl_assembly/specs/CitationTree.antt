@@ -1,0 +1,40 @@
+-- The citation of a request, from its cites as they stand in the end.
+use Rattle.std.specs.Prelude.{ℕ, Bool, not, List, [], ◌∷◌, map, filter, Option, Some, None, is_none}
+use Rattle.std.specs.List.{list_all}
+use Rattle.std.specs.Option.{option_or}
+use Rattle.csl_base.specs.Answers.{Answers}
+use Rattle.csl_base.specs.Child.{Child, elem, kids_of}
+use Rattle.csl_base.specs.Style.{LayoutValue}
+use Rattle.csl_base.specs.declared.elem.ElemMeta.TheVariants.{Entry}
+use Rattle.csl_lookup.specs.Lookup.{Source}
+use Rattle.csl_passes.specs.Renders.{ItemRender, CiteRender}
+use Rattle.csl_passes.specs.Request.{source_of}
+use Rattle.csl_assembly.specs.Assembly.{Shown, assembled}
+use Rattle.csl_assembly.specs.LastTree.{last_tree}
+
+module _ {E P : Type 0} where
+  abbrev pub shown : List (ItemRender E P) → List (ItemRender E P)
+  shown = filter (λ i. not i.hidden)
+
+  -- no cite is written for a purpose of its own
+  abbrev pub has_no_purpose : List (ItemRender E P) → Bool
+  has_no_purpose = list_all (λ i. is_none i.purpose)
+
+  -- what stands before a cite that isn't the first that shows: its override, else the layout's delimiter
+  abbrev pub delimiter_before : LayoutValue → ItemRender E P → Option (List ℕ)
+  delimiter_before layout i = option_or i.delimiter_override layout.delimiter
+
+  -- a tree as one element, marked with the cite's place in its request
+  abbrev pub marked : ItemRender E P → List Child → List Child
+  marked i tree = elem (kids_of tree) None (Some (Entry i.properties.certain.initial_idx)) ∷ []
+
+  module _ (answers : E → Answers) where
+    -- a cite as it is put into its citation
+    abbrev pub shown_cite : Source → LayoutValue → ItemRender E P → Shown
+    shown_cite source layout i = record { delimiter = delimiter_before layout i; tree = marked i (last_tree answers source i) }
+
+    -- the citation; the layout encloses it where no cite has a purpose
+    abbrev pub citation_tree : CiteRender E P → List Child
+    citation_tree c =
+        let layout = c.request.style.citation.layout in
+        assembled (has_no_purpose c.items) layout (map (shown_cite (source_of c.request) layout) (shown c.items))

@@ -1,0 +1,5 @@
+pub mod Assembly
+pub mod LastTree
+pub mod CitationTree
+pub mod ShownView
+pub mod BibliographyItems

@@ -1,0 +1,153 @@
+//! The bibliography of an answer.
+ghost use Rattle.std.specs.Prelude.{◌≡◌, IfOk, OnOk, map, is_some, option_map};
+ghost use Rattle.csl_base.specs.Ring.{HasNoRing};
+ghost use Rattle.csl_base.specs.StyleView.{bibliography_view, style_view};
+ghost use Rattle.csl_lookup.specs.PropertiesView.{properties_view};
+ghost use Rattle.csl_passes.specs.RendersView.{item_view};
+ghost use Rattle.csl_passes.specs.Request.{wanted_source};
+ghost use Rattle.csl_passes.specs.RequestView.{wanted_view};
+ghost use Rattle.csl_substitution.specs.ItemView.{items_view};
+ghost use Rattle.csl_substitution.specs.Substitution.{substituted};
+ghost use Rattle.csl_writing.specs.ContextSource.{context_source};
+ghost use Rattle.csl_assembly.specs.BibliographyItems.{bibliography_of, unlocated, with_first_field, written_item};
+
+use crate::assemble::optional_str;
+use crate::rendered::{BibliographyItem, RenderedBibliography};
+use csl_base::elem::ElemChildren;
+use csl_base::entry::EntryLike;
+use csl_base::locale::LocaleCode;
+use csl_base::seq::Seq;
+use csl_base::style::Bibliography;
+use csl_base::text::Text;
+use csl_passes::renders::SpeculativeItemRender;
+use csl_passes::request::BibliographyRequest;
+use csl_substitution::substitution::substitute_subsequent_authors;
+use csl_writing::counter::Renders;
+use csl_writing::lookup::StyleContext;
+use csl_writing::properties::CiteProperties;
+use std::alloc::{AllocError, Global};
+
+/// What holds of a cite, without its locator.
+fn unlocated<'a, T, P: Drop>(
+    item: &SpeculativeItemRender<'a, T, P>,
+) -> Result<CiteProperties<'a, P>, AllocError>
+    ensures { IfOk result (λ p. properties_view p ≡ unlocated (item_view item.now)) }
+{
+    let CiteProperties {
+        certain,
+        speculative,
+    } = item.cite_props.clone()?;
+    Ok(CiteProperties {
+        certain,
+        speculative: speculative.for_bibliography(),
+    })
+}
+
+/// The style of a request for a bibliography, with its locales.
+fn wanted_context<'w, T>(wanted: &'w BibliographyRequest<'_, '_, T>) -> StyleContext<'w>
+    ensures { context_source result ≡ wanted_source (wanted_view wanted.now) }
+{
+    StyleContext::new(wanted.style, wanted.locale.as_ref(), wanted.locale_files)
+}
+
+/// The entry of a cite as the bibliography writes it, and its key.
+fn written_item<T: EntryLike, P: Drop>(
+    alloc: Global,
+    context: &StyleContext<'_>,
+    locale: Option<&LocaleCode>,
+    first: &SpeculativeItemRender<'_, T, P>,
+    renders: &mut Renders,
+) -> Result<(ElemChildren, String), AllocError>
+    requires no_ring { HasNoRing (context_source context.now).style.macros }
+    ensures { IfOk result (λ item. (item.0, string_bytes item.1) ≡ written_item T.answers (context_source context.now) (item_view first.now)) }
+{
+    let properties = unlocated(first)?;
+    let text = context.bibliography(alloc, first.entry, &properties, None, locale, renders)?;
+    let mut content = text.unwrap_or(ElemChildren::new(alloc));
+    content.simplify_children()?;
+    Ok((content, String::from_str(alloc, first.entry.key())?))
+}
+
+/// The entries of these cites, as the bibliography writes them.
+fn written_items<T: EntryLike, P: Drop>(
+    alloc: Global,
+    wanted: &BibliographyRequest<'_, '_, T>,
+    firsts: &[&SpeculativeItemRender<'_, T, P>],
+    renders: &mut Renders,
+) -> Result<Vec<(ElemChildren, String)>, AllocError>
+    requires no_ring { HasNoRing (style_view wanted.now.style.now).macros }
+    ensures { IfOk result (λ items. items_view items.items
+        ≡ map (written_item T.answers (wanted_source (wanted_view wanted.now))) (map (λ i. item_view i.now) firsts.now)) }
+{
+    let context = wanted_context(wanted);
+    let locale = wanted.locale.as_ref();
+    let mut items = Vec::with_capacity(alloc, firsts.len())?;
+    for first in firsts {
+        items.push(written_item(alloc, &context, locale, *first, renders)?)?;
+    }
+    Ok(items)
+}
+
+/// An item from its tree and its key, with its first field apart where second fields are aligned.
+fn with_first_field(aligned: bool, mut content: ElemChildren, key: String) -> BibliographyItem
+    ensures { result ≡ with_first_field aligned (content.entry, string_bytes key.entry) }
+{
+    let first_field = if aligned {
+        content.remove_any_meta()
+    } else {
+        None
+    };
+    BibliographyItem {
+        key: Text::new(key),
+        first_field,
+        content,
+    }
+}
+
+/// The same of all items.
+fn with_first_fields(
+    alloc: Global,
+    aligned: bool,
+    items: Vec<(ElemChildren, String)>,
+) -> Result<Vec<BibliographyItem>, AllocError>
+    ensures { IfOk result (λ v. v.items ≡ map (with_first_field aligned) (items_view items.items)) }
+{
+    let mut finished = Vec::with_capacity(alloc, items.len())?;
+    for (content, key) in items {
+        finished.push(with_first_field(aligned, content, key))?;
+    }
+    Ok(finished)
+}
+
+/// The bibliography of a style: an item for each of these cites, which are the first ones of its entries, in
+/// its order. Each is written by what holds of its cite, but without a locator; then names that it shares
+/// with one before it are substituted, and where second fields are aligned its first field, the first child
+/// of its tree that stands for something, is taken out. The style may have no macros that call each
+/// other in a ring.
+///
+/// # Errors
+/// Where memory is refused.
+pub fn bibliography_of<T: EntryLike, P: Drop>(
+    alloc: Global,
+    wanted: &BibliographyRequest<'_, '_, T>,
+    bibliography: &Bibliography,
+    firsts: &[&SpeculativeItemRender<'_, T, P>],
+    renders: &mut Renders,
+) -> Result<RenderedBibliography, AllocError>
+    requires no_ring { HasNoRing (style_view wanted.now.style.now).macros }
+    ensures { IfOk result (λ r. r
+        ≡ bibliography_of T.answers (wanted_source (wanted_view wanted.now)) (bibliography_view bibliography.now) (map (λ i. item_view i.now) firsts.now)) }
+{
+    let mut items = written_items(alloc, wanted, firsts, renders)?;
+    let substitute = optional_str(&bibliography.subsequent_author_substitute);
+    let rule = bibliography.subsequent_author_substitute_rule;
+    substitute_subsequent_authors(alloc, substitute, rule, &mut items)?;
+    let aligned = bibliography.second_field_align.is_some();
+    Ok(RenderedBibliography {
+        hanging_indent: bibliography.hanging_indent,
+        second_field_align: bibliography.second_field_align,
+        line_spacing: bibliography.line_spacing,
+        entry_spacing: bibliography.entry_spacing,
+        items: Seq::new(with_first_fields(alloc, aligned, items)?),
+    })
+}

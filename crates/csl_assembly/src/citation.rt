@@ -1,0 +1,123 @@
+//! The citation of a request, from its cites as they stand in the end.
+ghost use Rattle.std.specs.Prelude.{◌≡◌, IfOk, map, option_map};
+ghost use Rattle.csl_base.specs.Ring.{HasNoRing};
+ghost use Rattle.csl_base.specs.StyleView.{layout_view, style_view};
+ghost use Rattle.csl_passes.specs.Request.{source_of};
+ghost use Rattle.csl_passes.specs.RequestView.{request_view};
+ghost use Rattle.csl_passes.specs.RendersView.{item_view, items_view, render_view};
+ghost use Rattle.csl_writing.specs.ContextSource.{context_source};
+ghost use Rattle.csl_assembly.specs.CitationTree.{citation_tree, delimiter_before, has_no_purpose, marked, shown, shown_cite};
+ghost use Rattle.csl_assembly.specs.LastTree.{last_tree};
+ghost use Rattle.csl_assembly.specs.ShownView.{shown_views};
+
+use crate::assemble::{ShownCite, assembled, optional_str};
+use crate::last_tree::last_tree;
+use csl_base::elem::{Elem, ElemChild, ElemChildren, ElemMeta};
+use csl_base::entry::EntryLike;
+use csl_base::locale::LocaleCode;
+use csl_base::style::Layout;
+use csl_passes::renders::{SpeculativeCiteRender, SpeculativeItemRender};
+use csl_passes::request::CitationRequest;
+use csl_writing::counter::Renders;
+use csl_writing::lookup::StyleContext;
+use std::alloc::{AllocError, Global};
+
+/// Whether no cite is written for a purpose of its own.
+pub fn has_no_purpose<T, P>(items: &[SpeculativeItemRender<'_, T, P>]) -> bool
+    ensures { result ≡ has_no_purpose (items_view items.now) }
+{
+    for item in items {
+        if item.purpose.is_some() {
+            return false;
+        }
+    }
+    true
+}
+
+/// The style of a request, with its locales.
+pub fn request_context<'r, T, P>(request: &'r CitationRequest<'_, T, P>) -> StyleContext<'r>
+    ensures { context_source result ≡ source_of (request_view request.now) }
+{
+    StyleContext::new(
+        request.style(),
+        request.locale.as_ref(),
+        request.locale_files,
+    )
+}
+
+/// What stands before a cite that isn't the first that shows: its override, else the layout's delimiter.
+fn delimiter_before<'a, T, P>(
+    layout: &'a Layout,
+    item: &SpeculativeItemRender<'a, T, P>,
+) -> Option<&'a str>
+    ensures { option_map (λ d. d.now) result ≡ delimiter_before (layout_view layout.now) (item_view item.now) }
+{
+    item.delim_override.or(optional_str(&layout.delimiter))
+}
+
+/// The tree of a cite, marked with its place in its request.
+fn marked_cite<T: EntryLike, P: Drop>(
+    alloc: Global,
+    context: &StyleContext<'_>,
+    locale: Option<&LocaleCode>,
+    item: &SpeculativeItemRender<'_, T, P>,
+    renders: &mut Renders,
+) -> Result<ElemChildren, AllocError>
+    requires no_ring { HasNoRing (context_source context.now).style.macros }
+    ensures { IfOk result (λ tree. tree ≡ marked (item_view item.now) (last_tree T.answers (context_source context.now) (item_view item.now))) }
+{
+    let cite = Elem {
+        children: last_tree(alloc, context, locale, item, renders)?,
+        display: None,
+        meta: Some(ElemMeta::Entry(item.cite_props.certain.initial_idx)),
+    };
+    let mut tree = ElemChildren::new(alloc);
+    tree.push(ElemChild::Elem(cite))?;
+    Ok(tree)
+}
+
+/// The shown cites, each with its tree and its delimiter. The others are rendered too.
+fn shown_cites<'a, T: EntryLike, P: Drop>(
+    alloc: Global,
+    render: &SpeculativeCiteRender<'_, 'a, T, P>,
+    renders: &mut Renders,
+) -> Result<Vec<ShownCite<'a>>, AllocError>
+    requires no_ring { HasNoRing (render_view render.now).request.style.macros }
+    ensures { IfOk result (λ cites. shown_views cites.items
+        ≡ map (shown_cite T.answers (source_of (render_view render.now).request) (render_view render.now).request.style.citation.layout)
+            (shown (render_view render.now).items)) }
+{
+    let context = request_context(render.request);
+    let locale = render.request.locale.as_ref();
+    let layout = &render.request.style().citation.layout;
+    let mut cites = Vec::with_capacity(alloc, render.items.len())?;
+    for item in &render.items {
+        let tree = marked_cite(alloc, &context, locale, item, renders)?;
+        if !item.hidden {
+            let delimiter = delimiter_before(layout, item);
+            cites.push(ShownCite { delimiter, tree })?;
+        }
+    }
+    Ok(cites)
+}
+
+/// The citation of a request: its shown cites, each written for its purpose and as its verdict cuts it, by
+/// all that holds of it in the end, behind its override or else the layout's delimiter; between the layout's
+/// prefix and suffix where no cite has a purpose. Each is an element with meta `Entry(i)`, where i is its
+/// place in the items of the request. Hidden cites are rendered too. The request's style may have no
+/// macros that call each other in a ring.
+///
+/// # Errors
+/// Where memory is refused.
+pub fn citation_tree<T: EntryLike, P: Drop>(
+    alloc: Global,
+    render: &SpeculativeCiteRender<'_, '_, T, P>,
+    renders: &mut Renders,
+) -> Result<ElemChildren, AllocError>
+    requires no_ring { HasNoRing (render_view render.now).request.style.macros }
+    ensures { IfOk result (λ tree. tree ≡ citation_tree T.answers (render_view render.now)) }
+{
+    let cites = shown_cites(alloc, render, renders)?;
+    let layout = &render.request.style().citation.layout;
+    assembled(alloc, layout, cites, has_no_purpose(&render.items))
+}
