@@ -1,0 +1,2 @@
+pub mod FirstProperties
+pub mod Seen

@@ -1,1 +1,154 @@
-//! The properties of cites before anything is rendered.
+//! The properties of cites before anything is rendered (CSL 1.0.2, position and near-note-distance).
+ghost use Rattle.std.specs.Prelude.{◌≡◌, ◌<◌, ◌++◌, [], ◌∷◌, IfOk, OnOk, length, map, option_map};
+ghost use Rattle.std.specs.List.{last_or};
+ghost use Rattle.std.specs.Option.{ForSome};
+ghost use Rattle.csl_entries.specs.Table.{table_of};
+ghost use Rattle.csl_entries.specs.TableView.{table_view};
+ghost use Rattle.csl_passes.specs.Request.{cited, cites_of, entries_of};
+ghost use Rattle.csl_passes.specs.RequestView.{cite_view, request_view, requests_view};
+ghost use Rattle.csl_positions.specs.FirstProperties.{first_properties, numbered_by, request_properties};
+ghost use Rattle.csl_positions.specs.Seen.{IsTableOf, certain_by, is_within, seen_of};
+
+use csl_base::entry::EntryLike;
+use csl_entries::table::EntryTable;
+use csl_lookup::properties::CertainCiteProperties;
+use csl_passes::first::FirstProperties;
+use csl_passes::item::CitationItem;
+use csl_passes::positions::with_last;
+use csl_passes::request::CitationRequest;
+use std::alloc::{AllocError, Global};
+
+/// What is known of an entry from the cites before.
+#[derive(Clone, Copy)]
+pub(crate) struct Seen {
+    /// Whether one of them cites it.
+    pub(crate) cited: bool,
+    /// The number of the first note that cites it.
+    pub(crate) first_note: Option<usize>,
+    /// Where the last request stands that cites it in a note.
+    pub(crate) last_noted: Option<usize>,
+}
+
+/// Whether the request that was noted last stands at most so far before this place.
+fn is_within(place: usize, distance: usize, last_noted: Option<usize>) -> bool
+    requires { ForSome last_noted (λ k. k < place) }
+    ensures { result ≡ is_within place distance last_noted }
+{
+    match last_noted {
+        Some(last) => place - last <= distance,
+        None => false,
+    }
+}
+
+/// What is certain of a cite of the request at this place.
+fn certain_properties<T: EntryLike, P>(
+    request: &CitationRequest<'_, T, P>,
+    place: usize,
+    seen: &Seen,
+    item: &CitationItem<'_, T, P>,
+) -> CertainCiteProperties
+    requires { ForSome seen.now.last_noted (λ k. k < place) }
+    ensures { result ≡ certain_by (request_view request.now) place seen.now (cite_view item.now) }
+{
+    let note_number = request.note_number();
+    let distance = request.style().citation.near_note_distance;
+    CertainCiteProperties {
+        note_number,
+        first_note_number: note_number.map(|number| seen.first_note.unwrap_or(number)),
+        is_near_note: note_number.is_some() && is_within(place, distance, seen.last_noted),
+        is_first: !seen.cited,
+        initial_idx: item.initial_idx(),
+    }
+}
+
+/// The first properties of the cites of the request behind others, whose entries are seen then.
+fn request_properties<'a, T: EntryLike, P: PartialEq>(
+    alloc: Global,
+    before: &[CitationRequest<'a, T, P>],
+    request: &CitationRequest<'a, T, P>,
+    table: &EntryTable<'a, T>,
+    numbers: &[usize],
+    last: Option<&CitationItem<'a, T, P>>,
+    seen: &mut [Seen],
+) -> Result<Vec<FirstProperties>, AllocError>
+    requires table { IsTableOf T.eq (requests_view before.now) (request_view request.now) (table_view table.now) }
+    requires numbered { length numbers.now ≡ length (table_view table.now).entries }
+    requires last { option_map (λ l. cite_view l.now) last ≡ last_or None (cites_of (requests_view before.now)) }
+    requires seen { seen.old ≡ map (seen_of T.eq (cited (requests_view before.now)) (requests_view before.now)) (table_view table.now).entries }
+    ensures properties { IfOk result (λ v. v.items
+        ≡ request_properties T.eq P.eq (numbered_by T.eq numbers.now (table_view table.now).entries) (requests_view before.now) (request_view request.now)) }
+    ensures seen { OnOk result (seen.new
+        ≡ map (seen_of T.eq (cited (requests_view before.now) ++ entries_of (request_view request.now).cites) (requests_view before.now)) (table_view table.now).entries) }
+{
+    let place = before.len();
+    let places = &table.places()[place];
+    let mut last = last;
+    let mut properties = Vec::with_capacity(alloc, request.items.len())?;
+    for (i, item) in request.items.iter().enumerate() {
+        let entry = places[i];
+        properties.push(FirstProperties {
+            certain: certain_properties(request, place, &seen[entry], item),
+            number: numbers[entry],
+            ibid: with_last(item, last),
+        })?;
+        seen[entry].cited = true;
+        last = Some(item);
+    }
+    Ok(properties)
+}
+
+/// Notes the entries that the request behind others cites, where it has a note number.
+fn note_entries<'a, T: EntryLike, P>(
+    before: &[CitationRequest<'a, T, P>],
+    request: &CitationRequest<'a, T, P>,
+    table: &EntryTable<'a, T>,
+    seen: &mut [Seen],
+)
+    requires table { IsTableOf T.eq (requests_view before.now) (request_view request.now) (table_view table.now) }
+    requires seen { seen.old
+        ≡ map (seen_of T.eq (cited (requests_view before.now) ++ entries_of (request_view request.now).cites) (requests_view before.now)) (table_view table.now).entries }
+    ensures { seen.new
+        ≡ map (seen_of T.eq (cited (requests_view before.now) ++ entries_of (request_view request.now).cites) (requests_view before.now ++ request_view request.now ∷ []))
+        (table_view table.now).entries }
+{
+    let place = before.len();
+    if let Some(number) = request.note_number() {
+        for entry in &table.places()[place] {
+            let noted = &mut seen[*entry];
+            noted.first_note = noted.first_note.or(Some(number));
+            noted.last_noted = Some(place);
+        }
+    }
+}
+
+/// The first properties of all cites, by request and by place in it. The numbers are those of the entries,
+/// by their places in the table.
+pub fn first_properties<'a, T: EntryLike, P: PartialEq>(
+    alloc: Global,
+    requests: &[CitationRequest<'a, T, P>],
+    table: &EntryTable<'a, T>,
+    numbers: &[usize],
+) -> Result<Vec<Vec<FirstProperties>>, AllocError>
+    requires table { table_view table.now ≡ table_of T.eq (requests_view requests.now) }
+    requires numbered { length numbers.now ≡ length (table_view table.now).entries }
+    ensures { IfOk result (λ v. map (λ f. f.items) v.items
+        ≡ first_properties T.eq P.eq (numbered_by T.eq numbers.now (table_view table.now).entries) (requests_view requests.now)) }
+{
+    let unseen = Seen {
+        cited: false,
+        first_note: None,
+        last_noted: None,
+    };
+    let mut seen = vec![in alloc; unseen; table.len()]?;
+    let mut last = None;
+    let mut properties = Vec::with_capacity(alloc, requests.len())?;
+    for (k, request) in requests.iter().enumerate() {
+        let before = &requests[..k];
+        properties.push(request_properties(
+            alloc, before, request, table, numbers, last, &mut seen,
+        )?)?;
+        note_entries(before, request, table, &mut seen);
+        last = request.items.last().or(last);
+    }
+    Ok(properties)
+}
