@@ -1,0 +1,2 @@
+pub mod FinalProperties
+pub mod FinalSteps
