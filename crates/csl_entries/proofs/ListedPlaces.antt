@@ -1,5 +1,5 @@
 -- A listing by places, and that of the entries which stand there.
-use Rattle.std.proofs.Common.{◌≡◌, ℕ, ◌≤◌, Bool, true, false, ◌||◌, List, [], ◌∷◌, length, map, nat_eq, refl, ap, sym, ◌∙◌, arith}
+use Rattle.std.proofs.Common.{◌≡◌, zero, suc, ◌+◌, not, ◌<◌, cond, get_or, ℕ, ◌≤◌, Bool, true, false, ◌||◌, List, [], ◌∷◌, length, map, nat_eq, refl, ap, sym, ◌∙◌, arith}
 use Rattle.std.specs.Prelude.{slice_get, unwrap_or}
 use Rattle.std.specs.Cmp.{IsEquivalence, nat_eq_equiv}
 use Rattle.std.specs.List.{range_with_len}
@@ -12,7 +12,7 @@ use Rattle.csl_entries.specs.declared.listing.Listing.{Listing}
 use Rattle.csl_entries.proofs.Distinct.{all_new_is_distinct, is_in-distinct, is_in-equal, is_in-others, others}
 use Rattle.csl_entries.proofs.Once.{NoTwoEqual-distinct, NoTwoEqual-filter, one_out}
 use Rattle.csl_entries.proofs.Orders.{all-among, all_in-all_new, as-listed, looked-up, numbers-or, numbers-placed, placed-all_new, range-placed}
-use Rattle.csl_entries.proofs.Placing.{all_in, all_in-added}
+use Rattle.csl_entries.proofs.Placing.{all_in, all_in-added, left, right}
 
 -- what was listed by places
 pub places-listed : (count : ℕ) (places : List ℕ) (l : Listing) → l.order.items ≡ with_all_new nat_eq [] places → length l.numbers.items ≡ count → IsListing l
@@ -44,6 +44,25 @@ module _ {E : Type 0} (eq : E → E → Bool) (laws : IsEquivalence eq) where
           by true q = let out : is_in eq e xs ≡ false = is_in-equal eq laws e x xs q ∙ once.0 in cc
           by false q = is_in-others eq laws x e ys q ∙ h e (or-right (eq e x) (is_in eq e xs) inside)
 
+  -- what is in one of two lists with the same members is in the other
+  pub all-cited : (es cited : List E) → ((e : E) → is_in eq e cited ≡ is_in eq e es) → all_in eq laws es cited ≡ true
+  all-cited es cited same =
+      sym (all-among eq laws (with_all_new eq [] cited) es cited (λ e. ap (λ l. is_in eq e l) (all_new_is_distinct eq laws cited) ∙ is_in-distinct eq laws e cited ∙ same e))
+      ∙ all_in-added eq laws [] cited
+
+  pub place-within : (e : E) (es : List E) → is_in eq e es ≡ true → place eq e es < length es
+  place-within e [] h = cc
+  place-within e (x ∷ xs) h = by (eq e x) h (place-within e xs)
+    where
+      by : (b : Bool) → (b || is_in eq e xs) ≡ true → (is_in eq e xs ≡ true → place eq e xs < length xs) → cond (not b) (1 + place eq e xs) 0 < suc (length xs)
+      by true h k = omega arith
+      by false h k = let more = k h in omega (arith, more)
+
+  pub places-below : (es xs : List E) → all_in eq laws es xs ≡ true → (k d : ℕ) → k < length (map (λ e. place eq e es) xs) → get_or (map (λ e. place eq e es) xs) k d < length es
+  places-below es [] h k d w = absurd (omega (arith, w))
+  places-below es (x ∷ xs) h zero d w = place-within x es (left (is_in eq x es) (all_in eq laws es xs) h)
+  places-below es (x ∷ xs) h (suc k) d w = places-below es xs (right (is_in eq x es) (all_in eq laws es xs) h) k d (omega (arith, w))
+
   -- the entries at the places of those that are cited, which are the same, each once
   pub listing-of : (es cited : List E) → NoTwoEqual eq es → ((e : E) → is_in eq e cited ≡ is_in eq e es)
       → (l : Listed) → l ≡ listed_places (length es) (map (λ e. place eq e es) cited) → IsListingOf eq es (distinct eq cited) l
@@ -51,11 +70,8 @@ module _ {E : Type 0} (eq : E → E → Bool) (laws : IsEquivalence eq) where
       let order = distinct eq cited in
       let places = map (λ e. place eq e es) cited in
       let ordered-same : (e : E) → is_in eq e order ≡ is_in eq e es = λ e. is_in-distinct eq laws e cited ∙ same e in
-      let gathered : (xs : List E) (e : E) → is_in eq e (with_all_new eq [] xs) ≡ is_in eq e xs =
-      λ xs e. ap (λ l. is_in eq e l) (all_new_is_distinct eq laws xs) ∙ is_in-distinct eq laws e xs in
-      let cited-in : all_in eq laws es cited ≡ true =
-      sym (all-among eq laws (with_all_new eq [] cited) es cited (λ e. gathered cited e ∙ same e)) ∙ all_in-added eq laws [] cited in
-      let own-in : all_in eq laws es es ≡ true = sym (all-among eq laws (with_all_new eq [] es) es es (gathered es)) ∙ all_in-added eq laws [] es in
+      let cited-in : all_in eq laws es cited ≡ true = all-cited es cited same in
+      let own-in : all_in eq laws es es ≡ true = all-cited es es (λ e. refl) in
       let order-in : all_in eq laws es order ≡ true =
       ap (λ l. all_in eq laws es l) (sym (all_new_is_distinct eq laws cited)) ∙ all_in-all_new eq laws es [] cited refl cited-in in
       let order-is : distinct nat_eq places ≡ map (λ e. place eq e es) order =

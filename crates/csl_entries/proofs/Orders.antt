@@ -55,7 +55,7 @@ number-or eq e es = by (nat_lt (place eq e es) (length es)) refl (prefix_len-le-
 
 module _ {E : Type 0} (eq : E → E → Bool) (laws : IsEquivalence eq) (es : List E) where
   -- entries stand at one place exactly where they are equal
-  same-place : (x y : E) (fs : List E) → is_in eq x fs ≡ true → is_in eq y fs ≡ true → nat_eq (place eq x fs) (place eq y fs) ≡ eq x y
+  pub same-place : (x y : E) (fs : List E) → is_in eq x fs ≡ true → is_in eq y fs ≡ true → nat_eq (place eq x fs) (place eq y fs) ≡ eq x y
   same-place x y [] p q = cc
   same-place x y (f ∷ fs) p q = by (eq x f) (eq y f) refl refl p q (same-place x y fs)
     where

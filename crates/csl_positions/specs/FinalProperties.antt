@@ -1,11 +1,11 @@
 -- What holds of cites in their final order, in which the items of each request stand once they are grouped.
-use Rattle.std.specs.Prelude.{ℕ, Bool, false, List, [], ◌++◌, Option, None, find, flat_map, map, option_map, take}
+use Rattle.std.specs.Prelude.{◌≡◌, ℕ, Bool, false, List, [], ◌++◌, Option, None, Some, find, flat_map, map, option_and_then, option_map, slice_get, take}
 use Rattle.std.specs.List.{enumerate_from, last_or}
 use Rattle.std.specs.Option.{option_map_or}
 use Rattle.csl_lookup.specs.Properties.{Properties}
 use Rattle.csl_lookup.specs.declared.state.IbidState.{IbidState}
 use Rattle.csl_passes.specs.Positions.{with_last}
-use Rattle.csl_passes.specs.Renders.{CiteRender, ItemRender}
+use Rattle.csl_passes.specs.Renders.{CiteRender, ItemRender, Place}
 use Rattle.csl_passes.specs.Request.{Cite}
 
 -- properties with this position and this number
@@ -32,6 +32,10 @@ module _ {E P : Type 0} where
     place = i.properties.certain.initial_idx;
   }
 
+  -- the cite at a place
+  abbrev pub item_at : List (CiteRender E P) → Place → Option (ItemRender E P)
+  item_at renders at = option_and_then (λ r. slice_get r.items at.1) (slice_get renders at.0)
+
   -- the cites of the request directly before the one at r; none where there is no such request
   abbrev pub items_before : List (CiteRender E P) → ℕ → List (ItemRender E P)
   items_before renders r = option_map_or (λ before. before.items) (last_or None (take r renders)) []
@@ -40,6 +44,10 @@ module _ {E P : Type 0} (eq : E → E → Bool) where
   -- the first cite of an entry
   abbrev pub first_item : List (CiteRender E P) → E → Option (ItemRender E P)
   first_item renders e = find (λ i. eq e i.entry) (items_finally renders)
+
+  -- by these entries, where the first cite of each stands; none for an entry that no cite cites
+  abbrev pub AreFirstItems : List E → List (CiteRender E P) → List (Option Place) → Type 0
+  AreFirstItems entries renders firsts = map (option_map (item_at renders)) firsts ≡ map (λ e. option_map Some (first_item renders e)) entries
 
   module _ (payload_eq : P → P → Bool) where
     -- the position of a cite against the last of those before it

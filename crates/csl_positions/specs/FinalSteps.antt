@@ -1,7 +1,7 @@
 -- For the code: what the final properties of cites are made from.
-use Rattle.std.specs.Prelude.{ℕ, zero, suc, ◌<◌, Bool, List, [], Option, length, map, option_map, slice_get, slice_index}
+use Rattle.std.specs.Prelude.{ℕ, zero, suc, ◌<◌, Bool, List, [], None, Option, Some, length, map, option_map, slice_get, slice_index, slice_index_or, slice_set}
 use Rattle.std.specs.List.{enumerate_from}
-use Rattle.std.specs.Option.{option_map_or}
+use Rattle.std.specs.Option.{option_map_or, option_or}
 use Rattle.csl_lookup.specs.declared.state.IbidState.{IbidState}
 use Rattle.csl_lookup.specs.declared.state.IbidState.TheVariants.{Different}
 use Rattle.csl_passes.specs.Positions.{with_last}
@@ -25,9 +25,13 @@ module _ {E P : Type 0} where
   abbrev pub items_at : List (CiteRender E P) → ℕ → List (ItemRender E P)
   items_at renders r = option_map_or (λ render. render.items) (slice_get renders r) []
 
-  -- the cite at a place
-  abbrev pub item_at : List (CiteRender E P) → Place → Option (ItemRender E P)
-  item_at renders at = slice_get (items_at renders at.0) at.1
+  -- the places of the entries of the cites of the request at r, and where these stand
+  abbrev pub stands_of : ℕ → List ℕ → List (ItemRender E P) → List (ℕ × Place)
+  stands_of r places items = map (λ p. (led_to places p.1, (r, p.0))) (enumerate_from 0 items)
+
+-- noted for the entry at a place, unless there is one
+abbrev pub with_first : List (Option Place) → ℕ × Place → List (Option Place)
+with_first firsts p = slice_set firsts p.0 (option_or (slice_index_or firsts p.0 None) (Some p.1))
 
 module _ {E P : Type 0} (eq : E → E → Bool) (payload_eq : P → P → Bool) where
   -- the position of the first of these cites behind others

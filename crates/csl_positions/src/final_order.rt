@@ -1,20 +1,132 @@
 //! The properties of cites in their final order.
-ghost use Rattle.std.specs.Prelude.{◌≡◌, ◌<◌, All, None, Some, length, option_map, slice_get, slice_index, slice_index_or};
+ghost use Rattle.std.specs.Prelude.{◌≡◌, ◌<◌, ◌++◌, All, IfOk, None, OnOk, Some, fold, length, map, option_map, slice_get, slice_index, slice_index_or};
 ghost use Rattle.std.specs.List.{last_or};
 ghost use Rattle.csl_passes.specs.RendersView.{item_view, items_view, renders_view};
-ghost use Rattle.csl_entries.specs.Entries.{place};
+ghost use Rattle.csl_entries.specs.Entries.{distinct, is_in, place};
+ghost use Rattle.csl_entries.specs.Laws.{NoTwoEqual};
+ghost use Rattle.csl_entries.specs.Listed.{IsListingOf};
+ghost use Rattle.csl_entries.specs.ListingView.{listing_view};
 ghost use Rattle.csl_entries.specs.PlacedItems.{ArePlaced};
 ghost use Rattle.csl_entries.specs.TableView.{table_view};
 ghost use Rattle.csl_passes.specs.Positions.{with_last};
 ghost use Rattle.csl_passes.specs.Renders.{ItemRender};
-ghost use Rattle.csl_positions.specs.FinalProperties.{as_cite, items_before, with_final_properties};
-ghost use Rattle.csl_positions.specs.FinalSteps.{IsWithin, all_set, first_position, items_at, led_to, placed_item, position_in};
+ghost use Rattle.csl_positions.specs.FinalProperties.{AreFirstItems, as_cite, cited_finally, items_before, with_final_properties};
+ghost use Rattle.csl_positions.specs.FinalSteps.{IsWithin, all_set, first_position, items_at, led_to, placed_item, position_in, stands_of, with_first};
 
 use csl_base::entry::EntryLike;
+use csl_entries::listing::Listing;
 use csl_entries::table::EntryTable;
 use csl_lookup::state::IbidState;
 use csl_passes::positions::same_locators;
 use csl_passes::renders::{SpeculativeCiteRender, SpeculativeItemRender};
+use std::alloc::{AllocError, Global};
+
+/// The place of a cite's entry.
+fn place_led_to<T, P>(item: &SpeculativeItemRender<'_, T, P>, places: &[usize]) -> usize
+    requires { IsWithin places.now (item_view item.now) }
+    ensures { result ≡ led_to places.now (item_view item.now) }
+{
+    places[item.cite_props.certain.initial_idx]
+}
+
+/// Adds the places of the entries of a request's cites.
+fn push_places<T, P>(
+    all: &mut Vec<usize>,
+    items: &[SpeculativeItemRender<'_, T, P>],
+    places: &[usize],
+) -> Result<(), AllocError>
+    requires { All (IsWithin places.now) (items_view items.now) }
+    ensures { OnOk result (all.new.items ≡ all.old.items ++ map (led_to places.now) (items_view items.now)) }
+{
+    for item in items {
+        all.push(place_led_to(item, places))?;
+    }
+    Ok(())
+}
+
+/// The places of the entries of all cites, in the final order.
+fn places_finally<'a, T: EntryLike, P>(
+    alloc: Global,
+    renders: &[SpeculativeCiteRender<'_, 'a, T, P>],
+    table: &EntryTable<'a, T>,
+) -> Result<Vec<usize>, AllocError>
+    requires placed { ArePlaced T.eq (table_view table.now) (renders_view renders.now) }
+    ensures { IfOk result (λ v. v.items ≡ map (λ e. place T.eq e (table_view table.now).entries) (cited_finally (renders_view renders.now))) }
+{
+    let places = table.places();
+    let mut all = Vec::new(alloc);
+    for (r, render) in renders.iter().enumerate() {
+        push_places(&mut all, &render.items, &places[r])?;
+    }
+    Ok(all)
+}
+
+/// The entries of a table in the order of their first cites in the final order.
+///
+/// # Errors
+/// Where memory is refused.
+pub fn final_listing<'a, T: EntryLike, P>(
+    alloc: Global,
+    renders: &[SpeculativeCiteRender<'_, 'a, T, P>],
+    table: &EntryTable<'a, T>,
+) -> Result<Listing, AllocError>
+    requires placed { ArePlaced T.eq (table_view table.now) (renders_view renders.now) }
+    requires once { NoTwoEqual T.eq (table_view table.now).entries }
+    requires same { (e : T) → is_in T.eq e (cited_finally (renders_view renders.now)) ≡ is_in T.eq e (table_view table.now).entries }
+    ensures { IfOk result (λ l. IsListingOf T.eq (table_view table.now).entries (distinct T.eq (cited_finally (renders_view renders.now))) (listing_view l)) }
+{
+    let places = places_finally(alloc, renders, table)?;
+    Listing::of_places(alloc, table.len(), &places)
+}
+
+/// Notes where a cite stands as the first of its entry, unless one is noted.
+fn note_first(firsts: &mut [Option<(usize, usize)>], place: usize, at: (usize, usize))
+    requires { place < length firsts.old }
+    ensures { firsts.new ≡ with_first firsts.old (record { 0 = place; 1 = at }) }
+{
+    if firsts[place].is_none() {
+        firsts[place] = Some(at);
+    }
+}
+
+/// Notes where the cites of the request at r stand.
+fn note_firsts<T, P>(
+    firsts: &mut [Option<(usize, usize)>],
+    r: usize,
+    items: &[SpeculativeItemRender<'_, T, P>],
+    places: &[usize],
+)
+    requires within { All (IsWithin places.now) (items_view items.now) }
+    requires led { All (λ i. led_to places.now i < length firsts.old) (items_view items.now) }
+    ensures { firsts.new ≡ fold with_first firsts.old (stands_of r places.now (items_view items.now)) }
+{
+    for (k, item) in items.iter().enumerate() {
+        note_first(firsts, place_led_to(item, places), (r, k));
+    }
+}
+
+/// By the places of the entries in the table, the request of each one's first cite in the final order, and
+/// the cite's index there; none for an entry that no cite cites.
+///
+/// # Errors
+/// Where memory is refused.
+pub fn first_items<'a, T: EntryLike, P>(
+    alloc: Global,
+    renders: &[SpeculativeCiteRender<'_, 'a, T, P>],
+    table: &EntryTable<'a, T>,
+) -> Result<Vec<Option<(usize, usize)>>, AllocError>
+    requires placed { ArePlaced T.eq (table_view table.now) (renders_view renders.now) }
+    requires once { NoTwoEqual T.eq (table_view table.now).entries }
+    requires same { (e : T) → is_in T.eq e (cited_finally (renders_view renders.now)) ≡ is_in T.eq e (table_view table.now).entries }
+    ensures { IfOk result (λ firsts. AreFirstItems T.eq (table_view table.now).entries (renders_view renders.now) firsts.items) }
+{
+    let places = table.places();
+    let mut firsts = vec![in alloc; None; table.len()]?;
+    for (r, render) in renders.iter().enumerate() {
+        note_firsts(&mut firsts, r, &render.items, &places[r]);
+    }
+    Ok(firsts)
+}
 
 /// The position of a cite behind the last one, which counts as shown.
 fn position_behind<T: PartialEq, P: PartialEq>(
@@ -102,7 +214,7 @@ fn number_of<T, P>(
     requires { IsWithin places.now (item_view item.now) }
     ensures { result ≡ slice_index numbers.now (led_to places.now (item_view item.now)) }
 {
-    match numbers.get(places[item.cite_props.certain.initial_idx]) {
+    match numbers.get(place_led_to(item, places)) {
         Some(number) => *number,
         None => 0,
     }
