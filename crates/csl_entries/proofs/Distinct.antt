@@ -23,7 +23,7 @@ module _ {E : Type 0} (eq : E → E → Bool) where
 
   module _ (laws : IsEquivalence eq) where
     -- leaving out what equals x leaves what equals y, where x and y aren't equal
-    is_in-others : (x y : E) (xs : List E) → eq y x ≡ false → is_in eq y (others x xs) ≡ is_in eq y xs
+    pub is_in-others : (x y : E) (xs : List E) → eq y x ≡ false → is_in eq y (others x xs) ≡ is_in eq y xs
     is_in-others x y [] ne = refl
     is_in-others x y (z ∷ zs) ne = by (eq x z) refl (is_in-others x y zs ne)
       where

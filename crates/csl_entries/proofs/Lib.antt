@@ -6,3 +6,4 @@ pub mod Once
 mod Sets
 pub mod Numbers
 pub mod Orders
+pub mod ListedPlaces

@@ -40,7 +40,7 @@ module _ {E : Type 0} (eq : E → E → Bool) (laws : IsEquivalence eq) where
       by false true e h k = rw e (k h)
       by false false e h k = k h
 
-  NoTwoEqual-filter : (p : E → Bool) (xs : List E) → NoTwoEqual eq xs → NoTwoEqual eq (filter p xs)
+  pub NoTwoEqual-filter : (p : E → Bool) (xs : List E) → NoTwoEqual eq xs → NoTwoEqual eq (filter p xs)
   NoTwoEqual-filter p [] d = tt
   NoTwoEqual-filter p (x ∷ xs) d = by (p x) (NoTwoEqual-filter p xs d.1)
     where

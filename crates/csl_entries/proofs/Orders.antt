@@ -55,7 +55,7 @@ number-or eq e es = by (nat_lt (place eq e es) (length es)) refl (prefix_len-le-
 
 module _ {E : Type 0} (eq : E → E → Bool) (laws : IsEquivalence eq) (es : List E) where
   -- entries stand at one place exactly where they are equal
-  same-place : (x y : E) (fs : List E) → is_in eq x fs ≡ true → is_in eq y fs ≡ true → nat_eq (place eq x fs) (place eq y fs) ≡ eq x y
+  pub same-place : (x y : E) (fs : List E) → is_in eq x fs ≡ true → is_in eq y fs ≡ true → nat_eq (place eq x fs) (place eq y fs) ≡ eq x y
   same-place x y [] p q = cc
   same-place x y (f ∷ fs) p q = by (eq x f) (eq y f) refl refl p q (same-place x y fs)
     where
@@ -100,13 +100,13 @@ module _ {E : Type 0} (eq : E → E → Bool) (laws : IsEquivalence eq) (es : Li
       by true = all
       by false = all_in-push xs y all h
 
-  all_in-all_new : (xs ys : List E) → all_in eq laws es xs ≡ true → all_in eq laws es ys ≡ true → all_in eq laws es (with_all_new eq xs ys) ≡ true
+  pub all_in-all_new : (xs ys : List E) → all_in eq laws es xs ≡ true → all_in eq laws es ys ≡ true → all_in eq laws es (with_all_new eq xs ys) ≡ true
   all_in-all_new xs [] all h = all
   all_in-all_new xs (y ∷ ys) all h =
       all_in-all_new (with_new eq xs y) ys (all_in-new xs y all (left (is_in eq y es) (all_in eq laws es ys) h)) (right (is_in eq y es) (all_in eq laws es ys) h)
 
   -- adding by places is adding
-  placed-all_new : (xs ys : List E) → all_in eq laws es xs ≡ true → all_in eq laws es ys ≡ true
+  pub placed-all_new : (xs ys : List E) → all_in eq laws es xs ≡ true → all_in eq laws es ys ≡ true
       → with_all_new nat_eq (map (λ e. place eq e es) xs) (map (λ e. place eq e es) ys) ≡ map (λ e. place eq e es) (with_all_new eq xs ys)
   placed-all_new xs [] all h = refl
   placed-all_new xs (y ∷ ys) all h =
@@ -150,26 +150,26 @@ module _ {E : Type 0} (eq : E → E → Bool) (laws : IsEquivalence eq) (es : Li
   zero-behind [] = refl
   zero-behind (x ∷ xs) = let e : 0 + place eq x es ≡ place eq x es = omega arith in rw (e, zero-behind xs) refl
 
-  range-placed : NoTwoEqual eq es → range_with_len 0 (length es) ≡ map (λ e. place eq e es) es
+  pub range-placed : NoTwoEqual eq es → range_with_len 0 (length es) ≡ map (λ e. place eq e es) es
   range-placed once = sym (without_gaps eq laws 0 es once) ∙ zero-behind es
 
-  numbers-placed : (xs ys : List E) → all_in eq laws es xs ≡ true → all_in eq laws es ys ≡ true
+  pub numbers-placed : (xs ys : List E) → all_in eq laws es xs ≡ true → all_in eq laws es ys ≡ true
       → map (λ p. place nat_eq p (map (λ e. place eq e es) ys)) (map (λ e. place eq e es) xs) ≡ map (λ e. place eq e ys) xs
   numbers-placed [] ys all more = refl
   numbers-placed (x ∷ xs) ys all more =
       rw (place-placed x ys (left (is_in eq x es) (all_in eq laws es xs) all) more, numbers-placed xs ys (right (is_in eq x es) (all_in eq laws es xs) all) more) refl
 
-numbers-or : (numbers : List (Option ℕ)) (order ps : List ℕ) → numbers ≡ map (number_in nat_eq order) ps → map (λ n. unwrap_or n (length order)) numbers ≡ map (λ p. place nat_eq p order) ps
+pub numbers-or : (numbers : List (Option ℕ)) (order ps : List ℕ) → numbers ≡ map (number_in nat_eq order) ps → map (λ n. unwrap_or n (length order)) numbers ≡ map (λ p. place nat_eq p order) ps
 numbers-or numbers order ps h = ap (λ ns. map (λ n. unwrap_or n (length order)) ns) h ∙ each ps
   where
     each : (ps : List ℕ) → map (λ n. unwrap_or n (length order)) (map (number_in nat_eq order) ps) ≡ map (λ p. place nat_eq p order) ps
     each [] = refl
     each (p ∷ ps) = rw (number-or nat_eq p order, each ps) refl
 
-as-listed : {os ps ns ms : List ℕ} → os ≡ ps → ns ≡ ms → let a : Listed = record { order = os; numbers = ns } in a ≡ record { order = ps; numbers = ms }
+pub as-listed : {os ps ns ms : List ℕ} → os ≡ ps → ns ≡ ms → let a : Listed = record { order = os; numbers = ns } in a ≡ record { order = ps; numbers = ms }
 as-listed o n = rw (o, n) refl
 
-all-among : {E : Type 0} (eq : E → E → Bool) (laws : IsEquivalence eq) (a b xs : List E) → ((e : E) → is_in eq e a ≡ is_in eq e b) → all_in eq laws a xs ≡ all_in eq laws b xs
+pub all-among : {E : Type 0} (eq : E → E → Bool) (laws : IsEquivalence eq) (a b xs : List E) → ((e : E) → is_in eq e a ≡ is_in eq e b) → all_in eq laws a xs ≡ all_in eq laws b xs
 all-among eq laws a b [] h = refl
 all-among eq laws a b (x ∷ xs) h = rw (h x, all-among eq laws a b xs h) refl
 
@@ -186,7 +186,7 @@ behind-all [] = refl
 behind-all (x ∷ xs) = behind-all xs
 
 -- the place of an entry in a list, looked up at its place among others
-looked-up : {E : Type 0} (eq : E → E → Bool) (laws : IsEquivalence eq) (order : List E) (e : E) (es : List E) → is_in eq e order ≡ is_in eq e es
+pub looked-up : {E : Type 0} (eq : E → E → Bool) (laws : IsEquivalence eq) (order : List E) (e : E) (es : List E) → is_in eq e order ≡ is_in eq e es
     → unwrap_or (slice_get (map (λ x. place eq x order) es) (place eq e es)) (length order) ≡ place eq e order
 looked-up eq laws order e es same = by (is_in eq e es) refl
   where

@@ -55,12 +55,12 @@ module _ {E : Type 0} (eq : E → E → Bool) (laws : IsEquivalence eq) where
       sym (stays eq laws es fs x (place eq x es) (record { listed = left (is_in eq x es) (all_in es xs) h; at = refl })).at in
       rw (one, placed-later es fs xs (right (is_in eq x es) (all_in es xs) h)) refl
 
-  all_in-front : (es xs ys : List E) → all_in es (xs ++ ys) ≡ true → all_in es xs ≡ true
+  pub all_in-front : (es xs ys : List E) → all_in es (xs ++ ys) ≡ true → all_in es xs ≡ true
   all_in-front es [] ys h = refl
   all_in-front es (x ∷ xs) ys h =
       both (is_in eq x es) (all_in es xs) (left (is_in eq x es) (all_in es (xs ++ ys)) h) (all_in-front es xs ys (right (is_in eq x es) (all_in es (xs ++ ys)) h))
 
-  all_in-behind : (es xs ys : List E) → all_in es (xs ++ ys) ≡ true → all_in es ys ≡ true
+  pub all_in-behind : (es xs ys : List E) → all_in es (xs ++ ys) ≡ true → all_in es ys ≡ true
   all_in-behind es [] ys h = h
   all_in-behind es (x ∷ xs) ys h = all_in-behind es xs ys (right (is_in eq x es) (all_in es (xs ++ ys)) h)
 

@@ -5,3 +5,4 @@ pub mod TableView
 pub mod Listed
 pub mod ListingView
 pub mod Gathering
+pub mod PlacedItems

@@ -1,5 +1,6 @@
 -- The order of the bibliography and the numbers of the cited entries.
-use Rattle.std.specs.Prelude.{◌≡◌, ℕ, Bool, List, length, map, Option, slice_get, unwrap_or}
+use Rattle.std.specs.Prelude.{◌≡◌, ℕ, Bool, List, length, map, nat_eq, Option, slice_get, unwrap_or}
+use Rattle.std.specs.List.{range_with_len}
 use Rattle.csl_entries.specs.Entries.{bibliography_order, distinct, is_in, place}
 
 pub record Listed : Type 0 where
@@ -7,6 +8,12 @@ pub record Listed : Type 0 where
   pub order : List ℕ
   -- by the places of the entries, where each stands in the order
   pub numbers : List ℕ
+
+-- so many entries, by their places, in the order of these
+abbrev pub listed_places : ℕ → List ℕ → Listed
+listed_places count places =
+    let order = distinct nat_eq places in
+    record { order = order; numbers = map (λ p. place nat_eq p order) (range_with_len 0 count) }
 
 module _ {E : Type 0} (eq : E → E → Bool) where
   -- these entries in this order

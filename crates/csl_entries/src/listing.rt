@@ -1,9 +1,9 @@
 //! The order of the bibliography, and the numbers of the cited entries.
-ghost use Rattle.std.specs.Prelude.{◌≡◌, ◌<◌, [], None, IfOk, OnOk, length, nat_eq, replicate, unwrap_or, slice_get};
+ghost use Rattle.std.specs.Prelude.{◌≡◌, ◌<◌, [], All, None, IfOk, OnOk, length, nat_eq, replicate, unwrap_or, slice_get};
 ghost use Rattle.std.specs.List.{filter_map, position, range_with_len};
 ghost use Rattle.std.specs.Option.{option_map_or};
 ghost use Rattle.csl_entries.specs.Entries.{with_all_new, with_new};
-ghost use Rattle.csl_entries.specs.Listed.{ListsAll};
+ghost use Rattle.csl_entries.specs.Listed.{ListsAll, listed_places};
 ghost use Rattle.csl_entries.specs.ListingView.{IsListing, listing_view};
 ghost use Rattle.csl_entries.specs.TableView.{table_view};
 ghost use Rattle.csl_passes.specs.RequestView.{entries_view, order_view};
@@ -118,6 +118,30 @@ impl Listing {
             self.list(place)?;
         }
         Ok(())
+    }
+
+    /// Lists the entries at these places that aren't listed.
+    fn list_places(&mut self, places: &[usize]) -> Result<(), AllocError>
+        requires within { All (λ p. p < length self.old.numbers.items) places.now }
+        requires sound { IsListing self.old }
+        ensures listed { OnOk result (self.new.order.items ≡ with_all_new nat_eq self.old.order.items places.now) }
+        ensures count { OnOk result (length self.new.numbers.items ≡ length self.old.numbers.items) }
+        ensures sound { OnOk result (IsListing self.new) }
+    {
+        for place in places {
+            self.list(*place)?;
+        }
+        Ok(())
+    }
+
+    /// The entries at these places in their order, each once. So many entries have a place.
+    pub fn of_places(alloc: Global, count: usize, places: &[usize]) -> Result<Listing, AllocError>
+        requires within { All (λ p. p < count) places.now }
+        ensures { IfOk result (λ l. listing_view l ≡ listed_places count places.now) }
+    {
+        let mut listing = Listing::new(alloc, count)?;
+        listing.list_places(places)?;
+        Ok(listing)
     }
 
     /// The bibliography's order of the entries of a table: those of the handed order first.

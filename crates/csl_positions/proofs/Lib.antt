@@ -4,3 +4,6 @@ pub mod Updates
 pub mod Known
 pub mod Tables
 pub mod Steps
+pub mod Halves
+pub mod FinalItems
+pub mod FinalRenders

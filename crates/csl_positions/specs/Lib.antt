@@ -1,2 +1,4 @@
 pub mod FirstProperties
 pub mod Seen
+pub mod FinalProperties
+pub mod FinalSteps
