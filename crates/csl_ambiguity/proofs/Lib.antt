@@ -9,4 +9,5 @@ pub mod Groups
 pub mod Growing
 pub mod Document
 pub mod Different
+pub mod Apart
 pub mod Sifted

@@ -1,13 +1,17 @@
 -- The classes of cites, of which those are kept that cite different entries.
 use Rattle.std.proofs.Common.{◌≡◌, ℕ, ◌+◌, Bool, true, false, cond, Option, Some, None, List, [], ◌∷◌, ◌++◌, length, map, filter, refl, ap, sym, subst, ◌∙◌, append-nil, append_assoc, arith}
-use Rattle.std.specs.Prelude.{All, bytes_eq, is_some, option_map, slice_get}
+use Rattle.std.specs.Prelude.{All, IsSome, bytes_eq, option_map, slice_get}
 use Rattle.std.specs.List.{AllByRecursion, enumerate_from, flat_map}
+use Rattle.std.specs.Option.{option_and_then}
 use Rattle.std.proofs.lemmas.List.{length-append}
 use Rattle.std.proofs.lemmas.List.Elements.{All-cons}
+use Rattle.csl_passes.specs.Places.{AreDistinct, IsPlace, cite_at}
 use Rattle.csl_passes.specs.Renders.{CiteRender, ItemRender, Place}
+use Rattle.csl_passes.specs.Request.{Request}
 use Rattle.csl_ambiguity.specs.Ambiguity.{ambiguous_groups, cite_different, class_of, classes, seconds, without_suffix}
-use Rattle.csl_ambiguity.specs.Members.{IsPlace, Member, document, member_at, members, one_or_none, place_of, request_cites, state_of, text_of}
+use Rattle.csl_ambiguity.specs.Members.{Member, document, member_at, members, one_or_none, place_of, request_cites, state_of, text_of}
 use Rattle.csl_lookup.specs.States.{may_get_suffix}
+use Rattle.csl_ambiguity.proofs.Apart.{classes-apart}
 use Rattle.csl_ambiguity.proofs.Distinct.{all-filter}
 
 all-append : {X : Type 0} (Q : X → Type 0) (xs ys : List X) → AllByRecursion Q xs → AllByRecursion Q ys → AllByRecursion Q (xs ++ ys)
@@ -26,21 +30,11 @@ module _ {E P : Type 0} (renders : List (CiteRender E P)) where
 
   cite-stands : (r k : ℕ) (c : CiteRender E P) (i : ItemRender E P) → slice_get renders r ≡ Some c → slice_get c.items k ≡ Some i
       → member_at renders (r, k) ≡ Some (record { place = (r, k); item = i; style = c.request.style })
-  cite-stands r k c i at there = outer (slice_get renders r) at
-    where
-      outer : (o : Option (CiteRender E P)) → o ≡ Some c
-          → ◌≡◌ {A = Option (Member E P)}
-          (elim o [
-            | None ↦ None
-            | Some d ↦ option_map (λ j. record { place = (r, k); item = j; style = d.request.style }) (slice_get d.items k)
-          ])
-          (Some (record { place = (r, k); item = i; style = c.request.style }))
-      outer None h = cc
-      outer (Some d) h =
-          let same : d ≡ c = cc in
-          let cite : CiteRender E P → ItemRender E P → Member E P = λ x j. record { place = (r, k); item = j; style = x.request.style } in
-          let read : CiteRender E P → Option (Member E P) = λ x. option_map (cite x) (slice_get x.items k) in
-          ap read same ∙ ap (option_map (cite c)) there
+  cite-stands r k c i at there =
+      let with_request : CiteRender E P → ItemRender E P → Request E P × ItemRender E P = λ x j. (x.request, j) in
+      let found : cite_at renders (r, k) ≡ Some (c.request, i) =
+      ap (option_and_then (λ x. option_map (with_request x) (slice_get x.items k))) at ∙ ap (option_map (with_request c)) there in
+      ap (option_map (λ (x : Request E P × ItemRender E P). record { place = (r, k); item = x.1; style = x.0.style })) found
 
   cites-stand : (r : ℕ) (c : CiteRender E P) (before items : List (ItemRender E P)) → slice_get renders r ≡ Some c → c.items ≡ before ++ items
       → AllByRecursion StandsThere (map (λ p. record { place = (r, p.0); item = p.1; style = c.request.style }) (enumerate_from (length before) items))
@@ -85,7 +79,15 @@ module _ {E P : Type 0} (renders : List (CiteRender E P)) where
 
   are-places : (ms : List (Member E P)) → AllByRecursion StandsThere ms → All (IsPlace renders) (map place_of ms)
   are-places [] h = λ k d within. absurd (omega (arith, within))
-  are-places (m ∷ ms) h = All-cons (IsPlace renders) m.place (map place_of ms) (ap is_some h.0) (are-places ms h.1)
+  are-places (m ∷ ms) h = All-cons (IsPlace renders) m.place (map place_of ms) (by (cite_at renders m.place) h.0) (are-places ms h.1)
+    where
+      by : (o : Option (Request E P × ItemRender E P)) → option_map (λ c. record { place = m.place; item = c.1; style = c.0.style }) o ≡ Some m → IsSome o
+      by None e = cc
+      by (Some c) e = refl
+
+  places-exist : (cs : List (List (Member E P))) → AllByRecursion (AllByRecursion StandsThere) cs → AllByRecursion (λ c. All (IsPlace renders) (map place_of c)) cs
+  places-exist [] h = tt
+  places-exist (c ∷ cs) h = (are-places c h.0, places-exist cs h.1)
 
   module _ (eq : E → E → Bool) where
     -- the cites at these places cite different entries
@@ -138,16 +140,26 @@ module _ {E P : Type 0} (renders : List (CiteRender E P)) where
     pub sift-end : (made left : List (List Place)) → left ≡ [] → IsSifted made left → made ≡ ambiguous_groups eq renders
     sift-end made left none h = sym (append-nil made) ∙ ap (λ gs. made ++ filter differ gs) (sym none) ∙ h.groups
 
-    places-all : (cs : List (List (Member E P))) → AllByRecursion (AllByRecursion StandsThere) cs → AllByRecursion (All (IsPlace renders)) (map (map place_of) cs)
-    places-all [] h = tt
-    places-all (c ∷ cs) h = (are-places c h.0, places-all cs h.1)
+    -- what holds of the places of each class holds of those of each group
+    module _ (Q : List Place → Type 0) (h : AllByRecursion (λ c. Q (map place_of c)) (classes (without_suffix (document renders)))) where
+      of-places : (cs : List (List (Member E P))) → AllByRecursion (λ c. Q (map place_of c)) cs → AllByRecursion Q (map (map place_of) cs)
+      of-places [] k = tt
+      of-places (c ∷ cs) k = (k.0, of-places cs k.1)
+
+      each-group : {V : Type 0} (items : V → List Place) (vs : List V) → map items vs ≡ ambiguous_groups eq renders → All (λ v. Q (items v)) vs
+      each-group {V} items vs same =
+          let all = classes (without_suffix (document renders)) in
+          let kept = filter (cite_different eq) all in
+          by vs (subst (AllByRecursion Q) (sym same) (of-places kept (all-filter (λ c. Q (map place_of c)) (cite_different eq) all h)))
+        where
+          by : (ws : List V) → AllByRecursion Q (map items ws) → All (λ v. Q (items v)) ws
+          by [] k = λ n d within. absurd (omega (arith, within))
+          by (w ∷ ws) k = All-cons (λ v. Q (items v)) w ws k.0 (by ws k.1)
 
     -- the cites of the groups exist
     pub groups-exist : {V : Type 0} (items : V → List Place) (vs : List V) → map items vs ≡ ambiguous_groups eq renders → All (λ v. All (IsPlace renders) (items v)) vs
-    groups-exist {V} items vs same =
-        let cs = filter (cite_different eq) (classes (without_suffix (document renders))) in
-        by vs (subst (AllByRecursion (All (IsPlace renders))) (sym same) (places-all cs (all-filter (AllByRecursion StandsThere) (cite_different eq) (classes (without_suffix (document renders))) classes-stand)))
-      where
-        by : (ws : List V) → AllByRecursion (All (IsPlace renders)) (map items ws) → All (λ v. All (IsPlace renders) (items v)) ws
-        by [] h = λ k d within. absurd (omega (arith, within))
-        by (w ∷ ws) h = All-cons (λ v. All (IsPlace renders) (items v)) w ws h.0 (by ws h.1)
+    groups-exist items vs same = each-group (All (IsPlace renders)) (places-exist _ classes-stand) items vs same
+
+    -- no place stands twice in a group
+    pub groups-distinct : {V : Type 0} (items : V → List Place) (vs : List V) → map items vs ≡ ambiguous_groups eq renders → All (λ v. AreDistinct (items v)) vs
+    groups-distinct items vs same = each-group AreDistinct (classes-apart renders) items vs same

@@ -1,10 +1,12 @@
 -- Loops over the places of a group.
 use Rattle.std.proofs.Common.{◌≡◌, ℕ, ◌+◌, ◌<◌, ◌≤◌, Bool, true, false, cond, ◌||◌, Option, Some, None, List, [], ◌∷◌, ◌++◌, length, drop, map, filter, get_or, refl, ap, sym, ◌∙◌, append-nil, append_assoc, add-one}
 use Rattle.std.specs.Prelude.{find, option_map}
-use Rattle.std.specs.List.{list_any, slice_get}
+use Rattle.std.specs.List.{list_any}
 use Rattle.std.proofs.Math.Seq.{drop-cons}
 use Rattle.std.proofs.lemmas.List.{drop_all}
+use Rattle.csl_passes.specs.Places.{cite_at}
 use Rattle.csl_passes.specs.Renders.{CiteRender, ItemRender, Place}
+use Rattle.csl_passes.specs.Request.{Request}
 use Rattle.csl_ambiguity.specs.Members.{Member, member_at, members}
 
 module _ {E P : Type 0} (renders : List (CiteRender E P)) (ps : List Place) (k : ℕ) (d : Place) where
@@ -26,19 +28,11 @@ some-inj x y h = cc
 
 module _ {E P : Type 0} (renders : List (CiteRender E P)) where
   at-place : (p : Place) (m : Member E P) → member_at renders p ≡ Some m → m.place ≡ p
-  at-place (r, n) m h = outer (slice_get renders r) h
+  at-place p m h = by (cite_at renders p) h
     where
-      inner : (c : CiteRender E P) (o : Option (ItemRender E P)) → option_map (λ i. record { place = (r, n); item = i; style = c.request.style }) o ≡ Some m → m.place ≡ (r, n)
-      inner c None h = cc
-      inner c (Some i) h = ap (λ x. x.place) (sym (some-inj _ _ h))
-
-      outer : (o : Option (CiteRender E P))
-          → elim o [
-            | None ↦ None
-            | Some c ↦ option_map (λ i. record { place = (r, n); item = i; style = c.request.style }) (slice_get c.items n)
-          ] ≡ Some m → m.place ≡ (r, n)
-      outer None h = cc
-      outer (Some c) h = inner c (slice_get c.items n) h
+      by : (o : Option (Request E P × ItemRender E P)) → option_map (λ c. record { place = p; item = c.1; style = c.0.style }) o ≡ Some m → m.place ≡ p
+      by None h = cc
+      by (Some c) h = ap (λ x. x.place) (sym (some-inj _ _ h))
 
   pub next : {X : Type 0} (f : Member E P → X) (ps : List Place) (k : ℕ) (d : Place) (x : X) → k < length ps → option_map f (member_at renders (get_or ps k d)) ≡ Some x
       → IsNext renders ps k d f x

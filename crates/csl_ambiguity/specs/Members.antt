@@ -1,9 +1,10 @@
 -- The cites of a document, and those at the places of a group, each with its place and its style.
-use Rattle.std.specs.Prelude.{ℕ, List, [], ◌∷◌, Option, None, Some, map, option_map, IsSome}
-use Rattle.std.specs.List.{enumerate_from, flat_map, slice_get}
+use Rattle.std.specs.Prelude.{ℕ, List, [], ◌∷◌, Option, None, Some, map, option_map}
+use Rattle.std.specs.List.{enumerate_from, flat_map}
 use Rattle.csl_base.specs.Style.{StyleValue}
 use Rattle.csl_base.specs.Tree.{plain}
 use Rattle.csl_lookup.specs.declared.state.DisambiguateState.{DisambiguateState}
+use Rattle.csl_passes.specs.Places.{cite_at}
 use Rattle.csl_passes.specs.Renders.{ItemRender, CiteRender, Place}
 
 pub record Member (E P : Type 0) : Type 0 where
@@ -36,10 +37,7 @@ module _ {E P : Type 0} where
 
   -- the cite at a place, if there is one
   abbrev pub member_at : List (CiteRender E P) → Place → Option (Member E P)
-  member_at renders (r, k) = elim (slice_get renders r) [
-    | None ↦ None
-    | Some c ↦ option_map (λ i. record { place = (r, k); item = i; style = c.request.style }) (slice_get c.items k)
-  ]
+  member_at renders place = option_map (λ cite. record { place = place; item = cite.1; style = cite.0.style }) (cite_at renders place)
 
   -- a list of it, if there is one
   abbrev pub one_or_none : Option (Member E P) → List (Member E P)
@@ -49,7 +47,3 @@ module _ {E P : Type 0} where
   -- the cites at these places
   abbrev pub members : List (CiteRender E P) → List Place → List (Member E P)
   members renders places = flat_map (λ p. one_or_none (member_at renders p)) places
-
-  -- a cite stands at the place
-  abbrev pub IsPlace : List (CiteRender E P) → Place → Type 0
-  IsPlace renders p = IsSome (member_at renders p)

@@ -3,8 +3,9 @@ ghost use Rattle.std.specs.Prelude.{◌≡◌, ◌++◌, ◌∷◌, [], All, IfO
 ghost use Rattle.std.specs.List.{list_any};
 ghost use Rattle.csl_ambiguity.specs.Ambiguity.{ambiguous_groups, cite_different, classes, without_suffix};
 ghost use Rattle.csl_ambiguity.specs.ClassesSoFar.{AreClassesOf};
-ghost use Rattle.csl_ambiguity.specs.Members.{IsPlace, Member, document, entry_of, members, place_of, request_cites};
+ghost use Rattle.csl_ambiguity.specs.Members.{Member, document, entry_of, members, place_of, request_cites};
 ghost use Rattle.csl_lookup.specs.States.{may_get_suffix};
+ghost use Rattle.csl_passes.specs.Places.{AreDistinct, IsPlace};
 ghost use Rattle.csl_passes.specs.RendersView.{item_view, render_view, renders_view};
 
 use crate::classes::Classes;
@@ -134,6 +135,7 @@ pub fn find_ambiguous_sets<T: EntryLike, P>(
 ) -> Result<Vec<AmbiguousGroup>, AllocError>
     ensures groups { IfOk result (λ v. map (λ g. g.items) v.items ≡ ambiguous_groups T.eq (renders_view renders.now)) }
     ensures exist { IfOk result (λ v. All (λ g. All (IsPlace (renders_view renders.now)) g.items) v.items) }
+    ensures distinct { IfOk result (λ v. All (λ g. AreDistinct g.items) v.items) }
 {
     let mut groups = Vec::new(alloc);
     for class in classes(alloc, renders)? {

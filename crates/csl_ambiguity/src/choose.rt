@@ -1,9 +1,10 @@
 //! Entries for which the test of `disambiguate` is made to hold.
 ghost use Rattle.std.specs.Prelude.{◌≡◌, ◌&&◌, All, IfOk, filter, find, map, not, option_map};
 ghost use Rattle.csl_ambiguity.specs.ChooseMarks.{asks, choose_marks, may_be_chosen};
-ghost use Rattle.csl_ambiguity.specs.Members.{IsPlace, entry_of, members};
+ghost use Rattle.csl_ambiguity.specs.Members.{entry_of, members};
 ghost use Rattle.csl_lookup.specs.States.{may_get_names};
 ghost use Rattle.csl_lookup.specs.declared.state.DisambiguateState.TheVariants.{Choose};
+ghost use Rattle.csl_passes.specs.Places.{IsPlace};
 ghost use Rattle.csl_passes.specs.RendersView.{renders_view};
 
 use crate::members::cite_at;

@@ -1,8 +1,9 @@
 //! The first cites of the entries of a group.
 ghost use Rattle.std.specs.Prelude.{◌≡◌, All, IfOk, map};
 ghost use Rattle.csl_ambiguity.specs.FirstCites.{first_of, firsts_view};
-ghost use Rattle.csl_ambiguity.specs.Members.{IsPlace, members};
+ghost use Rattle.csl_ambiguity.specs.Members.{members};
 ghost use Rattle.csl_ambiguity.specs.SuffixMarks.{first_cites};
+ghost use Rattle.csl_passes.specs.Places.{IsPlace};
 ghost use Rattle.csl_passes.specs.RendersView.{renders_view};
 
 use crate::members::cite_at;

@@ -2,9 +2,10 @@
 ghost use Rattle.std.specs.Prelude.{◌≡◌, All, IfOk, map};
 ghost use Rattle.std.specs.List.{enumerate_from, list_any};
 ghost use Rattle.csl_ambiguity.specs.FirstCites.{firsts_view};
-ghost use Rattle.csl_ambiguity.specs.Members.{IsPlace, members};
+ghost use Rattle.csl_ambiguity.specs.Members.{members};
 ghost use Rattle.csl_ambiguity.specs.SuffixMarks.{adds_suffix, has_date, shows, shows_date, shows_dates, suffix_marks, year_suffix_marks};
 ghost use Rattle.csl_lookup.specs.declared.state.DisambiguateState.TheVariants.{YearSuffix};
+ghost use Rattle.csl_passes.specs.Places.{IsPlace};
 ghost use Rattle.csl_passes.specs.RendersView.{item_view, items_view, renders_view};
 
 use crate::first_cites::{FirstCite, first_cites};

@@ -16,7 +16,8 @@ use Rattle.csl_passes.specs.Request.{Request}
 use Rattle.csl_passes.specs.RequestView.{request_view}
 use Rattle.csl_passes.specs.declared.renders.SpeculativeCiteRender.{SpeculativeCiteRender}
 use Rattle.csl_passes.specs.declared.renders.SpeculativeItemRender.{SpeculativeItemRender}
-use Rattle.csl_name_marks.specs.Members.{cite_at, first_adds_names, greatest_step, member, member_at, members}
+use Rattle.csl_passes.specs.Places.{IsPlace, cite_at}
+use Rattle.csl_name_marks.specs.Members.{first_adds_names, greatest_step, member, member_at, members}
 use Rattle.csl_name_marks.specs.NameMarks.{mark, marks_after, name_marks}
 use Rattle.csl_name_marks.specs.Steps.{is_at, step, steps}
 use Rattle.csl_name_marks.specs.declared.member.Member.{Member}
@@ -85,7 +86,7 @@ seen-at v xs i x h e = slice_get-map v xs i ∙ ap (option_map v) (slice_get-get
 
 module _ {T P : Type 0} (renders : List (SpeculativeCiteRender T P)) (place : Place) (cite : SpeculativeCiteRender T P) (item : SpeculativeItemRender T P) where
   -- the member at a place, from the cite and the item there
-  pub member-found : (m : Member) → IsSome (cite_at (renders_view renders) place) → cite ≡ get_or renders place.0 cite
+  pub member-found : (m : Member) → IsPlace (renders_view renders) place → cite ≡ get_or renders place.0 cite
       → item ≡ get_or cite.items.items place.1 item → m ≡ member place (request_view cite.request.now) (item_view item)
       → member_at (renders_view renders) place ≡ Some m
   member-found m some c i e =

@@ -1,12 +1,13 @@
 -- The members of an ambiguous group, as name marks see them.
-use Rattle.std.specs.Prelude.{◌≢◌, ℕ, Bool, false, List, [], ◌∷◌, Option, None, Some, All, AllPairs, IsSome, if◌then◌else◌, length, map, max, slice_get}
+use Rattle.std.specs.Prelude.{ℕ, Bool, false, List, [], ◌∷◌, Option, None, Some, if◌then◌else◌, length, map, max}
 use Rattle.std.specs.List.{filter_map}
-use Rattle.std.specs.Option.{option_and_then, option_map}
+use Rattle.std.specs.Option.{option_map}
 use Rattle.csl_base.specs.Style.{CitationValue}
 use Rattle.csl_base.specs.declared.names.NameDisambiguationProperties.{NameDisambiguationProperties}
 use Rattle.csl_base.specs.declared.style.DisambiguationRule.{DisambiguationRule}
 use Rattle.csl_lookup.specs.States.{may_get_names}
 use Rattle.csl_lookup.specs.declared.state.DisambiguateState.{DisambiguateState}
+use Rattle.csl_passes.specs.Places.{cite_at}
 use Rattle.csl_passes.specs.Renders.{CiteRender, ItemRender, Place}
 use Rattle.csl_passes.specs.Request.{Request}
 use Rattle.csl_name_marks.specs.Persons.{persons}
@@ -33,29 +34,16 @@ module _ {E P : Type 0} where
     start = start item.properties.speculative.disambiguation item.first_name;
   }
 
-  -- the cite at a place, with its request, if there is one
-  abbrev pub cite_at : List (CiteRender E P) → Place → Option (Request E P × ItemRender E P)
-  cite_at renders place =
-      option_and_then (λ cite. option_map (λ item. (cite.request, item)) (slice_get cite.items place.1)) (slice_get renders place.0)
-
   abbrev pub member_at : List (CiteRender E P) → Place → Option Member
   member_at renders place = option_map (λ cite. member place cite.0 cite.1) (cite_at renders place)
 
   abbrev pub members : List (CiteRender E P) → List Place → List Member
   members renders group = filter_map (member_at renders) group
 
-  -- each place of the group is that of a cite
-  abbrev pub ArePlaces : List (CiteRender E P) → List Place → Type 0
-  ArePlaces renders group = All (λ place. IsSome (cite_at renders place)) group
-
   -- the style of the document's first request adds names
   abbrev pub first_adds_names : List (CiteRender E P) → Bool
   first_adds_names [] = false
   first_adds_names (cite ∷ cites) = cite.request.style.citation.disambiguate_add_names
-
--- no place stands twice
-abbrev pub AreDistinct : List Place → Type 0
-AreDistinct group = AllPairs (λ a b. a ≢ b) group
 
 abbrev pub greatest : List ℕ → ℕ
 greatest [] = 0

@@ -1,8 +1,9 @@
 //! The members of an ambiguous group, found by their places.
-ghost use Rattle.std.specs.Prelude.{◌≡◌, ◌<◌, length, IfOk};
+ghost use Rattle.std.specs.Prelude.{◌≡◌, All, IfOk};
+ghost use Rattle.csl_passes.specs.Places.{IsPlace};
 ghost use Rattle.csl_passes.specs.RendersView.{item_view, renders_view};
 ghost use Rattle.csl_passes.specs.RequestView.{request_view};
-ghost use Rattle.csl_name_marks.specs.Members.{ArePlaces, first_adds_names, greatest_step, member, members};
+ghost use Rattle.csl_name_marks.specs.Members.{first_adds_names, greatest_step, member, members};
 
 use crate::member::{Member, rule_of, start_of};
 use crate::persons::persons_of;
@@ -34,7 +35,7 @@ pub(crate) fn members_of<T, P>(
     renders: &[SpeculativeCiteRender<'_, '_, T, P>],
     group: &[(usize, usize)],
 ) -> Result<Vec<Member>, AllocError>
-    requires { ArePlaces (renders_view renders.now) group.now }
+    requires exist { All (IsPlace (renders_view renders.now)) group.now }
     ensures { IfOk result (λ v. v.items ≡ members (renders_view renders.now) group.now) }
 {
     let mut found = Vec::new(alloc);
@@ -48,10 +49,12 @@ pub(crate) fn members_of<T, P>(
 
 /// Whether the style of the first request adds names.
 pub(crate) fn first_adds_names<T, P>(renders: &[SpeculativeCiteRender<'_, '_, T, P>]) -> bool
-    requires { 0 < length renders.now }
     ensures { result ≡ first_adds_names (renders_view renders.now) }
 {
-    renders[0].request.style().citation.disambiguate_add_names
+    match renders.first() {
+        Some(cite) => cite.request.style().citation.disambiguate_add_names,
+        None => false,
+    }
 }
 
 /// How many names may be tried.

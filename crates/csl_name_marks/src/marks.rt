@@ -1,9 +1,9 @@
 //! The marks that tell the cites of an ambiguous group apart by their names (CSL 1.0.2,
 //! disambiguation).
-ghost use Rattle.std.specs.Prelude.{◌≡◌, ◌<◌, fold, length, zip, IfOk, OnOk};
+ghost use Rattle.std.specs.Prelude.{◌≡◌, fold, length, zip, All, IfOk, OnOk};
 ghost use Rattle.std.specs.List.{filter_map};
+ghost use Rattle.csl_passes.specs.Places.{AreDistinct, IsPlace};
 ghost use Rattle.csl_passes.specs.RendersView.{renders_view};
-ghost use Rattle.csl_name_marks.specs.Members.{AreDistinct, ArePlaces};
 ghost use Rattle.csl_name_marks.specs.NameMarks.{after_step, is_by_cite, mark, marks_after, name_marks};
 ghost use Rattle.csl_name_marks.specs.Steps.{step, steps};
 
@@ -119,7 +119,7 @@ fn group_marks(alloc: Global, group: &[Member], greatest: usize) -> Result<Marks
 /// own step it is, and whose style adds given names by cite, gets that name's form raised first. The
 /// mark of a member is the state that it has after all steps; it may be that which it had.
 ///
-/// The places have to be those of cites, none twice, and there has to be a request.
+/// The places have to be those of cites, none twice.
 ///
 /// # Errors
 ///
@@ -129,8 +129,7 @@ pub fn disambiguate_names<T, P>(
     renders: &[SpeculativeCiteRender<'_, '_, T, P>],
     group: &AmbiguousGroup,
 ) -> Result<Marks, AllocError>
-    requires asked { 0 < length renders.now }
-    requires places { ArePlaces (renders_view renders.now) group.now.items }
+    requires exist { All (IsPlace (renders_view renders.now)) group.now.items }
     requires distinct { AreDistinct group.now.items }
     ensures { IfOk result (λ marks. marks.items ≡ name_marks (renders_view renders.now) group.now.items) }
 {

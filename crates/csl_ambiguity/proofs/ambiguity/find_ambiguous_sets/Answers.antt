@@ -3,7 +3,7 @@ use Rattle.std.specs.Vec.Iter.{into_iter_items}
 use Rattle.std.proofs.lemmas.List.{nil_from_length}
 use Rattle.csl_passes.specs.RendersView.{renders_view}
 use Rattle.csl_ambiguity.specs.Ambiguity.{ambiguous_groups}
-use Rattle.csl_ambiguity.proofs.Sifted.{groups-exist, next-exists, sift-end, sift-more, sift-start}
+use Rattle.csl_ambiguity.proofs.Sifted.{groups-distinct, groups-exist, next-exists, sift-end, sift-more, sift-start}
 use Rattle.csl_ambiguity.proofs.ambiguity.find_ambiguous_sets.Goals as goal
 
 pub loop-class-init : goal.loop-class-init
@@ -33,3 +33,6 @@ returns-clause-groups g c = groups g c
 
 pub returns-clause-exist : goal.returns-clause-exist
 returns-clause-exist g c = groups-exist (renders_view c.args.renders.now) g.T.PartialEq.eq (λ v. v.items) c.loop-class.groups.items (groups g c)
+
+pub returns-clause-distinct : goal.returns-clause-distinct
+returns-clause-distinct g c = groups-distinct (renders_view c.args.renders.now) g.T.PartialEq.eq (λ v. v.items) c.loop-class.groups.items (groups g c)

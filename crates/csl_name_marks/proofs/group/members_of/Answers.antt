@@ -11,5 +11,5 @@ loop-place-preserved g c =
     let m = c.in_ok-member_of.field-0 in
     filter_map-more (member_at (renders_view c.args.renders.now)) c.args.group.now c.loop-place.place-index place m c.loop-place-test.true (same-default c.args.group.now c.loop-place.place-index (0, 0) place c.loop-place-test.true)
     (member-found c.args.renders.now place c.index-renders-place.result c.index-item.result.now m
-    (c.requires c.loop-place.place-index (0, 0) c.loop-place-test.true) c.index-renders-place.is c.index-item.ensures c.in_ok-member_of.ensures)
+    (c.requires.exist c.loop-place.place-index (0, 0) c.loop-place-test.true) c.index-renders-place.is c.index-item.ensures c.in_ok-member_of.ensures)
     c.loop-place.invariant c.in_ok-push.ensures.items
