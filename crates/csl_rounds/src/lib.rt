@@ -1,5 +1,7 @@
 //! The first renders of cites, and the rounds in which cites that read alike are told apart.
 #![tactic(auto)]
 
+pub mod contexts;
 pub mod first_renders;
+pub mod last_tree;
 pub mod rounds;
