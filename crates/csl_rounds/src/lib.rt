@@ -3,5 +3,4 @@
 
 pub mod contexts;
 pub mod first_renders;
-pub mod last_tree;
 pub mod rounds;
