@@ -1,14 +1,16 @@
 #!/usr/bin/env python3
 """run.py PROGRAM: runs a built cite_run on each document of this folder and of examples/, side by side, and compares
 standard output, exit status and the line on standard error. Then it tries what only a process can show, holds the
-documents to docs/document.schema.json, compares PROGRAM with model/ on random documents, and the model with documents
-that were worked out by hand (model/worked).
+documents to docs/document.schema.json, compares PROGRAM with model/ on random documents, and the model with those
+documents that show how cites work together.
 
 A document is NAME.json. NAME.txt is what it must print; where the status isn't 0, NAME.status has it, and nothing is
 printed. What is expected was worked out by hand from the rules, never taken from the program. The folders:
 rows/ whole runs; layouts/ each kind of element; words/ locales, terms, quotes and punctuation; purposes/ what cites are
 written for; keywords/ each name of a variable, term, form and so on; parts/ each kind of object with all its keys;
-hostile/ depth; refused/ what the program and the schema refuse; beyond_schema/ what the program alone refuses.
+disambiguation/, grouping/, collapsing/ and bibliography/ how cites and items work together (each with a README.md that
+tells why a document prints what it does); hostile/ depth; refused/ what the program and the schema refuse;
+beyond_schema/ what the program alone refuses.
 The last line is 'N passed, M failed', and the exit status is 1 where a test failed."""
 import difflib
 import json
@@ -115,7 +117,7 @@ def strays():
         wanted(base)
     known = {base + ending for base in documents() for ending in ('.json', '.txt', '.status')}
     folders = {os.path.dirname(base) for base in documents()}
-    lost = [it.path for folder in folders for it in os.scandir(folder) if it.path not in known]
+    lost = [it.path for folder in folders for it in os.scandir(folder) if it.path not in known and it.name != 'README.md']
     if lost:
         raise Failed('no document is beside ' + ', '.join(os.path.relpath(it, ROOT) for it in lost))
 
@@ -345,9 +347,12 @@ def model(program):
         raise Failed(shortened(done.stdout, 4000))
 
 
+TOGETHER = [HERE + '/' + it for it in ('disambiguation', 'grouping', 'collapsing', 'bibliography')] + [ROOT + '/examples']
+
+
 def worked(folder):
-    """The model gives what was worked out by hand, whole."""
-    words = [sys.executable, 'rows.py', folder, 'whole']
+    """The model gives what was worked out by hand."""
+    words = [sys.executable, 'rows.py', folder]
     done = subprocess.run(words, cwd=ROOT + '/model', stdout=subprocess.PIPE, stderr=subprocess.STDOUT)
     if done.returncode:
         raise Failed(shortened(done.stdout, 4000))
@@ -366,7 +371,7 @@ def main():
     tests = [('model: %d random documents' % RANDOM_DOCUMENTS, model, program)]
     tests += [('process: ' + it.__name__.replace('_', ' '), it, program) for it in reversed(PROCESSES)]
     tests += [(name_of(it), document, program, it) for it in bases]
-    tests += [('model: ' + name_of(it), worked, it) for it in folders_of(ROOT + '/model/worked')]
+    tests += [('model: ' + name_of(it), worked, it) for it in TOGETHER]
     tests.append(('files of the folders', strays))
     by_schema = [('schema: ' + name_of(it), schema, validator, it) for it in bases if validator]
     failed = []

@@ -1,6 +1,6 @@
 -- The items of a bibliography, from the first cites of its entries.
-use Rattle.std.specs.Prelude.{Bool, List, [], map, Option, None, if◌then◌else◌, is_some, unwrap_or}
-use Rattle.std.specs.List.{find, remove, position_or_len}
+use Rattle.std.specs.Prelude.{Bool, List, [], map, Option, None, if◌then◌else◌, is_some, option_map, unwrap_or}
+use Rattle.std.specs.List.{filter_map, find, remove, position_or_len}
 use Rattle.csl_base.specs.Answers.{Answers}
 use Rattle.csl_base.specs.Child.{Child}
 use Rattle.csl_base.specs.Metas.{child_has_any_meta}
@@ -8,9 +8,11 @@ use Rattle.csl_base.specs.Simplify.{simplified}
 use Rattle.csl_base.specs.Style.{BibliographyValue}
 use Rattle.csl_lookup.specs.Lookup.{Source}
 use Rattle.csl_lookup.specs.Properties.{Properties}
-use Rattle.csl_passes.specs.Renders.{ItemRender}
+use Rattle.csl_passes.specs.Places.{cite_at}
+use Rattle.csl_passes.specs.Renders.{CiteRender, ItemRender, Place}
 use Rattle.csl_substitution.specs.Substitution.{Item, substituted}
 use Rattle.csl_writing.specs.CiteText.{bibliography_text}
+use Rattle.csl_assembly.specs.ChildOf.{child_of}
 use Rattle.csl_assembly.specs.declared.rendered.BibliographyItem.{BibliographyItem}
 use Rattle.csl_assembly.specs.declared.rendered.RenderedBibliography.{RenderedBibliography}
 
@@ -18,14 +20,18 @@ use Rattle.csl_assembly.specs.declared.rendered.RenderedBibliography.{RenderedBi
 -- first child that stands for something, stands apart
 abbrev pub with_first_field : Bool → Item → BibliographyItem
 with_first_field aligned (tree, key) =
-    if aligned then record { key = key; first_field = find child_has_any_meta tree; content = remove tree (position_or_len child_has_any_meta tree) }
+    if aligned then record { key = key; first_field = option_map child_of (find child_has_any_meta tree); content = remove tree (position_or_len child_has_any_meta tree) }
     else record { key = key; first_field = None; content = tree }
 
-module _ {E P : Type 0} (answers : E → Answers) (source : Source) where
-  -- what holds of a cite, without its locator
-  abbrev pub unlocated : ItemRender E P → Properties P
-  unlocated i = record i.properties { speculative = record i.properties.speculative { locator = None } }
+-- the cites at these places
+abbrev pub cites_at : {E P : Type 0} → List (CiteRender E P) → List Place → List (ItemRender E P)
+cites_at renders places = filter_map (λ p. option_map (λ c. c.1) (cite_at renders p)) places
 
+-- what holds of a cite, without its locator
+abbrev pub unlocated : {E P : Type 0} → ItemRender E P → Properties P
+unlocated i = record i.properties { speculative = record i.properties.speculative { locator = None } }
+
+module _ {E P : Type 0} (answers : E → Answers) (source : Source) where
   -- the entry of a cite as the bibliography writes it by what holds of the cite, and its key
   abbrev pub written_item : ItemRender E P → Item
   written_item i = (simplified (unwrap_or (bibliography_text source (answers i.entry) (unlocated i)) []), (answers i.entry).key)

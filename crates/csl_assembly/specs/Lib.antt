@@ -2,4 +2,5 @@ pub mod Assembly
 pub mod LastTree
 pub mod CitationTree
 pub mod ShownView
+pub mod ChildOf
 pub mod BibliographyItems

@@ -90,7 +90,7 @@ fn push_cites(
     cites: Vec<ShownCite<'_>>,
     formatting: Formatting,
 ) -> Result<(), AllocError>
-    ensures { OnOk result (tree.new ≡ tree.old ++ joined formatting (shown_views cites.items)) }
+    ensures { OnOk result (tree.new ≡ tree.old ++ joined formatting (shown_views cites.entry.items)) }
 {
     let mut is_first = true;
     for cite in cites {
@@ -155,7 +155,7 @@ fn enclosed(
     cites: Vec<ShownCite<'_>>,
     encloses: bool,
 ) -> Result<ElemChildren, AllocError>
-    ensures { IfOk result (λ tree. tree ≡ enclosed encloses (layout_view layout.now) (shown_views cites.items)) }
+    ensures { IfOk result (λ tree. tree ≡ enclosed encloses (layout_view layout.now) (shown_views cites.entry.items)) }
 {
     let formatting = layout_formatting(layout);
     let mut tree = room_for(alloc, cites.len())?;
@@ -181,7 +181,7 @@ pub fn assembled(
     cites: Vec<ShownCite<'_>>,
     encloses: bool,
 ) -> Result<ElemChildren, AllocError>
-    ensures { IfOk result (λ tree. tree ≡ assembled encloses (layout_view layout.now) (shown_views cites.items)) }
+    ensures { IfOk result (λ tree. tree ≡ assembled encloses (layout_view layout.now) (shown_views cites.entry.items)) }
 {
     if cites.is_empty() {
         return Ok(ElemChildren::new(alloc));

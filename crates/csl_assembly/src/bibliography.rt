@@ -1,15 +1,15 @@
 //! The bibliography of an answer.
-ghost use Rattle.std.specs.Prelude.{◌≡◌, IfOk, OnOk, map, is_some, option_map};
+ghost use Rattle.std.specs.Prelude.{◌≡◌, All, IfOk, map, option_map, Some, string_bytes};
 ghost use Rattle.csl_base.specs.Ring.{HasNoRing};
 ghost use Rattle.csl_base.specs.StyleView.{bibliography_view, style_view};
 ghost use Rattle.csl_lookup.specs.PropertiesView.{properties_view};
-ghost use Rattle.csl_passes.specs.RendersView.{item_view};
+ghost use Rattle.csl_passes.specs.Places.{IsPlace, cite_at};
+ghost use Rattle.csl_passes.specs.RendersView.{item_view, renders_view};
 ghost use Rattle.csl_passes.specs.Request.{wanted_source};
 ghost use Rattle.csl_passes.specs.RequestView.{wanted_view};
 ghost use Rattle.csl_substitution.specs.ItemView.{items_view};
-ghost use Rattle.csl_substitution.specs.Substitution.{substituted};
 ghost use Rattle.csl_writing.specs.ContextSource.{context_source};
-ghost use Rattle.csl_assembly.specs.BibliographyItems.{bibliography_of, unlocated, with_first_field, written_item};
+ghost use Rattle.csl_assembly.specs.BibliographyItems.{bibliography_of, cites_at, unlocated, with_first_field, written_item};
 
 use crate::assemble::optional_str;
 use crate::rendered::{BibliographyItem, RenderedBibliography};
@@ -19,7 +19,7 @@ use csl_base::locale::LocaleCode;
 use csl_base::seq::Seq;
 use csl_base::style::Bibliography;
 use csl_base::text::Text;
-use csl_passes::renders::SpeculativeItemRender;
+use csl_passes::renders::{SpeculativeCiteRender, SpeculativeItemRender};
 use csl_passes::request::BibliographyRequest;
 use csl_substitution::substitution::substitute_subsequent_authors;
 use csl_writing::counter::Renders;
@@ -68,22 +68,37 @@ fn written_item<T: EntryLike, P: Drop>(
     Ok((content, String::from_str(alloc, first.entry.key())?))
 }
 
-/// The entries of these cites, as the bibliography writes them.
+/// The cite at a place.
+fn cite_at<'c, 'a, T, P>(
+    cites: &'c [SpeculativeCiteRender<'_, 'a, T, P>],
+    place: (usize, usize),
+) -> &'c SpeculativeItemRender<'a, T, P>
+    requires exists { IsPlace (renders_view cites.now) place }
+    ensures { option_map (λ c. c.1) (cite_at (renders_view cites.now) place) ≡ Some (item_view result.now) }
+{
+    let (request, cite) = place;
+    &cites[request].items[cite]
+}
+
+/// The entries of the cites at these places, as the bibliography writes them.
 fn written_items<T: EntryLike, P: Drop>(
     alloc: Global,
     wanted: &BibliographyRequest<'_, '_, T>,
-    firsts: &[&SpeculativeItemRender<'_, T, P>],
+    cites: &[SpeculativeCiteRender<'_, '_, T, P>],
+    firsts: &[(usize, usize)],
     renders: &mut Renders,
 ) -> Result<Vec<(ElemChildren, String)>, AllocError>
     requires no_ring { HasNoRing (style_view wanted.now.style.now).macros }
-    ensures { IfOk result (λ items. items_view items.items
-        ≡ map (written_item T.answers (wanted_source (wanted_view wanted.now))) (map (λ i. item_view i.now) firsts.now)) }
+    requires exist { All (IsPlace (renders_view cites.now)) firsts.now }
+    ensures { IfOk result (λ made. items_view made.items
+        ≡ map (written_item T.answers (wanted_source (wanted_view wanted.now))) (cites_at (renders_view cites.now) firsts.now)) }
 {
     let context = wanted_context(wanted);
     let locale = wanted.locale.as_ref();
     let mut items = Vec::with_capacity(alloc, firsts.len())?;
-    for first in firsts {
-        items.push(written_item(alloc, &context, locale, *first, renders)?)?;
+    for place in firsts {
+        let first = cite_at(cites, *place);
+        items.push(written_item(alloc, &context, locale, first, renders)?)?;
     }
     Ok(items)
 }
@@ -110,7 +125,7 @@ fn with_first_fields(
     aligned: bool,
     items: Vec<(ElemChildren, String)>,
 ) -> Result<Vec<BibliographyItem>, AllocError>
-    ensures { IfOk result (λ v. v.items ≡ map (with_first_field aligned) (items_view items.items)) }
+    ensures { IfOk result (λ v. v.items ≡ map (with_first_field aligned) (items_view items.entry.items)) }
 {
     let mut finished = Vec::with_capacity(alloc, items.len())?;
     for (content, key) in items {
@@ -119,8 +134,8 @@ fn with_first_fields(
     Ok(finished)
 }
 
-/// The bibliography of a style: an item for each of these cites, which are the first ones of its entries, in
-/// its order. Each is written by what holds of its cite, but without a locator; then names that it shares
+/// The bibliography of a style: an item for each of the cites at these places, which are the first ones of
+/// its entries, in its order. Each is written by what holds of its cite, but without a locator; then names that it shares
 /// with one before it are substituted, and where second fields are aligned its first field, the first child
 /// of its tree that stands for something, is taken out. The style may have no macros that call each
 /// other in a ring.
@@ -131,14 +146,16 @@ pub fn bibliography_of<T: EntryLike, P: Drop>(
     alloc: Global,
     wanted: &BibliographyRequest<'_, '_, T>,
     bibliography: &Bibliography,
-    firsts: &[&SpeculativeItemRender<'_, T, P>],
+    cites: &[SpeculativeCiteRender<'_, '_, T, P>],
+    firsts: &[(usize, usize)],
     renders: &mut Renders,
 ) -> Result<RenderedBibliography, AllocError>
     requires no_ring { HasNoRing (style_view wanted.now.style.now).macros }
+    requires exist { All (IsPlace (renders_view cites.now)) firsts.now }
     ensures { IfOk result (λ r. r
-        ≡ bibliography_of T.answers (wanted_source (wanted_view wanted.now)) (bibliography_view bibliography.now) (map (λ i. item_view i.now) firsts.now)) }
+        ≡ bibliography_of T.answers (wanted_source (wanted_view wanted.now)) (bibliography_view bibliography.now) (cites_at (renders_view cites.now) firsts.now)) }
 {
-    let mut items = written_items(alloc, wanted, firsts, renders)?;
+    let mut items = written_items(alloc, wanted, cites, firsts, renders)?;
     let substitute = optional_str(&bibliography.subsequent_author_substitute);
     let rule = bibliography.subsequent_author_substitute_rule;
     substitute_subsequent_authors(alloc, substitute, rule, &mut items)?;
