@@ -2,7 +2,7 @@
 use Rattle.std.proofs.Common.{◌≡◌, ℕ, Bool, true, false, cond, ◌&&◌, ◌||◌, List, [], ◌∷◌, ◌++◌, Option, Some, None, is_some, length, map, get_or, set, find, replicate, option_and_then, refl, ap, sym, ◌∙◌}
 use Rattle.std.specs.Cmp.{IsEquivalence}
 use Rattle.std.specs.List.{list_any}
-use Rattle.std.specs.Option.{option_or}
+use Rattle.std.specs.Option.{option_and, option_or}
 use Rattle.std.proofs.lemmas.List.{map-append}
 use Rattle.csl_entries.specs.Entries.{is_in, place}
 use Rattle.csl_entries.specs.Laws.{NoTwoEqual}
@@ -82,55 +82,59 @@ module _ {E P : Type 0} (eq : E → E → Bool) where
         ap (λ l. is_in eq e l) (map-append (λ k. k.entry) js (c ∷ [])) ∙ is_in-append eq laws e (entries_of js) (c.entry ∷ [])
         ∙ ap (λ b. is_in eq e (entries_of js) || b) (or_false (eq e c.entry))
 
-    -- what the notes before say, and that of r with the cites so far
-    first-of : (rs : List (Request E P)) (r : Request E P) (n : ℕ) → r.note_number ≡ Some n → (js : List (Cite E P)) (e : E)
-        → first_note eq e (rs ++ with_cites r js ∷ []) ≡ option_or (first_note eq e rs) (cond (cites_entry eq e (with_cites r js)) (Some n) None)
-    first-of rs r n number js e =
-        first_note-push eq e rs (with_cites r js) ∙ ap (λ o. option_or (first_note eq e rs) (cond (cites_entry eq e (with_cites r js)) o None)) number
-
-    last-of : (rs : List (Request E P)) (r : Request E P) (n : ℕ) → r.note_number ≡ Some n → (js : List (Cite E P)) (e : E)
-        → last_place (notes_entry eq e) (rs ++ with_cites r js ∷ []) ≡ cond (cites_entry eq e (with_cites r js)) (Some (length rs)) (last_place (notes_entry eq e) rs)
-    last-of rs r n number js e =
-        last_place-push (notes_entry eq e) rs (with_cites r js)
-        ∙ ap (λ o. cond (is_some o && cites_entry eq e (with_cites r js)) (Some (length rs)) (last_place (notes_entry eq e) rs)) number
-
-    -- one more noted cite
-    pub noted-more : (cs : List E) (rs : List (Request E P)) (r : Request E P) (n : ℕ) → r.note_number ≡ Some n → (js : List (Cite E P)) (c : Cite E P)
-        (es : List E) → NoTwoEqual eq es → is_in eq c.entry es ≡ true → (s : Seen)
-        → s ≡ seen_of eq cs (rs ++ with_cites r js ∷ []) c.entry
-        → set (map (seen_of eq cs (rs ++ with_cites r js ∷ [])) es) (place eq c.entry es) (record s { first_note = option_or s.first_note (Some n); last_noted = Some (length rs) })
+    -- one more cite of r, which is noted where r has a note number
+    pub noted-more : (cs : List E) (rs : List (Request E P)) (r : Request E P) (js : List (Cite E P)) (c : Cite E P) (es : List E) → NoTwoEqual eq es → is_in eq c.entry es ≡ true
+        → (s : Seen) → s ≡ seen_of eq cs (rs ++ with_cites r js ∷ []) c.entry
+        → set (map (seen_of eq cs (rs ++ with_cites r js ∷ [])) es) (place eq c.entry es)
+        (record s { first_note = option_or s.first_note r.note_number; last_noted = option_or (option_and r.note_number (Some (length rs))) s.last_noted })
         ≡ map (seen_of eq cs (rs ++ with_cites r (js ++ c ∷ []) ∷ [])) es
-    noted-more cs rs r n number js c es once there s at =
+    noted-more cs rs r js c es once there s at =
         map-set_at eq (seen_of eq cs (rs ++ with_cites r js ∷ [])) c.entry laws (seen_of eq cs (rs ++ with_cites r (js ++ c ∷ []) ∷ []))
-        (record s { first_note = option_or s.first_note (Some n); last_noted = Some (length rs) })
+        (record s { first_note = option_or s.first_note r.note_number; last_noted = option_or (option_and r.note_number (Some (length rs))) s.last_noted })
         (λ d h. known-equal cs (rs ++ with_cites r (js ++ c ∷ []) ∷ []) c.entry d h ∙ own) miss es once there
       where
-        twice : (o : Option ℕ) (b : Bool) → option_or o (Some n) ≡ option_or (option_or o (cond b (Some n) None)) (Some n)
-        twice (Some m) b = refl
-        twice None true = refl
-        twice None false = refl
+        first-again : (o n : Option ℕ) (b : Bool) → option_or o n ≡ option_or (option_or o (cond b n None)) n
+        first-again (Some m) n b = refl
+        first-again None n true = by n
+          where
+            by : (n : Option ℕ) → n ≡ option_or n n
+            by None = refl
+            by (Some k) = refl
+        first-again None n false = refl
 
-        own : seen_of eq cs (rs ++ with_cites r (js ++ c ∷ []) ∷ []) c.entry ≡ record s { first_note = option_or s.first_note (Some n); last_noted = Some (length rs) }
+        last-again : (n l : Option ℕ) (k : ℕ) (b : Bool) → cond (is_some n && true) (Some k) l ≡ option_or (option_and n (Some k)) (cond (is_some n && b) (Some k) l)
+        last-again None l k b = refl
+        last-again (Some n) l k b = refl
+
+        own : seen_of eq cs (rs ++ with_cites r (js ++ c ∷ []) ∷ []) c.entry
+            ≡ record s { first_note = option_or s.first_note r.note_number; last_noted = option_or (option_and r.note_number (Some (length rs))) s.last_noted }
         own =
             let e = c.entry in
+            let n = r.note_number in
             let cites : cites_entry eq e (with_cites r (js ++ c ∷ [])) ≡ true = cites-more r js c e ∙ rw (laws.refl e) (or_true (cites_entry eq e (with_cites r js))) in
-            let first : first_note eq e (rs ++ with_cites r (js ++ c ∷ []) ∷ []) ≡ option_or s.first_note (Some n) =
-            first-of rs r n number (js ++ c ∷ []) e ∙ ap (λ b. option_or (first_note eq e rs) (cond b (Some n) None)) cites
-            ∙ twice (first_note eq e rs) (cites_entry eq e (with_cites r js)) ∙ ap (λ o. option_or o (Some n)) (sym (first-of rs r n number js e) ∙ sym (ap (λ t. t.first_note) at)) in
-            let last : last_place (notes_entry eq e) (rs ++ with_cites r (js ++ c ∷ []) ∷ []) ≡ Some (length rs) =
-            last-of rs r n number (js ++ c ∷ []) e ∙ ap (λ b. cond b (Some (length rs)) (last_place (notes_entry eq e) rs)) cites in
+            let first : first_note eq e (rs ++ with_cites r (js ++ c ∷ []) ∷ []) ≡ option_or s.first_note n =
+            first_note-push eq e rs (with_cites r (js ++ c ∷ [])) ∙ ap (λ b. option_or (first_note eq e rs) (cond b n None)) cites
+            ∙ first-again (first_note eq e rs) n (cites_entry eq e (with_cites r js))
+            ∙ ap (λ o. option_or o n) (sym (first_note-push eq e rs (with_cites r js)) ∙ sym (ap (λ t. t.first_note) at)) in
+            let last : last_place (notes_entry eq e) (rs ++ with_cites r (js ++ c ∷ []) ∷ []) ≡ option_or (option_and n (Some (length rs))) s.last_noted =
+            last_place-push (notes_entry eq e) rs (with_cites r (js ++ c ∷ []))
+            ∙ ap (λ b. cond (is_some n && b) (Some (length rs)) (last_place (notes_entry eq e) rs)) cites
+            ∙ last-again n (last_place (notes_entry eq e) rs) (length rs) (cites_entry eq e (with_cites r js))
+            ∙ ap (λ o. option_or (option_and n (Some (length rs))) o) (sym (last_place-push (notes_entry eq e) rs (with_cites r js)) ∙ sym (ap (λ t. t.last_noted) at)) in
             seen_same (sym (ap (λ t. t.cited) at)) first last
 
         miss : (d : E) → eq c.entry d ≡ false → seen_of eq cs (rs ++ with_cites r js ∷ []) d ≡ seen_of eq cs (rs ++ with_cites r (js ++ c ∷ []) ∷ []) d
         miss d h =
+            let n = r.note_number in
             let apart : eq d c.entry ≡ false = laws.symm d c.entry ∙ h in
             let cites : cites_entry eq d (with_cites r js) ≡ cites_entry eq d (with_cites r (js ++ c ∷ [])) =
             sym (cites-more r js c d ∙ rw apart (or_false (cites_entry eq d (with_cites r js)))) in
             seen_same refl
-            (first-of rs r n number js d ∙ ap (λ b. option_or (first_note eq d rs) (cond b (Some n) None)) cites ∙ sym (first-of rs r n number (js ++ c ∷ []) d))
-            (last-of rs r n number js d ∙ ap (λ b. cond b (Some (length rs)) (last_place (notes_entry eq d) rs)) cites ∙ sym (last-of rs r n number (js ++ c ∷ []) d))
+            (first_note-push eq d rs (with_cites r js) ∙ ap (λ b. option_or (first_note eq d rs) (cond b n None)) cites ∙ sym (first_note-push eq d rs (with_cites r (js ++ c ∷ []))))
+            (last_place-push (notes_entry eq d) rs (with_cites r js) ∙ ap (λ b. cond (is_some n && b) (Some (length rs)) (last_place (notes_entry eq d) rs)) cites
+            ∙ sym (last_place-push (notes_entry eq d) rs (with_cites r (js ++ c ∷ []))))
 
-    -- without cites nothing is noted, and without a note number neither
+    -- nothing is noted where no entry is
     pub unnoted : (cs : List E) (rs : List (Request E P)) (r : Request E P) (es : List E) → ((e : E) → notes_entry eq e r ≡ false)
         → map (seen_of eq cs rs) es ≡ map (seen_of eq cs (rs ++ r ∷ [])) es
     unnoted cs rs r es none = same es

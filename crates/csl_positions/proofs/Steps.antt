@@ -1,7 +1,7 @@
 -- One step of the walks over the cites of a request.
-use Rattle.std.proofs.Common.{◌≡◌, ℕ, zero, suc, ◌+◌, ◌<◌, Bool, true, ◌&&◌, List, [], ◌∷◌, ◌++◌, Option, Some, None, is_some, length, map, take, drop, get_or, set, Vec, Global, refl, ap, sym, ◌∙◌, arith}
+use Rattle.std.proofs.Common.{◌≡◌, ℕ, zero, suc, ◌+◌, ◌<◌, Bool, true, List, [], ◌∷◌, ◌++◌, Option, Some, is_some, length, map, take, drop, get_or, set, Vec, Global, refl, ap, sym, ◌∙◌, arith}
 use Rattle.std.specs.Cmp.{IsEquivalence}
-use Rattle.std.specs.Option.{ForSome, option_or}
+use Rattle.std.specs.Option.{ForSome, option_and, option_or}
 use Rattle.std.proofs.lemmas.List.{get_or-map, length-map, take_at, take_more}
 use Rattle.std.proofs.lemmas.List.Folds.{list_any_at}
 use Rattle.csl_entries.specs.Entries.{is_in, place}
@@ -63,30 +63,25 @@ module _ {E P : Type 0} (eq : E → E → Bool) (laws : IsEquivalence eq) (befor
         ap (λ l. set l p (record s { cited = true })) are ∙ ap (λ q. set (map (seen_of eq cs before) table.entries) q (record s { cited = true })) at
         ∙ cited-more eq laws cs before c.entry table.entries (table-once eq laws before r table of) cite-there s (cite-known cs before p at seen are d)
 
-    -- and noted, where r stands in note n
-    pub cite-noted : (cs : List E) (n : ℕ) → r.note_number ≡ Some n → (p : ℕ) → p ≡ place eq c.entry table.entries → (seen : List Seen)
-        → seen ≡ map (seen_of eq cs (before ++ record r { cites = take k r.cites } ∷ [])) table.entries → (d : Seen) → (o : Option ℕ)
-        → o ≡ option_or (get_or seen p d).first_note (Some n) → (last : ℕ) → last ≡ length before
-        → set seen p (record (get_or seen p d) { first_note = o; last_noted = Some last })
-        ≡ map (seen_of eq cs (before ++ record r { cites = take (k + 1) r.cites } ∷ [])) table.entries
-    cite-noted cs n number p at seen are d o or last is-last =
+    -- and noted, where r has a note number
+    pub cite-noted : (cs : List E) (p : ℕ) → p ≡ place eq c.entry table.entries → (seen : List Seen)
+        → seen ≡ map (seen_of eq cs (before ++ record r { cites = take k r.cites } ∷ [])) table.entries → (d : Seen) (first last : Option ℕ)
+        → first ≡ option_or (get_or seen p d).first_note r.note_number → last ≡ option_or (option_and r.note_number (Some (length before))) (get_or seen p d).last_noted
+        → set seen p (record (get_or seen p d) { first_note = first; last_noted = last }) ≡ map (seen_of eq cs (before ++ record r { cites = take (k + 1) r.cites } ∷ [])) table.entries
+    cite-noted cs p at seen are d first last is-first is-last =
         let rs = before ++ record r { cites = take k r.cites } ∷ [] in
         let s : Seen = get_or seen p d in
-        let t : Seen = record s { first_note = option_or s.first_note (Some n); last_noted = Some (length before) } in
+        let t : Seen = record s { first_note = option_or s.first_note r.note_number; last_noted = option_or (option_and r.note_number (Some (length before))) s.last_noted } in
         let more : take k r.cites ++ c ∷ [] ≡ take (k + 1) r.cites = sym (take_more r.cites k c within ∙ ap (λ e. take k r.cites ++ e ∷ []) (sym here)) in
-        ap (λ (f : Option ℕ). set seen p (record s { first_note = f; last_noted = Some last })) or
-        ∙ ap (λ (m : ℕ). set seen p (record s { first_note = option_or s.first_note (Some n); last_noted = Some m })) is-last
+        ap (λ (f : Option ℕ). set seen p (record s { first_note = f; last_noted = last })) is-first
+        ∙ ap (λ (l : Option ℕ). set seen p (record s { first_note = option_or s.first_note r.note_number; last_noted = l })) is-last
         ∙ ap (λ l. set l p t) are ∙ ap (λ q. set (map (seen_of eq cs rs) table.entries) q t) at
-        ∙ noted-more eq laws cs before r n number (take k r.cites) c table.entries (table-once eq laws before r table of) cite-there s (cite-known cs rs p at seen are d)
+        ∙ noted-more eq laws cs before r (take k r.cites) c table.entries (table-once eq laws before r table of) cite-there s (cite-known cs rs p at seen are d)
         ∙ ap (λ js. map (seen_of eq cs (before ++ record r { cites = js } ∷ [])) table.entries) more
 
   -- nothing of r is noted at first
   pub none-noted : (cs : List E) → map (seen_of eq cs before) table.entries ≡ map (seen_of eq cs (before ++ record r { cites = [] } ∷ [])) table.entries
   none-noted cs = unnoted eq laws cs before (record r { cites = [] }) table.entries (λ e. and_false (is_some r.note_number))
-
-  -- nor where it has no note number
-  pub outside-notes : (cs : List E) → r.note_number ≡ None → map (seen_of eq cs before) table.entries ≡ map (seen_of eq cs (before ++ r ∷ [])) table.entries
-  outside-notes cs none = unnoted eq laws cs before r table.entries (λ e. ap (λ o. is_some o && is_in eq e (entries_of r.cites)) none)
 
   -- the last noted request stands before r
   pub noted-before : (cs : List E) (e : E) (s : Seen) → s ≡ seen_of eq cs before e → (n : ℕ) → length before ≡ n → ForSome s.last_noted (λ k. k < n)

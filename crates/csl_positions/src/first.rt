@@ -112,12 +112,11 @@ fn note_entries<'a, T: EntryLike, P>(
         (table_view table.now).entries }
 {
     let place = before.len();
-    if let Some(number) = request.note_number() {
-        for entry in &table.places()[place] {
-            let noted = &mut seen[*entry];
-            noted.first_note = noted.first_note.or(Some(number));
-            noted.last_noted = Some(place);
-        }
+    let number = request.note_number();
+    for entry in &table.places()[place] {
+        let noted = &mut seen[*entry];
+        noted.first_note = noted.first_note.or(number);
+        noted.last_noted = number.and(Some(place)).or(noted.last_noted);
     }
 }
 
