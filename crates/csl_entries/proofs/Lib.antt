@@ -3,6 +3,6 @@ pub mod Placed
 pub mod Placing
 pub mod Cited
 pub mod Once
-mod Sets
+pub mod Sets
 pub mod Numbers
 pub mod Orders
