@@ -1,10 +1,9 @@
--- The distinct members of a list, as the code gathers them one by one.
-use Rattle.std.proofs.Common.{◌≡◌, ℕ, ◌+◌, Bool, true, false, cond, not, ◌||◌, List, [], ◌∷◌, ◌++◌, map, filter, refl, ap, sym, ◌∙◌, append-nil, append_assoc, arith}
-use Rattle.std.specs.List.{AllByRecursion, enumerate_from, list_any}
+-- Lists with no two equal members, as those of distinct ones.
+use Rattle.std.proofs.Common.{◌≡◌, ℕ, ◌+◌, Bool, true, false, cond, not, List, [], ◌∷◌, map, filter, refl, ap, sym, ◌∙◌, arith}
+use Rattle.std.specs.List.{AllByRecursion, enumerate_from}
 use Rattle.std.specs.Cmp.{IsEquivalence}
-use Rattle.std.proofs.lemmas.List.{map-append}
-use Rattle.std.proofs.lemmas.List.Elements.{filter-append}
-use Rattle.csl_entries.specs.Entries.{distinct, is_in, place, with_all_new, with_new}
+use Rattle.csl_entries.specs.Entries.{distinct, place}
+use Rattle.csl_entries.proofs.Distinct.{others}
 
 pub all-filter : {E : Type 0} (Q : E → Type 0) (p : E → Bool) (xs : List E) → AllByRecursion Q xs → AllByRecursion Q (filter p xs)
 all-filter Q p [] h = h
@@ -15,52 +14,6 @@ all-filter Q p (x ∷ xs) h = by (p x) (all-filter Q p xs h.1)
     by false k = k
 
 module _ {E : Type 0} (eq : E → E → Bool) where
-  abbrev pub others : E → List E → List E
-  others x xs = filter (λ z. not (eq x z)) xs
-
-  module _ (laws : IsEquivalence eq) where
-    -- leaving out what equals x leaves what equals y, where x and y aren't equal
-    is_in-others : (x y : E) (xs : List E) → eq y x ≡ false → is_in eq y (others x xs) ≡ is_in eq y xs
-    is_in-others x y [] ne = refl
-    is_in-others x y (z ∷ zs) ne = by (eq x z) refl (is_in-others x y zs ne)
-      where
-        by : (b : Bool) → eq x z ≡ b → is_in eq y (others x zs) ≡ is_in eq y zs
-            → is_in eq y (cond (not b) (z ∷ others x zs) (others x zs)) ≡ (eq y z || is_in eq y zs)
-        by false e same = ap (λ b. eq y z || b) same
-        by true e same =
-            let apart : eq y z ≡ false = laws.symm y z ∙ sym (laws.congr x z y e) ∙ laws.symm x y ∙ ne in
-            rw apart same
-
-    keeps_one : (x y : E) (b : Bool) → eq x y ≡ b → others x (y ∷ []) ≡ cond b [] (y ∷ [])
-    keeps_one x y true e = rw e
-    keeps_one x y false e = rw e
-
-    drops_equal : (a : Bool) (ds : List E) (x y : E) → eq x y ≡ true → others x (cond a ds (ds ++ y ∷ [])) ≡ others x ds
-    drops_equal true ds x y e = refl
-    drops_equal false ds x y e = filter-append _ ds (y ∷ []) ∙ ap (λ t. others x ds ++ t) (keeps_one x y true e) ∙ append-nil (others x ds)
-
-    keeps_other : (a : Bool) (ds : List E) (x y : E) → eq x y ≡ false → (x ∷ others x (cond a ds (ds ++ y ∷ []))) ≡ cond a (x ∷ others x ds) ((x ∷ others x ds) ++ y ∷ [])
-    keeps_other true ds x y e = refl
-    keeps_other false ds x y e = ap (λ t. x ∷ t) (filter-append _ ds (y ∷ []) ∙ ap (λ t. others x ds ++ t) (keeps_one x y false e))
-
-    distinct-push : (xs : List E) (y : E) → distinct eq (xs ++ y ∷ []) ≡ with_new eq (distinct eq xs) y
-    distinct-push [] y = refl
-    distinct-push (x ∷ xs) y = ap (λ t. x ∷ others x t) (distinct-push xs y) ∙ by (eq y x) refl
-      where
-        by : (b : Bool) → eq y x ≡ b → (x ∷ others x (with_new eq (distinct eq xs) y)) ≡ with_new eq (x ∷ others x (distinct eq xs)) y
-        by true e =
-            rw e (ap (λ t. x ∷ t) (drops_equal (is_in eq y (distinct eq xs)) (distinct eq xs) x y (laws.symm x y ∙ e)))
-        by false e =
-            rw (e, is_in-others x y (distinct eq xs) e) (keeps_other (is_in eq y (distinct eq xs)) (distinct eq xs) x y (laws.symm x y ∙ e))
-
-    distinct-more : (xs ys : List E) → with_all_new eq (distinct eq xs) ys ≡ distinct eq (xs ++ ys)
-    distinct-more xs [] = ap (λ t. distinct eq t) (sym (append-nil xs))
-    distinct-more xs (y ∷ ys) =
-        ap (λ t. with_all_new eq t ys) (sym (distinct-push xs y)) ∙ distinct-more (xs ++ y ∷ []) ys ∙ ap (λ t. distinct eq t) (append_assoc xs (y ∷ []) ys)
-
-    pub all_new_is_distinct : (xs : List E) → with_all_new eq [] xs ≡ distinct eq xs
-    all_new_is_distinct xs = distinct-more [] xs
-
   -- no two of them are equal
   abbrev pub NoTwoEqual : List E → Type 0
   NoTwoEqual [] = Unit {0}
@@ -74,11 +27,11 @@ module _ {E : Type 0} (eq : E → E → Bool) where
       by true k = (all-filter (λ y. eq x y ≡ false) p xs h.0, k)
       by false k = k
 
-  none-equal : (x : E) (xs : List E) → AllByRecursion (λ y. eq x y ≡ false) (others x xs)
+  none-equal : (x : E) (xs : List E) → AllByRecursion (λ y. eq x y ≡ false) (others eq x xs)
   none-equal x [] = tt
   none-equal x (y ∷ ys) = by (eq x y) refl (none-equal x ys)
     where
-      by : (b : Bool) → eq x y ≡ b → AllByRecursion (λ z. eq x z ≡ false) (others x ys) → AllByRecursion (λ z. eq x z ≡ false) (cond (not b) (y ∷ others x ys) (others x ys))
+      by : (b : Bool) → eq x y ≡ b → AllByRecursion (λ z. eq x z ≡ false) (others eq x ys) → AllByRecursion (λ z. eq x z ≡ false) (cond (not b) (y ∷ others eq x ys) (others eq x ys))
       by true e k = k
       by false e k = (e, k)
 
@@ -102,18 +55,6 @@ module _ {X E : Type 0} (v : X → E) (eq : E → E → Bool) where
   distinct-map (x ∷ xs) =
       ap (λ t. v x ∷ filter (λ z. not (eq (v x) z)) t) (distinct-map xs)
       ∙ ap (λ t. v x ∷ t) (filter-map (λ z. not (eq (v x) z)) (distinct (λ a b. eq (v a) (v b)) xs))
-
-  is_in-view : (e : E) (ks : List X) → is_in eq e (map v ks) ≡ list_any (λ k. eq e (v k)) ks
-  is_in-view e [] = refl
-  is_in-view e (k ∷ ks) = ap (λ b. eq e (v k) || b) (is_in-view e ks)
-
-  -- what is inserted, as the view shows it
-  pub insert-view : (x : X) (ks new : List X) → new ≡ cond (list_any (λ k. eq (v x) (v k)) ks) ks (ks ++ x ∷ []) → map v new ≡ with_new eq (map v ks) (v x)
-  insert-view x ks new e = rw (e, is_in-view (v x) ks) (by (list_any (λ k. eq (v x) (v k)) ks))
-    where
-      by : (b : Bool) → map v (cond b ks (ks ++ x ∷ [])) ≡ cond b (map v ks) (map v ks ++ v x ∷ [])
-      by true = refl
-      by false = map-append v ks (x ∷ [])
 
   -- each of a list without equal members stands at its own place
   module _ (laws : IsEquivalence eq) {Z : Type 0} (f : X → ℕ → Z) where

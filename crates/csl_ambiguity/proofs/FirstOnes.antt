@@ -6,11 +6,15 @@ use Rattle.csl_lookup.specs.declared.state.DisambiguateState.{DisambiguateState}
 use Rattle.csl_lookup.specs.declared.state.DisambiguateState.TheVariants.{YearSuffix}
 use Rattle.csl_entries.specs.Entries.{distinct, place, with_all_new, with_new}
 use Rattle.csl_passes.specs.Renders.{CiteRender, ItemRender, Place}
-use Rattle.csl_ambiguity.specs.FirstCites.{first_of, firsts_view, same_entry}
+use Rattle.csl_entries.specs.Gathering.{same_entry}
+use Rattle.csl_ambiguity.specs.FirstCites.{first_of, firsts_view}
 use Rattle.csl_ambiguity.specs.Members.{Member, entry_of, members}
 use Rattle.csl_ambiguity.specs.SuffixMarks.{first_cites, suffix_among, suffix_marks}
 use Rattle.csl_ambiguity.specs.declared.first_cites.FirstCite.{FirstCite}
-use Rattle.csl_ambiguity.proofs.Distinct.{all_new_is_distinct, are-distinct, distinct-map, insert-view, own-places}
+use Rattle.csl_entries.proofs.Distinct.{all_new_is_distinct}
+use Rattle.csl_entries.proofs.Placed.{same_entry-laws}
+use Rattle.csl_entries.proofs.Sets.{insert-view}
+use Rattle.csl_ambiguity.proofs.Distinct.{are-distinct, distinct-map, own-places}
 use Rattle.csl_ambiguity.proofs.Walks.{IsNext, rest-end}
 
 module _ {T P : Type 0} (eq : T → T → Bool) (renders : List (CiteRender T P)) (ps : List Place) (k : ℕ) where
@@ -31,19 +35,12 @@ module _ {T P : Type 0} (eq : T → T → Bool) (renders : List (CiteRender T P)
       ∙ ap (λ ms. with_all_new (same_entry eq) (firsts_view keys) (map first_of ms)) (sym n.split)
       ∙ so_far
 
-  same_entry-laws : IsEquivalence eq → IsEquivalence (same_entry eq)
-  same_entry-laws laws = record {
-    refl = λ p. laws.refl p.0;
-    symm = λ p q. laws.symm p.0 q.0;
-    congr = λ p q r. laws.congr p.0 q.0 r.0;
-  }
-
   -- all of them
   pub first-all : (laws : IsEquivalence eq) (firsts : List (T × Place)) → length ps ≤ k
       → gathered firsts k ≡ with_all_new (same_entry eq) [] (map first_of (members renders ps)) → firsts ≡ map first_of (first_cites eq (members renders ps))
   first-all laws firsts h so_far =
       ap (λ ms. with_all_new (same_entry eq) firsts (map first_of ms)) (sym (rest-end renders ps k h)) ∙ so_far
-      ∙ all_new_is_distinct (same_entry eq) (same_entry-laws laws) (map first_of (members renders ps))
+      ∙ all_new_is_distinct (same_entry eq) (same_entry-laws eq laws) (map first_of (members renders ps))
       ∙ distinct-map first_of (same_entry eq) (members renders ps)
 
 module _ {T P : Type 0} (eq : T → T → Bool) (laws : IsEquivalence eq) (cites : List (Member T P)) where

@@ -1,5 +1,5 @@
 -- For the code: the first cites of the distinct entries of a group.
-use Rattle.std.specs.Prelude.{Bool, List, map}
+use Rattle.std.specs.Prelude.{List, map}
 use Rattle.csl_passes.specs.Renders.{Place}
 use Rattle.csl_ambiguity.specs.Members.{Member}
 use Rattle.csl_ambiguity.specs.declared.first_cites.FirstCite.{FirstCite}
@@ -10,6 +10,3 @@ first_of m = (m.item.entry, m.place)
 
 abbrev pub firsts_view : {T : Type 0} → List (FirstCite T) → List (T × Place)
 firsts_view = map (λ f. (f.entry.now, f.place))
-
-abbrev pub same_entry : {E : Type 0} → (E → E → Bool) → E × Place → E × Place → Bool
-same_entry eq a b = eq a.0 b.0

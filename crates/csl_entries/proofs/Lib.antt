@@ -3,7 +3,7 @@ pub mod Placed
 pub mod Placing
 pub mod Cited
 pub mod Once
-mod Sets
+pub mod Sets
 pub mod Numbers
 pub mod Orders
 pub mod ListedPlaces

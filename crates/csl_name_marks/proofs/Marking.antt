@@ -17,10 +17,10 @@ use Rattle.csl_passes.specs.RequestView.{request_view}
 use Rattle.csl_passes.specs.declared.renders.SpeculativeCiteRender.{SpeculativeCiteRender}
 use Rattle.csl_passes.specs.declared.renders.SpeculativeItemRender.{SpeculativeItemRender}
 use Rattle.csl_passes.specs.Places.{IsPlace, cite_at}
-use Rattle.csl_name_marks.specs.Members.{first_adds_names, greatest_step, member, member_at, members}
+use Rattle.csl_name_marks.specs.NamedCites.{first_adds_names, greatest_step, named_cite, named_cite_at, named_cites}
 use Rattle.csl_name_marks.specs.NameMarks.{mark, marks_after, name_marks}
 use Rattle.csl_name_marks.specs.Steps.{is_at, step, steps}
-use Rattle.csl_name_marks.specs.declared.member.Member.{Member}
+use Rattle.csl_name_marks.specs.declared.named_cite.NamedCite.{NamedCite}
 
 -- within a list no default is read
 pub same-default : {X : Type 0} (xs : List X) (k : ℕ) (d e : X) → k < length xs → get_or xs k d ≡ get_or xs k e
@@ -60,10 +60,10 @@ zip-map : {X S Y : Type 0} (h : X → S → Option Y) (f : X → S) (xs : List X
 zip-map h f [] = refl
 zip-map h f (x ∷ xs) = let r = zip-map h f xs in rw r
 
-no-marks : (group : List Member) (steps : List ℕ) (step_of : Member → Option ℕ) → steps ≡ [] → [] ≡ marks_after group steps step_of
+no-marks : (group : List NamedCite) (steps : List ℕ) (step_of : NamedCite → Option ℕ) → steps ≡ [] → [] ≡ marks_after group steps step_of
 no-marks group steps step_of e = rw e
 
-marks-of : (group : List Member) (steps : List ℕ) (own : List (Option ℕ)) (step_of : Member → Option ℕ) → own ≡ map step_of group → (steps ≡ [] → ⊥)
+marks-of : (group : List NamedCite) (steps : List ℕ) (own : List (Option ℕ)) (step_of : NamedCite → Option ℕ) → own ≡ map step_of group → (steps ≡ [] → ⊥)
     → filter_map (λ p. mark group steps p.0 p.1) (zip group own) ≡ marks_after group steps step_of
 marks-of group [] own step_of o e = absurd (e refl)
 marks-of group (i ∷ is) own step_of o e =
@@ -86,17 +86,17 @@ seen-at v xs i x h e = slice_get-map v xs i ∙ ap (option_map v) (slice_get-get
 
 module _ {T P : Type 0} (renders : List (SpeculativeCiteRender T P)) (place : Place) (cite : SpeculativeCiteRender T P) (item : SpeculativeItemRender T P) where
   -- the member at a place, from the cite and the item there
-  pub member-found : (m : Member) → IsPlace (renders_view renders) place → cite ≡ get_or renders place.0 cite
-      → item ≡ get_or cite.items.items place.1 item → m ≡ member place (request_view cite.request.now) (item_view item)
-      → member_at (renders_view renders) place ≡ Some m
-  member-found m some c i e =
+  pub named_cite-found : (m : NamedCite) → IsPlace (renders_view renders) place → cite ≡ get_or renders place.0 cite
+      → item ≡ get_or cite.items.items place.1 item → m ≡ named_cite place (request_view cite.request.now) (item_view item)
+      → named_cite_at (renders_view renders) place ≡ Some m
+  named_cite-found m some c i e =
       let request = request_view cite.request.now in
       let within : place.0 < length renders = inside-then render_view renders place.0 _ some in
       let here : slice_get (renders_view renders) place.0 ≡ Some (render_view cite) = seen-at render_view renders place.0 cite within c in
       let there : cite_at (renders_view renders) place ≡ option_map (λ (it : ItemRender T P). (request, it)) (slice_get (items_view cite.items.items) place.1) =
       ap (option_and_then (λ (r : CiteRender T P). option_map (λ (it : ItemRender T P). (r.request, it)) (slice_get r.items place.1))) here in
       let among : place.1 < length cite.items.items = inside-map item_view cite.items.items place.1 (λ (it : ItemRender T P). (request, it)) (subst IsSome there some) in
-      ap (option_map (λ (x : Request T P × ItemRender T P). member place x.0 x.1))
+      ap (option_map (λ (x : Request T P × ItemRender T P). named_cite place x.0 x.1))
       (there ∙ ap (option_map (λ (it : ItemRender T P). (request, it))) (seen-at item_view cite.items.items place.1 item among i))
       ∙ ap Some (sym e)
 
@@ -109,7 +109,7 @@ list_any-map p f [] = refl
 list_any-map p f (x ∷ xs) = ap (λ b. p (f x) || b) (list_any-map p f xs)
 
 -- the marks of members, from the steps that the code has found
-module _ (group : List Member) (greatest : ℕ) (own : List (Option ℕ)) (taken : List ℕ) where
+module _ (group : List NamedCite) (greatest : ℕ) (own : List (Option ℕ)) (taken : List ℕ) where
   steps-are : own ≡ map (step group greatest) group → taken ≡ filter (λ i. list_any (is_at i) own) (range_with_len 1 greatest) → taken ≡ steps group greatest
   unfolding steps
   steps-are o t =
@@ -130,12 +130,12 @@ pub in_other_words : {V E Y : Type 0} (r : Result V E) (items : V → Y) (a b : 
 in_other_words r items a b e h = IfOk-weaker r (λ v. items v ≡ a) (λ v. items v ≡ b) (λ v i. i ∙ e) h
 
 -- the marks of a group, from its members
-pub marks-are : {E P : Type 0} (renders : List (CiteRender E P)) (places : List Place) (group : List Member) (greatest : ℕ) → group ≡ members renders places
+pub marks-are : {E P : Type 0} (renders : List (CiteRender E P)) (places : List Place) (group : List NamedCite) (greatest : ℕ) → group ≡ named_cites renders places
     → greatest ≡ greatest_step (first_adds_names renders) group
     → marks_after group (steps group greatest) (step group greatest) ≡ name_marks renders places
 unfolding name_marks
 marks-are renders places group greatest g m =
-    let all : List Member → ℕ → List (Place × DisambiguateState) = λ l n. marks_after l (steps l n) (step l n) in
+    let all : List NamedCite → ℕ → List (Place × DisambiguateState) = λ l n. marks_after l (steps l n) (step l n) in
     let most = greatest_step (first_adds_names renders) in
     ap (all group) m ∙ ap (λ l. all l (most l)) g
 

@@ -9,7 +9,7 @@ use Rattle.csl_base.specs.declared.entry.Person.{Person}
 use Rattle.csl_base.specs.declared.names.DisambiguatedNameForm.{DisambiguatedNameForm}
 use Rattle.csl_name_marks.specs.Raising.{fuller, is_namesake, raised, same_initials}
 use Rattle.csl_name_marks.specs.Steps.{others, same_place}
-use Rattle.csl_name_marks.specs.declared.member.Member.{Member}
+use Rattle.csl_name_marks.specs.declared.named_cite.NamedCite.{NamedCite}
 
 -- what a form becomes by namesakes, after a form that was raised by some
 abbrev after : Person → List Person → DisambiguatedNameForm → DisambiguatedNameForm
@@ -60,17 +60,17 @@ raised-more p qs k q form h e m n =
     ∙ ap (λ l. raised p l form) (ap (λ r. take k qs ++ r ∷ []) e ∙ sym (take_more qs k q h))
 
 -- the persons of others among the members, with those of one member more
-abbrev pub theirs : Member → List Member → List Person
+abbrev pub theirs : NamedCite → List NamedCite → List Person
 theirs x group = flat_map (λ y. y.persons) (others group x)
 
-theirs-more : (x : Member) (group : List Member) (k : ℕ) (y : Member) → k < length group → y ≡ get_or group k y
+theirs-more : (x : NamedCite) (group : List NamedCite) (k : ℕ) (y : NamedCite) → k < length group → y ≡ get_or group k y
     → theirs x (take (k + 1) group) ≡ theirs x (take k group) ++ theirs x (y ∷ [])
 theirs-more x group k y h e =
     ap (theirs x) (take_more group k y h ∙ ap (λ z. take k group ++ z ∷ []) (sym e))
     ∙ ap (flat_map (λ z. z.persons)) (filter-append (λ z. not (same_place x.place z.place)) (take k group) (y ∷ []))
     ∙ flat_map-append (λ z. z.persons) (others (take k group) x) (others (y ∷ []) x)
 
-module _ (p : Person) (x : Member) (group : List Member) (k : ℕ) (y : Member) (form : DisambiguatedNameForm) where
+module _ (p : Person) (x : NamedCite) (group : List NamedCite) (k : ℕ) (y : NamedCite) (form : DisambiguatedNameForm) where
   pub among-more : {now more : DisambiguatedNameForm} → k < length group → y ≡ get_or group k y → same_place x.place y.place ≡ false
       → more ≡ raised p y.persons now → now ≡ raised p (theirs x (take k group)) form → more ≡ raised p (theirs x (take (k + 1) group)) form
   among-more h e o m n =

@@ -8,7 +8,7 @@ use Rattle.csl_base.specs.declared.entry.Person.{Person}
 use Rattle.csl_base.specs.declared.style.DisambiguationRule.{DisambiguationRule}
 use Rattle.csl_name_marks.specs.Cut.{cut, kept}
 use Rattle.csl_name_marks.specs.Steps.{known, others, reads_alike, same_persons, step}
-use Rattle.csl_name_marks.specs.declared.member.Member.{Member}
+use Rattle.csl_name_marks.specs.declared.named_cite.NamedCite.{NamedCite}
 
 -- numbers from one on
 module _ (p : ℕ → Bool) where
@@ -56,7 +56,7 @@ cut-take rule (suc i) [] = refl
 cut-take rule (suc i) (p ∷ ps) = ap (λ l. kept rule true p ∷ l) (take-map (kept rule false) i ps)
 
 -- who may not be named has no step
-pub no-step : (group : List Member) (greatest : ℕ) (x : Member) → x.may_be_named ≡ false → None ≡ step group greatest x
+pub no-step : (group : List NamedCite) (greatest : ℕ) (x : NamedCite) → x.may_be_named ≡ false → None ≡ step group greatest x
 unfolding step
 no-step group greatest x e = sym (none (range_with_len 1 greatest))
   where
@@ -65,13 +65,13 @@ no-step group greatest x e = sym (none (range_with_len 1 greatest))
     none (n ∷ ns) = rw (e, none ns)
 
 -- the step of a member, from what its rule keeps of the persons of all
-pub step-is : (group : List Member) (greatest : ℕ) (x : Member) (own : List Person) (os : List (List Person)) → x.may_be_named ≡ true
+pub step-is : (group : List NamedCite) (greatest : ℕ) (x : NamedCite) (own : List Person) (os : List (List Person)) → x.may_be_named ≡ true
     → own ≡ cut x.rule x.persons → os ≡ map (λ y. cut x.rule y.persons) (others group x)
     → find (λ i. list_all (λ ps. not (same_persons (take i own) (take i ps))) os) (range_with_len 1 greatest) ≡ step group greatest x
 unfolding step
 step-is group greatest x own os may o cuts = find-same _ (λ i. known group i x) (range_with_len 1 greatest) told
   where
-    alike : (i : ℕ) (y : Member) → not (same_persons (take i (cut x.rule x.persons)) (take i (cut x.rule y.persons))) ≡ not (reads_alike i x y)
+    alike : (i : ℕ) (y : NamedCite) → not (same_persons (take i (cut x.rule x.persons)) (take i (cut x.rule y.persons))) ≡ not (reads_alike i x y)
     alike i y = sym (ap (λ l. not (same_persons l (cut x.rule (take i y.persons)))) (cut-take x.rule i x.persons) ∙ ap (λ l. not (same_persons (take i (cut x.rule x.persons)) l)) (cut-take x.rule i y.persons))
 
     told : (i : ℕ) → list_all (λ ps. not (same_persons (take i own) (take i ps))) os ≡ known group i x

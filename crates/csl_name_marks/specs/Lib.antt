@@ -1,6 +1,6 @@
 pub mod Persons
 pub mod Cut
-pub mod Members
+pub mod NamedCites
 pub mod Steps
 pub mod Raising
 pub mod NameMarks

@@ -5,10 +5,10 @@ use Rattle.csl_base.specs.Forms.{Forms, add_name}
 use Rattle.csl_base.specs.declared.style.DisambiguationRule.{DisambiguationRule}
 use Rattle.csl_lookup.specs.declared.state.DisambiguateState.{DisambiguateState}
 use Rattle.csl_passes.specs.Renders.{CiteRender, Place}
-use Rattle.csl_name_marks.specs.Members.{first_adds_names, greatest_step, members}
+use Rattle.csl_name_marks.specs.NamedCites.{first_adds_names, greatest_step, named_cites}
 use Rattle.csl_name_marks.specs.Raising.{raise}
 use Rattle.csl_name_marks.specs.Steps.{is_at, step, steps}
-use Rattle.csl_name_marks.specs.declared.member.Member.{Member}
+use Rattle.csl_name_marks.specs.declared.named_cite.NamedCite.{NamedCite}
 
 -- given names are added cite by cite
 abbrev pub is_by_cite : Option DisambiguationRule → Bool
@@ -16,22 +16,22 @@ is_by_cite (Some DisambiguationRule.ByCite) = true
 is_by_cite _ = false
 
 -- the forms of a member, whose own step this is, after a step of its group
-abbrev pub after_step : List Member → Member → Option ℕ → Forms → ℕ → Forms
+abbrev pub after_step : List NamedCite → NamedCite → Option ℕ → Forms → ℕ → Forms
 after_step group x own forms i = add_name i (if is_by_cite x.rule && is_at i own then raise group x i forms else forms)
 
 -- the mark of a member that has forms to start from: those that it has after all steps of its group
-abbrev pub mark : List Member → List ℕ → Member → Option ℕ → Option (Place × DisambiguateState)
+abbrev pub mark : List NamedCite → List ℕ → NamedCite → Option ℕ → Option (Place × DisambiguateState)
 mark group steps x own =
     option_map (λ start. (x.place, DisambiguateState.NameDisambiguation (record { forms = fold (after_step group x own) start.forms steps }))) x.start
 
 -- the marks of a group with these steps: none where there are no steps
-abbrev pub marks_after : List Member → List ℕ → (Member → Option ℕ) → List (Place × DisambiguateState)
+abbrev pub marks_after : List NamedCite → List ℕ → (NamedCite → Option ℕ) → List (Place × DisambiguateState)
 marks_after group [] step_of = []
 marks_after group (i ∷ is) step_of = filter_map (λ x. mark group (i ∷ is) x (step_of x)) group
 
 -- the marks of a group, in its order
 unfoldable pub name_marks : {E P : Type 0} → List (CiteRender E P) → List Place → List (Place × DisambiguateState)
 name_marks renders group =
-    let found = members renders group in
+    let found = named_cites renders group in
     let m = greatest_step (first_adds_names renders) found in
     marks_after found (steps found m) (step found m)

@@ -7,7 +7,7 @@ use Rattle.csl_base.specs.declared.entry.Person.{Person}
 use Rattle.csl_base.specs.declared.names.DisambiguatedNameForm.{DisambiguatedNameForm}
 use Rattle.csl_name_marks.specs.Persons.{same_person}
 use Rattle.csl_name_marks.specs.Steps.{others}
-use Rattle.csl_name_marks.specs.declared.member.Member.{Member}
+use Rattle.csl_name_marks.specs.declared.named_cite.NamedCite.{NamedCite}
 
 -- another person with the family name of p
 abbrev pub is_namesake : Person → Person → Bool
@@ -33,6 +33,6 @@ raised_at place None qs forms = forms
 raised_at place (Some p) qs forms = unwrap_or (option_map (λ form. slice_set forms place (raised p qs form)) (slice_get forms place)) forms
 
 -- name i of a member, counted from one, raised among all persons of the other members; nothing where it has no such person or no such form
-abbrev pub raise : List Member → Member → ℕ → Forms → Forms
+abbrev pub raise : List NamedCite → NamedCite → ℕ → Forms → Forms
 raise group x zero forms = forms
 raise group x (suc place) forms = raised_at place (slice_get x.persons place) (flat_map (λ y. y.persons) (others group x)) forms

@@ -7,7 +7,7 @@ use Rattle.csl_base.specs.declared.entry.Person.{Person}
 use Rattle.csl_passes.specs.Renders.{Place}
 use Rattle.csl_name_marks.specs.Cut.{cut}
 use Rattle.csl_name_marks.specs.Persons.{same_person}
-use Rattle.csl_name_marks.specs.declared.member.Member.{Member}
+use Rattle.csl_name_marks.specs.declared.named_cite.NamedCite.{NamedCite}
 
 abbrev pub same_place : Place → Place → Bool
 same_place a b = a.0 == b.0 && a.1 == b.1
@@ -16,25 +16,25 @@ abbrev pub same_persons : List Person → List Person → Bool
 same_persons = pointwise same_person
 
 -- the first i persons of both, cut by the rule of the first member, are the same
-abbrev pub reads_alike : ℕ → Member → Member → Bool
+abbrev pub reads_alike : ℕ → NamedCite → NamedCite → Bool
 reads_alike i x y = same_persons (cut x.rule (take i x.persons)) (cut x.rule (take i y.persons))
 
 -- this is the step of a member, if it has one
 abbrev pub is_at : ℕ → Option ℕ → Bool
 is_at i step = option_eq nat_eq step (Some i)
 
-module _ (group : List Member) where
+module _ (group : List NamedCite) where
   -- all other members, those of the same entry too
-  abbrev pub others : Member → List Member
+  abbrev pub others : NamedCite → List NamedCite
   others x = filter (λ y. not (same_place x.place y.place)) group
 
   -- by i names the member is told apart from all others
-  abbrev pub known : ℕ → Member → Bool
+  abbrev pub known : ℕ → NamedCite → Bool
   known i x = x.may_be_named && list_all (λ y. not (reads_alike i x y)) (others x)
 
   module _ (greatest : ℕ) where
     -- the least number of names by which it is
-    unfoldable pub step : Member → Option ℕ
+    unfoldable pub step : NamedCite → Option ℕ
     step x = find (λ i. known i x) (range_with_len 1 greatest)
 
     -- the numbers of names by which some member is told apart first, in order

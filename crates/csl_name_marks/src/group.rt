@@ -3,24 +3,24 @@ ghost use Rattle.std.specs.Prelude.{◌≡◌, All, IfOk};
 ghost use Rattle.csl_passes.specs.Places.{IsPlace};
 ghost use Rattle.csl_passes.specs.RendersView.{item_view, renders_view};
 ghost use Rattle.csl_passes.specs.RequestView.{request_view};
-ghost use Rattle.csl_name_marks.specs.Members.{first_adds_names, greatest_step, member, members};
+ghost use Rattle.csl_name_marks.specs.NamedCites.{first_adds_names, greatest_step, named_cite, named_cites};
 
-use crate::member::{Member, rule_of, start_of};
+use crate::named_cite::{NamedCite, rule_of, start_of};
 use crate::persons::persons_of;
 use csl_passes::renders::{SpeculativeCiteRender, SpeculativeItemRender};
 use csl_passes::request::CitationRequest;
 use std::alloc::{AllocError, Global};
 
-fn member_of<T, P>(
+fn named_cite<T, P>(
     alloc: Global,
     place: (usize, usize),
     request: &CitationRequest<'_, T, P>,
     item: &SpeculativeItemRender<'_, T, P>,
-) -> Result<Member, AllocError>
-    ensures { IfOk result (λ m. m ≡ member place (request_view request.now) (item_view item.now)) }
+) -> Result<NamedCite, AllocError>
+    ensures { IfOk result (λ m. m ≡ named_cite place (request_view request.now) (item_view item.now)) }
 {
     let state = &item.cite_props.speculative.disambiguation;
-    Ok(Member {
+    Ok(NamedCite {
         place,
         persons: persons_of(alloc, &item.rendered)?,
         rule: rule_of(&request.style().citation),
@@ -30,19 +30,19 @@ fn member_of<T, P>(
 }
 
 /// The members of a group, in its order.
-pub(crate) fn members_of<T, P>(
+pub(crate) fn named_cites<T, P>(
     alloc: Global,
     renders: &[SpeculativeCiteRender<'_, '_, T, P>],
     group: &[(usize, usize)],
-) -> Result<Vec<Member>, AllocError>
+) -> Result<Vec<NamedCite>, AllocError>
     requires exist { All (IsPlace (renders_view renders.now)) group.now }
-    ensures { IfOk result (λ v. v.items ≡ members (renders_view renders.now) group.now) }
+    ensures { IfOk result (λ v. v.items ≡ named_cites (renders_view renders.now) group.now) }
 {
     let mut found = Vec::new(alloc);
     for place in group {
         let cite = &renders[place.0];
         let item = &cite.items[place.1];
-        found.push(member_of(alloc, *place, cite.request, item)?)?;
+        found.push(named_cite(alloc, *place, cite.request, item)?)?;
     }
     Ok(found)
 }
@@ -58,7 +58,7 @@ pub(crate) fn first_adds_names<T, P>(renders: &[SpeculativeCiteRender<'_, '_, T,
 }
 
 /// How many names may be tried.
-pub(crate) fn greatest_step(adds_names: bool, group: &[Member]) -> usize
+pub(crate) fn greatest_step(adds_names: bool, group: &[NamedCite]) -> usize
     ensures { result ≡ greatest_step adds_names group.now }
 {
     if !adds_names {

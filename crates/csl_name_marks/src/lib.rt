@@ -4,7 +4,7 @@
 mod cut;
 mod group;
 pub mod marks;
-mod member;
+mod named_cite;
 mod persons;
 mod raising;
 mod steps;

@@ -7,8 +7,8 @@ ghost use Rattle.csl_passes.specs.RendersView.{renders_view};
 ghost use Rattle.csl_name_marks.specs.NameMarks.{after_step, is_by_cite, mark, marks_after, name_marks};
 ghost use Rattle.csl_name_marks.specs.Steps.{step, steps};
 
-use crate::group::{first_adds_names, greatest_step, members_of};
-use crate::member::{Member, copied};
+use crate::group::{first_adds_names, greatest_step, named_cites};
+use crate::named_cite::{NamedCite, copied};
 use crate::raising::raise;
 use crate::steps::{group_steps, own_steps};
 use csl_base::names::NameDisambiguationProperties;
@@ -28,8 +28,8 @@ fn is_by_cite(rule: Option<DisambiguationRule>) -> bool
 
 fn take_step(
     alloc: Global,
-    group: &[Member],
-    member: &Member,
+    group: &[NamedCite],
+    member: &NamedCite,
     own: Option<usize>,
     i: usize,
     forms: &mut NameDisambiguationProperties,
@@ -46,9 +46,9 @@ fn take_step(
 /// The forms of a member after all steps of its group.
 fn forms_after(
     alloc: Global,
-    group: &[Member],
+    group: &[NamedCite],
     steps: &[usize],
-    member: &Member,
+    member: &NamedCite,
     own: Option<usize>,
     start: &NameDisambiguationProperties,
 ) -> Result<NameDisambiguationProperties, AllocError>
@@ -63,9 +63,9 @@ fn forms_after(
 
 fn mark_of(
     alloc: Global,
-    group: &[Member],
+    group: &[NamedCite],
     steps: &[usize],
-    member: &Member,
+    member: &NamedCite,
     own: Option<usize>,
 ) -> Result<Option<((usize, usize), DisambiguateState)>, AllocError>
     ensures { IfOk result (λ m. m ≡ mark group.now steps.now member.now own) }
@@ -81,7 +81,7 @@ fn mark_of(
 
 fn member_marks(
     alloc: Global,
-    group: &[Member],
+    group: &[NamedCite],
     steps: &[usize],
     own_steps: &[Option<usize>],
 ) -> Result<Marks, AllocError>
@@ -98,7 +98,7 @@ fn member_marks(
 }
 
 /// The marks of a group of members, where at most this many names are tried.
-fn group_marks(alloc: Global, group: &[Member], greatest: usize) -> Result<Marks, AllocError>
+fn group_marks(alloc: Global, group: &[NamedCite], greatest: usize) -> Result<Marks, AllocError>
     ensures { IfOk result (λ v. v.items ≡ marks_after group.now (steps group.now greatest) (step group.now greatest)) }
 {
     let own_steps = own_steps(alloc, group, greatest)?;
@@ -133,7 +133,7 @@ pub fn disambiguate_names<T, P>(
     requires distinct { AreDistinct group.now.items }
     ensures { IfOk result (λ marks. marks.items ≡ name_marks (renders_view renders.now) group.now.items) }
 {
-    let members = members_of(alloc, renders, group)?;
+    let members = named_cites(alloc, renders, group)?;
     let greatest = greatest_step(first_adds_names(renders), &members);
     group_marks(alloc, &members, greatest)
 }

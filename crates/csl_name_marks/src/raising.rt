@@ -4,7 +4,7 @@ ghost use Rattle.std.specs.List.{flat_map};
 ghost use Rattle.csl_name_marks.specs.Raising.{fuller, is_namesake, raise, raised, same_initials};
 ghost use Rattle.csl_name_marks.specs.Steps.{others};
 
-use crate::member::Member;
+use crate::named_cite::NamedCite;
 use crate::steps::same_place;
 use csl_base::entry::Person;
 use csl_base::names::{DisambiguatedNameForm, NameDisambiguationProperties};
@@ -65,7 +65,7 @@ fn raised_by(
 fn raised(
     alloc: Global,
     person: &Person,
-    member: &Member,
+    member: &NamedCite,
     form: DisambiguatedNameForm,
 ) -> Result<DisambiguatedNameForm, AllocError>
     ensures { IfOk result (λ r. r ≡ raised person.now member.now.persons form) }
@@ -81,8 +81,8 @@ fn raised(
 fn raised_in_group(
     alloc: Global,
     person: &Person,
-    member: &Member,
-    group: &[Member],
+    member: &NamedCite,
+    group: &[NamedCite],
     form: DisambiguatedNameForm,
 ) -> Result<DisambiguatedNameForm, AllocError>
     ensures { IfOk result (λ r. r ≡ raised person.now (flat_map (λ y. y.persons) (others group.now member.now)) form) }
@@ -100,8 +100,8 @@ fn raised_in_group(
 /// no such person, and where there is no such form.
 pub(crate) fn raise(
     alloc: Global,
-    member: &Member,
-    group: &[Member],
+    member: &NamedCite,
+    group: &[NamedCite],
     i: usize,
     forms: &mut NameDisambiguationProperties,
 ) -> Result<(), AllocError>

@@ -5,7 +5,7 @@ ghost use Rattle.csl_name_marks.specs.Cut.{cut};
 ghost use Rattle.csl_name_marks.specs.Steps.{is_at, others, same_persons, same_place, step};
 
 use crate::cut::cut;
-use crate::member::Member;
+use crate::named_cite::NamedCite;
 use csl_base::entry::Person;
 use csl_base::seq::Seq;
 use std::alloc::{AllocError, Global};
@@ -58,8 +58,8 @@ fn least_telling(own: &[Person], others: &[Seq<Person>], greatest: usize) -> Opt
 /// The persons of the other members, cut by the rule of this one.
 fn cut_others(
     alloc: Global,
-    member: &Member,
-    group: &[Member],
+    member: &NamedCite,
+    group: &[NamedCite],
 ) -> Result<Vec<Seq<Person>>, AllocError>
     ensures { IfOk result (λ v. v.items ≡ map (λ y. cut member.now.rule y.persons) (others group.now member.now)) }
 {
@@ -76,8 +76,8 @@ fn cut_others(
 /// from the others.
 fn step_of(
     alloc: Global,
-    member: &Member,
-    group: &[Member],
+    member: &NamedCite,
+    group: &[NamedCite],
     greatest: usize,
 ) -> Result<Option<usize>, AllocError>
     ensures { IfOk result (λ s. s ≡ step group.now greatest member.now) }
@@ -93,7 +93,7 @@ fn step_of(
 /// The step of each member, in the group's order.
 pub(crate) fn own_steps(
     alloc: Global,
-    group: &[Member],
+    group: &[NamedCite],
     greatest: usize,
 ) -> Result<Vec<Option<usize>>, AllocError>
     ensures { IfOk result (λ v. v.items ≡ map (step group.now greatest) group.now) }

@@ -1,6 +1,6 @@
 //! Groups of members, with marks worked out by hand from the rules.
 use super::group_marks;
-use crate::member::Member;
+use crate::named_cite::NamedCite;
 use csl_base::entry::Person;
 use csl_base::names::{DisambiguatedNameForm, NameDisambiguationProperties};
 use csl_base::seq::Seq;
@@ -48,7 +48,7 @@ fn member(
     rule: Option<DisambiguationRule>,
     names: &[(&str, &str)],
     start: &str,
-) -> Result<Member, AllocError> {
+) -> Result<NamedCite, AllocError> {
     let mut persons = Vec::new(alloc);
     for name in names {
         persons.push(person(alloc, name.0, name.1)?)?;
@@ -57,7 +57,7 @@ fn member(
     for letter in start.chars() {
         forms.push(form_of(letter))?;
     }
-    Ok(Member {
+    Ok(NamedCite {
         place: (request, 0),
         persons: Seq::new(persons),
         rule,
@@ -211,7 +211,7 @@ fn equal_initials_outweigh_others(rt: HostRuntime) -> Result<(), Fail> {
 
 /// Of two cites of Doe, told apart by their given names, the first has no forms.
 fn without_forms(alloc: Global, may_be_named: bool) -> Result<String, AllocError> {
-    let a = Member {
+    let a = NamedCite {
         start: None,
         may_be_named,
         ..member(alloc, 0, BY_CITE, &[("Doe", "Jane")], "")?

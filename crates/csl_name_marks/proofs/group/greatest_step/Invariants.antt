@@ -1,5 +1,5 @@
 use Rattle.std.proofs.Common.{◌≡◌, drop, length, map, max}
-use Rattle.csl_name_marks.specs.Members.{greatest}
+use Rattle.csl_name_marks.specs.NamedCites.{greatest}
 use Rattle.csl_name_marks.proofs.group.greatest_step.Given as goal
 
 abbrev pub invariant-loop-member : goal.invariant-loop-member

@@ -1,6 +1,6 @@
 use Rattle.std.proofs.Common.{ap, ◌∙◌}
 use Rattle.csl_passes.specs.RendersView.{renders_view}
-use Rattle.csl_name_marks.specs.Members.{greatest_step, members}
+use Rattle.csl_name_marks.specs.NamedCites.{greatest_step, named_cites}
 use Rattle.csl_name_marks.specs.NameMarks.{marks_after}
 use Rattle.csl_name_marks.specs.Steps.{step, steps}
 use Rattle.csl_name_marks.proofs.Marking.{in_other_words, marks-are}
@@ -13,6 +13,6 @@ returns g c =
     in_other_words c.group_marks.result (λ v. v.items) _ _
     (ap (λ l. marks_after l (steps l m) (step l m)) c.deref-3.ensures.value
     ∙ marks-are renders c.args.group.now.items c.in_ok-members.members.items m
-    (c.in_ok-members.ensures ∙ ap (members renders) c.deref.ensures.value)
+    (c.in_ok-members.ensures ∙ ap (named_cites renders) c.deref.ensures.value)
     (c.greatest_step-greatest.ensures ∙ ap (λ b. greatest_step b c.deref-2.result.now) c.first_adds_names.ensures ∙ ap (greatest_step _) c.deref-2.ensures.value))
     c.group_marks.ensures

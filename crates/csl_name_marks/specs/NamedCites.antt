@@ -11,7 +11,7 @@ use Rattle.csl_passes.specs.Places.{cite_at}
 use Rattle.csl_passes.specs.Renders.{CiteRender, ItemRender, Place}
 use Rattle.csl_passes.specs.Request.{Request}
 use Rattle.csl_name_marks.specs.Persons.{persons}
-use Rattle.csl_name_marks.specs.declared.member.Member.{Member}
+use Rattle.csl_name_marks.specs.declared.named_cite.NamedCite.{NamedCite}
 
 -- the rule by which a style adds given names, if it does
 abbrev pub rule_of : CitationValue → Option DisambiguationRule
@@ -25,8 +25,8 @@ start DisambiguateState.Choose first = None
 start (DisambiguateState.YearSuffix suffix) first = None
 
 module _ {E P : Type 0} where
-  abbrev pub member : Place → Request E P → ItemRender E P → Member
-  member place request item = record {
+  abbrev pub named_cite : Place → Request E P → ItemRender E P → NamedCite
+  named_cite place request item = record {
     place = place;
     persons = persons item.rendered;
     rule = rule_of request.style.citation;
@@ -34,11 +34,11 @@ module _ {E P : Type 0} where
     start = start item.properties.speculative.disambiguation item.first_name;
   }
 
-  abbrev pub member_at : List (CiteRender E P) → Place → Option Member
-  member_at renders place = option_map (λ cite. member place cite.0 cite.1) (cite_at renders place)
+  abbrev pub named_cite_at : List (CiteRender E P) → Place → Option NamedCite
+  named_cite_at renders place = option_map (λ cite. named_cite place cite.0 cite.1) (cite_at renders place)
 
-  abbrev pub members : List (CiteRender E P) → List Place → List Member
-  members renders group = filter_map (member_at renders) group
+  abbrev pub named_cites : List (CiteRender E P) → List Place → List NamedCite
+  named_cites renders group = filter_map (named_cite_at renders) group
 
   -- the style of the document's first request adds names
   abbrev pub first_adds_names : List (CiteRender E P) → Bool
@@ -50,5 +50,5 @@ greatest [] = 0
 greatest (n ∷ ns) = max n (greatest ns)
 
 -- how many names may be tried: as many as some member has where names are added, else one
-abbrev pub greatest_step : Bool → List Member → ℕ
+abbrev pub greatest_step : Bool → List NamedCite → ℕ
 greatest_step adds_names group = if adds_names then greatest (map (λ x. length x.persons) group) else 1

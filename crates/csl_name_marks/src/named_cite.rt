@@ -1,7 +1,7 @@
 //! The members of an ambiguous group, as name marks see them.
 ghost use Rattle.std.specs.Prelude.{◌≡◌, IfOk};
 ghost use Rattle.csl_base.specs.StyleView.{citation_view};
-ghost use Rattle.csl_name_marks.specs.Members.{rule_of, start};
+ghost use Rattle.csl_name_marks.specs.NamedCites.{rule_of, start};
 
 use csl_base::entry::Person;
 use csl_base::names::NameDisambiguationProperties;
@@ -12,7 +12,7 @@ use std::alloc::AllocError;
 
 /// What name marks ask of a cite.
 #[derive(Drop)]
-pub struct Member {
+pub struct NamedCite {
     /// The place of its request, and its own there.
     pub place: (usize, usize),
     /// The persons that its tree shows.
