@@ -1,3 +1,5 @@
 pub mod Halves
 pub mod FinalItems
 pub mod FinalRenders
+pub mod FinalPlaces
+pub mod FinalFirsts
