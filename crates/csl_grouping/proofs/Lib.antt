@@ -6,3 +6,4 @@ pub mod OrderLaws
 pub mod Placing
 pub mod Swaps
 pub mod Whole
+pub mod Kept

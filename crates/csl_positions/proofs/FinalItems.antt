@@ -1,5 +1,5 @@
 -- The final properties of cites, set one after another.
-use Rattle.std.proofs.Common.{◌≡◌, ℕ, zero, suc, ◌+◌, ◌-◌, ◌<◌, ◌≤◌, Bool, List, [], ◌∷◌, ◌++◌, take, length, map, get_or, Some, None, refl, ap, sym, subst, ◌∙◌, arith, append-nil}
+use Rattle.std.proofs.Common.{◌≡◌, ℕ, zero, suc, ◌+◌, ◌-◌, ◌<◌, Bool, List, [], ◌∷◌, ◌++◌, take, length, map, get_or, Some, None, refl, ap, sym, subst, ◌∙◌, arith, append-nil}
 use Rattle.std.specs.Prelude.{All, Option, option_copied, option_map, slice_get, slice_index}
 use Rattle.std.specs.Borrow.{Bor}
 use Rattle.std.specs.List.{AllZip, last_or}
@@ -180,3 +180,9 @@ row-within eq entries list view places rows renders r made all w =
 -- a place that leads somewhere is within
 pub placed-within : {E P : Type 0} (eq : E → E → Bool) (entries : List E) (places : List ℕ) (items : List (ItemRender E P)) → All (IsPlaced eq entries places) items → All (IsWithin places) items
 placed-within eq entries places items all = λ k d w. slice_get_within places (get_or items k d).properties.certain.initial_idx (place eq (get_or items k d).entry entries) (all k d w)
+
+pub placed-seen : {E P V X : Type 0} (eq : E → E → Bool) (entries : List E) (list : V → List ℕ) (view : X → CiteRender E P) (places : List V) (rows : List (List ℕ)) (renders : List X) (r : ℕ) (v : V) (x : X)
+    → map list places ≡ rows → AllZip (RowPlaced eq entries) rows (map view renders) → r < length renders → v ≡ get_or places r v → x ≡ get_or renders r x → RowPlaced eq entries (list v) (view x)
+placed-seen eq entries list view places rows renders r v x made all w q h =
+    placed-at eq entries list places rows (map view renders) r v (view x) made all (subst (λ n. r < n) (sym (length-map renders view)) w) q
+    (ap view h ∙ sym (get_or-map view renders r x))

@@ -7,3 +7,5 @@ pub mod Steps
 pub mod Halves
 pub mod FinalItems
 pub mod FinalRenders
+pub mod FinalPlaces
+pub mod FinalFirsts

@@ -1,5 +1,5 @@
 //! The properties of cites in their final order.
-ghost use Rattle.std.specs.Prelude.{◌≡◌, ◌<◌, ◌++◌, All, IfOk, None, OnOk, Some, fold, length, map, option_map, slice_get, slice_index, slice_index_or};
+ghost use Rattle.std.specs.Prelude.{◌≡◌, ◌<◌, ◌++◌, All, IfOk, None, OnOk, Some, fold, length, map, option_map, replicate, slice_get, slice_index, slice_index_or};
 ghost use Rattle.std.specs.List.{last_or};
 ghost use Rattle.csl_passes.specs.RendersView.{item_view, items_view, renders_view};
 ghost use Rattle.csl_entries.specs.Entries.{distinct, is_in, place};
@@ -105,6 +105,13 @@ fn note_firsts<T, P>(
     }
 }
 
+/// None for each of so many entries.
+fn no_firsts(alloc: Global, count: usize) -> Result<Vec<Option<(usize, usize)>>, AllocError>
+    ensures { IfOk result (λ v. v.items ≡ replicate count None) }
+{
+    vec![in alloc; None; count]
+}
+
 /// By the places of the entries in the table, the request of each one's first cite in the final order, and
 /// the cite's index there; none for an entry that no cite cites.
 ///
@@ -121,7 +128,7 @@ pub fn first_items<'a, T: EntryLike, P>(
     ensures { IfOk result (λ firsts. AreFirstItems T.eq (table_view table.now).entries (renders_view renders.now) firsts.items) }
 {
     let places = table.places();
-    let mut firsts = vec![in alloc; None; table.len()]?;
+    let mut firsts = no_firsts(alloc, table.len())?;
     for (r, render) in renders.iter().enumerate() {
         note_firsts(&mut firsts, r, &render.items, &places[r]);
     }
