@@ -105,7 +105,7 @@ fn written_items<T: EntryLike, P: Drop>(
 
 /// An item from its tree and its key, with its first field apart where second fields are aligned.
 fn with_first_field(aligned: bool, mut content: ElemChildren, key: String) -> BibliographyItem
-    ensures { result ≡ with_first_field aligned (content.entry, string_bytes key.entry) }
+    ensures { result ≡ with_first_field aligned (content, string_bytes key) }
 {
     let first_field = if aligned {
         content.remove_any_meta()
@@ -125,7 +125,7 @@ fn with_first_fields(
     aligned: bool,
     items: Vec<(ElemChildren, String)>,
 ) -> Result<Vec<BibliographyItem>, AllocError>
-    ensures { IfOk result (λ v. v.items ≡ map (with_first_field aligned) (items_view items.entry.items)) }
+    ensures { IfOk result (λ v. v.items ≡ map (with_first_field aligned) (items_view items.items)) }
 {
     let mut finished = Vec::with_capacity(alloc, items.len())?;
     for (content, key) in items {

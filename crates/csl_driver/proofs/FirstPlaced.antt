@@ -1,6 +1,6 @@
 -- The first renders of cites know their places, and through these those of their entries.
 use Rattle.std.proofs.Common.{◌≡◌, ℕ, zero, suc, ◌+◌, ◌<◌, ◌≤◌, Bool, List, [], ◌∷◌, ◌++◌, Option, Some, None, length, map, take, refl, ap, sym, subst, ◌∙◌, arith, append_assoc, length-append}
-use Rattle.std.specs.Prelude.{All, option_map, slice_get, zip}
+use Rattle.std.specs.Prelude.{All, flat_map, option_map, slice_get, zip}
 use Rattle.std.specs.List.{AllZip, enumerate_from}
 use Rattle.std.proofs.Math.Seq.{take-append_seam}
 use Rattle.std.proofs.lemmas.List.Elements.{All-cons, All-nil}
@@ -9,7 +9,7 @@ use Rattle.csl_base.specs.Answers.{Answers}
 use Rattle.csl_entries.specs.Entries.{place}
 use Rattle.csl_entries.specs.PlacedItems.{IsPlaced}
 use Rattle.csl_entries.specs.Table.{places_in}
-use Rattle.csl_passes.specs.Request.{Cite, Request, entries_of}
+use Rattle.csl_passes.specs.Request.{Cite, Request, cited, entries_of}
 use Rattle.csl_passes.specs.declared.first.FirstProperties.{FirstProperties}
 use Rattle.csl_positions.specs.FirstProperties.{cite_properties, first_properties, request_properties}
 use Rattle.csl_rounds.specs.FirstRenders.{HasShapeOf, first_render, first_renders, first_renders_of}
@@ -108,3 +108,22 @@ module _ {E P : Type 0} (eq : E → E → Bool) (payload_eq : P → P → Bool) 
   pub first-requests : (requests : List (Request E P))
       → map (λ c. c.request) (first_renders answers requests (first_properties eq payload_eq number_of requests)) ≡ requests
   first-requests requests = rows-requests requests 0 requests
+
+  -- and which entries they cite
+  row-cited : (r : Request E P) (cs : List (Cite E P)) (fs : List FirstProperties) → length fs ≡ length cs
+      → map (λ i. i.entry) (map (λ c. first_render answers r c.0 c.1) (zip cs fs)) ≡ entries_of cs
+  row-cited r [] [] same = refl
+  row-cited r [] (f ∷ fs) same = refl
+  row-cited r (c ∷ cs) [] same = absurd (omega (arith, same))
+  row-cited r (c ∷ cs) (f ∷ fs) same = ap (λ t. c.entry ∷ t) (row-cited r cs fs (omega (arith, same)))
+
+  rows-cited : (ys : List (Request E P)) (n : ℕ) (requests : List (Request E P))
+      → flat_map (λ c. map (λ i. i.entry) c.items) (first_renders answers requests (from (request_properties eq payload_eq number_of) ys n requests)) ≡ cited requests
+  rows-cited ys n [] = refl
+  rows-cited ys n (r ∷ requests) =
+      rw (row-cited r r.cites (request_properties eq payload_eq number_of (take n ys) r) (length-from (cite_properties eq payload_eq number_of (take n ys) r) r.cites 0 r.cites),
+          rows-cited ys (n + 1) requests) refl
+
+  pub first-cited : (requests : List (Request E P))
+      → flat_map (λ c. map (λ i. i.entry) c.items) (first_renders answers requests (first_properties eq payload_eq number_of requests)) ≡ cited requests
+  first-cited requests = rows-cited requests 0 requests

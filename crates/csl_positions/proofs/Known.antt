@@ -29,7 +29,7 @@ seen_same p q r = rw (p, q, r) refl
 module _ {E P : Type 0} (eq : E → E → Bool) where
   -- what is certain, from what is known
   pub certain-known : (before : List (Request E P)) (r : Request E P) (earlier : List (Cite E P)) (c : Cite E P)
-      → certain_by r (length before) (seen_of eq (cited before ++ entries_of earlier) before c.entry) c ≡ certain_properties eq before r earlier c
+      → certain_by r (length before) (seen_of eq (cited before ++ entries_of earlier) before c.entry) (length earlier) ≡ certain_properties eq before r earlier c
   certain-known before r earlier c =
       let near = is_within-last (notes_entry eq c.entry) r.style.citation.near_note_distance before in
       rw near refl

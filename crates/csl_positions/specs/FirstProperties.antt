@@ -52,7 +52,7 @@ module _ {E P : Type 0} (eq : E → E → Bool) where
     first_note_number = first_note_number before r c.entry;
     is_near_note = is_near_note before r c.entry;
     is_first = is_first before earlier c.entry;
-    initial_idx = c.place;
+    initial_idx = length earlier;
   }
 
   module _ (payload_eq : P → P → Bool) (number_of : E → ℕ) where

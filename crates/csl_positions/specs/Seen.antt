@@ -37,11 +37,11 @@ module _ {E P : Type 0} (eq : E → E → Bool) where
 
 module _ {E P : Type 0} where
   -- what is certain of a cite, from what is known of its entry, where the request stands at a place
-  abbrev pub certain_by : Request E P → ℕ → Seen → Cite E P → CertainCiteProperties
-  certain_by r place seen c = record {
+  abbrev pub certain_by : Request E P → ℕ → Seen → ℕ → CertainCiteProperties
+  certain_by r place seen index = record {
     note_number = r.note_number;
     first_note_number = option_map (λ n. unwrap_or seen.first_note n) r.note_number;
     is_near_note = is_some r.note_number && is_within place r.style.citation.near_note_distance seen.last_noted;
     is_first = not seen.cited;
-    initial_idx = c.place;
+    initial_idx = index;
   }

@@ -1,5 +1,5 @@
 //! The properties of cites before anything is rendered (CSL 1.0.2, position and near-note-distance).
-ghost use Rattle.std.specs.Prelude.{◌≡◌, ◌<◌, ◌++◌, [], ◌∷◌, IfOk, OnOk, length, map, option_map};
+ghost use Rattle.std.specs.Prelude.{◌≡◌, ◌<◌, ◌≤◌, ◌++◌, [], ◌∷◌, IfOk, OnOk, length, map, option_map};
 ghost use Rattle.std.specs.List.{last_or};
 ghost use Rattle.std.specs.Option.{ForSome};
 ghost use Rattle.csl_entries.specs.Table.{table_of};
@@ -40,15 +40,15 @@ fn is_within(place: usize, distance: usize, last_noted: Option<usize>) -> bool
     }
 }
 
-/// What is certain of a cite of the request at this place.
+/// What is certain of the cite at an index of the request at this place.
 fn certain_properties<T: EntryLike, P>(
     request: &CitationRequest<'_, T, P>,
     place: usize,
     seen: &Seen,
-    item: &CitationItem<'_, T, P>,
+    index: usize,
 ) -> CertainCiteProperties
     requires { ForSome seen.now.last_noted (λ k. k < place) }
-    ensures { result ≡ certain_by (request_view request.now) place seen.now (cite_view item.now) }
+    ensures { result ≡ certain_by (request_view request.now) place seen.now index }
 {
     let note_number = request.note_number();
     let distance = request.style().citation.near_note_distance;
@@ -57,7 +57,7 @@ fn certain_properties<T: EntryLike, P>(
         first_note_number: note_number.map(|number| seen.first_note.unwrap_or(number)),
         is_near_note: note_number.is_some() && is_within(place, distance, seen.last_noted),
         is_first: !seen.cited,
-        initial_idx: item.initial_idx(),
+        initial_idx: index,
     }
 }
 
@@ -72,7 +72,7 @@ fn request_properties<'a, T: EntryLike, P: PartialEq>(
     seen: &mut [Seen],
 ) -> Result<Vec<FirstProperties>, AllocError>
     requires table { IsTableOf T.eq (requests_view before.now) (request_view request.now) (table_view table.now) }
-    requires numbered { length numbers.now ≡ length (table_view table.now).entries }
+    requires numbered { length (table_view table.now).entries ≤ length numbers.now }
     requires last { option_map (λ l. cite_view l.now) last ≡ last_or None (cites_of (requests_view before.now)) }
     requires seen { seen.old ≡ map (seen_of T.eq (cited (requests_view before.now)) (requests_view before.now)) (table_view table.now).entries }
     ensures properties { IfOk result (λ v. v.items
@@ -87,7 +87,7 @@ fn request_properties<'a, T: EntryLike, P: PartialEq>(
     for (i, item) in request.items.iter().enumerate() {
         let entry = places[i];
         properties.push(FirstProperties {
-            certain: certain_properties(request, place, &seen[entry], item),
+            certain: certain_properties(request, place, &seen[entry], i),
             number: numbers[entry],
             ibid: with_last(item, last),
         })?;
@@ -129,7 +129,7 @@ pub fn first_properties<'a, T: EntryLike, P: PartialEq>(
     numbers: &[usize],
 ) -> Result<Vec<Vec<FirstProperties>>, AllocError>
     requires table { table_view table.now ≡ table_of T.eq (requests_view requests.now) }
-    requires numbered { length numbers.now ≡ length (table_view table.now).entries }
+    requires numbered { length (table_view table.now).entries ≤ length numbers.now }
     ensures { IfOk result (λ v. map (λ f. f.items) v.items
         ≡ first_properties T.eq P.eq (numbered_by T.eq numbers.now (table_view table.now).entries) (requests_view requests.now)) }
 {

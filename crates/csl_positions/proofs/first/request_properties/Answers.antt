@@ -1,6 +1,6 @@
 use Rattle.std.proofs.Common.{◌≡◌, ◌∙◌, ◌+◌, ◌++◌, [], ◌∷◌, ◌<◌, None, false, refl, ap, append_assoc, arith, get_or, length, map, sym, take}
 use Rattle.std.specs.List.{last_or}
-use Rattle.std.proofs.lemmas.List.{length-map, map-append}
+use Rattle.std.proofs.lemmas.List.{length-map, length-take-le, map-append}
 use Rattle.csl_entries.specs.Entries.{place}
 use Rattle.csl_entries.specs.TableView.{table_view}
 use Rattle.csl_passes.specs.Positions.{with_last}
@@ -86,9 +86,10 @@ bounds-numbers-entry g c =
     let k = c.loop-i.i in
     let x = c.item-item.result in
     let m = moved xs c.deref-item-items.result.now k x c.deref-item-items.ensures.value c.loop-i-test.true c.item-item.is in
-    entry-within eq laws before r table of cite_view xs refl k x m.0 m.1 c.places.result.now c.places.ensures (length c.args.before.now) (length-map c.args.before.now request_view)
+    let below = entry-within eq laws before r table of cite_view xs refl k x m.0 m.1 c.places.result.now c.places.ensures (length c.args.before.now) (length-map c.args.before.now request_view)
     c.index-places-place.result c.index-places-place.is
-    c.index-entry.result.now c.index-entry.ensures (length c.args.numbers.now) (sym c.requires.numbered)
+    c.index-entry.result.now c.index-entry.ensures (length table.entries) refl in
+    omega (arith, below, c.requires.numbered)
 
 pub offset_bounds-numbers-entry : goal.offset_bounds-numbers-entry
 offset_bounds-numbers-entry g c =
@@ -102,11 +103,10 @@ offset_bounds-numbers-entry g c =
     let k = c.loop-i.i in
     let x = c.item-item.result in
     let m = moved xs c.deref-item-items.result.now k x c.deref-item-items.ensures.value c.loop-i-test.true c.item-item.is in
-    let within : c.index-entry.result.now < length c.args.numbers.now =
-    entry-within eq laws before r table of cite_view xs refl k x m.0 m.1 c.places.result.now c.places.ensures (length c.args.before.now) (length-map c.args.before.now request_view)
+    let below = entry-within eq laws before r table of cite_view xs refl k x m.0 m.1 c.places.result.now c.places.ensures (length c.args.before.now) (length-map c.args.before.now request_view)
     c.index-places-place.result c.index-places-place.is
-    c.index-entry.result.now c.index-entry.ensures (length c.args.numbers.now) (sym c.requires.numbered) in
-    omega arith
+    c.index-entry.result.now c.index-entry.ensures (length table.entries) refl in
+    omega (arith, below, c.requires.numbered)
 
 pub bounds-seen-entry-in-loop-i : goal.bounds-seen-entry-in-loop-i
 bounds-seen-entry-in-loop-i g c =
@@ -152,10 +152,12 @@ loop-i-preserved g c =
     let n = length c.args.before.now in
     let f = cite_properties eq g.P.PartialEq.eq (numbered_by eq c.args.numbers.now table.entries) before r in
     let more : cites_view (take (k + 1) xs) ≡ cites ++ item ∷ [] = grown xs k x m.0 m.1 cite_view in
+    let counted : k ≡ length cites = sym (length-map (take k xs) cite_view ∙ length-take-le k xs (omega (arith, m.0))) in
     let certain : c.certain_properties.result ≡ certain_properties eq before r cites item =
     c.certain_properties.ensures
-    ∙ ap (λ (s : Seen). certain_by r n s item) (cite-known eq laws before r table of k item within here so-far before p at c.loop-i.seen c.loop-i.invariant.seen unseen)
-    ∙ ap (λ j. certain_by r j (seen_of eq so-far before item.entry) item) (sym (length-map c.args.before.now request_view)) ∙ certain-known eq before r cites item in
+    ∙ ap (λ (s : Seen). certain_by r n s k) (cite-known eq laws before r table of k item within here so-far before p at c.loop-i.seen c.loop-i.invariant.seen unseen)
+    ∙ ap (λ j. certain_by r j (seen_of eq so-far before item.entry) k) (sym (length-map c.args.before.now request_view))
+    ∙ ap (λ j. certain_by r (length before) (seen_of eq so-far before item.entry) j) counted ∙ certain-known eq before r cites item in
     let ibid = c.with_last.ensures ∙ ap (λ l. with_last eq g.P.PartialEq.eq item l) c.loop-i.invariant.last in
     let v : FirstProperties = record { certain = c.certain_properties.result; number = get_or c.args.numbers.now p 0; ibid = c.with_last.result } in
     let one : v ≡ f cites item = properties-same certain (ap (λ q. get_or c.args.numbers.now q 0) at) ibid in
