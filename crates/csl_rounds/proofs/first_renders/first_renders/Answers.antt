@@ -36,7 +36,7 @@ loop-k-preserved g c =
     let row_within = within_view row_of {xs = c.args.firsts.now} k refl row_inside in
     let row_here = at_view row_of {xs = c.args.firsts.now} k refl c.index-firsts-k.result c.index-firsts-k.is in
     renders-more g.T.EntryLike.answers (requests_view c.args.requests.now) (map row_of c.args.firsts.now) c.args.renders.now k (request_view request) (row_of c.index-firsts-k.result)
-    within row_within here row_here _ _ (render_view c.in_ok-first_renders_of.field-0) c.loop-k.renders c.first_renders_of.new.renders c.loop-k.invariant
+    within row_within here row_here _ _ (render_view c.in_ok-first_renders_of.field-0) _ _ c.loop-k.invariant
     c.in_ok-push.ensures (c.in_ok-first_renders_of.ensures.render ∙ ap (first_renders_of g.T.EntryLike.answers (request_view request)) c.deref.ensures.value)
     c.in_ok-first_renders_of.ensures.counted
 

@@ -17,7 +17,7 @@ loop-k-preserved g c =
     let first_within = subst (λ (n : ℕ). c.loop-k.k < n) (sym c.requires.shape) cite_within in
     items-more g.T.EntryLike.answers (request_view c.args.request.now) c.args.firsts.now c.args.renders.now c.loop-k.k (cite_view c.item-item.result) _
     cite_within first_within (at_view cite_view c.loop-k.k same c.item-item.result c.item-item.is) (get_or_default c.args.firsts.now c.loop-k.k _ _ first_within)
-    _ _ (item_view c.in_ok-first_render.field-0) c.loop-k.renders c.first_render.new.renders c.loop-k.invariant
+    _ _ (item_view c.in_ok-first_render.field-0) _ _ c.loop-k.invariant
     (ap items_view c.in_ok-push.ensures.items ∙ map-append item_view _ _) c.in_ok-first_render.ensures.render refl c.in_ok-first_render.ensures.counted
 
 pub returns-clause-render : goal.returns-clause-render
