@@ -16,6 +16,10 @@ use Rattle.csl_positions.specs.FirstProperties.{first_properties}
 use Rattle.csl_rounds.specs.FirstRenders.{first_renders}
 use Rattle.csl_rounds.specs.Rounds.{disambiguated}
 
+-- the order that the bibliography goes by, if it goes by one
+abbrev pub order_in_use : {E : Type 0} → Wanted E → Option (List E)
+order_in_use wanted = used_order wanted.style wanted.order
+
 module _ {E P : Type 0} (eq : E → E → Bool) (payload_eq : P → P → Bool) (answers : E → Answers) where
   -- the cites of all requests, rendered by their first properties and then told apart
   abbrev pub told_apart : (E → ℕ) → List (Request E P) → List (CiteRender E P)
@@ -25,6 +29,10 @@ module _ {E P : Type 0} (eq : E → E → Bool) (payload_eq : P → P → Bool) 
   abbrev pub drawn_together : CiteRender E P → CiteRender E P
   drawn_together c = if has_no_purpose c.items then collapsed c else c
 
+  -- the answer to one request
+  abbrev pub citation_of : CiteRender E P → RenderedCitation
+  citation_of c = record { note_number = c.request.note_number; citation = citation_tree answers c }
+
   -- the entries by which the final numbers go: the bibliography's where an order is used, else those of the cites in their
   -- final order
   abbrev pub numbered_finally : Option (List E) → List (Request E P) → List (CiteRender E P) → List E
@@ -32,12 +40,9 @@ module _ {E P : Type 0} (eq : E → E → Bool) (payload_eq : P → P → Bool) 
   numbered_finally (Some order) requests cites = bibliography_order eq (Some order) (cited requests)
 
   module _ (wanted : Wanted E) (requests : List (Request E P)) (offset : ℕ) where
-    -- the order that is used, and the bibliography's entries
-    abbrev pub order_in_use : Option (List E)
-    order_in_use = used_order wanted.style wanted.order
-
+    -- the bibliography's entries
     abbrev pub entries_listed : List E
-    entries_listed = bibliography_order eq order_in_use (cited requests)
+    entries_listed = bibliography_order eq (order_in_use wanted) (cited requests)
 
     -- the cites in their final order: told apart, and those of each request in their blocks
     abbrev pub in_final_order : List (CiteRender E P)
@@ -45,15 +50,11 @@ module _ {E P : Type 0} (eq : E → E → Bool) (payload_eq : P → P → Bool) 
 
     -- the number of an entry in the end
     abbrev pub final_number : E → ℕ
-    final_number = number eq offset (numbered_finally order_in_use requests in_final_order)
+    final_number = number eq offset (numbered_finally (order_in_use wanted) requests in_final_order)
 
     -- the cites with their final positions and numbers, and drawn together
     abbrev pub in_the_end : List (CiteRender E P)
     in_the_end = with_final_properties eq payload_eq final_number in_final_order
-
-    -- the answer to one request
-    abbrev pub rendered_citation : CiteRender E P → RenderedCitation
-    rendered_citation c = record { note_number = c.request.note_number; citation = citation_tree answers (drawn_together c) }
 
     -- the first cites, in the final order, of the bibliography's entries
     abbrev pub first_cites : List (ItemRender E P)
@@ -63,5 +64,5 @@ module _ {E P : Type 0} (eq : E → E → Bool) (payload_eq : P → P → Bool) 
     abbrev pub rendered : Rendered
     rendered = record {
       bibliography = option_map (λ b. bibliography_of answers (wanted_source wanted) b first_cites) wanted.style.bibliography;
-      citations = map rendered_citation in_the_end;
+      citations = map (λ c. citation_of (drawn_together c)) in_the_end;
     }

@@ -20,19 +20,25 @@ use csl_positions::final_order::first_items;
 use csl_writing::counter::Renders;
 use std::alloc::{AllocError, Global};
 
-/// The first cites, in the final order, of the bibliography's entries.
-fn first_cites<'c, 'a, T: EntryLike, P>(
+/// Where the first cites of the bibliography's entries stand in the final order.
+fn first_cites<'a, T: EntryLike, P>(
     alloc: Global,
     cited: &Cited<'a, T>,
-    cites: &'c [SpeculativeCiteRender<'_, 'a, T, P>],
-) -> Result<Vec<&'c SpeculativeItemRender<'a, T, P>>, AllocError>
+    cites: &[SpeculativeCiteRender<'_, 'a, T, P>],
+) -> Result<Vec<(usize, usize)>, AllocError>
+    requires placed { ArePlaced T.eq (table_view cited.now.table) (renders_view cites.now) }
+    requires once { NoTwoEqual T.eq (table_view cited.now.table).entries }
+    requires same { (e : T) → is_in T.eq e (cited_finally (renders_view cites.now)) ≡ is_in T.eq e (table_view cited.now.table).entries }
+    requires within { All (λ p. p < length (table_view cited.now.table).entries) (listing_view cited.now.listing).order }
+    ensures { IfOk result (λ v. (firsts : List (Option Place)) → AreFirstItems T.eq (table_view cited.now.table).entries (renders_view cites.now) firsts
+        → v.items ≡ filter_map (λ p. option_and_then (λ x. x) (slice_get firsts p)) (listing_view cited.now.listing).order) }
 {
     let places = first_items(alloc, cites, &cited.table)?;
     let order = cited.listing.order();
     let mut firsts = Vec::with_capacity(alloc, order.len())?;
     for entry in order {
-        if let Some((r, k)) = places[*entry] {
-            firsts.push(&cites[r].items[k])?;
+        if let Some(place) = places[*entry] {
+            firsts.push(place)?;
         }
     }
     Ok(firsts)
@@ -41,16 +47,24 @@ fn first_cites<'c, 'a, T: EntryLike, P>(
 /// The bibliography, where the style that was asked for has one.
 pub(crate) fn wanted_bibliography<'a, T: EntryLike, P: Drop>(
     alloc: Global,
+    requests: &[CitationRequest<'a, T, P>],
     wanted: &BibliographyRequest<'_, 'a, T>,
     cited: &Cited<'a, T>,
     cites: &[SpeculativeCiteRender<'_, 'a, T, P>],
     renders: &mut Renders,
 ) -> Result<Option<RenderedBibliography>, AllocError>
+    requires no_ring { HasNoRing (style_view wanted.now.style.now).macros }
+    requires known { IsCitedBy T.eq (requests_view requests.now) (order_in_use (wanted_view wanted.now)) cited.now }
+    requires cites { AreCitesOf T.eq (table_view cited.now.table) (requests_view requests.now) (renders_view cites.now) }
+    ensures { IfOk result (λ r. r ≡ option_map
+        (λ b. bibliography_of T.answers (wanted_source (wanted_view wanted.now)) b
+            (filter_map (first_item T.eq (renders_view cites.now)) (bibliography_order T.eq (order_in_use (wanted_view wanted.now)) (cited (requests_view requests.now)))))
+        (style_view wanted.now.style.now).bibliography) }
 {
     match &wanted.style.bibliography {
         Some(bibliography) => {
             let firsts = first_cites(alloc, cited, cites)?;
-            let made = bibliography_of(alloc, wanted, bibliography, &firsts, renders)?;
+            let made = bibliography_of(alloc, wanted, bibliography, cites, &firsts, renders)?;
             Ok(Some(made))
         }
         None => Ok(None),

@@ -18,19 +18,20 @@ pub(crate) struct Cited<'a, T: EntryLike> {
     pub(crate) offset: usize,
 }
 
-/// The numbers of so many entries, by their places, where those of the listing begin at the offset.
-pub(crate) fn numbers_by(
-    alloc: Global,
-    listing: &Listing,
-    offset: usize,
-    count: usize,
-) -> Result<Vec<usize>, AllocError>
-    requires fits { (p : ℕ) → number_at (listing_view listing.now) offset p < 2 ^ 64 }
-    ensures { IfOk result (λ v. v.items ≡ numbers_at (listing_view listing.now) offset count) }
-{
-    let mut numbers = Vec::with_capacity(alloc, count)?;
-    for place in 0..count {
-        numbers.push(offset + listing.number_of(place))?;
+impl<'a, T: EntryLike> Cited<'a, T> {
+    /// The numbers that a listing gives the entries, by their places in the table, and behind them that
+    /// which the next entry would have.
+    pub(crate) fn numbers(&self, alloc: Global, listing: &Listing) -> Result<Vec<usize>, AllocError>
+        requires fits { (p : ℕ) → number_at (listing_view listing.now) self.now.offset p < 2 ^ 64 }
+        requires one_more { length (table_view self.now.table).entries < 2 ^ 64 - 1 }
+        ensures { IfOk result (λ v. v.items
+            ≡ numbers_at (listing_view listing.now) self.now.offset (length (table_view self.now.table).entries)) }
+    {
+        let count = self.table.len() + 1;
+        let mut numbers = Vec::with_capacity(alloc, count)?;
+        for place in 0..count {
+            numbers.push(self.offset + listing.number_of(place))?;
+        }
+        Ok(numbers)
     }
-    Ok(numbers)
 }

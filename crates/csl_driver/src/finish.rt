@@ -1,24 +1,23 @@
 //! The whole answer, from all requests at once.
 ghost use Rattle.std.specs.Prelude.{◌≡◌, ◌+◌, ◌<◌, ◌≤◌, ◌^◌, All, length, map, OnOk, IfOk, IfErr};
-ghost use Rattle.csl_assembly.specs.CitationTree.{citation_tree};
 ghost use Rattle.csl_base.specs.Ring.{HasNoRing};
 ghost use Rattle.csl_base.specs.StyleView.{style_view};
-ghost use Rattle.csl_driver.specs.Answer.{drawn_together, in_final_order, in_the_end, rendered, rendered_citation, told_apart};
+ghost use Rattle.csl_driver.specs.Answer.{citation_of, drawn_together, in_the_end, numbered_finally, order_in_use, rendered, told_apart};
+ghost use Rattle.csl_driver.specs.AreCitesOf.{AreCitesOf};
+ghost use Rattle.csl_driver.specs.Cited.{IsCitedBy};
 ghost use Rattle.csl_driver.specs.DriverView.{driver_view};
 ghost use Rattle.csl_driver.specs.Rings.{NoRingAtAll, NoRingIn, Refuses};
-ghost use Rattle.csl_entries.specs.Entries.{bibliography_order, distinct, used_order};
-ghost use Rattle.csl_entries.specs.Listed.{IsListingOf};
-ghost use Rattle.csl_entries.specs.ListingView.{listing_view};
+ghost use Rattle.csl_entries.specs.Entries.{distinct, number};
 ghost use Rattle.csl_entries.specs.Table.{table_of};
 ghost use Rattle.csl_entries.specs.TableView.{table_view};
 ghost use Rattle.csl_grouping.specs.Blocks.{grouped};
-ghost use Rattle.csl_passes.specs.RendersView.{render_view, renders_view};
+ghost use Rattle.csl_passes.specs.RendersView.{renders_view};
 ghost use Rattle.csl_passes.specs.Request.{cited};
 ghost use Rattle.csl_positions.specs.FirstProperties.{numbered_by};
 ghost use Rattle.csl_passes.specs.RequestView.{order_view, requests_view, wanted_view};
 
 use crate::bibliography::wanted_bibliography;
-use crate::cited::{Cited, numbers_by};
+use crate::cited::Cited;
 use crate::driver::{BibliographyDriver, discard};
 use crate::error::DriverError;
 use crate::rings::refuse_rings;
@@ -34,13 +33,13 @@ use csl_passes::renders::SpeculativeCiteRender;
 use csl_passes::request::{BibliographyRequest, CitationRequest, Order};
 use csl_positions::final_order::{final_listing, set_final_properties};
 use csl_positions::first::first_properties;
-use csl_rounds::first_renders::first_renders;
+use csl_rounds::first_renders::{discard_renders, first_renders};
 use csl_rounds::rounds::disambiguate;
 use csl_writing::counter::Renders;
 use std::alloc::{AllocError, Global};
 /// The order that the bibliography goes by, if its style has one and an order was handed in.
 fn used_order<'o, 'a, T>(wanted: &BibliographyRequest<'o, 'a, T>) -> Option<Order<'o, 'a, T>>
-    ensures { order_view result ≡ used_order (wanted_view wanted.now).style (wanted_view wanted.now).order }
+    ensures { order_view result ≡ order_in_use (wanted_view wanted.now) }
 {
     match (&wanted.style.bibliography, &wanted.order) {
         (Some(_), Some(order)) => Some(Order(order.0)),
@@ -56,9 +55,7 @@ fn cited_by<'a, T: EntryLike, P>(
     offset: usize,
 ) -> Result<Cited<'a, T>, DriverError>
     requires no_ring { NoRingAtAll (requests_view requests.now) (style_view wanted.now.style.now) }
-    ensures table { IfOk result (λ c. table_view c.table ≡ table_of T.eq (requests_view requests.now)) }
-    ensures listed { IfOk result (λ c. IsListingOf T.eq (distinct T.eq (cited (requests_view requests.now)))
-        (bibliography_order T.eq (used_order (wanted_view wanted.now).style (wanted_view wanted.now).order) (cited (requests_view requests.now))) (listing_view c.listing)) }
+    ensures known { IfOk result (λ c. IsCitedBy T.eq (requests_view requests.now) (order_in_use (wanted_view wanted.now)) c) }
     ensures offset { IfOk result (λ c. c.offset ≡ offset) }
     ensures fits { OnOk result (offset + length (distinct T.eq (cited (requests_view requests.now))) < 2 ^ 64) }
     ensures refused { IfErr result (Refuses T.eq (requests_view requests.now) (style_view wanted.now.style.now) offset) }
@@ -75,6 +72,19 @@ fn cited_by<'a, T: EntryLike, P>(
     })
 }
 
+/// The cites of all requests. They are let go one by one: a list of lists that hold references to a type
+/// parameter can't be let go as a whole.
+struct Cites<'r, 'a, T, P> {
+    renders: Vec<SpeculativeCiteRender<'r, 'a, T, P>>,
+}
+
+impl<'r, 'a, T, P: Drop> Drop for Cites<'r, 'a, T, P> {
+    fn drop(self) {
+        let Cites { renders } = self;
+        discard_renders(renders);
+    }
+}
+
 /// The cites of all requests, rendered by their first properties and then told apart.
 fn told_apart<'r, 'a, T: EntryLike, P: Eq + Drop>(
     alloc: Global,
@@ -82,16 +92,18 @@ fn told_apart<'r, 'a, T: EntryLike, P: Eq + Drop>(
     table: &EntryTable<'a, T>,
     numbers: &[usize],
     renders: &mut Renders,
-) -> Result<Vec<SpeculativeCiteRender<'r, 'a, T, P>>, AllocError>
+) -> Result<Cites<'r, 'a, T, P>, AllocError>
     requires no_ring { NoRingIn (requests_view requests.now) }
     requires table { table_view table.now ≡ table_of T.eq (requests_view requests.now) }
     requires numbered { length (table_view table.now).entries ≤ length numbers.now }
-    ensures { IfOk result (λ v. renders_view v.items
+    ensures { IfOk result (λ c. renders_view c.renders.items
         ≡ told_apart T.eq P.eq T.answers (numbered_by T.eq numbers.now (table_view table.now).entries) (requests_view requests.now)) }
 {
     let firsts = first_properties(alloc, requests, table, numbers)?;
-    let mut cites = first_renders(alloc, requests, &firsts, renders)?;
-    disambiguate(alloc, &mut cites, table, renders)?;
+    let mut cites = Cites {
+        renders: first_renders(alloc, requests, &firsts, renders)?,
+    };
+    disambiguate(alloc, &mut cites.renders, table, renders)?;
     Ok(cites)
 }
 
@@ -108,21 +120,26 @@ fn group_all<T, P>(
     Ok(())
 }
 
-/// The numbers of the entries in the end: those of the bibliography where an order is used, else those of the
-/// cites in their final order.
+/// The numbers of the entries in the end, by their places in the table: those of the bibliography where an
+/// order is used, else those of the cites in their final order. Behind them stands the number that the next
+/// entry would have.
 fn final_numbers<'a, T: EntryLike, P>(
     alloc: Global,
+    requests: &[CitationRequest<'a, T, P>],
     wanted: &BibliographyRequest<'_, 'a, T>,
     cited: &Cited<'a, T>,
     cites: &[SpeculativeCiteRender<'_, 'a, T, P>],
 ) -> Result<Vec<usize>, AllocError>
+    requires known { IsCitedBy T.eq (requests_view requests.now) (order_in_use (wanted_view wanted.now)) cited.now }
+    requires cites { AreCitesOf T.eq (table_view cited.now.table) (requests_view requests.now) (renders_view cites.now) }
+    ensures { IfOk result (λ v. numbered_by T.eq v.items (table_view cited.now.table).entries
+        ≡ number T.eq cited.now.offset (numbered_finally T.eq (order_in_use (wanted_view wanted.now)) (requests_view requests.now) (renders_view cites.now))) }
 {
-    let count = cited.table.len();
     match used_order(wanted) {
-        Some(_) => numbers_by(alloc, &cited.listing, cited.offset, count),
+        Some(_) => cited.numbers(alloc, &cited.listing),
         None => {
             let listing = final_listing(alloc, cites, &cited.table)?;
-            numbers_by(alloc, &listing, cited.offset, count)
+            cited.numbers(alloc, &listing)
         }
     }
 }
@@ -134,13 +151,18 @@ fn cites_in_the_end<'r, 'a, T: EntryLike, P: Eq + Drop>(
     wanted: &BibliographyRequest<'_, 'a, T>,
     cited: &Cited<'a, T>,
     renders: &mut Renders,
-) -> Result<Vec<SpeculativeCiteRender<'r, 'a, T, P>>, AllocError>
+) -> Result<Cites<'r, 'a, T, P>, AllocError>
+    requires no_ring { NoRingIn (requests_view requests.now) }
+    requires known { IsCitedBy T.eq (requests_view requests.now) (order_in_use (wanted_view wanted.now)) cited.now }
+    ensures cites { IfOk result (λ c. renders_view c.renders.items
+        ≡ in_the_end T.eq P.eq T.answers (wanted_view wanted.now) (requests_view requests.now) cited.now.offset) }
+    ensures placed { IfOk result (λ c. AreCitesOf T.eq (table_view cited.now.table) (requests_view requests.now) (renders_view c.renders.items)) }
 {
-    let numbers = numbers_by(alloc, &cited.listing, cited.offset, cited.table.len())?;
+    let numbers = cited.numbers(alloc, &cited.listing)?;
     let mut cites = told_apart(alloc, requests, &cited.table, &numbers, renders)?;
-    group_all(alloc, &mut cites)?;
-    let numbers = final_numbers(alloc, wanted, cited, &cites)?;
-    set_final_properties(&mut cites, &cited.table, &numbers);
+    group_all(alloc, &mut cites.renders)?;
+    let numbers = final_numbers(alloc, requests, wanted, cited, &cites.renders)?;
+    set_final_properties(&mut cites.renders, &cited.table, &numbers);
     Ok(cites)
 }
 
@@ -162,8 +184,7 @@ fn rendered_citations<T: EntryLike, P: Drop>(
     renders: &mut Renders,
 ) -> Result<Vec<RenderedCitation>, AllocError>
     requires no_ring { All (λ c. HasNoRing c.request.style.macros) (renders_view cites.now) }
-    ensures { IfOk result (λ v. v.items
-        ≡ map (λ c. record { note_number = c.request.note_number; citation = citation_tree T.answers c }) (renders_view cites.now)) }
+    ensures { IfOk result (λ v. v.items ≡ map (citation_of T.answers) (renders_view cites.now)) }
 {
     let mut citations = Vec::with_capacity(alloc, cites.len())?;
     for cite in cites {
@@ -191,9 +212,10 @@ fn answer<'a, T: EntryLike, P: Eq + Drop>(
     let cited = cited_by(alloc, requests, wanted, offset)?;
     let mut renders = Renders::new();
     let mut cites = cites_in_the_end(alloc, requests, wanted, &cited, &mut renders)?;
-    let bibliography = wanted_bibliography(alloc, wanted, &cited, &cites, &mut renders)?;
-    draw_together(&mut cites);
-    let citations = rendered_citations(alloc, &cites, &mut renders)?;
+    let bibliography =
+        wanted_bibliography(alloc, requests, wanted, &cited, &cites.renders, &mut renders)?;
+    draw_together(&mut cites.renders);
+    let citations = rendered_citations(alloc, &cites.renders, &mut renders)?;
     Ok(Rendered {
         citations: Seq::new(citations),
         bibliography,
