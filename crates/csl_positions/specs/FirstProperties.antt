@@ -29,15 +29,15 @@ module _ {E P : Type 0} (eq : E → E → Bool) where
   abbrev pub notes_entry : E → Request E P → Bool
   notes_entry e r = is_some r.note_number && cites_entry e r
 
-  -- the number of the first of their notes that cites e
+  -- the number of the first note among these requests that cites e
   abbrev pub first_note : E → List (Request E P) → Option ℕ
   first_note e requests = option_and_then (λ r. r.note_number) (find (notes_entry e) requests)
 
-  -- the number of the first note that cites e, up to the one that r stands in behind the requests `before`; none outside of notes
+  -- the number of the first note that cites e: one of the requests `before`, or else r's own; none where r stands in no note
   abbrev pub first_note_number : List (Request E P) → Request E P → E → Option ℕ
   first_note_number before r e = option_map (λ n. unwrap_or (first_note e before) n) r.note_number
 
-  -- r stands in a note, and one of so many requests before it as the style says cites e in a note
+  -- r stands in a note, and of the requests before it one of the last, as many as its style says, cites e in a note
   abbrev pub is_near_note : List (Request E P) → Request E P → E → Bool
   is_near_note before r e = is_some r.note_number && list_any (notes_entry e) (last_of r.style.citation.near_note_distance before)
 

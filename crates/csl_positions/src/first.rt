@@ -29,7 +29,7 @@ pub(crate) struct Seen {
     pub(crate) last_noted: Option<usize>,
 }
 
-/// Whether the request that was noted last stands at most so far before this place.
+/// Whether the last noted request stands at this distance before the place, or at a smaller one.
 fn is_within(place: usize, distance: usize, last_noted: Option<usize>) -> bool
     requires { ForSome last_noted (λ k. k < place) }
     ensures { result ≡ is_within place distance last_noted }
@@ -61,7 +61,7 @@ fn certain_properties<T: EntryLike, P>(
     }
 }
 
-/// The first properties of the cites of the request behind others, whose entries are seen then.
+/// The first properties of the cites of a request, of which each sees those before it.
 fn request_properties<'a, T: EntryLike, P: PartialEq>(
     alloc: Global,
     before: &[CitationRequest<'a, T, P>],
@@ -97,7 +97,7 @@ fn request_properties<'a, T: EntryLike, P: PartialEq>(
     Ok(properties)
 }
 
-/// Notes the entries that the request behind others cites, where it has a note number.
+/// Notes the entries that a request cites, where it has a note number.
 fn note_entries<'a, T: EntryLike, P>(
     before: &[CitationRequest<'a, T, P>],
     request: &CitationRequest<'a, T, P>,
@@ -120,8 +120,10 @@ fn note_entries<'a, T: EntryLike, P>(
     }
 }
 
-/// The first properties of all cites, by request and by place in it. The numbers are those of the entries,
-/// by their places in the table.
+/// What is known of each cite before anything is rendered, by request and by place in it (CSL 1.0.2,
+/// position and near-note-distance). The table is that of the requests, and the numbers are those of its
+/// entries, by their places. A hidden cite counts as all others do, but none behind it repeats it. An error
+/// comes only where there is no memory.
 pub fn first_properties<'a, T: EntryLike, P: PartialEq>(
     alloc: Global,
     requests: &[CitationRequest<'a, T, P>],
