@@ -1,5 +1,6 @@
 //! The bibliography of an answer.
 ghost use Rattle.std.specs.Prelude.{◌≡◌, All, IfOk, map, option_map, Some, string_bytes};
+ghost use Rattle.csl_base.specs.Metas.{child_has_any_meta};
 ghost use Rattle.csl_base.specs.Ring.{HasNoRing};
 ghost use Rattle.csl_base.specs.StyleView.{bibliography_view, style_view};
 ghost use Rattle.csl_lookup.specs.PropertiesView.{properties_view};
@@ -9,11 +10,13 @@ ghost use Rattle.csl_passes.specs.Request.{wanted_source};
 ghost use Rattle.csl_passes.specs.RequestView.{wanted_view};
 ghost use Rattle.csl_substitution.specs.ItemView.{items_view};
 ghost use Rattle.csl_writing.specs.ContextSource.{context_source};
+ghost use Rattle.std.specs.List.{find, position_or_len, remove};
+ghost use Rattle.csl_assembly.specs.ChildOf.{child_of};
 ghost use Rattle.csl_assembly.specs.BibliographyItems.{bibliography_of, cites_at, unlocated, with_first_field, written_item};
 
 use crate::assemble::optional_str;
 use crate::rendered::{BibliographyItem, RenderedBibliography};
-use csl_base::elem::ElemChildren;
+use csl_base::elem::{ElemChild, ElemChildren};
 use csl_base::entry::EntryLike;
 use csl_base::locale::LocaleCode;
 use csl_base::seq::Seq;
@@ -103,17 +106,29 @@ fn written_items<T: EntryLike, P: Drop>(
     Ok(items)
 }
 
+/// Takes the first field out of an item, if it has one.
+fn take_first_field(content: &mut ElemChildren) -> Option<ElemChild>
+    ensures field { result ≡ option_map child_of (find child_has_any_meta content.old) }
+    ensures rest { content.new ≡ remove content.old (position_or_len child_has_any_meta content.old) }
+{
+    content.remove_any_meta()
+}
+
 /// An item from its tree and its key, with its first field apart where second fields are aligned.
 fn with_first_field(aligned: bool, mut content: ElemChildren, key: String) -> BibliographyItem
     ensures { result ≡ with_first_field aligned (content, string_bytes key) }
 {
-    let first_field = if aligned {
-        content.remove_any_meta()
-    } else {
-        None
-    };
+    let key = Text::new(key);
+    if !aligned {
+        return BibliographyItem {
+            key,
+            first_field: None,
+            content,
+        };
+    }
+    let first_field = take_first_field(&mut content);
     BibliographyItem {
-        key: Text::new(key),
+        key,
         first_field,
         content,
     }
