@@ -1,0 +1,3 @@
+pub mod RoundMarks
+pub mod Rounds
+pub mod Gathered

@@ -2,4 +2,7 @@
 #![tactic(auto)]
 
 pub mod first_renders;
+mod marks;
+mod rerender;
 pub mod rounds;
+mod states;
