@@ -1,10 +1,14 @@
 -- Marks gathered group by group are those of the round.
-use Rattle.std.proofs.Common.{◌≡◌, ◌<◌, Bool, true, List, [], ◌∷◌, ◌++◌, length, refl, sym, ◌∙◌, append-nil, append_assoc, arith, ap, cond, false, ◌||◌, Option, Some}
+use Rattle.std.proofs.Common.{ℕ, zero, suc, ◌≤◌, take, ◌≡◌, ◌<◌, Bool, true, List, [], ◌∷◌, ◌++◌, length, refl, sym, ◌∙◌, append-nil, append_assoc, arith, ap, cond, false, ◌||◌, Option, Some}
 use Rattle.std.specs.Prelude.{fold, find}
 use Rattle.std.specs.List.{flat_map}
 use Rattle.csl_ambiguity.specs.Ambiguity.{ambiguous_groups}
 use Rattle.csl_passes.specs.Renders.{CiteRender, Place}
-use Rattle.csl_rounds.specs.RoundMarks.{Mark, beside_names, can_be_marked, has_any, marks_of, of_first, or_others}
+use Rattle.csl_ambiguity.specs.SuffixMarks.{shows_dates}
+use Rattle.csl_base.specs.Answers.{Answers}
+use Rattle.csl_name_marks.specs.NameMarks.{name_marks}
+use Rattle.csl_rounds.specs.Gathered.{with_group}
+use Rattle.csl_rounds.specs.RoundMarks.{Mark, by_choice, by_suffix, round_marks, beside_names, can_be_marked, has_any, marks_of, of_first, or_others}
 
 module _ (n c s : List Place → List Mark) where
   abbrev with_one : List Mark → List Place → List Mark
@@ -35,3 +39,17 @@ module _ (n c s : List Place → List Mark) where
   gathered (g ∷ gs) =
       stands gs (n g) (c g) (s g) (gathered gs)
       ∙ ap (λ ms. ms ++ (n g ++ flat_map n gs)) (first-of g (can_be_marked n c s g) (find (can_be_marked n c s) gs))
+
+pub round-is : {E P : Type 0} (eq : E → E → Bool) (answers : E → Answers) (rs : List (CiteRender E P)) (dated : Bool) (groups : List (List Place)) → dated ≡ shows_dates answers rs
+    → groups ≡ ambiguous_groups eq rs → fold (with_group eq dated rs) [] groups ≡ round_marks eq answers rs
+unfolding round_marks
+round-is eq answers rs dated groups e f =
+    gathered (name_marks rs) (by_choice eq rs) (by_suffix eq rs dated) groups
+    ∙ ap (λ d. marks_of (name_marks rs) (by_choice eq rs) (by_suffix eq rs d) groups) e
+    ∙ ap (λ gs. marks_of (name_marks rs) (by_choice eq rs) (by_suffix eq rs (shows_dates answers rs)) gs) f
+
+pub all-taken : {X : Type 0} (xs : List X) (k : ℕ) → length xs ≤ k → take k xs ≡ xs
+all-taken [] zero h = refl
+all-taken [] (suc k) h = refl
+all-taken (x ∷ xs) zero h = absurd (omega arith)
+all-taken (x ∷ xs) (suc k) h = ap (λ ys. x ∷ ys) (all-taken xs k (omega arith))

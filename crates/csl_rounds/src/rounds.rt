@@ -64,7 +64,7 @@ pub fn disambiguate<'a, T: EntryLike, P>(
     requires listed { All (λ ps. All (λ p. p < length (table_view table.now).entries) ps) (table_view table.now).places }
     ensures { OnOk result (renders_view renders.new ≡ disambiguated T.eq T.answers (renders_view renders.old)) }
 {
-    for _round in 0..3 {
+    for _round in 0..3usize {
         if !run_round(alloc, renders, table, counter)? {
             return Ok(());
         }
