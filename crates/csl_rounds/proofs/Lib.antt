@@ -1,3 +1,10 @@
 pub mod Counting
 pub mod Pairs
 pub mod FirstSteps
+pub mod Halves
+pub mod Walk
+pub mod Raising
+pub mod Placed
+pub mod Kept
+pub mod Twice
+pub mod Marked

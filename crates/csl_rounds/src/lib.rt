@@ -3,4 +3,7 @@
 
 pub mod contexts;
 pub mod first_renders;
+mod marks;
+mod rerender;
 pub mod rounds;
+mod states;

@@ -1,1 +1,73 @@
 //! The rounds in which cites that read alike are told apart.
+ghost use Rattle.std.specs.Prelude.{◌≡◌, ◌<◌, All, IfOk, OnOk, length, map};
+ghost use Rattle.csl_base.specs.Ring.{HasNoRing};
+ghost use Rattle.csl_entries.specs.Entries.{place};
+ghost use Rattle.csl_entries.specs.TableView.{table_view};
+ghost use Rattle.csl_passes.specs.RendersView.{renders_view};
+ghost use Rattle.csl_rounds.specs.RoundMarks.{has_any, round_marks};
+ghost use Rattle.csl_rounds.specs.Rounds.{at_table, disambiguated, mark_of};
+
+use crate::marks::round_marks;
+use crate::rerender::render_marked;
+use crate::states::greatest_marks;
+use csl_base::entry::EntryLike;
+use csl_entries::table::EntryTable;
+use csl_passes::renders::SpeculativeCiteRender;
+use csl_writing::counter::Renders;
+use std::alloc::{AllocError, Global};
+
+/// One round: the cites whose entries get marks are rendered again with these. Whether there were any.
+fn run_round<'a, T: EntryLike, P>(
+    alloc: Global,
+    renders: &mut [SpeculativeCiteRender<'_, 'a, T, P>],
+    table: &EntryTable<'a, T>,
+    counter: &mut Renders,
+) -> Result<bool, AllocError>
+    requires no_ring { All (λ c. HasNoRing c.request.style.macros) (renders_view renders.old) }
+    requires placed { (table_view table.now).places ≡ map (λ c. map (λ i. place T.eq i.entry (table_view table.now).entries) c.items) (renders_view renders.old) }
+    requires listed { All (λ ps. All (λ p. p < length (table_view table.now).entries) ps) (table_view table.now).places }
+    ensures again { IfOk result (λ again. again ≡ has_any (round_marks T.eq T.answers (renders_view renders.old))) }
+    ensures marked { OnOk result (renders_view renders.new
+        ≡ at_table T.answers (mark_of T.eq (renders_view renders.old) (round_marks T.eq T.answers (renders_view renders.old))) (renders_view renders.old)) }
+{
+    let marks = round_marks(alloc, renders)?;
+    if marks.is_empty() {
+        return Ok(false);
+    }
+    let states = greatest_marks(alloc, table.places(), table.len(), marks)?;
+    render_marked(alloc, &states, table.places(), renders, counter)?;
+    Ok(true)
+}
+
+/// Tells cites apart that read alike and cite different entries (CSL 1.0.2, disambiguation), in three
+/// rounds at most.
+///
+/// In a round each ambiguous group is marked by names. The first group that can be marked in any way
+/// gets, where it has no marks by names, choose marks, or suffixes where it has none of these either.
+/// An entry with marks gets the greatest of them as its state, and each of its cites is rendered again
+/// with it, for its purpose and with no verdict. A round without marks is the last.
+///
+/// `renders` has the first renders, its items in the order of their requests; `table` has the place of
+/// each one's entry. No style may have macros that call each other in a ring.
+///
+/// # Errors
+///
+/// Where memory is refused. Then the renders are of no further use.
+pub fn disambiguate<'a, T: EntryLike, P>(
+    alloc: Global,
+    renders: &mut [SpeculativeCiteRender<'_, 'a, T, P>],
+    table: &EntryTable<'a, T>,
+    counter: &mut Renders,
+) -> Result<(), AllocError>
+    requires no_ring { All (λ c. HasNoRing c.request.style.macros) (renders_view renders.old) }
+    requires placed { (table_view table.now).places ≡ map (λ c. map (λ i. place T.eq i.entry (table_view table.now).entries) c.items) (renders_view renders.old) }
+    requires listed { All (λ ps. All (λ p. p < length (table_view table.now).entries) ps) (table_view table.now).places }
+    ensures { OnOk result (renders_view renders.new ≡ disambiguated T.eq T.answers (renders_view renders.old)) }
+{
+    for _round in 0..3usize {
+        if !run_round(alloc, renders, table, counter)? {
+            return Ok(());
+        }
+    }
+    Ok(())
+}

@@ -1,0 +1,79 @@
+-- Members changed one after another, each by its place.
+use Rattle.std.proofs.Common.{◌≡◌, ℕ, zero, suc, ◌+◌, ◌<◌, ◌≤◌, List, [], ◌∷◌, ◌++◌, take, drop, length, map, get_or, refl, ap, sym, subst, ◌∙◌, arith, add-one}
+use Rattle.std.proofs.Math.ListN.{get_or-map, length-map, set}
+use Rattle.std.proofs.lemmas.List.{map-set}
+use Rattle.std.proofs.lemmas.List.Elements.{All-get_or}
+use Rattle.std.specs.List.{enumerate_from}
+use Rattle.std.specs.Prelude.{All, None, Option}
+use Rattle.csl_rounds.specs.Gathered.{by_places}
+
+module _ {X : Type 0} (f : ℕ → X → X) where
+  -- the first n are changed
+  abbrev pub half_from : ℕ → ℕ → List X → List X
+  half_from b n xs = map (λ p. f p.0 p.1) (enumerate_from b (take n xs)) ++ drop n xs
+
+  abbrev pub half : ℕ → List X → List X
+  half = half_from 0
+
+  more-from : (b c n : ℕ) (xs : List X) (d y : X) → c ≡ b + n → n < length xs → y ≡ f c (get_or (half_from b n xs) n d) → set (half_from b n xs) n y ≡ half_from b (suc n) xs
+  more-from b c n [] d y e h q = absurd (omega arith)
+  more-from b c zero (x ∷ xs) d y e h q = let w : c ≡ b = omega arith in ap (λ z. z ∷ xs) (q ∙ ap (λ m. f m x) w)
+  more-from b c (suc n) (x ∷ xs) d y e h q = ap (λ ys. f b x ∷ ys) (more-from (b + 1) c n xs d y (omega arith) (omega arith) q)
+
+  here-from : (b n : ℕ) (xs : List X) (d : X) → get_or (half_from b n xs) n d ≡ get_or xs n d
+  here-from b zero [] d = refl
+  here-from b (suc n) [] d = refl
+  here-from b zero (x ∷ xs) d = refl
+  here-from b (suc n) (x ∷ xs) d = here-from (b + 1) n xs d
+
+  whole-from : (b n : ℕ) (xs : List X) → length xs ≤ n → half_from b n xs ≡ map (λ p. f p.0 p.1) (enumerate_from b xs)
+  whole-from b zero [] h = refl
+  whole-from b zero (x ∷ xs) h = absurd (omega arith)
+  whole-from b (suc n) [] h = refl
+  whole-from b (suc n) (x ∷ xs) h = ap (λ ys. f b x ∷ ys) (whole-from (b + 1) n xs (omega arith))
+
+-- a loop over a list whose views are changed
+module _ {X Y : Type 0} (view : X → Y) (f : ℕ → Y → Y) (xs now : List X) (k : ℕ) (so_far : map view now ≡ half f k (map view xs)) where
+  -- the next is as it was
+  pub as_before : (d : X) → view (get_or now k d) ≡ view (get_or xs k d)
+  as_before d =
+      sym (get_or-map view now k d) ∙ ap (λ ys. get_or ys k (view d)) so_far ∙ here-from f 0 k (map view xs) (view d) ∙ get_or-map view xs k d
+
+  -- and what is known of each was known of it
+  pub known_next : (P : Y → Type 0) → All P (map view xs) → k < length xs → (d : X) → P (view (get_or now k d))
+  known_next P all h d =
+      subst P (get_or-map view xs k d ∙ sym (as_before d)) (All-get_or P (map view xs) k (view d) (subst (λ n. k < n) (sym (length-map xs view)) h) all)
+
+  -- it is changed
+  pub step : (d x : X) → k < length xs → view x ≡ f k (view (get_or now k d)) → map view (set now k x) ≡ half f (k + 1) (map view xs)
+  step d x h q =
+      map-set view now k x ∙ ap (λ ys. set ys k (view x)) so_far
+      ∙ rw add-one
+      (more-from f 0 k k (map view xs) (view d) (view x) (omega arith) (subst (λ n. k < n) (sym (length-map xs view)) h)
+      (q ∙ ap (f k) (sym (get_or-map view now k d) ∙ ap (λ ys. get_or ys k (view d)) so_far)))
+
+  -- and in the end all are
+  pub whole : length xs ≤ k → map view now ≡ by_places f (map view xs)
+  whole h = so_far ∙ whole-from f 0 k (map view xs) (subst (λ n. n ≤ k) (sym (length-map xs view)) h)
+
+pub any_default : {X : Type 0} (xs : List X) (k : ℕ) (d e : X) → k < length xs → get_or xs k d ≡ get_or xs k e
+any_default [] k d e h = absurd (omega arith)
+any_default (x ∷ xs) zero d e h = refl
+any_default (x ∷ xs) (suc k) d e h = any_default xs k d e (omega arith)
+
+-- the member of a list at a place that another list gives
+pub named_by : {X : Type 0} (xs : List (Option X)) (ps : List ℕ) (k : ℕ) (x : Option X) → All (λ p. p < length xs) ps → k < length ps → x ≡ get_or xs (get_or ps k 0) x → x ≡ get_or xs (get_or ps k 0) None
+named_by xs ps k x all h e = e ∙ any_default xs (get_or ps k 0) x None (All-get_or (λ p. p < length xs) ps k 0 h all)
+
+-- what two lists agree in
+pub agree_at : {A B C : Type 0} (f : A → C) (g : B → C) (xs : List A) (ys : List B) (r : ℕ) (a : A) (b : B) → map f xs ≡ map g ys → r < length ys → a ≡ get_or xs r a → f a ≡ g (get_or ys r b)
+agree_at f g xs ys r a b e h here =
+    ap f here ∙ sym (get_or-map f xs r a) ∙ ap (λ l. get_or l r (f a)) e
+    ∙ any_default (map g ys) r (f a) (g b) (subst (λ n. r < n) (sym (length-map ys g)) h) ∙ get_or-map g ys r b
+
+pub same_long : {A B C : Type 0} (f : A → C) (g : B → C) (xs : List A) (ys : List B) → map f xs ≡ map g ys → length xs ≡ length ys
+same_long f g xs ys e = sym (length-map xs f) ∙ ap length e ∙ length-map ys g
+
+pub row_of : {A B : Type 0} (f : A → B) (xs : List A) (r : ℕ) (a : A) (e : B) → r < length xs → a ≡ get_or xs r a → f a ≡ get_or (map f xs) r e
+row_of f xs r a e h here =
+    ap f here ∙ sym (get_or-map f xs r a) ∙ any_default (map f xs) r (f a) e (subst (λ n. r < n) (sym (length-map xs f)) h)

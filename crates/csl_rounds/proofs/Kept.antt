@@ -1,0 +1,164 @@
+-- What a round needs: its marks stand at cites, and what is known of the renders holds after it too.
+use Rattle.std.proofs.Common.{◌≡◌, ℕ, Bool, true, false, cond, not, ◌&&◌, Option, Some, None, List, [], ◌∷◌, ◌++◌, length, map, filter, refl, ap, sym, subst, ◌∙◌}
+use Rattle.std.specs.Prelude.{⊤, All, IsSome, find, fold, is_some, option_map, slice_get}
+use Rattle.std.specs.List.{filter_map, flat_map}
+use Rattle.std.proofs.lemmas.List.Elements.{All-append, All-cons, All-filter, All-head, All-map, All-nil, All-tail, All-weaker}
+use Rattle.std.specs.Option.{option_and_then}
+use Rattle.csl_ambiguity.specs.Ambiguity.{ambiguous_groups}
+use Rattle.csl_ambiguity.specs.ChooseMarks.{asks, choose_marks, chosen, may_be_chosen}
+use Rattle.csl_ambiguity.specs.Members.{Member, entry_of, member_at, members, one_or_none}
+use Rattle.csl_ambiguity.specs.SuffixMarks.{adds_suffix, first_cites, shows_dates, suffix_among, year_suffix_marks}
+use Rattle.csl_base.specs.Answers.{Answers}
+use Rattle.csl_base.specs.Ring.{HasNoRing}
+use Rattle.csl_entries.specs.Entries.{distinct, place}
+use Rattle.csl_base.specs.declared.names.NameDisambiguationProperties.{NameDisambiguationProperties}
+use Rattle.csl_lookup.specs.declared.state.DisambiguateState.{DisambiguateState}
+use Rattle.csl_lookup.specs.declared.state.DisambiguateState.TheVariants.{Choose}
+use Rattle.csl_name_marks.specs.Members as named
+use Rattle.csl_name_marks.specs.NameMarks.{after_step, mark, marks_after, name_marks}
+use Rattle.csl_name_marks.specs.Steps.{step, steps}
+use Rattle.csl_name_marks.specs.declared.member.Member.{Member as of_names}
+use Rattle.csl_passes.specs.Places.{IsPlace, cite_at}
+use Rattle.csl_passes.specs.Renders.{CiteRender, ItemRender, Place}
+use Rattle.csl_passes.specs.Request.{Request}
+use Rattle.csl_rounds.proofs.Twice.{same-entry}
+use Rattle.csl_rounds.specs.RoundMarks.{Mark, by_choice, by_suffix, beside_names, can_be_marked, has_any, marks_of, of_first, or_others, round_marks}
+use Rattle.csl_rounds.specs.Rounds.{Table, at_table, request_at, with_any}
+
+some-inj : {A : Type 0} (x y : A) → Some x ≡ Some y → x ≡ y
+some-inj x y h = cc
+
+module _ {X Y : Type 0} (P : X → Type 0) (Q : Y → Type 0) where
+  all-kept : (f : X → Option Y) → ((x : X) (y : Y) → P x → f x ≡ Some y → Q y) → (xs : List X) → All P xs → All Q (filter_map f xs)
+  all-kept f h [] all = All-nil Q
+  all-kept f h (x ∷ xs) all = by (f x) refl (all-kept f h xs (All-tail P x xs all))
+    where
+      by : (o : Option Y) → f x ≡ o → All Q (filter_map f xs) → All Q (filter_map f (x ∷ xs))
+      by None e more = rw e more
+      by (Some y) e more = rw e (All-cons Q y (filter_map f xs) (h x y (All-head P x xs all) e) more)
+
+  all-joined : (f : X → List Y) → ((x : X) → All Q (f x)) → (xs : List X) → All Q (flat_map f xs)
+  all-joined f h [] = All-nil Q
+  all-joined f h (x ∷ xs) = All-append Q (f x) (flat_map f xs) (h x) (all-joined f h xs)
+
+module _ {X : Type 0} (P : X → Type 0) where
+  all-chosen : (b : Bool) (xs ys : List X) → All P xs → All P ys → All P (cond b xs ys)
+  all-chosen true xs ys h g = h
+  all-chosen false xs ys h g = g
+
+  all-distinct : (eq : X → X → Bool) (xs : List X) → All P xs → All P (distinct eq xs)
+  all-distinct eq [] h = All-nil P
+  all-distinct eq (x ∷ xs) h =
+      All-cons P x _ (All-head P x xs h) (All-filter (λ y. not (eq x y)) P (distinct eq xs) (all-distinct eq xs (All-tail P x xs h)))
+
+module _ {E P : Type 0} (renders : List (CiteRender E P)) where
+  abbrev Marks-stand : List Mark → Type 0
+  Marks-stand = All (λ m. IsPlace renders m.0)
+
+  abbrev stands : Member E P → Type 0
+  stands m = IsPlace renders m.place
+
+  here : (p : Place) (x : Request E P × ItemRender E P) → cite_at renders p ≡ Some x → IsPlace renders p
+  here p x e = ap is_some e
+
+  -- a cite found at a place stands there
+  found-at : (p : Place) → All stands (one_or_none (member_at renders p))
+  found-at p = by (cite_at renders p) refl
+    where
+      by : (o : Option (Request E P × ItemRender E P)) → cite_at renders p ≡ o → All stands (one_or_none (option_map (λ cite. record { place = p; item = cite.1; style = cite.0.style }) o))
+      by None e = All-nil stands
+      by (Some x) e = All-cons stands (record { place = p; item = x.1; style = x.0.style }) [] (here p x e) (All-nil stands)
+
+  members-stand : (group : List Place) → All stands (members renders group)
+  members-stand [] = All-nil stands
+  members-stand (p ∷ ps) = All-append stands (one_or_none (member_at renders p)) (members renders ps) (found-at p) (members-stand ps)
+
+  module _ (eq : E → E → Bool) where
+    chosen-stand : (ms : List (Member E P)) → All stands ms → (o : Option (Member E P))
+        → All stands (elim o [
+          | None ↦ []
+          | Some first ↦ filter (λ m. asks m && not (eq (entry_of first) (entry_of m))) ms
+        ])
+    chosen-stand ms h None = All-nil stands
+    chosen-stand ms h (Some first) = All-filter (λ m. asks m && not (eq (entry_of first) (entry_of m))) stands ms h
+
+    choice-stands : (group : List Place) → Marks-stand (by_choice eq renders group)
+    choice-stands group =
+        let ms = members renders group in
+        all-chosen (λ m. IsPlace renders m.0) (may_be_chosen ms) (map (λ m. (m.place, Choose)) (chosen eq ms)) []
+        (All-map (λ m. IsPlace renders m.0) (λ m. (m.place, Choose)) (chosen eq ms) (chosen-stand ms (members-stand group) (find asks ms)))
+        (All-nil (λ m. IsPlace renders m.0))
+
+    suffixes-stand : (dated : Bool) (group : List Place) → Marks-stand (by_suffix eq renders dated group)
+    suffixes-stand dated group =
+        let ms = members renders group in
+        all-chosen (λ m. IsPlace renders m.0) (dated && adds_suffix ms) (map (λ m. (m.place, suffix_among eq ms m)) (first_cites eq ms)) []
+        (All-map (λ m. IsPlace renders m.0) (λ m. (m.place, suffix_among eq ms m)) (first_cites eq ms)
+        (all-distinct stands (λ a b. eq (entry_of a) (entry_of b)) ms (members-stand group)))
+        (All-nil (λ m. IsPlace renders m.0))
+
+  -- a member that has forms, as name marks see it
+  abbrev named-stands : of_names → Type 0
+  named-stands x = IsPlace renders x.place
+
+  named-found : (p : Place) (x : of_names) → named.member_at renders p ≡ Some x → named-stands x
+  named-found p x = by (cite_at renders p) refl
+    where
+      by : (o : Option (Request E P × ItemRender E P)) → cite_at renders p ≡ o → option_map (λ cite. named.member p cite.0 cite.1) o ≡ Some x → named-stands x
+      by None e h = cc
+      by (Some y) e h = subst (λ q. IsPlace renders q) (ap (λ z. z.place) (some-inj _ x h)) (here p y e)
+
+  name-stands : (group : List of_names) (is : List ℕ) (own : of_names → Option ℕ) → All named-stands group → Marks-stand (marks_after group is own)
+  name-stands group [] own h = All-nil (λ m. IsPlace renders m.0)
+  name-stands group (i ∷ is) own h = all-kept named-stands (λ m. IsPlace renders m.0) (λ x. mark group (i ∷ is) x (own x)) at group h
+    where
+      at : (x : of_names) (m : Mark) → named-stands x → mark group (i ∷ is) x (own x) ≡ Some m → IsPlace renders m.0
+      at x m there e = by x.start e
+        where
+          by : (o : Option NameDisambiguationProperties)
+              → option_map (λ start. (x.place, DisambiguateState.NameDisambiguation (record { forms = fold (after_step group x (own x)) start.forms (i ∷ is) }))) o ≡ Some m → IsPlace renders m.0
+          by None g = cc
+          by (Some start) g = subst (λ p. IsPlace renders p) (ap (λ y. y.0) (some-inj _ m g)) there
+
+  names-stand : (group : List Place) → Marks-stand (name_marks renders group)
+  unfolding name_marks
+  names-stand group =
+      let found = named.members renders group in
+      let greatest = named.greatest_step (named.first_adds_names renders) found in
+      name-stands found (steps found greatest) (step found greatest)
+      (all-kept (λ p. ⊤) named-stands (named.member_at renders) (λ p x u e. named-found p x e) group (λ k d h. tt))
+
+  module _ (eq : E → E → Bool) (dated : Bool) where
+    first-stands : (o : Option (List Place)) → Marks-stand (of_first (name_marks renders) (by_choice eq renders) (by_suffix eq renders dated) o)
+    first-stands None = All-nil (λ m. IsPlace renders m.0)
+    first-stands (Some group) =
+        all-chosen (λ m. IsPlace renders m.0) (has_any (name_marks renders group)) [] (or_others (by_choice eq renders group) (by_suffix eq renders dated group)) (All-nil (λ m. IsPlace renders m.0))
+        (all-chosen (λ m. IsPlace renders m.0) (has_any (by_choice eq renders group)) (by_choice eq renders group) (by_suffix eq renders dated group) (choice-stands eq group) (suffixes-stand eq dated group))
+
+  -- the marks of a round stand at cites
+  pub marks-stand : (eq : E → E → Bool) (answers : E → Answers) → All (λ m. IsPlace renders m.0) (round_marks eq answers renders)
+  unfolding round_marks
+  marks-stand eq answers =
+      let dated = shows_dates answers renders in
+      let groups = ambiguous_groups eq renders in
+      All-append (λ m. IsPlace renders m.0) _ (flat_map (name_marks renders) groups)
+      (first-stands eq dated (find (can_be_marked (name_marks renders) (by_choice eq renders) (by_suffix eq renders dated)) groups))
+      (all-joined (λ p. ⊤) (λ m. IsPlace renders m.0) (name_marks renders) names-stand groups)
+
+-- what is known of the renders holds after a round
+module _ {E P : Type 0} (answers : E → Answers) (t : Table E) where
+  pub rings-kept : (rs : List (CiteRender E P)) → All (λ c. HasNoRing c.request.style.macros) rs → All (λ c. HasNoRing c.request.style.macros) (at_table answers t rs)
+  rings-kept rs h = All-map (λ c. HasNoRing c.request.style.macros) (request_at answers t) rs h
+
+  module _ (eq : E → E → Bool) (es : List E) where
+    row-kept : (request : Request E P) (xs : List (ItemRender E P)) → map (λ i. place eq i.entry es) (map (λ i. with_any answers request (t i.entry) i) xs) ≡ map (λ i. place eq i.entry es) xs
+    row-kept request [] = refl
+    row-kept request (i ∷ xs) =
+        ap (λ e. place eq e es ∷ map (λ i. place eq i.entry es) (map (λ i. with_any answers request (t i.entry) i) xs)) (same-entry answers request (t i.entry) i)
+        ∙ ap (λ ys. place eq i.entry es ∷ ys) (row-kept request xs)
+
+    pub places-kept : (rs : List (CiteRender E P)) → map (λ c. map (λ i. place eq i.entry es) c.items) (at_table answers t rs) ≡ map (λ c. map (λ i. place eq i.entry es) c.items) rs
+    places-kept [] = refl
+    places-kept (c ∷ cs) =
+        ap (λ r. r ∷ map (λ c. map (λ i. place eq i.entry es) c.items) (at_table answers t cs)) (row-kept c.request c.items)
+        ∙ ap (λ rows. map (λ i. place eq i.entry es) c.items ∷ rows) (places-kept cs)

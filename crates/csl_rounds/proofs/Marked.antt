@@ -1,0 +1,120 @@
+-- Steps of a round.
+use Rattle.std.proofs.Common.{suc, ◌+◌, ◌-◌, ◌≤◌, ◌≡◌, ℕ, ◌<◌, Bool, true, false, not, ◌==◌, Option, None, List, [], ◌∷◌, length, map, refl, ap, sym, subst, ◌∙◌, arith}
+use Rattle.std.specs.Prelude.{All}
+use Rattle.std.proofs.lemmas.Bool.{eqb-true, eqb-false}
+use Rattle.std.proofs.lemmas.List.Elements.{All-nil, All-cons, All-head, All-tail}
+use Rattle.std.proofs.Math.ListN.{length-map}
+use Rattle.csl_base.specs.Answers.{Answers}
+use Rattle.csl_base.specs.Ring.{HasNoRing}
+use Rattle.csl_passes.specs.Renders.{CiteRender}
+use Rattle.csl_entries.specs.Entries.{place}
+use Rattle.std.specs.Cmp.{IsEquivalence}
+use Rattle.csl_lookup.specs.declared.state.DisambiguateState.{DisambiguateState}
+use Rattle.csl_passes.specs.Places.{IsPlace}
+use Rattle.csl_rounds.specs.Gathered.{AreGreatest, IsPlaced, document_again}
+use Rattle.csl_rounds.specs.RoundMarks.{Mark, has_any, or_others, round_marks}
+use Rattle.csl_rounds.proofs.Kept.{marks-stand, places-kept, rings-kept}
+use Rattle.csl_rounds.proofs.Placed.{are-placed, document-alike}
+use Rattle.csl_rounds.specs.Rounds.{at_table, disambiguated, mark_of}
+use Rattle.csl_rounds.proofs.Twice.{no_more, nothing-new, round-no, round-yes, rounds_on, three-rounds}
+
+module _ {X : Type 0} where
+  pub any-tested : (xs : List X) (n : ℕ) (b : Bool) → length xs ≡ n → b ≡ (n == 0) → has_any xs ≡ not b
+  any-tested [] n true l e = refl
+  any-tested [] n false l e = absurd (eqb-false n 0 (sym e) (sym l))
+  any-tested (x ∷ xs) n true l e = absurd (omega (arith, l, eqb-true n 0 (sym e)))
+  any-tested (x ∷ xs) n false l e = refl
+
+  pub first-kept : (xs ys : List X) → has_any xs ≡ true → or_others xs ys ≡ xs
+  first-kept [] ys h = cc
+  first-kept (x ∷ xs) ys h = refl
+
+  pub others-taken : (xs ys : List X) → has_any xs ≡ false → or_others xs ys ≡ ys
+  others-taken [] ys h = refl
+  others-taken (x ∷ xs) ys h = cc
+
+  pub nothing-marked : (xs : List X) → has_any xs ≡ false → xs ≡ []
+  nothing-marked [] h = refl
+  nothing-marked (x ∷ xs) h = cc
+
+-- a round without marks changes nothing
+pub empty-round : {E P : Type 0} (answers : E → Answers) (eq : E → E → Bool) (rs : List (CiteRender E P)) (marks : List Mark) → marks ≡ [] → rs ≡ at_table answers (mark_of eq rs marks) rs
+empty-round answers eq rs marks e = sym (ap (λ ms. at_table answers (mark_of eq rs ms) rs) e ∙ nothing-new answers rs)
+
+-- what is known of the rows of a list
+module _ {A X : Type 0} (view : A → List X) where
+  pub rows-known : (Q : List X → Type 0) (xs : List A) → All Q (map view xs) → All (λ x. Q (view x)) xs
+  rows-known Q [] h = All-nil (λ x. Q (view x))
+  rows-known Q (x ∷ xs) h = All-cons (λ x. Q (view x)) x xs (All-head Q (view x) (map view xs) h) (rows-known Q xs (All-tail Q (view x) (map view xs) h))
+
+  lengths : (xs : List A) → map length (map view xs) ≡ map (λ x. length (view x)) xs
+  lengths [] = refl
+  lengths (x ∷ xs) = ap (λ ns. length (view x) ∷ ns) (lengths xs)
+
+module _ {E P : Type 0} (eq : E → E → Bool) (es : List E) where
+  row-lengths : (rs : List (CiteRender E P)) → map length (map (λ c. map (λ i. place eq i.entry es) c.items) rs) ≡ map (λ c. length c.items) rs
+  row-lengths [] = refl
+  row-lengths (c ∷ cs) =
+      ap (λ n. n ∷ map length (map (λ c. map (λ i. place eq i.entry es) c.items) cs)) (length-map c.items (λ i. place eq i.entry es))
+      ∙ ap (λ ns. length c.items ∷ ns) (row-lengths cs)
+
+  -- rows of places are as long as the requests
+  pub as-long : {A : Type 0} (view : A → List ℕ) (xs : List A) (rs : List (CiteRender E P)) → map view xs ≡ map (λ c. map (λ i. place eq i.entry es) c.items) rs
+      → map (λ x. length (view x)) xs ≡ map (λ c. length c.items) rs
+  as-long view xs rs e = sym (lengths view xs) ∙ ap (map length) e ∙ row-lengths rs
+
+-- the parts of a round fit
+module _ {E P : Type 0} (eq : E → E → Bool) (answers : E → Answers) (es : List E) (rs : List (CiteRender E P)) (at : List (List ℕ))
+    (placed : at ≡ map (λ c. map (λ i. place eq i.entry es) c.items) rs) (listed : All (λ ps. All (λ p. p < length es) ps) at) where
+  abbrev listed-in : List (List ℕ) → Type 0
+  listed-in ps = All (λ row. All (λ p. p < length es) row) ps
+
+  pub round-placed : (places : List (List ℕ)) (count : ℕ) (marks : List Mark) → places ≡ at → count ≡ length es → marks ≡ round_marks eq answers rs → All (λ m. IsPlaced places count m.0) marks
+  round-placed places count marks e f m =
+      subst (λ n. All (λ m. IsPlaced places n m.0) marks) (sym f)
+      (are-placed eq es places rs (e ∙ placed) (subst listed-in (sym e) listed) marks (subst (λ ms. All (λ m. IsPlace rs m.0) ms) (sym m) (marks-stand rs eq answers)))
+
+  pub round-within : {A : Type 0} (view : A → List ℕ) (xs : List A) (n : ℕ) → map view xs ≡ at → n ≡ length es → All (λ x. All (λ p. p < n) (view x)) xs
+  round-within view xs n e f =
+      rows-known view (λ row. All (λ p. p < n) row) xs (subst (λ k. All (λ row. All (λ p. p < k) row) (map view xs)) (sym f) (subst listed-in (sym e) listed))
+
+  module _ (laws : IsEquivalence eq) where
+    pub round-done : (first places : List (List ℕ)) (count : ℕ) (marks : List Mark) (states now : List (Option DisambiguateState)) → first ≡ at → places ≡ at → count ≡ length es
+        → marks ≡ round_marks eq answers rs → now ≡ states → AreGreatest first marks count states
+        → document_again answers now places rs ≡ at_table answers (mark_of eq rs (round_marks eq answers rs)) rs
+    round-done first places count marks states now e f n m s great =
+        let there = marks-stand rs eq answers in
+        let one : AreGreatest places marks count states = subst (λ ps. AreGreatest ps marks count states) (e ∙ sym f) great in
+        let two : AreGreatest places (round_marks eq answers rs) count states = subst (λ ms. AreGreatest places ms count states) m one in
+        let three : AreGreatest places (round_marks eq answers rs) (length es) states = subst (λ k. AreGreatest places (round_marks eq answers rs) k states) n two in
+        let four : AreGreatest places (round_marks eq answers rs) (length es) now = subst (λ ss. AreGreatest places (round_marks eq answers rs) (length es) ss) (sym s) three in
+        document-alike eq es places rs (f ∙ placed) (subst listed-in (sym f) listed) laws answers (round_marks eq answers rs) there now four
+
+-- the rounds, one after another
+module _ {E P : Type 0} (eq : E → E → Bool) (answers : E → Answers) (now new : List (CiteRender E P)) (marked : new ≡ at_table answers (mark_of eq now (round_marks eq answers now)) now) where
+  pub rings-after : All (λ c. HasNoRing c.request.style.macros) now → All (λ c. HasNoRing c.request.style.macros) new
+  rings-after h =
+      subst (λ rs. All (λ c. HasNoRing c.request.style.macros) rs) (sym marked) (rings-kept answers (mark_of eq now (round_marks eq answers now)) now h)
+
+  pub places-after : (es : List E) (at : List (List ℕ)) → at ≡ map (λ c. map (λ i. place eq i.entry es) c.items) now → at ≡ map (λ c. map (λ i. place eq i.entry es) c.items) new
+  places-after es at h =
+      h ∙ sym (places-kept answers (mark_of eq now (round_marks eq answers now)) eq es now) ∙ ap (map (λ c. map (λ i. place eq i.entry es) c.items)) (sym marked)
+
+  module _ (firsts : List (CiteRender E P)) (k : ℕ) (within : k < 3) (so_far : rounds_on answers eq (3 - k) now ≡ rounds_on answers eq 3 firsts) where
+    one-left : suc (3 - (k + 1)) ≡ 3 - k
+    one-left = omega arith
+
+    pub one-round : has_any (round_marks eq answers now) ≡ true → rounds_on answers eq (3 - (k + 1)) new ≡ rounds_on answers eq 3 firsts
+    one-round any =
+        ap (rounds_on answers eq (3 - (k + 1))) marked ∙ sym (round-yes answers eq (3 - (k + 1)) now any) ∙ ap (λ n. rounds_on answers eq n now) one-left ∙ so_far
+
+    pub last-round : has_any (round_marks eq answers now) ≡ false → new ≡ disambiguated eq answers firsts
+    last-round none =
+        marked ∙ sym (empty-round answers eq now (round_marks eq answers now) (nothing-marked (round_marks eq answers now) none))
+        ∙ sym (round-no answers eq (3 - (k + 1)) now none) ∙ ap (λ n. rounds_on answers eq n now) one-left ∙ so_far ∙ three-rounds answers eq firsts
+
+pub no-round-left : {E P : Type 0} (eq : E → E → Bool) (answers : E → Answers) (now firsts : List (CiteRender E P)) (k : ℕ) → 3 ≤ k → rounds_on answers eq (3 - k) now ≡ rounds_on answers eq 3 firsts
+    → now ≡ disambiguated eq answers firsts
+no-round-left eq answers now firsts k past so_far =
+    let none : 0 ≡ 3 - k = omega arith in
+    sym (no_more answers eq now) ∙ ap (λ n. rounds_on answers eq n now) none ∙ so_far ∙ three-rounds answers eq firsts

@@ -1,0 +1,9 @@
+use Rattle.std.proofs.Common.{◌≡◌, [], map, slice_index_or}
+use Rattle.csl_passes.specs.RendersView.{renders_view}
+use Rattle.csl_rounds.specs.Gathered.{request_again}
+use Rattle.csl_rounds.proofs.Halves.{half}
+use Rattle.csl_rounds.proofs.rerender.render_marked.Given as goal
+
+abbrev pub invariant-loop-r : goal.invariant-loop-r
+invariant-loop-r g l =
+    renders_view l.renders ≡ half (λ r. request_again g.T.EntryLike.answers l.states (slice_index_or (map (λ ps. ps.items) l.places) r [])) l.r (renders_view l.initial.renders)

@@ -1,0 +1,33 @@
+use Rattle.std.proofs.Common.{ap, length, map, not, sym, ◌∙◌}
+use Rattle.csl_entries.specs.TableView.{table_view}
+use Rattle.csl_passes.specs.RendersView.{renders_view}
+use Rattle.csl_rounds.proofs.Marked.{any-tested, as-long, empty-round, nothing-marked, round-done, round-placed, round-within}
+use Rattle.csl_rounds.proofs.rounds.run_round.Goals as goal
+
+pub returns-then-is_empty-clause-marked : goal.returns-then-is_empty-clause-marked
+returns-then-is_empty-clause-marked g c =
+    let marks = c.in_ok-marks.marks in
+    empty-round g.T.EntryLike.answers g.T.PartialEq.eq (renders_view c.args.renders.now) _
+    (sym c.in_ok-marks.ensures ∙ nothing-marked marks.items (any-tested marks.items marks.len c.is_empty.result (sym marks.ok.0) c.is_empty.ensures ∙ ap not c.if-is_empty.true))
+
+pub greatest_marks-requires : goal.greatest_marks-requires
+greatest_marks-requires g c = record {
+  placed = round-placed g.T.PartialEq.eq g.T.EntryLike.answers (table_view c.args.table.now).entries (renders_view c.args.renders.now) (table_view c.args.table.now).places c.requires.placed c.requires.listed
+      (map (λ ps. ps.items) c.places.result.now) c.len.result c.in_ok-marks.marks.items c.places.ensures c.len.ensures c.in_ok-marks.ensures;
+}
+
+pub render_marked-requires-clause-placed : goal.render_marked-requires-clause-placed
+render_marked-requires-clause-placed g c =
+    as-long g.T.PartialEq.eq (table_view c.args.table.now).entries (λ ps. ps.items) c.places-2.result.now (renders_view c.args.renders.now) (c.places-2.ensures ∙ c.requires.placed)
+
+pub render_marked-requires-clause-within : goal.render_marked-requires-clause-within
+render_marked-requires-clause-within g c =
+    round-within g.T.PartialEq.eq g.T.EntryLike.answers (table_view c.args.table.now).entries (renders_view c.args.renders.now) (table_view c.args.table.now).places c.requires.placed c.requires.listed
+    (λ ps. ps.items) c.places-2.result.now (length c.deref.result.now) c.places-2.ensures (ap length c.deref.ensures.value ∙ c.in_ok-states.ensures.long ∙ c.len.ensures)
+
+pub returns-clause-marked : goal.returns-clause-marked
+returns-clause-marked g c =
+    c.in_ok-render_marked.ensures
+    ∙ round-done g.T.PartialEq.eq g.T.EntryLike.answers (table_view c.args.table.now).entries (renders_view c.args.renders.now) (table_view c.args.table.now).places c.requires.placed c.requires.listed g.met.T.Eq.laws
+    (map (λ ps. ps.items) c.places.result.now) (map (λ ps. ps.items) c.places-2.result.now) c.len.result c.in_ok-marks.marks.items c.in_ok-states.states.items c.deref.result.now
+    c.places.ensures c.places-2.ensures c.len.ensures c.in_ok-marks.ensures c.deref.ensures.value c.in_ok-states.ensures

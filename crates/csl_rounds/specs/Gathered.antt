@@ -1,0 +1,56 @@
+-- For the code: marks gathered group by group, and put in by the places of entries.
+use Rattle.std.specs.Prelude.{◌≡◌, ◌<◌, ℕ, Bool, List, [], ◌∷◌, ◌++◌, Option, Some, None, filter, fold, length, map, nat_eq, slice_index, slice_index_or, slice_set}
+use Rattle.std.specs.List.{enumerate_from}
+use Rattle.csl_base.specs.Answers.{Answers}
+use Rattle.csl_lookup.specs.States.{greater}
+use Rattle.csl_lookup.specs.declared.state.DisambiguateState.{DisambiguateState}
+use Rattle.csl_name_marks.specs.NameMarks.{name_marks}
+use Rattle.csl_passes.specs.Renders.{CiteRender, ItemRender, Place}
+use Rattle.csl_passes.specs.Request.{Request}
+use Rattle.csl_rounds.specs.RoundMarks.{Mark, by_choice, by_suffix, greatest, or_others}
+use Rattle.csl_rounds.specs.Rounds.{with_any}
+
+module _ {E P : Type 0} (eq : E → E → Bool) (dated : Bool) (renders : List (CiteRender E P)) where
+  -- the marks of the groups so far, and those of one more
+  abbrev pub with_group : List Mark → List Place → List Mark
+  with_group marks group =
+      or_others (or_others (marks ++ name_marks renders group) (by_choice eq renders group)) (by_suffix eq renders dated group)
+
+-- the greater of a mark and the state before it
+abbrev pub raised : Option DisambiguateState → DisambiguateState → Option DisambiguateState
+raised None mark = Some mark
+raised (Some before) mark = Some (greater before mark)
+
+-- the place of the entry that is cited at a place
+abbrev pub entry_place : List (List ℕ) → Place → ℕ
+entry_place places at = slice_index (slice_index_or places at.0 []) at.1
+
+-- such a place is known, and below a number
+pub record IsPlaced (places : List (List ℕ)) (count : ℕ) (at : Place) : Type 0 where
+  pub request : at.0 < length places
+  pub cite : at.1 < length (slice_index_or places at.0 [])
+  pub below : entry_place places at < count
+
+-- the greatest of the marks of the entry at p
+abbrev pub greatest_at : List (List ℕ) → List Mark → ℕ → Option DisambiguateState
+greatest_at places marks p = greatest (map (λ m. m.1) (filter (λ m. nat_eq (entry_place places m.0) p) marks))
+
+-- a list of such states
+pub record AreGreatest (places : List (List ℕ)) (marks : List Mark) (count : ℕ) (states : List (Option DisambiguateState)) : Type 0 where
+  pub long : length states ≡ count
+  pub at : (p : ℕ) → p < count → slice_index_or states p None ≡ greatest_at places marks p
+
+-- each member changed by its place
+abbrev pub by_places : {X : Type 0} → (ℕ → X → X) → List X → List X
+by_places change xs = map (λ p. change p.0 p.1) (enumerate_from 0 xs)
+
+module _ {E P : Type 0} (answers : E → Answers) (states : List (Option DisambiguateState)) where
+  -- the k-th cite of a request, rendered again where its entry has a state
+  abbrev pub cite_again : Request E P → List ℕ → ℕ → ItemRender E P → ItemRender E P
+  cite_again request places k = with_any answers request (slice_index_or states (slice_index places k) None)
+
+  abbrev pub request_again : List ℕ → CiteRender E P → CiteRender E P
+  request_again places c = record c { items = by_places (cite_again c.request places) c.items }
+
+  abbrev pub document_again : List (List ℕ) → List (CiteRender E P) → List (CiteRender E P)
+  document_again places = by_places (λ r. request_again (slice_index_or places r []))

@@ -1,0 +1,67 @@
+-- The rounds in which cites that read alike are told apart.
+use Rattle.std.specs.Prelude.{ℕ, zero, suc, Bool, false, List, map, filter, Option, Some, None, if◌then◌else◌}
+use Rattle.std.specs.Option.{option_map_or, option_or}
+use Rattle.csl_ambiguity.specs.Members.{entry_of, member_at}
+use Rattle.csl_base.specs.Answers.{Answers}
+use Rattle.csl_lookup.specs.Properties.{Properties}
+use Rattle.csl_lookup.specs.declared.state.DisambiguateState.{DisambiguateState}
+use Rattle.csl_passes.specs.Renders.{CiteRender, ItemRender, Place}
+use Rattle.csl_passes.specs.Request.{Request, source_of}
+use Rattle.csl_rounds.specs.RoundMarks.{Mark, greatest, has_any, round_marks}
+use Rattle.csl_writing.specs.CiteText.{cite_text}
+
+-- by what means entries are told apart; for most there is none
+abbrev pub Table : Type 0 → Type 0
+Table E = E → Option DisambiguateState
+
+abbrev pub no_states : {E : Type 0} → Table E
+no_states e = None
+
+-- the table with marks: an entry that has one gets it, the others keep theirs
+abbrev pub with_marks : {E : Type 0} → Table E → Table E → Table E
+with_marks marks table e = option_or (marks e) (table e)
+
+abbrev pub with_state : {P : Type 0} → DisambiguateState → Properties P → Properties P
+with_state s p = record p { speculative = record p.speculative { disambiguation = s } }
+
+module _ {E P : Type 0} where
+  -- the cite at a place cites an entry equal to e
+  abbrev pub cites : (E → E → Bool) → List (CiteRender E P) → E → Place → Bool
+  cites eq renders e place = option_map_or (λ m. eq e (entry_of m)) (member_at renders place) false
+
+  -- the greatest of the marks of cites of e
+  abbrev pub mark_of : (E → E → Bool) → List (CiteRender E P) → List Mark → Table E
+  mark_of eq renders marks e = greatest (map (λ m. m.1) (filter (λ m. cites eq renders e m.0) marks))
+
+  module _ (answers : E → Answers) where
+    -- the cite rendered again with this state of its entry, for its purpose; what else is known of it stays
+    abbrev pub rendered_again : Request E P → DisambiguateState → ItemRender E P → ItemRender E P
+    rendered_again request s i = record i {
+      properties = with_state s i.properties;
+      rendered = cite_text (source_of request) (answers i.entry) (with_state s i.properties) i.purpose None;
+    }
+
+    -- rendered again where there is a state
+    abbrev pub with_any : Request E P → Option DisambiguateState → ItemRender E P → ItemRender E P
+    with_any request None i = i
+    with_any request (Some s) i = rendered_again request s i
+
+    abbrev pub request_at : Table E → CiteRender E P → CiteRender E P
+    request_at table c = record c { items = map (λ i. with_any c.request (table i.entry) i) c.items }
+
+    -- the cites whose entries the table has states for, rendered again with these; the others stay
+    abbrev pub at_table : Table E → List (CiteRender E P) → List (CiteRender E P)
+    at_table table = map (request_at table)
+
+    module _ (eq : E → E → Bool) (firsts : List (CiteRender E P)) where
+      -- the table after at most so many rounds; a round without marks is the last
+      unfoldable pub after_rounds : ℕ → Table E → Table E
+      after_rounds zero table = table
+      after_rounds (suc n) table =
+          let renders = at_table table firsts in
+          let marks = round_marks eq answers renders in
+          if has_any marks then after_rounds n (with_marks (mark_of eq renders marks) table) else table
+
+-- the first renders, rendered again with the states that tell their entries apart after three rounds at most
+unfoldable pub disambiguated : {E P : Type 0} → (E → E → Bool) → (E → Answers) → List (CiteRender E P) → List (CiteRender E P)
+disambiguated eq answers firsts = at_table answers (after_rounds answers eq firsts 3 no_states) firsts

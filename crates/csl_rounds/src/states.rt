@@ -1,0 +1,58 @@
+//! The states that entries get in a round, by the places of the entries.
+ghost use Rattle.std.specs.Prelude.{◌≡◌, All, IfOk, None, map, replicate};
+ghost use Rattle.csl_rounds.specs.Gathered.{AreGreatest, IsPlaced, entry_place, raised};
+
+use csl_lookup::state::DisambiguateState;
+use csl_passes::renders::Marks;
+use std::alloc::{AllocError, Global};
+
+/// By the places of entries, the state that each gets, if it gets one.
+pub(crate) type States = Vec<Option<DisambiguateState>>;
+
+/// No states for so many entries.
+fn no_states(alloc: Global, count: usize) -> Result<States, AllocError>
+    ensures { IfOk result (λ v. v.items ≡ replicate count None) }
+{
+    let mut states = Vec::with_capacity(alloc, count)?;
+    for _ in 0..count {
+        states.push(None)?;
+    }
+    Ok(states)
+}
+
+/// Raises a state to a mark, where that is greater.
+fn raise(state: &mut Option<DisambiguateState>, mark: DisambiguateState)
+    ensures { state.new ≡ raised state.old mark }
+{
+    *state = match state.take() {
+        Some(before) => Some(before.max(mark)),
+        None => Some(mark),
+    };
+}
+
+/// The place of the entry that is cited at a place.
+fn entry_place(places: &[Vec<usize>], at: (usize, usize), count: usize) -> usize
+    requires placed { IsPlaced (map (λ ps. ps.items) places.now) count at }
+    ensures { result ≡ entry_place (map (λ ps. ps.items) places.now) at }
+{
+    let (request, cite) = at;
+    places[request][cite]
+}
+
+/// The greatest of the marks of each entry.
+pub(crate) fn greatest_marks(
+    alloc: Global,
+    places: &[Vec<usize>],
+    count: usize,
+    marks: Marks,
+) -> Result<States, AllocError>
+    requires placed { All (λ m. IsPlaced (map (λ ps. ps.items) places.now) count m.0) marks.items }
+    ensures { IfOk result (λ v. AreGreatest (map (λ ps. ps.items) places.now) marks.items count v.items) }
+{
+    let mut states = no_states(alloc, count)?;
+    for (at, mark) in marks {
+        let place = entry_place(places, at, count);
+        raise(&mut states[place], mark);
+    }
+    Ok(states)
+}
