@@ -1,12 +1,3 @@
 pub mod Consumed
-pub mod FirstKeyed
-pub mod Keys
-pub mod Members
-pub mod Nesting
-pub mod NonZero
-pub mod Pairs
-pub mod Progress
 pub mod Refusals
-pub mod Rows
-pub mod Utf8
 pub mod Written

@@ -11,7 +11,7 @@ use Rattle.csl_driver.specs.Rings.{NoRingAtAll, Overflows, Refuses}
 use Rattle.csl_driver.specs.declared.error.DriverError.{DriverError}
 use Rattle.csl_driver.specs.declared.error.DriverError.TheVariants.{NumberOverflow}
 use Rattle.csl_driver.specs.declared.rendered.Rendered.{Rendered}
-use Rattle.cite_document.specs.Form.{Document}
+use Rattle.document_reading.specs.Form.{Document}
 use Rattle.cite_document.specs.Print.{print}
 use Rattle.cite_document.specs.Run.{same_entry, accepted, wanted_of, answer, HasAnswer, HasTooLargeNumbers}
 

@@ -11,7 +11,7 @@ use Rattle.csl_passes.specs.Request.{Request, Wanted, cited, with_places}
 use Rattle.csl_driver.specs.Rings.{NoRingAtAll, IsFirstRingOf, Overflows}
 use Rattle.csl_driver.specs.declared.error.RingPlace.{RingPlace}
 use Rattle.csl_driver.specs.declared.rendered.Rendered.{Rendered}
-use Rattle.cite_document.specs.Form.{Document}
+use Rattle.document_reading.specs.Form.{Document}
 use Rattle.cite_document.specs.Print.{print}
 use Rattle.cite_document.specs.declared.error.RunError.{RunError}
 use Rattle.cite_document.specs.declared.error.RunError.TheVariants as errors

@@ -1,5 +1,7 @@
--- The status that each error of the program ends with.
+-- The errors of the program: the status that it ends with, and what comes of a part that isn't read.
 use Rattle.std.specs.Prelude.{ℕ}
+use Rattle.document_words.specs.declared.error.ReadError.{ReadError}
+use Rattle.document_words.specs.declared.error.ReadError.TheVariants as parts
 use Rattle.cite_document.specs.declared.error.RunError.{RunError}
 use Rattle.cite_document.specs.declared.error.RunError.TheVariants as errors
 
@@ -10,3 +12,8 @@ status errors.Document = 2
 status (errors.MacroRing place i) = 3
 status errors.NumberOverflow = 4
 status errors.OutOfMemory = 5
+
+-- what isn't of its form makes the whole no document
+abbrev pub refusal : ReadError → RunError
+refusal parts.Document = errors.Document
+refusal parts.OutOfMemory = errors.OutOfMemory

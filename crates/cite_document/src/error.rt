@@ -3,6 +3,7 @@ ghost use Rattle.std.specs.Prelude.{◌≡◌};
 ghost use Rattle.cite_document.specs.Status.{status};
 
 use csl_driver::error::RingPlace;
+use document_words::error::ReadError;
 use std::alloc::{AllocError, AllocFailed};
 use thiserror::Error;
 
@@ -62,5 +63,19 @@ impl<T: Drop> From<AllocFailed<T>> for RunError {
 
     fn from(_error: AllocFailed<T>) -> RunError {
         RunError::OutOfMemory
+    }
+}
+
+impl From<ReadError> for RunError {
+    ghost use Rattle.std.specs.Prelude.{◌≡◌};
+    ghost use Rattle.cite_document.specs.Status.{refusal};
+
+    ghost from_gives = { λ read e. e ≡ refusal read };
+
+    fn from(error: ReadError) -> RunError {
+        match error {
+            ReadError::Document => RunError::Document,
+            ReadError::OutOfMemory => RunError::OutOfMemory,
+        }
     }
 }

@@ -5,11 +5,7 @@
 //! then a line for each item: its key, a tab and its text.
 #![tactic(auto)]
 
-mod document;
 pub mod error;
 pub mod input;
 mod printing;
 pub mod running;
-#[cfg(test)]
-mod tests;
-mod words;

@@ -6,19 +6,15 @@ ghost use Rattle.csl_base.specs.StyleView.{locale_view};
 ghost use Rattle.csl_driver.specs.DriverView.{driver_view};
 ghost use Rattle.csl_passes.specs.RequestView.{entries_view, order_view};
 ghost use Rattle.csl_driver.specs.declared.error.RingPlace.{RingPlace};
-ghost use Rattle.cite_document.specs.AskedView.{asked_requests_view};
-ghost use Rattle.cite_document.specs.DocumentView.{document_view};
-ghost use Rattle.cite_document.specs.Form.{asked_form, form, document_form};
-ghost use Rattle.cite_document.specs.Entries.{entry_named};
-ghost use Rattle.cite_document.specs.NamedStyleView.{named_styles_view};
+ghost use Rattle.document_reading.specs.AskedView.{asked_requests_view};
+ghost use Rattle.document_reading.specs.DocumentView.{document_view};
+ghost use Rattle.document_reading.specs.Form.{asked_form, form, document_form};
+ghost use Rattle.document_reading.specs.Entries.{entry_named};
+ghost use Rattle.document_styles.specs.NamedStyleView.{named_styles_view};
 ghost use Rattle.cite_document.specs.Print.{print};
-ghost use Rattle.cite_document.specs.Styles.{style_named};
+ghost use Rattle.document_styles.specs.Styles.{style_named};
 ghost use Rattle.cite_document.specs.Run.{accepted, answer, HasAnswer, HasFirstRing, HasTooLargeNumbers, IsDocumentThat, Prints};
 
-use crate::document::{
-    Asked, AskedRequest, NamedStyle, asked_in, copied_code, driver_request, entries_of, locales_at,
-    styles_of, text_of, top_of, value_of,
-};
 use crate::error::RunError;
 use crate::printing::print_rendered;
 use csl_base::entry::PlainEntry;
@@ -26,6 +22,11 @@ use csl_base::locale::Locale;
 use csl_driver::driver::BibliographyDriver;
 use csl_driver::error::DriverError;
 use csl_driver::request::{BibliographyRequest, Order};
+use document_reading::document::{Asked, asked_in, text_of, top_of, value_of};
+use document_reading::entries::entries_of;
+use document_reading::requests::{AskedRequest, copied_code, driver_request};
+use document_styles::locales::locales_at;
+use document_styles::styles::{NamedStyle, styles_of};
 use serde_json::Value;
 use std::alloc::Global;
 use std::convert::Infallible;
@@ -113,7 +114,7 @@ fn print_of<'e>(
     print_asked(alloc, &asked)
 }
 
-#[tactic(auto, unfolding(crate::specs::Form::document_form))]
+#[tactic(auto, unfolding(document_reading::specs::Form::document_form))]
 fn print_value(alloc: Global, value: Value) -> Result<String, RunError>
     ensures { Prints result (document_form (view value)) }
 {
@@ -124,7 +125,7 @@ fn print_value(alloc: Global, value: Value) -> Result<String, RunError>
     print_of(alloc, value, &styles, &entries, &locales)
 }
 
-#[tactic(auto, unfolding(crate::specs::Form::form))]
+#[tactic(auto, unfolding(document_reading::specs::Form::form))]
 fn print_bytes(alloc: Global, bytes: &[u8]) -> Result<String, RunError>
     ensures { Prints result (form bytes.now) }
 {

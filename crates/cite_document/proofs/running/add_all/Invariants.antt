@@ -2,7 +2,7 @@
 use Rattle.std.proofs.Common.{◌≡◌, ◌++◌, map, take}
 use Rattle.csl_base.specs.StyleView.{locale_view}
 use Rattle.csl_driver.specs.DriverView.{driver_view}
-use Rattle.cite_document.specs.AskedView.{asked_requests_view}
+use Rattle.document_reading.specs.AskedView.{asked_requests_view}
 use Rattle.cite_document.specs.Run.{accepted}
 use Rattle.cite_document.proofs.running.add_all.Given as goal
 

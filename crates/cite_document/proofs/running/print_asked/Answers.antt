@@ -5,8 +5,8 @@ use Rattle.csl_base.specs.PlainEntry.{plain_answers}
 use Rattle.csl_driver.specs.Answer.{rendered}
 use Rattle.csl_driver.specs.DriverView.{driver_view}
 use Rattle.csl_passes.specs.RequestView.{order_view}
-use Rattle.cite_document.specs.AskedView.{asked_requests_view}
-use Rattle.cite_document.specs.DocumentView.{document_view}
+use Rattle.document_reading.specs.AskedView.{asked_requests_view}
+use Rattle.document_reading.specs.DocumentView.{document_view}
 use Rattle.cite_document.specs.Run.{accepted, same_entry, wanted_of}
 use Rattle.cite_document.proofs.Refusals.{has_answer, is_answer, too_large}
 use Rattle.cite_document.proofs.running.print_asked.Goals as goal

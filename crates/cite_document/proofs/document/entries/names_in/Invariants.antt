@@ -1,9 +1,0 @@
--- The rows of the table are looked up one after another.
-use Rattle.serde_json.specs.View.{view}
-use Rattle.cite_document.specs.Words.{list_of}
-use Rattle.cite_document.specs.Entries.{person_form}
-use Rattle.cite_document.proofs.Rows.{RowsProgress}
-use Rattle.cite_document.proofs.document.entries.names_in.Given as goal
-
-abbrev pub invariant-loop-row : goal.invariant-loop-row
-invariant-loop-row l = RowsProgress (list_of person_form) (view l.object) l.rows l.row-index l.pairs.items

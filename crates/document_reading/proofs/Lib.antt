@@ -1,0 +1,4 @@
+pub mod FirstKeyed
+pub mod Pairs
+pub mod Rows
+pub mod Utf8

@@ -1,0 +1,12 @@
+-- Requests are read one after another.
+use Rattle.std.proofs.Common.{map}
+use Rattle.csl_base.specs.StyleView.{locale_view}
+use Rattle.document_reading.specs.AskedView.{asked_requests_view}
+use Rattle.document_reading.specs.Finders.{entry_in, style_in}
+use Rattle.document_reading.specs.Requests.{request_form}
+use Rattle.document_words.proofs.Progress.{Progress}
+use Rattle.document_reading.proofs.requests.all_requests.Given as goal
+
+abbrev pub invariant-loop-item : goal.invariant-loop-item
+invariant-loop-item l =
+    Progress (request_form (style_in l.styles) (entry_in l.entries) (map locale_view l.locales)) l.items l.item-index (asked_requests_view (map locale_view l.locales) l.requests.items)

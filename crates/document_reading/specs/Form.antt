@@ -1,0 +1,56 @@
+-- The document that some bytes are.
+use Rattle.std.specs.Prelude.{ℕ, List, [], ◌∷◌, Option, Some, None, codes, if◌then◌else◌}
+use Rattle.std.specs.Str.{is_utf8}
+use Rattle.std.specs.declared.convert.Infallible.{Infallible}
+use Rattle.serde_json.specs.Data.{Data}
+use Rattle.serde_json.specs.Read.{read}
+use Rattle.csl_base.specs.declared.entry.PlainEntry.{PlainEntry}
+use Rattle.csl_base.specs.Style.{LocaleValue, StyleValue}
+use Rattle.csl_passes.specs.Request.{Request}
+use Rattle.document_words.specs.Words.{◌>>=◌, object_with, required, optional, items_at, optional_items, whole}
+use Rattle.document_styles.specs.Locales.{locale_form}
+use Rattle.document_styles.specs.Styles.{styles_form, style_named}
+use Rattle.document_reading.specs.Entries.{entry_form, entry_named}
+use Rattle.document_reading.specs.Requests.{request_form, wanted_form}
+
+-- a document: its requests; the style, the locale and the order of the bibliography; the locales; and the number of
+-- the first entry
+pub record Document : Type 0 where
+  pub requests : List (Request PlainEntry Infallible)
+  pub style : StyleValue
+  pub locale : Option (List ℕ)
+  pub locales : List LocaleValue
+  pub order : Option (List PlainEntry)
+  pub offset : ℕ
+
+-- what is asked for, of the styles and entries that names and keys find, with these locales
+unfoldable pub asked_form : (List ℕ → Option StyleValue) → (List ℕ → Option PlainEntry) → List LocaleValue → Data → Option Document
+asked_form style entry locales o = do
+  requests ← items_at (request_form style entry locales) (codes "requests") o
+  wanted ← required (wanted_form style entry) (codes "bibliography") o
+  offset ← optional 0 whole (codes "offset") o
+  Some (record { requests = requests; style = wanted.0; locale = wanted.1; locales = locales; order = wanted.2; offset = offset })
+
+-- an object of the document's keys
+abbrev pub top_form : Data → Option Data
+top_form d = object_with (codes "styles" ∷ codes "locales" ∷ codes "entries" ∷ codes "requests" ∷ codes "bibliography" ∷ codes "offset" ∷ []) d
+
+-- the document that a value is, or none; a name finds the style of that name, and a key the first entry that has it
+unfoldable pub document_form : Data → Option Document
+document_form d = do
+  o ← top_form d
+  styles ← styles_form o
+  locales ← optional_items locale_form (codes "locales") o
+  entries ← items_at entry_form (codes "entries") o
+  asked_form (style_named styles) (entry_named entries) locales o
+
+-- the text that the bytes are, if they are UTF-8
+abbrev pub text_of : List ℕ → Option (List ℕ)
+text_of bytes = if is_utf8 bytes then Some bytes else None
+
+-- the document that the bytes are, or none
+unfoldable pub form : List ℕ → Option Document
+form bytes = do
+  text ← text_of bytes
+  value ← read text
+  document_form value

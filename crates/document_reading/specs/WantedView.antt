@@ -1,0 +1,11 @@
+-- The plain data that a request for a bibliography stands for.
+use Rattle.std.specs.Prelude.{ℕ, List, Option, option_map}
+use Rattle.csl_base.specs.declared.entry.PlainEntry.{PlainEntry}
+use Rattle.csl_base.specs.Style.{StyleValue}
+use Rattle.csl_base.specs.StyleView.{code_view, style_view}
+use Rattle.csl_passes.specs.RequestView.{entries_view}
+use Rattle.document_reading.specs.declared.requests.Wanted.{Wanted}
+
+-- the style, the locale and the order
+abbrev pub wanted_view : Wanted → StyleValue × Option (List ℕ) × Option (List PlainEntry)
+wanted_view w = (style_view w.style.now, option_map code_view w.locale, option_map (λ v. entries_view v.items) w.order)

@@ -1,0 +1,115 @@
+//! The document as a whole, and what it asks for.
+ghost use Rattle.std.specs.Prelude.{codes, map};
+ghost use Rattle.serde_json.specs.Read.{read};
+ghost use Rattle.serde_json.specs.View.{view};
+ghost use Rattle.csl_base.specs.StyleView.{locale_view};
+ghost use Rattle.document_reading.specs.Finders.{entry_in, style_in};
+ghost use Rattle.document_styles.specs.NamedStyleView.{named_styles_view};
+ghost use Rattle.document_styles.specs.Styles.{style_named};
+ghost use Rattle.document_reading.specs.Entries.{entry_named};
+ghost use Rattle.document_reading.specs.Form.{asked_form, top_form, text_of};
+ghost use Rattle.document_reading.specs.DocumentView.{document_view};
+ghost use Rattle.document_words.specs.Reads.{Reads};
+
+use crate::finders::{EntriesByKey, StylesByName, entries_by_key, styles_by_name};
+use crate::requests::{AskedRequest, Wanted, requests_of, wanted_of};
+use csl_base::entry::PlainEntry;
+use csl_base::locale::Locale;
+use document_styles::styles::NamedStyle;
+use document_words::error::ReadError;
+use document_words::words::{number_or, object_with, required};
+use serde_json::Value;
+use std::alloc::Global;
+
+/// What the document asks for.
+#[derive(Drop)]
+pub struct Asked<'e> {
+    pub requests: Vec<AskedRequest<'e>>,
+    pub wanted: Wanted<'e>,
+    /// The locales that are asked for terms that a style doesn't have.
+    pub locales: &'e [Locale],
+    /// The number of the first entry.
+    pub offset: usize,
+}
+
+/// The text that the bytes are, which have to be UTF-8.
+#[tactic(auto, using(crate::proofs::Utf8::text_there, crate::proofs::Utf8::no_text))]
+pub fn text_of(bytes: &[u8]) -> Result<&str, ReadError>
+    ensures { Reads (λ s. s.now) result (text_of bytes.now) }
+{
+    match str::from_utf8(bytes) {
+        Ok(text) => Ok(text),
+        Err(_) => Err(ReadError::Document),
+    }
+}
+
+/// The JSON value that the text is.
+pub fn value_of(alloc: Global, text: &str) -> Result<Value, ReadError>
+    ensures { Reads view result (read text.now) }
+{
+    match Value::from_str(alloc, text) {
+        Ok(value) => Ok(value),
+        Err(error) => {
+            if error.is_memory() {
+                Err(ReadError::OutOfMemory)
+            } else {
+                Err(ReadError::Document)
+            }
+        }
+    }
+}
+
+/// The object that the document is.
+pub fn top_of(value: &Value) -> Result<&Value, ReadError>
+    ensures { Reads (λ v. view v.now) result (top_form (view value.now)) }
+{
+    object_with(
+        &[
+            "styles",
+            "locales",
+            "entries",
+            "requests",
+            "bibliography",
+            "offset",
+        ],
+        value,
+    )
+}
+
+/// What the document asks for, of the styles and entries that the maps find, with these locales.
+#[tactic(auto, unfolding(crate::specs::Form::asked_form))]
+fn asked_of<'e>(
+    alloc: Global,
+    styles: &StylesByName<'e>,
+    entries: &EntriesByKey<'e>,
+    locales: &'e [Locale],
+    object: &Value,
+) -> Result<Asked<'e>, ReadError>
+    ensures { Reads document_view result (asked_form (style_in styles.now) (entry_in entries.now) (map locale_view locales.now) (view object.now)) }
+{
+    let requests = requests_of(alloc, styles, entries, locales, object)?;
+    let wanted = wanted_of(alloc, styles, entries, required(object, "bibliography")?)?;
+    let offset = number_or(object, "offset", 0)?;
+    Ok(Asked {
+        requests,
+        wanted,
+        locales,
+        offset,
+    })
+}
+
+/// What the document asks for. A name finds the style of that name, and a key the first entry that
+/// has it.
+pub fn asked_in<'e>(
+    alloc: Global,
+    styles: &'e [NamedStyle],
+    entries: &'e [PlainEntry],
+    locales: &'e [Locale],
+    object: &Value,
+) -> Result<Asked<'e>, ReadError>
+    ensures { Reads document_view result (asked_form (style_named (named_styles_view styles.now)) (entry_named entries.now) (map locale_view locales.now) (view object.now)) }
+{
+    let by_name = styles_by_name(alloc, styles)?;
+    let by_key = entries_by_key(alloc, entries)?;
+    asked_of(alloc, &by_name, &by_key, locales, object)
+}

@@ -1,0 +1,279 @@
+//! Reading entries.
+ghost use Rattle.std.specs.Prelude.{◌≡◌, ◌++◌, IfOk, OnOk, codes};
+ghost use Rattle.serde_json.specs.View.{view, items_view};
+ghost use Rattle.serde_json.specs.Find.{as_str};
+ghost use Rattle.document_words.specs.Words.{all_items, items_at, list_of, object_with, where_present};
+ghost use Rattle.document_words.specs.Names.{rows_view};
+ghost use Rattle.document_reading.specs.Entries.{person_form, year_form, chunked, chunked_form, pairs_of, pairs_at, entry_keys, entry_form};
+ghost use Rattle.document_words.specs.Reads.{Reads};
+
+use csl_base::entry::{Chunk, ChunkKind, ChunkedString, Date, Person, PlainEntry};
+use csl_base::seq::Seq;
+use csl_base::taxonomy::{DateVariable, NameVariable, NumberVariable, StandardVariable};
+use csl_base::text::Text;
+use document_words::error::ReadError;
+use document_words::tables::{
+    DATE_VARIABLES, NAME_VARIABLES, NUMBER_VARIABLES, STANDARD_VARIABLES,
+};
+use document_words::words::{list_of, object_with, required_list, text_at, text_of, whole_between};
+use serde_json::Value;
+use std::alloc::{AllocError, Global};
+
+// ---- what variables hold
+
+/// A copy of the text that the value is.
+fn held_text(alloc: Global, value: &Value) -> Result<Text, ReadError>
+    ensures { Reads (λ t. t) result (as_str (view value.now)) }
+{
+    Ok(Text::new(text_of(alloc, value)?))
+}
+
+fn person_of(alloc: Global, value: &Value) -> Result<Person, ReadError>
+    ensures { Reads (λ p. p) result (person_form (view value.now)) }
+{
+    match list_of(value)? {
+        [family] => Ok(Person {
+            name: held_text(alloc, family)?,
+            given_name: None,
+        }),
+        [family, given] => Ok(Person {
+            name: held_text(alloc, family)?,
+            given_name: Some(held_text(alloc, given)?),
+        }),
+        _ => Err(ReadError::Document),
+    }
+}
+
+fn all_persons(alloc: Global, items: &[Value]) -> Result<Vec<Person>, ReadError>
+    ensures { Reads (λ v. v.items) result (all_items person_form (items_view items.now)) }
+{
+    let mut persons = Vec::new(alloc);
+    for item in items {
+        persons.push(person_of(alloc, item)?)?;
+    }
+    Ok(persons)
+}
+
+fn persons_of(alloc: Global, value: &Value) -> Result<Seq<Person>, ReadError>
+    ensures { Reads (λ s. s) result (list_of person_form (view value.now)) }
+{
+    Ok(Seq::new(all_persons(alloc, list_of(value)?)?))
+}
+
+fn date_of(value: &Value) -> Result<Date, ReadError>
+    ensures { Reads (λ d. d) result (year_form (view value.now)) }
+{
+    let year = whole_between(value, -2_147_483_648, 2_147_483_647)?;
+    Ok(Date { year: year as i32 })
+}
+
+/// The text in one piece.
+fn chunked(alloc: Global, text: Text) -> Result<ChunkedString, AllocError>
+    ensures { IfOk result (λ c. c ≡ chunked text) }
+{
+    let mut chunks = Vec::new(alloc);
+    chunks.push(Chunk {
+        value: text,
+        kind: ChunkKind::Normal,
+    })?;
+    Ok(ChunkedString(Seq::new(chunks)))
+}
+
+fn chunked_of(alloc: Global, value: &Value) -> Result<ChunkedString, ReadError>
+    ensures { Reads (λ c. c) result (chunked_form (view value.now)) }
+{
+    Ok(chunked(alloc, held_text(alloc, value)?)?)
+}
+
+// ---- what an entry says of its variables, in the order of the tables
+
+/// Appends a variable and what it holds, if it holds something.
+fn push_held<V: Drop, A: Drop>(
+    pairs: &mut Vec<(V, A)>,
+    variable: V,
+    held: Option<A>,
+) -> Result<(), AllocError>
+    ensures { OnOk result (pairs.new.items ≡ pairs.old.items ++ pairs_of variable held) }
+{
+    if let Some(held) = held {
+        pairs.push((variable, held))?;
+    }
+    Ok(())
+}
+
+fn optional_persons(
+    alloc: Global,
+    object: &Value,
+    key: &str,
+) -> Result<Option<Seq<Person>>, ReadError>
+    ensures { Reads (λ h. h) result (where_present (list_of person_form) key.now (view object.now)) }
+{
+    match object.get(key) {
+        None => Ok(None),
+        Some(member) => Ok(Some(persons_of(alloc, member)?)),
+    }
+}
+
+fn names_in(
+    alloc: Global,
+    rows: &[(&str, NameVariable)],
+    object: &Value,
+) -> Result<Vec<(NameVariable, Seq<Person>)>, ReadError>
+    ensures { Reads (λ v. v.items) result (pairs_at (rows_view rows.now) (list_of person_form) (view object.now)) }
+{
+    let mut pairs = Vec::new(alloc);
+    for row in rows {
+        let held = optional_persons(alloc, object, row.0)?;
+        push_held(&mut pairs, row.1, held)?;
+    }
+    Ok(pairs)
+}
+
+fn optional_date(object: &Value, key: &str) -> Result<Option<Date>, ReadError>
+    ensures { Reads (λ h. h) result (where_present year_form key.now (view object.now)) }
+{
+    match object.get(key) {
+        None => Ok(None),
+        Some(member) => Ok(Some(date_of(member)?)),
+    }
+}
+
+fn dates_in(
+    alloc: Global,
+    rows: &[(&str, DateVariable)],
+    object: &Value,
+) -> Result<Vec<(DateVariable, Date)>, ReadError>
+    ensures { Reads (λ v. v.items) result (pairs_at (rows_view rows.now) year_form (view object.now)) }
+{
+    let mut pairs = Vec::new(alloc);
+    for row in rows {
+        let held = optional_date(object, row.0)?;
+        push_held(&mut pairs, row.1, held)?;
+    }
+    Ok(pairs)
+}
+
+fn optional_chunked(
+    alloc: Global,
+    object: &Value,
+    key: &str,
+) -> Result<Option<ChunkedString>, ReadError>
+    ensures { Reads (λ h. h) result (where_present chunked_form key.now (view object.now)) }
+{
+    match object.get(key) {
+        None => Ok(None),
+        Some(member) => Ok(Some(chunked_of(alloc, member)?)),
+    }
+}
+
+fn texts_in(
+    alloc: Global,
+    rows: &[(&str, StandardVariable)],
+    object: &Value,
+) -> Result<Vec<(StandardVariable, ChunkedString)>, ReadError>
+    ensures { Reads (λ v. v.items) result (pairs_at (rows_view rows.now) chunked_form (view object.now)) }
+{
+    let mut pairs = Vec::new(alloc);
+    for row in rows {
+        let held = optional_chunked(alloc, object, row.0)?;
+        push_held(&mut pairs, row.1, held)?;
+    }
+    Ok(pairs)
+}
+
+fn optional_text(alloc: Global, object: &Value, key: &str) -> Result<Option<Text>, ReadError>
+    ensures { Reads (λ h. h) result (where_present as_str key.now (view object.now)) }
+{
+    match object.get(key) {
+        None => Ok(None),
+        Some(member) => Ok(Some(held_text(alloc, member)?)),
+    }
+}
+
+fn numbers_in(
+    alloc: Global,
+    rows: &[(&str, NumberVariable)],
+    object: &Value,
+) -> Result<Vec<(NumberVariable, Text)>, ReadError>
+    ensures { Reads (λ v. v.items) result (pairs_at (rows_view rows.now) as_str (view object.now)) }
+{
+    let mut pairs = Vec::new(alloc);
+    for row in rows {
+        let held = optional_text(alloc, object, row.0)?;
+        push_held(&mut pairs, row.1, held)?;
+    }
+    Ok(pairs)
+}
+
+// ---- entries
+
+/// The value, which has to be an object with no keys but those of an entry.
+fn entry_object(value: &Value) -> Result<&Value, ReadError>
+    ensures { Reads (λ v. view v.now) result (object_with entry_keys (view value.now)) }
+{
+    object_with(
+        &[
+            "key",
+            "label",
+            "author",
+            "editor",
+            "translator",
+            "issued",
+            "accessed",
+            "available-date",
+            "event-date",
+            "submitted",
+            "original-date",
+            "title",
+            "container-title",
+            "publisher",
+            "publisher-place",
+            "note",
+            "url",
+            "doi",
+            "volume",
+            "issue",
+            "number",
+            "edition",
+        ],
+        value,
+    )
+}
+
+#[tactic(auto, unfolding(crate::specs::Entries::entry_form))]
+fn entry_of(alloc: Global, value: &Value) -> Result<PlainEntry, ReadError>
+    ensures { Reads (λ e. e) result (entry_form (view value.now)) }
+{
+    let object = entry_object(value)?;
+    let key = text_at(alloc, object, "key")?;
+    let label = optional_text(alloc, object, "label")?;
+    let names = names_in(alloc, NAME_VARIABLES, object)?;
+    let dates = dates_in(alloc, DATE_VARIABLES, object)?;
+    let texts = texts_in(alloc, &STANDARD_VARIABLES[..7], object)?;
+    let numbers = numbers_in(alloc, &NUMBER_VARIABLES[3..], object)?;
+    Ok(PlainEntry {
+        key: Text::new(key),
+        label,
+        names: Seq::new(names),
+        dates: Seq::new(dates),
+        texts: Seq::new(texts),
+        numbers: Seq::new(numbers),
+    })
+}
+
+fn all_entries(alloc: Global, items: &[Value]) -> Result<Vec<PlainEntry>, ReadError>
+    ensures { Reads (λ v. v.items) result (all_items entry_form (items_view items.now)) }
+{
+    let mut entries = Vec::new(alloc);
+    for item in items {
+        entries.push(entry_of(alloc, item)?)?;
+    }
+    Ok(entries)
+}
+
+/// The entries of the document.
+pub fn entries_of(alloc: Global, object: &Value) -> Result<Vec<PlainEntry>, ReadError>
+    ensures { Reads (λ v. v.items) result (items_at entry_form (codes "entries") (view object.now)) }
+{
+    all_entries(alloc, required_list(object, "entries")?)
+}

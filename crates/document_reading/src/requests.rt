@@ -1,0 +1,339 @@
+//! Reading what is asked for: citations, and a bibliography.
+ghost use Rattle.std.specs.Prelude.{◌≡◌, codes, map, option_map, IfOk};
+ghost use Rattle.serde_json.specs.View.{view, items_view};
+ghost use Rattle.csl_base.specs.StyleView.{code_view, locale_view, style_view};
+ghost use Rattle.csl_lookup.specs.PropertiesView.{locator_view};
+ghost use Rattle.csl_passes.specs.RequestView.{cite_view, cites_view, entries_view, request_view};
+ghost use Rattle.document_reading.specs.AskedView.{asked_cite_view, asked_cites_view, asked_locator_view, asked_request_view, asked_requests_view};
+ghost use Rattle.document_words.specs.Words.{all_items, items_at, list_of, name_form, required, where_present};
+ghost use Rattle.document_reading.specs.Finders.{entry_in, style_in};
+ghost use Rattle.document_reading.specs.Requests.{locator_form, item_form, request_form, wanted_form};
+ghost use Rattle.document_reading.specs.WantedView.{wanted_view};
+ghost use Rattle.document_words.specs.Reads.{Reads};
+
+use crate::finders::{EntriesByKey, StylesByName};
+use csl_base::entry::PlainEntry;
+use csl_base::locale::{Locale, LocaleCode};
+use csl_base::style::IndependentStyle;
+use csl_base::taxonomy::Locator;
+use csl_lookup::locator::{LocatorPayload, SpecificLocator};
+use csl_lookup::purpose::CitePurpose;
+use csl_passes::item::CitationItem;
+use csl_passes::request::CitationRequest;
+use document_words::error::ReadError;
+use document_words::tables::{LOCATORS, PURPOSES};
+use document_words::words::{
+    flag, list_of, object_with, one_of, optional_code, optional_name, optional_number,
+    required_list, required_text, text_of,
+};
+use serde_json::Value;
+use std::alloc::{AllocError, Global};
+use std::convert::Infallible;
+
+/// A request for the driver, whose locators hold no payloads.
+pub type Request<'e> = CitationRequest<'e, PlainEntry, Infallible>;
+
+/// A cite for the driver.
+pub type Item<'e> = CitationItem<'e, PlainEntry, Infallible>;
+
+/// A locator of the document: what it counts, and its text.
+#[derive(Drop)]
+pub struct AskedLocator {
+    pub kind: Locator,
+    pub text: String,
+}
+
+/// A cite of the document. It holds its own texts, so the JSON can be let go before it is written.
+#[derive(Drop)]
+pub struct AskedCite<'e> {
+    pub entry: &'e PlainEntry,
+    pub locator: Option<AskedLocator>,
+    pub locale: Option<LocaleCode>,
+    pub hidden: bool,
+    pub purpose: Option<CitePurpose>,
+}
+
+/// A request of the document.
+#[derive(Drop)]
+pub struct AskedRequest<'e> {
+    pub items: Vec<AskedCite<'e>>,
+    pub style: &'e IndependentStyle,
+    pub locale: Option<LocaleCode>,
+    pub note_number: Option<usize>,
+}
+
+// ---- cites
+
+/// The entry whose key the value is.
+fn entry_of<'e>(entries: &EntriesByKey<'e>, value: &Value) -> Result<&'e PlainEntry, ReadError>
+    ensures { Reads (λ e. e.now) result (name_form (entry_in entries.now) (view value.now)) }
+{
+    let Some(key) = value.as_str() else {
+        return Err(ReadError::Document);
+    };
+    match entries.get(&key) {
+        Some(entry) => Ok(*entry),
+        None => Err(ReadError::Document),
+    }
+}
+
+fn required_entry<'e>(
+    entries: &EntriesByKey<'e>,
+    value: &Value,
+) -> Result<&'e PlainEntry, ReadError>
+    ensures { Reads (λ e. e.now) result (required (name_form (entry_in entries.now)) (codes "entry") (view value.now)) }
+{
+    match value.get("entry") {
+        Some(member) => entry_of(entries, member),
+        None => Err(ReadError::Document),
+    }
+}
+
+fn locator_of(alloc: Global, value: &Value) -> Result<AskedLocator, ReadError>
+    ensures { Reads asked_locator_view result (locator_form (view value.now)) }
+{
+    match list_of(value)? {
+        [kind, text] => Ok(AskedLocator {
+            kind: one_of(LOCATORS, kind)?,
+            text: text_of(alloc, text)?,
+        }),
+        _ => Err(ReadError::Document),
+    }
+}
+
+fn optional_locator(alloc: Global, value: &Value) -> Result<Option<AskedLocator>, ReadError>
+    ensures { Reads (option_map asked_locator_view) result (where_present locator_form (codes "locator") (view value.now)) }
+{
+    match value.get("locator") {
+        None => Ok(None),
+        Some(member) => Ok(Some(locator_of(alloc, member)?)),
+    }
+}
+
+#[tactic(auto, unfolding(crate::specs::Requests::item_form))]
+fn item_of<'e>(
+    alloc: Global,
+    entries: &EntriesByKey<'e>,
+    value: &Value,
+) -> Result<AskedCite<'e>, ReadError>
+    ensures { Reads asked_cite_view result (item_form (entry_in entries.now) (view value.now)) }
+{
+    let object = object_with(&["entry", "locator", "locale", "hidden", "purpose"], value)?;
+    let entry = required_entry(entries, object)?;
+    let locator = optional_locator(alloc, object)?;
+    let locale = optional_code(alloc, object, "locale")?;
+    let hidden = flag(object, "hidden")?;
+    let purpose = optional_name(PURPOSES, object, "purpose")?;
+    Ok(AskedCite {
+        entry,
+        locator,
+        locale,
+        hidden,
+        purpose,
+    })
+}
+
+fn all_cites<'e>(
+    alloc: Global,
+    entries: &EntriesByKey<'e>,
+    items: &[Value],
+) -> Result<Vec<AskedCite<'e>>, ReadError>
+    ensures { Reads (λ v. asked_cites_view v.items) result (all_items (item_form (entry_in entries.now)) (items_view items.now)) }
+{
+    let mut cites = Vec::with_capacity(alloc, items.len())?;
+    for item in items {
+        cites.push(item_of(alloc, entries, item)?)?;
+    }
+    Ok(cites)
+}
+
+// ---- requests
+
+fn required_style<'e>(
+    styles: &StylesByName<'e>,
+    value: &Value,
+) -> Result<&'e IndependentStyle, ReadError>
+    ensures { Reads (λ s. style_view s.now) result (required (name_form (style_in styles.now)) (codes "style") (view value.now)) }
+{
+    let name = required_text(value, "style")?;
+    match styles.get(&name) {
+        Some(style) => Ok(*style),
+        None => Err(ReadError::Document),
+    }
+}
+
+#[tactic(auto, unfolding(crate::specs::Requests::request_form))]
+fn request_of<'e>(
+    alloc: Global,
+    styles: &StylesByName<'e>,
+    entries: &EntriesByKey<'e>,
+    locales: &[Locale],
+    value: &Value,
+) -> Result<AskedRequest<'e>, ReadError>
+    ensures { Reads (asked_request_view (map locale_view locales.now)) result (request_form (style_in styles.now) (entry_in entries.now) (map locale_view locales.now) (view value.now)) }
+{
+    let object = object_with(&["style", "locale", "note", "items"], value)?;
+    let style = required_style(styles, object)?;
+    let locale = optional_code(alloc, object, "locale")?;
+    let note_number = optional_number(object, "note")?;
+    let list = required_list(object, "items")?;
+    let items = all_cites(alloc, entries, list)?;
+    Ok(AskedRequest {
+        items,
+        style,
+        locale,
+        note_number,
+    })
+}
+
+fn all_requests<'e>(
+    alloc: Global,
+    styles: &StylesByName<'e>,
+    entries: &EntriesByKey<'e>,
+    locales: &[Locale],
+    items: &[Value],
+) -> Result<Vec<AskedRequest<'e>>, ReadError>
+    ensures { Reads (λ v. asked_requests_view (map locale_view locales.now) v.items) result (all_items (request_form (style_in styles.now) (entry_in entries.now) (map locale_view locales.now)) (items_view items.now)) }
+{
+    let mut requests = Vec::with_capacity(alloc, items.len())?;
+    for item in items {
+        requests.push(request_of(alloc, styles, entries, locales, item)?)?;
+    }
+    Ok(requests)
+}
+
+/// The requests of the document.
+pub fn requests_of<'e>(
+    alloc: Global,
+    styles: &StylesByName<'e>,
+    entries: &EntriesByKey<'e>,
+    locales: &[Locale],
+    object: &Value,
+) -> Result<Vec<AskedRequest<'e>>, ReadError>
+    ensures { Reads (λ v. asked_requests_view (map locale_view locales.now) v.items) result (items_at (request_form (style_in styles.now) (entry_in entries.now) (map locale_view locales.now)) (codes "requests") (view object.now)) }
+{
+    let list = required_list(object, "requests")?;
+    all_requests(alloc, styles, entries, locales, list)
+}
+
+// ---- requests for the driver
+
+/// A copy of a language, if there is one.
+pub fn copied_code(
+    alloc: Global,
+    code: &Option<LocaleCode>,
+) -> Result<Option<LocaleCode>, AllocError>
+    ensures { IfOk result (λ c. option_map code_view c ≡ option_map code_view code.now) }
+{
+    match code {
+        Some(code) => Ok(Some(LocaleCode(String::from_str(alloc, code.0.as_str())?))),
+        None => Ok(None),
+    }
+}
+
+fn driver_locator(locator: &Option<AskedLocator>) -> Option<SpecificLocator<'_, Infallible>>
+    ensures { option_map locator_view result ≡ option_map asked_locator_view locator.now }
+{
+    match locator {
+        Some(locator) => Some(SpecificLocator(
+            locator.kind,
+            LocatorPayload::Str(locator.text.as_str()),
+        )),
+        None => None,
+    }
+}
+
+fn driver_item<'r>(alloc: Global, cite: &'r AskedCite<'_>) -> Result<Item<'r>, AllocError>
+    ensures { IfOk result (λ i. cite_view i ≡ asked_cite_view cite.now) }
+{
+    let entry: &'r PlainEntry = cite.entry;
+    let locator = driver_locator(&cite.locator);
+    let locale = copied_code(alloc, &cite.locale)?;
+    Ok(CitationItem::new(entry, locator, locale, cite.hidden, cite.purpose))
+}
+
+fn driver_items<'r>(alloc: Global, cites: &'r [AskedCite<'r>]) -> Result<Vec<Item<'r>>, AllocError>
+    ensures { IfOk result (λ v. cites_view v.items ≡ asked_cites_view cites.now) }
+{
+    let mut items = Vec::with_capacity(alloc, cites.len())?;
+    for cite in cites {
+        items.push(driver_item(alloc, cite)?)?;
+    }
+    Ok(items)
+}
+
+/// The request that the driver takes, with these locales.
+pub fn driver_request<'r>(
+    alloc: Global,
+    request: &'r AskedRequest<'_>,
+    locales: &'r [Locale],
+) -> Result<Request<'r>, AllocError>
+    ensures { IfOk result (λ r. request_view r ≡ asked_request_view (map locale_view locales.now) request.now) }
+{
+    let items = driver_items(alloc, &request.items)?;
+    let locale = copied_code(alloc, &request.locale)?;
+    let style: &'r IndependentStyle = request.style;
+    let note = request.note_number;
+    Ok(CitationRequest::new(items, style, locale, locales, note))
+}
+
+// ---- the bibliography
+
+/// What is asked of the bibliography.
+#[derive(Drop)]
+pub struct Wanted<'e> {
+    /// Its style.
+    pub style: &'e IndependentStyle,
+    /// The locale of its terms, if the document names one.
+    pub locale: Option<LocaleCode>,
+    /// The order of its entries, if the document has one.
+    pub order: Option<Vec<&'e PlainEntry>>,
+}
+
+fn all_keyed<'e>(
+    alloc: Global,
+    entries: &EntriesByKey<'e>,
+    items: &[Value],
+) -> Result<Vec<&'e PlainEntry>, ReadError>
+    ensures { Reads (λ v. entries_view v.items) result (all_items (name_form (entry_in entries.now)) (items_view items.now)) }
+{
+    let mut found = Vec::new(alloc);
+    for item in items {
+        found.push(entry_of(entries, item)?)?;
+    }
+    Ok(found)
+}
+
+fn optional_order<'e>(
+    alloc: Global,
+    entries: &EntriesByKey<'e>,
+    value: &Value,
+) -> Result<Option<Vec<&'e PlainEntry>>, ReadError>
+    ensures { Reads (option_map (λ v. entries_view v.items)) result (where_present (list_of (name_form (entry_in entries.now))) (codes "order") (view value.now)) }
+{
+    match value.get("order") {
+        None => Ok(None),
+        Some(member) => Ok(Some(all_keyed(alloc, entries, list_of(member)?)?)),
+    }
+}
+
+/// What is asked of the bibliography, of an object of its own.
+#[tactic(auto, unfolding(crate::specs::Requests::wanted_form))]
+pub fn wanted_of<'e>(
+    alloc: Global,
+    styles: &StylesByName<'e>,
+    entries: &EntriesByKey<'e>,
+    value: &Value,
+) -> Result<Wanted<'e>, ReadError>
+    ensures { Reads wanted_view result (wanted_form (style_in styles.now) (entry_in entries.now) (view value.now)) }
+{
+    let object = object_with(&["style", "locale", "order"], value)?;
+    let style = required_style(styles, object)?;
+    let locale = optional_code(alloc, object, "locale")?;
+    let order = optional_order(alloc, entries, object)?;
+    Ok(Wanted {
+        style,
+        locale,
+        order,
+    })
+}

@@ -1,0 +1,5 @@
+pub mod Options
+pub mod Elements
+pub mod Locales
+pub mod Styles
+pub mod NamedStyleView

@@ -1,0 +1,94 @@
+//! What the names of a document stand for.
+ghost use Rattle.std.specs.Prelude.{◌≡◌};
+ghost use Rattle.serde_json.specs.View.{view};
+ghost use Rattle.document_words.specs.Words.{name_form};
+ghost use Rattle.document_words.specs.Names.{named, rows_view, variable_named, locator_term_named, term_named};
+ghost use Rattle.document_words.specs.Reads.{Reads};
+
+use crate::error::ReadError;
+use crate::tables::{
+    DATE_VARIABLES, LOCATORS, NAME_VARIABLES, NUMBER_VARIABLES, OTHER_TERMS, STANDARD_VARIABLES,
+};
+use csl_base::taxonomy::{Term, Variable};
+use serde_json::Value;
+
+/// The value of a name: that of the first row that has the name.
+pub fn named<T: Copy>(rows: &[(&str, T)], name: &str) -> Option<T>
+    ensures { result ≡ named (rows_view rows.now) name.now }
+{
+    for row in rows {
+        if row.0 == name {
+            return Some(row.1);
+        }
+    }
+    None
+}
+
+/// The variable of this name, of any kind.
+pub fn variable_named(name: &str) -> Option<Variable>
+    ensures { result ≡ variable_named name.now }
+{
+    if let Some(variable) = named(NAME_VARIABLES, name) {
+        return Some(Variable::Name(variable));
+    }
+    if let Some(variable) = named(DATE_VARIABLES, name) {
+        return Some(Variable::Date(variable));
+    }
+    if let Some(variable) = named(STANDARD_VARIABLES, name) {
+        return Some(Variable::Standard(variable));
+    }
+    match named(NUMBER_VARIABLES, name) {
+        Some(variable) => Some(Variable::Number(variable)),
+        None => None,
+    }
+}
+
+/// The term of the locator that stands behind `locator-`.
+fn locator_term_named(name: &str) -> Option<Term>
+    ensures { result ≡ locator_term_named name.now }
+{
+    let Some(kind) = name.strip_prefix("locator-") else {
+        return None;
+    };
+    match named(LOCATORS, kind) {
+        Some(locator) => Some(Term::Locator(locator)),
+        None => None,
+    }
+}
+
+/// The term of this name: one that is named after nothing else, or a locator's, or a number
+/// variable's.
+pub fn term_named(name: &str) -> Option<Term>
+    ensures { result ≡ term_named name.now }
+{
+    if let Some(term) = named(OTHER_TERMS, name) {
+        return Some(Term::Other(term));
+    }
+    if let Some(term) = locator_term_named(name) {
+        return Some(term);
+    }
+    match named(NUMBER_VARIABLES, name) {
+        Some(variable) => Some(Term::NumberVariable(variable)),
+        None => None,
+    }
+}
+
+/// The term that the value names.
+pub fn term_of(value: &Value) -> Result<Term, ReadError>
+    ensures { Reads (λ t. t) result (name_form term_named (view value.now)) }
+{
+    let Some(name) = value.as_str() else {
+        return Err(ReadError::Document);
+    };
+    term_named(name).ok_or(ReadError::Document)
+}
+
+/// The variable that the value names, of any kind.
+pub fn variable_of(value: &Value) -> Result<Variable, ReadError>
+    ensures { Reads (λ v. v) result (name_form variable_named (view value.now)) }
+{
+    let Some(name) = value.as_str() else {
+        return Err(ReadError::Document);
+    };
+    variable_named(name).ok_or(ReadError::Document)
+}
