@@ -14,10 +14,10 @@ use Rattle.csl_entries.specs.Entries.{distinct, place}
 use Rattle.csl_base.specs.declared.names.NameDisambiguationProperties.{NameDisambiguationProperties}
 use Rattle.csl_lookup.specs.declared.state.DisambiguateState.{DisambiguateState}
 use Rattle.csl_lookup.specs.declared.state.DisambiguateState.TheVariants.{Choose}
-use Rattle.csl_name_marks.specs.Members as named
+use Rattle.csl_name_marks.specs.NamedCites.{first_adds_names, greatest_step, named_cite, named_cite_at, named_cites}
 use Rattle.csl_name_marks.specs.NameMarks.{after_step, mark, marks_after, name_marks}
 use Rattle.csl_name_marks.specs.Steps.{step, steps}
-use Rattle.csl_name_marks.specs.declared.member.Member.{Member as of_names}
+use Rattle.csl_name_marks.specs.declared.named_cite.NamedCite.{NamedCite}
 use Rattle.csl_passes.specs.Places.{IsPlace, cite_at}
 use Rattle.csl_passes.specs.Renders.{CiteRender, ItemRender, Place}
 use Rattle.csl_passes.specs.Request.{Request}
@@ -98,21 +98,21 @@ module _ {E P : Type 0} (renders : List (CiteRender E P)) where
         (All-nil (λ m. IsPlace renders m.0))
 
   -- a member that has forms, as name marks see it
-  abbrev named-stands : of_names → Type 0
+  abbrev named-stands : NamedCite → Type 0
   named-stands x = IsPlace renders x.place
 
-  named-found : (p : Place) (x : of_names) → named.member_at renders p ≡ Some x → named-stands x
+  named-found : (p : Place) (x : NamedCite) → named_cite_at renders p ≡ Some x → named-stands x
   named-found p x = by (cite_at renders p) refl
     where
-      by : (o : Option (Request E P × ItemRender E P)) → cite_at renders p ≡ o → option_map (λ cite. named.member p cite.0 cite.1) o ≡ Some x → named-stands x
+      by : (o : Option (Request E P × ItemRender E P)) → cite_at renders p ≡ o → option_map (λ cite. named_cite p cite.0 cite.1) o ≡ Some x → named-stands x
       by None e h = cc
       by (Some y) e h = subst (λ q. IsPlace renders q) (ap (λ z. z.place) (some-inj _ x h)) (here p y e)
 
-  name-stands : (group : List of_names) (is : List ℕ) (own : of_names → Option ℕ) → All named-stands group → Marks-stand (marks_after group is own)
+  name-stands : (group : List NamedCite) (is : List ℕ) (own : NamedCite → Option ℕ) → All named-stands group → Marks-stand (marks_after group is own)
   name-stands group [] own h = All-nil (λ m. IsPlace renders m.0)
   name-stands group (i ∷ is) own h = all-kept named-stands (λ m. IsPlace renders m.0) (λ x. mark group (i ∷ is) x (own x)) at group h
     where
-      at : (x : of_names) (m : Mark) → named-stands x → mark group (i ∷ is) x (own x) ≡ Some m → IsPlace renders m.0
+      at : (x : NamedCite) (m : Mark) → named-stands x → mark group (i ∷ is) x (own x) ≡ Some m → IsPlace renders m.0
       at x m there e = by x.start e
         where
           by : (o : Option NameDisambiguationProperties)
@@ -123,10 +123,10 @@ module _ {E P : Type 0} (renders : List (CiteRender E P)) where
   names-stand : (group : List Place) → Marks-stand (name_marks renders group)
   unfolding name_marks
   names-stand group =
-      let found = named.members renders group in
-      let greatest = named.greatest_step (named.first_adds_names renders) found in
+      let found = named_cites renders group in
+      let greatest = greatest_step (first_adds_names renders) found in
       name-stands found (steps found greatest) (step found greatest)
-      (all-kept (λ p. ⊤) named-stands (named.member_at renders) (λ p x u e. named-found p x e) group (λ k d h. tt))
+      (all-kept (λ p. ⊤) named-stands (named_cite_at renders) (λ p x u e. named-found p x e) group (λ k d h. tt))
 
   module _ (eq : E → E → Bool) (dated : Bool) where
     first-stands : (o : Option (List Place)) → Marks-stand (of_first (name_marks renders) (by_choice eq renders) (by_suffix eq renders dated) o)
