@@ -20,18 +20,10 @@ use Rattle.csl_rounds.specs.Rounds.{disambiguated}
 abbrev pub order_in_use : {E : Type 0} → Wanted E → Option (List E)
 order_in_use wanted = used_order wanted.style wanted.order
 
-module _ {E P : Type 0} (eq : E → E → Bool) (payload_eq : P → P → Bool) (answers : E → Answers) where
-  -- the cites of all requests, rendered by their first properties and then told apart
-  abbrev pub told_apart : (E → ℕ) → List (Request E P) → List (CiteRender E P)
-  told_apart number_of requests = disambiguated eq answers (first_renders answers requests (first_properties eq payload_eq number_of requests))
-
-  -- the cites of a request drawn together, where none has a purpose
-  abbrev pub drawn_together : CiteRender E P → CiteRender E P
-  drawn_together c = if has_no_purpose c.items then collapsed c else c
-
-  -- the answer to one request
-  abbrev pub citation_of : CiteRender E P → RenderedCitation
-  citation_of c = record { note_number = c.request.note_number; citation = citation_tree answers c }
+module _ {E P : Type 0} (eq : E → E → Bool) where
+  -- the bibliography's entries
+  abbrev pub entries_listed : Wanted E → List (Request E P) → List E
+  entries_listed wanted requests = bibliography_order eq (order_in_use wanted) (cited requests)
 
   -- the entries by which the final numbers go: the bibliography's where an order is used, else those of the cites in their
   -- final order
@@ -39,30 +31,39 @@ module _ {E P : Type 0} (eq : E → E → Bool) (payload_eq : P → P → Bool) 
   numbered_finally None requests cites = distinct eq (cited_finally cites)
   numbered_finally (Some order) requests cites = bibliography_order eq (Some order) (cited requests)
 
-  module _ (wanted : Wanted E) (requests : List (Request E P)) (offset : ℕ) where
-    -- the bibliography's entries
-    abbrev pub entries_listed : List E
-    entries_listed = bibliography_order eq (order_in_use wanted) (cited requests)
+-- the cites of a request drawn together, where none has a purpose
+abbrev pub drawn_together : {E P : Type 0} → CiteRender E P → CiteRender E P
+drawn_together c = if has_no_purpose c.items then collapsed c else c
 
+-- the answer to one request, from its cites as they stand in the end
+abbrev pub citation_of : {E P : Type 0} → (E → Answers) → CiteRender E P → RenderedCitation
+citation_of answers c = record { note_number = c.request.note_number; citation = citation_tree answers c }
+
+module _ {E P : Type 0} (eq : E → E → Bool) (payload_eq : P → P → Bool) (answers : E → Answers) where
+  -- the cites of all requests, rendered by their first properties and then told apart
+  abbrev pub told_apart : (E → ℕ) → List (Request E P) → List (CiteRender E P)
+  told_apart number_of requests = disambiguated eq answers (first_renders answers requests (first_properties eq payload_eq number_of requests))
+
+  module _ (wanted : Wanted E) (requests : List (Request E P)) (offset : ℕ) where
     -- the cites in their final order: told apart, and those of each request in their blocks
     abbrev pub in_final_order : List (CiteRender E P)
-    in_final_order = map grouped (told_apart (number eq offset entries_listed) requests)
+    in_final_order = map grouped (told_apart (number eq offset (entries_listed eq wanted requests)) requests)
 
     -- the number of an entry in the end
     abbrev pub final_number : E → ℕ
-    final_number = number eq offset (numbered_finally (order_in_use wanted) requests in_final_order)
+    final_number = number eq offset (numbered_finally eq (order_in_use wanted) requests in_final_order)
 
-    -- the cites with their final positions and numbers, and drawn together
+    -- the cites with their final positions and numbers
     abbrev pub in_the_end : List (CiteRender E P)
     in_the_end = with_final_properties eq payload_eq final_number in_final_order
 
     -- the first cites, in the final order, of the bibliography's entries
     abbrev pub first_cites : List (ItemRender E P)
-    first_cites = filter_map (first_item eq in_the_end) entries_listed
+    first_cites = filter_map (first_item eq in_the_end) (entries_listed eq wanted requests)
 
     -- the whole answer: one citation for each request, and the bibliography where the style that was asked for has one
     abbrev pub rendered : Rendered
     rendered = record {
       bibliography = option_map (λ b. bibliography_of answers (wanted_source wanted) b first_cites) wanted.style.bibliography;
-      citations = map (λ c. citation_of (drawn_together c)) in_the_end;
+      citations = map (λ c. citation_of answers (drawn_together c)) in_the_end;
     }

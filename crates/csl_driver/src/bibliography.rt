@@ -1,21 +1,30 @@
 //! The bibliography of an answer.
-ghost use Rattle.std.specs.Prelude.{◌≡◌, IfOk, map, option_map};
+ghost use Rattle.std.specs.Prelude.{◌≡◌, ◌<◌, All, IfOk, length, option_map, slice_get};
 ghost use Rattle.std.specs.List.{filter_map};
-ghost use Rattle.csl_assembly.specs.BibliographyItems.{bibliography_of};
+ghost use Rattle.std.specs.Option.{option_and_then};
+ghost use Rattle.csl_assembly.specs.BibliographyItems.{bibliography_of, cites_at};
 ghost use Rattle.csl_base.specs.Ring.{HasNoRing};
 ghost use Rattle.csl_base.specs.StyleView.{style_view};
+ghost use Rattle.csl_driver.specs.Answer.{entries_listed, order_in_use};
+ghost use Rattle.csl_driver.specs.AreCitesOf.{AreCitesOf};
+ghost use Rattle.csl_driver.specs.Cited.{IsCitedBy};
+ghost use Rattle.csl_entries.specs.Entries.{is_in};
+ghost use Rattle.csl_entries.specs.Laws.{NoTwoEqual};
 ghost use Rattle.csl_entries.specs.ListingView.{listing_view};
+ghost use Rattle.csl_entries.specs.PlacedItems.{ArePlaced};
 ghost use Rattle.csl_entries.specs.TableView.{table_view};
-ghost use Rattle.csl_passes.specs.RendersView.{item_view, renders_view};
+ghost use Rattle.csl_passes.specs.Places.{IsPlace};
+ghost use Rattle.csl_passes.specs.RendersView.{renders_view};
 ghost use Rattle.csl_passes.specs.Request.{wanted_source};
-ghost use Rattle.csl_passes.specs.RequestView.{wanted_view};
+ghost use Rattle.csl_passes.specs.RequestView.{requests_view, wanted_view};
+ghost use Rattle.csl_positions.specs.FinalProperties.{cited_finally, first_item};
 
 use crate::cited::Cited;
 use csl_assembly::bibliography::bibliography_of;
 use csl_assembly::rendered::RenderedBibliography;
 use csl_base::entry::EntryLike;
-use csl_passes::renders::{SpeculativeCiteRender, SpeculativeItemRender};
-use csl_passes::request::BibliographyRequest;
+use csl_passes::renders::SpeculativeCiteRender;
+use csl_passes::request::{BibliographyRequest, CitationRequest};
 use csl_positions::final_order::first_items;
 use csl_writing::counter::Renders;
 use std::alloc::{AllocError, Global};
@@ -30,8 +39,9 @@ fn first_cites<'a, T: EntryLike, P>(
     requires once { NoTwoEqual T.eq (table_view cited.now.table).entries }
     requires same { (e : T) → is_in T.eq e (cited_finally (renders_view cites.now)) ≡ is_in T.eq e (table_view cited.now.table).entries }
     requires within { All (λ p. p < length (table_view cited.now.table).entries) (listing_view cited.now.listing).order }
-    ensures { IfOk result (λ v. (firsts : List (Option Place)) → AreFirstItems T.eq (table_view cited.now.table).entries (renders_view cites.now) firsts
-        → v.items ≡ filter_map (λ p. option_and_then (λ x. x) (slice_get firsts p)) (listing_view cited.now.listing).order) }
+    ensures firsts { IfOk result (λ v. cites_at (renders_view cites.now) v.items
+        ≡ filter_map (λ p. option_and_then (first_item T.eq (renders_view cites.now)) (slice_get (table_view cited.now.table).entries p)) (listing_view cited.now.listing).order) }
+    ensures exist { IfOk result (λ v. All (IsPlace (renders_view cites.now)) v.items) }
 {
     let places = first_items(alloc, cites, &cited.table)?;
     let order = cited.listing.order();
@@ -58,7 +68,7 @@ pub(crate) fn wanted_bibliography<'a, T: EntryLike, P: Drop>(
     requires cites { AreCitesOf T.eq (table_view cited.now.table) (requests_view requests.now) (renders_view cites.now) }
     ensures { IfOk result (λ r. r ≡ option_map
         (λ b. bibliography_of T.answers (wanted_source (wanted_view wanted.now)) b
-            (filter_map (first_item T.eq (renders_view cites.now)) (bibliography_order T.eq (order_in_use (wanted_view wanted.now)) (cited (requests_view requests.now)))))
+            (filter_map (first_item T.eq (renders_view cites.now)) (entries_listed T.eq (wanted_view wanted.now) (requests_view requests.now))))
         (style_view wanted.now.style.now).bibliography) }
 {
     match &wanted.style.bibliography {

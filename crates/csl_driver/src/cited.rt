@@ -1,5 +1,5 @@
 //! The cited entries, their order and their numbers.
-ghost use Rattle.std.specs.Prelude.{◌≡◌, ◌<◌, ◌^◌, IfOk, length, ℕ};
+ghost use Rattle.std.specs.Prelude.{◌≡◌, ◌+◌, ◌<◌, ◌^◌, IfOk, length, ℕ};
 ghost use Rattle.csl_entries.specs.ListingView.{listing_view};
 ghost use Rattle.csl_entries.specs.TableView.{table_view};
 ghost use Rattle.csl_driver.specs.Cited.{number_at, numbers_at};
@@ -23,7 +23,7 @@ impl<'a, T: EntryLike> Cited<'a, T> {
     /// which the next entry would have.
     pub(crate) fn numbers(&self, alloc: Global, listing: &Listing) -> Result<Vec<usize>, AllocError>
         requires fits { (p : ℕ) → number_at (listing_view listing.now) self.now.offset p < 2 ^ 64 }
-        requires one_more { length (table_view self.now.table).entries < 2 ^ 64 - 1 }
+        requires one_more { length (table_view self.now.table).entries + 1 < 2 ^ 64 }
         ensures { IfOk result (λ v. v.items
             ≡ numbers_at (listing_view listing.now) self.now.offset (length (table_view self.now.table).entries)) }
     {

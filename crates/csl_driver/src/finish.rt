@@ -11,7 +11,7 @@ ghost use Rattle.csl_entries.specs.Entries.{distinct, number};
 ghost use Rattle.csl_entries.specs.Table.{table_of};
 ghost use Rattle.csl_entries.specs.TableView.{table_view};
 ghost use Rattle.csl_grouping.specs.Blocks.{grouped};
-ghost use Rattle.csl_passes.specs.RendersView.{renders_view};
+ghost use Rattle.csl_passes.specs.RendersView.{render_view, renders_view};
 ghost use Rattle.csl_passes.specs.Request.{cited};
 ghost use Rattle.csl_positions.specs.FirstProperties.{numbered_by};
 ghost use Rattle.csl_passes.specs.RequestView.{order_view, requests_view, wanted_view};
@@ -114,8 +114,8 @@ fn group_all<T, P>(
 ) -> Result<(), AllocError>
     ensures { OnOk result (renders_view cites.new ≡ map grouped (renders_view cites.old)) }
 {
-    for cite in cites.iter_mut() {
-        group_cites(alloc, cite)?;
+    for r in 0..cites.len() {
+        group_cites(alloc, &mut cites[r])?;
     }
     Ok(())
 }
@@ -166,14 +166,21 @@ fn cites_in_the_end<'r, 'a, T: EntryLike, P: Eq + Drop>(
     Ok(cites)
 }
 
-/// Draws the cites of each request together, where none of them has a purpose.
+/// Draws the cites of a request together, where none of them has a purpose.
+fn draw_one_together<T, P>(cite: &mut SpeculativeCiteRender<'_, '_, T, P>)
+    ensures { render_view cite.new ≡ drawn_together (render_view cite.old) }
+{
+    if has_no_purpose(&cite.items) {
+        collapse_items(cite);
+    }
+}
+
+/// The same for the cites of each request.
 fn draw_together<T, P>(cites: &mut [SpeculativeCiteRender<'_, '_, T, P>])
     ensures { renders_view cites.new ≡ map drawn_together (renders_view cites.old) }
 {
-    for cite in cites.iter_mut() {
-        if has_no_purpose(&cite.items) {
-            collapse_items(cite);
-        }
+    for r in 0..cites.len() {
+        draw_one_together(&mut cites[r]);
     }
 }
 
