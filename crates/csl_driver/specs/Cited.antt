@@ -1,5 +1,5 @@
 -- For the code: the cited entries, and the numbers that a listing gives them, by their places.
-use Rattle.std.specs.Prelude.{◌≡◌, ℕ, ◌+◌, ◌<◌, ◌^◌, Bool, List, length, map, Option, slice_get, unwrap_or}
+use Rattle.std.specs.Prelude.{◌≡◌, ℕ, ◌+◌, ◌<◌, ◌^◌, Bool, List, [], ◌∷◌, ◌++◌, length, map, Option, slice_get, unwrap_or}
 use Rattle.std.specs.List.{range_with_len}
 use Rattle.csl_driver.specs.declared.cited.Cited.{Cited}
 use Rattle.csl_entries.specs.Entries.{bibliography_order, distinct}
@@ -15,7 +15,7 @@ number_at l offset p = offset + unwrap_or (slice_get l.numbers p) (length l.orde
 
 -- the numbers of so many entries, and behind them that of the next one
 abbrev pub numbers_at : Listed → ℕ → ℕ → List ℕ
-numbers_at l offset count = map (number_at l offset) (range_with_len 0 (count + 1))
+numbers_at l offset count = map (number_at l offset) (range_with_len 0 count) ++ number_at l offset count ∷ []
 
 -- the entries that requests cite, listed in the bibliography's order, whose numbers fit
 pub record IsCitedBy {E P : Type 0} (eq : E → E → Bool) (requests : List (Request E P)) (order : Option (List E)) (c : Cited E) : Type 0 where

@@ -23,15 +23,15 @@ impl<'a, T: EntryLike> Cited<'a, T> {
     /// which the next entry would have.
     pub(crate) fn numbers(&self, alloc: Global, listing: &Listing) -> Result<Vec<usize>, AllocError>
         requires fits { (p : ℕ) → number_at (listing_view listing.now) self.now.offset p < 2 ^ 64 }
-        requires one_more { length (table_view self.now.table).entries + 1 < 2 ^ 64 }
         ensures { IfOk result (λ v. v.items
             ≡ numbers_at (listing_view listing.now) self.now.offset (length (table_view self.now.table).entries)) }
     {
-        let count = self.table.len() + 1;
+        let count = self.table.len();
         let mut numbers = Vec::with_capacity(alloc, count)?;
         for place in 0..count {
             numbers.push(self.offset + listing.number_of(place))?;
         }
+        numbers.push(self.offset + listing.number_of(count))?;
         Ok(numbers)
     }
 }

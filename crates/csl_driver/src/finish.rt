@@ -7,13 +7,16 @@ ghost use Rattle.csl_driver.specs.AreCitesOf.{AreCitesOf};
 ghost use Rattle.csl_driver.specs.Cited.{IsCitedBy};
 ghost use Rattle.csl_driver.specs.DriverView.{driver_view};
 ghost use Rattle.csl_driver.specs.Rings.{NoRingAtAll, NoRingIn, Refuses};
-ghost use Rattle.csl_entries.specs.Entries.{distinct, number};
+ghost use Rattle.csl_entries.specs.Entries.{distinct, number, place};
+ghost use Rattle.csl_entries.specs.PlacedItems.{ArePlaced};
 ghost use Rattle.csl_entries.specs.Table.{table_of};
 ghost use Rattle.csl_entries.specs.TableView.{table_view};
 ghost use Rattle.csl_grouping.specs.Blocks.{grouped};
 ghost use Rattle.csl_passes.specs.RendersView.{render_view, renders_view};
 ghost use Rattle.csl_passes.specs.Request.{cited};
+ghost use Rattle.csl_positions.specs.FinalProperties.{with_final_properties};
 ghost use Rattle.csl_positions.specs.FirstProperties.{numbered_by};
+ghost use Rattle.csl_rounds.specs.Rounds.{disambiguated};
 ghost use Rattle.csl_passes.specs.RequestView.{order_view, requests_view, wanted_view};
 
 use crate::bibliography::wanted_bibliography;
@@ -100,11 +103,59 @@ fn told_apart<'r, 'a, T: EntryLike, P: Eq + Drop>(
         ≡ told_apart T.eq P.eq T.answers (numbered_by T.eq numbers.now (table_view table.now).entries) (requests_view requests.now)) }
 {
     let firsts = first_properties(alloc, requests, table, numbers)?;
-    let mut cites = Cites {
+    let cites = Cites {
         renders: first_renders(alloc, requests, &firsts, renders)?,
     };
+    after_rounds(alloc, cites, table, renders)
+}
+
+/// The cites after the rounds.
+fn after_rounds<'r, 'a, T: EntryLike, P: Drop>(
+    alloc: Global,
+    mut cites: Cites<'r, 'a, T, P>,
+    table: &EntryTable<'a, T>,
+    renders: &mut Renders,
+) -> Result<Cites<'r, 'a, T, P>, AllocError>
+    requires no_ring { All (λ c. HasNoRing c.request.style.macros) (renders_view cites.entry.renders.items) }
+    requires placed { (table_view table.now).places ≡ map (λ c. map (λ i. place T.eq i.entry (table_view table.now).entries) c.items) (renders_view cites.entry.renders.items) }
+    requires listed { All (λ ps. All (λ p. p < length (table_view table.now).entries) ps) (table_view table.now).places }
+    ensures { IfOk result (λ c. renders_view c.renders.items ≡ disambiguated T.eq T.answers (renders_view cites.entry.renders.items)) }
+{
     disambiguate(alloc, &mut cites.renders, table, renders)?;
     Ok(cites)
+}
+
+/// The cites, those of each request in their blocks.
+fn in_blocks<'r, 'a, T, P: Drop>(
+    alloc: Global,
+    mut cites: Cites<'r, 'a, T, P>,
+) -> Result<Cites<'r, 'a, T, P>, AllocError>
+    ensures { IfOk result (λ c. renders_view c.renders.items ≡ map grouped (renders_view cites.entry.renders.items)) }
+{
+    group_all(alloc, &mut cites.renders)?;
+    Ok(cites)
+}
+
+/// The cites in their final order, with their final positions and numbers.
+fn with_final_properties<'r, 'a, T: EntryLike, P: Eq + Drop>(
+    mut cites: Cites<'r, 'a, T, P>,
+    table: &EntryTable<'a, T>,
+    numbers: &[usize],
+) -> Cites<'r, 'a, T, P>
+    requires placed { ArePlaced T.eq (table_view table.now) (renders_view cites.entry.renders.items) }
+    ensures { renders_view result.renders.items
+        ≡ with_final_properties T.eq P.eq (numbered_by T.eq numbers.now (table_view table.now).entries) (renders_view cites.entry.renders.items) }
+{
+    set_final_properties(&mut cites.renders, table, numbers);
+    cites
+}
+
+/// The cites, those of each request drawn together where none of them has a purpose.
+fn drawn_together<'r, 'a, T, P: Drop>(mut cites: Cites<'r, 'a, T, P>) -> Cites<'r, 'a, T, P>
+    ensures { renders_view result.renders.items ≡ map drawn_together (renders_view cites.entry.renders.items) }
+{
+    draw_together(&mut cites.renders);
+    cites
 }
 
 /// Brings the cites of each request into their blocks.
@@ -159,11 +210,10 @@ fn cites_in_the_end<'r, 'a, T: EntryLike, P: Eq + Drop>(
     ensures placed { IfOk result (λ c. AreCitesOf T.eq (table_view cited.now.table) (requests_view requests.now) (renders_view c.renders.items)) }
 {
     let numbers = cited.numbers(alloc, &cited.listing)?;
-    let mut cites = told_apart(alloc, requests, &cited.table, &numbers, renders)?;
-    group_all(alloc, &mut cites.renders)?;
+    let cites = told_apart(alloc, requests, &cited.table, &numbers, renders)?;
+    let cites = in_blocks(alloc, cites)?;
     let numbers = final_numbers(alloc, requests, wanted, cited, &cites.renders)?;
-    set_final_properties(&mut cites.renders, &cited.table, &numbers);
-    Ok(cites)
+    Ok(with_final_properties(cites, &cited.table, &numbers))
 }
 
 /// Draws the cites of a request together, where none of them has a purpose.
@@ -218,10 +268,10 @@ fn answer<'a, T: EntryLike, P: Eq + Drop>(
     refuse_rings(alloc, requests, wanted.style)?;
     let cited = cited_by(alloc, requests, wanted, offset)?;
     let mut renders = Renders::new();
-    let mut cites = cites_in_the_end(alloc, requests, wanted, &cited, &mut renders)?;
+    let cites = cites_in_the_end(alloc, requests, wanted, &cited, &mut renders)?;
     let bibliography =
         wanted_bibliography(alloc, requests, wanted, &cited, &cites.renders, &mut renders)?;
-    draw_together(&mut cites.renders);
+    let cites = drawn_together(cites);
     let citations = rendered_citations(alloc, &cites.renders, &mut renders)?;
     Ok(Rendered {
         citations: Seq::new(citations),
