@@ -3,7 +3,8 @@
 
     bench/bench.py [--program PATH] [--kinds NAME,..] [--most N] [--runs N]
 
-Makes documents of n = 1,000, 4,000, 16,000 and 64,000 (up to --most) of each kind, runs the program on each, and prints
+Makes documents of n = 1,000, 4,000, 16,000 and 64,000 (up to --most, or less where a kind's time grows faster than n) of each
+kind, runs the program on each, and prints
 a row for each: the document's size, the best processor time of --runs runs, the peak of memory, the growth of the time from the n
 before (from n to 4n; linear is 4), and the ratio of the time to that of reading alone. Reading alone is the same program
 on the same document with one more key at the top, which it reads as JSON whole and then refuses.
@@ -105,10 +106,73 @@ def author_date(n):
     return document(style, entries, [[entry["key"]] for entry in entries])
 
 
+def citing(children, **ways):
+    """A style whose cites are a group of these elements, as in (Doe 1999)."""
+    group = {"kind": "group", "children": children, "delimiter": " "}
+    return {"citation": {"elements": [group], "prefix": "(", "suffix": ")", "delimiter": "; ", **ways}}
+
+
+NAMES = {"kind": "names", "variables": ["author"], "options": {"and": "symbol", "name_form": "short"}}
+YEAR = {"kind": "date", "variable": "issued"}
+
+
+def ambiguous_pairs(n):
+    """n requests of one cite each, of two persons and a year; every two entries read alike."""
+    entries = [
+        {"key": key, "author": [[f"Doe{i // 2}", "Jane"], ["Roe", "Rick"]], "issued": 1999}
+        for i, key in enumerate(keys_of(n))
+    ]
+    style = citing([NAMES, YEAR], add_names=True, add_givenname=True, add_year_suffix=True)
+    return document(style, entries, [[entry["key"]] for entry in entries])
+
+
+def one_author(n):
+    """n requests, each of another work of one person and one year, which all get suffixes."""
+    entries = [{"key": key, "author": [["Doe", "Jane"]], "issued": 1999} for key in keys_of(n)]
+    style = citing([NAMES, YEAR], add_names=True, add_givenname=True, add_year_suffix=True)
+    return document(style, entries, [[entry["key"]] for entry in entries])
+
+
+def one_family(n):
+    """n requests, each of another person of one family, told apart by given names."""
+    entries = [{"key": key, "author": [["Doe", f"Jane{i}"]], "issued": 1999} for i, key in enumerate(keys_of(n))]
+    style = citing([NAMES, YEAR], add_names=True, add_givenname=True)
+    return document(style, entries, [[entry["key"]] for entry in entries])
+
+
+def without_text(n):
+    """n requests of one cite each, none of which has any text."""
+    keys = keys_of(n)
+    return document(citing([NAMES, YEAR], add_year_suffix=True), [{"key": key} for key in keys], [[key] for key in keys])
+
+
+def interleaved(n):
+    """One request of n cites, of n / 4 authors by turns."""
+    authors = max(n // 4, 1)
+    entries = [
+        {"key": key, "author": [[f"Doe{i % authors}"]], "issued": 1990 + i // authors}
+        for i, key in enumerate(keys_of(n))
+    ]
+    return document(citing([NAMES, YEAR], cite_group_delimiter=", "), entries, [[entry["key"] for entry in entries]])
+
+
+def collapsing(n):
+    """One request of n cites whose numbers are one run."""
+    made = one_request(n)
+    made["styles"]["s"]["citation"]["collapse"] = "citation-number"
+    return made
+
+
 KINDS = {
     kind.__name__: kind
-    for kind in (numeric, all_distinct, one_entry, one_request, handed_order, macros, author_date)
+    for kind in (
+        numeric, all_distinct, one_entry, one_request, handed_order, macros, author_date,
+        ambiguous_pairs, one_author, one_family, without_text, interleaved, collapsing,
+    )
 }
+
+# The greatest n of a kind whose time isn't in proportion to n.
+AT_MOST = {"one_author": 4_000, "one_family": 4_000, "without_text": 4_000}
 
 
 def run(program, path):
@@ -139,7 +203,7 @@ def make(folder, name, n):
 def measure(folder, chosen, name):
     """Prints the rows of a kind."""
     before = None
-    for n in (size for size in SIZES if size <= chosen.most):
+    for n in (size for size in SIZES if size <= min(chosen.most, AT_MOST.get(name, chosen.most))):
         subprocess.run([sys.executable, __file__, "--make", str(folder), name, str(n)], check=True)
         whole, refused = folder / "whole", folder / "refused"
         seconds, peak = best(chosen.program, whole, chosen.runs, 0)

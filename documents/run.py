@@ -1,14 +1,17 @@
 #!/usr/bin/env python3
 """run.py PROGRAM: runs a built cite_run on each document of this folder and of examples/, side by side, and compares
 standard output, exit status and the line on standard error. Then it tries what only a process can show, holds the
-documents to docs/document.schema.json, compares PROGRAM with model/ on random documents, and the model with documents
-that were worked out by hand (model/worked).
+documents to docs/document.schema.json, compares PROGRAM with model/ on random documents, and holds the model to what
+the documents must print.
+run.py PROGRAM FOLDER..: runs it on the documents of these folders, and does nothing else.
 
 A document is NAME.json. NAME.txt is what it must print; where the status isn't 0, NAME.status has it, and nothing is
 printed. What is expected was worked out by hand from the rules, never taken from the program. The folders:
 rows/ whole runs; layouts/ each kind of element; words/ locales, terms, quotes and punctuation; purposes/ what cites are
 written for; keywords/ each name of a variable, term, form and so on; parts/ each kind of object with all its keys;
-hostile/ depth; refused/ what the program and the schema refuse; beyond_schema/ what the program alone refuses.
+disambiguation/, grouping/, collapsing/ and bibliography/ how cites and items work together (each with a README.md that
+tells why a document prints what it does); hostile/ depth; refused/ what the program and the schema refuse;
+beyond_schema/ what the program alone refuses.
 The last line is 'N passed, M failed', and the exit status is 1 where a test failed."""
 import difflib
 import json
@@ -86,10 +89,10 @@ def folders_of(base):
     return sorted(it.path for it in os.scandir(base) if it.is_dir())
 
 
-def documents():
+def documents(folders=None):
     """Each document's path, without its ending."""
     found = []
-    for folder in [*folders_of(HERE), ROOT + '/examples']:
+    for folder in folders or [*folders_of(HERE), ROOT + '/examples']:
         for name in sorted(os.listdir(folder)) if os.path.isdir(folder) else []:
             if name.endswith('.json'):
                 found.append(folder + '/' + name[: -len('.json')])
@@ -115,7 +118,7 @@ def strays():
         wanted(base)
     known = {base + ending for base in documents() for ending in ('.json', '.txt', '.status')}
     folders = {os.path.dirname(base) for base in documents()}
-    lost = [it.path for folder in folders for it in os.scandir(folder) if it.path not in known]
+    lost = [it.path for folder in folders for it in os.scandir(folder) if it.path not in known and it.name != 'README.md']
     if lost:
         raise Failed('no document is beside ' + ', '.join(os.path.relpath(it, ROOT) for it in lost))
 
@@ -346,55 +349,77 @@ def model(program):
 
 
 def worked(folder):
-    """The model gives what was worked out by hand, whole."""
-    words = [sys.executable, 'rows.py', folder, 'whole']
+    """The model gives what was worked out by hand."""
+    words = [sys.executable, 'rows.py', folder]
     done = subprocess.run(words, cwd=ROOT + '/model', stdout=subprocess.PIPE, stderr=subprocess.STDOUT)
     if done.returncode:
         raise Failed(shortened(done.stdout, 4000))
 
 
+def tried(name, call, *given):
+    """What failed, and how, or nothing."""
+    try:
+        call(*given)
+        return None
+    except Failed as error:
+        return name, str(error)
+    except Exception as error:
+        return name, '%s: %s' % (type(error).__name__, error)
+
+
+def told(results):
+    """Prints what failed, and gives how many did."""
+    failed = [it for it in results if it]
+    for name, said in failed:
+        print('FAILED %s\n    %s' % (name, said.replace('\n', '\n    ')))
+    return len(failed)
+
+
+def name_of(base):
+    return os.path.relpath(base, ROOT)
+
+
+def main_of_folders(program, folders):
+    """Runs the documents of these folders, one after another, and names each that gave what it must."""
+    results = []
+    for base in documents([os.path.abspath(it) for it in folders]):
+        results.append(tried(name_of(base), document, program, base))
+        if not results[-1]:
+            print('as expected: ' + name_of(base))
+    count = told(results)
+    print('%d passed, %d failed' % (len(results) - count, count))
+    return 1 if count or not results else 0
+
+
 def main():
-    if len(sys.argv) != 2 or not os.access(sys.argv[1], os.X_OK):
+    if len(sys.argv) < 2 or not os.access(sys.argv[1], os.X_OK):
         print(__doc__, file=sys.stderr)
         return 2
     program = os.path.abspath(sys.argv[1])
+    if len(sys.argv) > 2:
+        return main_of_folders(program, sys.argv[2:])
     sys.setrecursionlimit(100000)
     began = time.time()
     validator = validator_of_schema()
     bases = documents()
-    name_of = lambda base: os.path.relpath(base, ROOT)
     tests = [('model: %d random documents' % RANDOM_DOCUMENTS, model, program)]
     tests += [('process: ' + it.__name__.replace('_', ' '), it, program) for it in reversed(PROCESSES)]
     tests += [(name_of(it), document, program, it) for it in bases]
-    tests += [('model: ' + name_of(it), worked, it) for it in folders_of(ROOT + '/model/worked')]
+    tests += [('model: ' + name_of(it), worked, it) for it in [*folders_of(HERE), ROOT + '/examples']]
     tests.append(('files of the folders', strays))
     by_schema = [('schema: ' + name_of(it), schema, validator, it) for it in bases if validator]
-    failed = []
-
-    def tried(name, call, *given):
-        try:
-            call(*given)
-            return None
-        except Failed as error:
-            return name, str(error)
-        except Exception as error:
-            return name, '%s: %s' % (type(error).__name__, error)
-
     with ThreadPoolExecutor(os.cpu_count()) as pool:
         runs = [pool.submit(tried, *it) for it in tests]
         # (this thread holds the documents to the schema meanwhile)
         results = [tried(*it) for it in by_schema]
         results += [it.result() for it in runs]
-    for it in results:
-        if it:
-            failed.append(it[0])
-            print('FAILED %s\n    %s' % (it[0], it[1].replace('\n', '\n    ')))
+    count = told(results)
     if not validator:
         print('note: the documents were not held to the schema: the library jsonschema (python3-jsonschema) is not here')
     print('%d documents, %d of a process, %d against the schema, %d random ones against the model: %.1f seconds'
           % (len(bases), len(PROCESSES), len(by_schema), RANDOM_DOCUMENTS, time.time() - began))
-    print('%d passed, %d failed' % (len(results) - len(failed), len(failed)))
-    return 1 if failed else 0
+    print('%d passed, %d failed' % (len(results) - count, count))
+    return 1 if count else 0
 
 
 if __name__ == '__main__':

@@ -1,5 +1,6 @@
-"""compare.py PROGRAM FIRST COUNT [STAGE]: compares the program with the model on random documents and makes each failing
-document small. The small documents go to `found/`, the counts to standard output."""
+"""compare.py PROGRAM FIRST COUNT [STAGE [KIND..]]: compares the program with the model on random documents, of these kinds
+alone where some are named, and makes each failing document small. The small documents go to `found/`, the counts to standard
+output."""
 import copy
 import json
 import os
@@ -8,6 +9,8 @@ import subprocess
 import sys
 import time
 from collections import Counter
+from itertools import count as count_from
+from itertools import islice
 
 import generate
 import model
@@ -155,12 +158,17 @@ class Tally:
         print('refused for', json.dumps(dict(self.reasons.most_common())))
 
 
+def seeds(first, stage, kinds):
+    """The seeds from the first on, of these kinds alone where some are named."""
+    return (seed for seed in count_from(first) if not kinds or generate.kind(seed, stage) in kinds)
+
+
 def main():
     program, first, count = sys.argv[1], int(sys.argv[2]), int(sys.argv[3])
     stage = sys.argv[4] if len(sys.argv) > 4 else STAGE
     os.makedirs('found', exist_ok=True)
     tally, began = Tally(program, stage), time.time()
-    for seed in range(first, first + count):
+    for seed in islice(seeds(first, stage, sys.argv[5:]), count):
         tally.compare(seed)
     print('%d documents from seed %d at the stage `%s`, %d differ, %.0f s'
           % (count, first, stage, tally.failed, time.time() - began))

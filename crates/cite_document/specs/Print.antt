@@ -4,10 +4,10 @@ use Rattle.std.specs.List.{flat_map}
 use Rattle.csl_base.specs.ChildView.{child_view}
 use Rattle.csl_base.specs.Tree.{plain, child_plain}
 use Rattle.csl_base.specs.declared.elem.ElemChild.{ElemChild}
-use Rattle.csl_driver.specs.declared.rendered.BibliographyItem.{BibliographyItem}
-use Rattle.csl_driver.specs.declared.rendered.Rendered.{Rendered}
-use Rattle.csl_driver.specs.declared.rendered.RenderedBibliography.{RenderedBibliography}
-use Rattle.csl_driver.specs.declared.rendered.RenderedCitation.{RenderedCitation}
+use Rattle.csl_assembly.specs.declared.rendered.BibliographyItem.{BibliographyItem}
+use Rattle.csl_assembly.specs.declared.rendered.Rendered.{Rendered}
+use Rattle.csl_assembly.specs.declared.rendered.RenderedBibliography.{RenderedBibliography}
+use Rattle.csl_assembly.specs.declared.rendered.RenderedCitation.{RenderedCitation}
 
 -- the byte of a line feed
 abbrev pub line_feed : ℕ

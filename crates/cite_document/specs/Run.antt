@@ -10,7 +10,7 @@ use Rattle.csl_entries.specs.Entries.{distinct}
 use Rattle.csl_passes.specs.Request.{Request, Wanted, cited, with_places}
 use Rattle.csl_driver.specs.Rings.{NoRingAtAll, IsFirstRingOf, Overflows}
 use Rattle.csl_driver.specs.declared.error.RingPlace.{RingPlace}
-use Rattle.csl_driver.specs.declared.rendered.Rendered.{Rendered}
+use Rattle.csl_assembly.specs.declared.rendered.Rendered.{Rendered}
 use Rattle.document_reading.specs.Form.{Document}
 use Rattle.cite_document.specs.Print.{print}
 use Rattle.cite_document.specs.declared.error.RunError.{RunError}
@@ -19,6 +19,10 @@ use Rattle.cite_document.specs.declared.error.RunError.TheVariants as errors
 -- whether two entries are equal, by their derived test
 abbrev pub same_entry : PlainEntry → PlainEntry → Bool
 same_entry = (plain_entry_eq.ghosts).eq
+
+-- a document's locators are texts, so it has no two payloads of a caller's own to compare
+abbrev pub same_payload : Infallible → Infallible → Bool
+same_payload a b = elim a [ ]
 
 -- requests as the driver keeps them
 abbrev pub accepted : List (Request PlainEntry Infallible) → List (Request PlainEntry Infallible)
@@ -30,7 +34,7 @@ wanted_of d = record { style = d.style; locale = d.locale; locales = d.locales; 
 
 -- the whole answer to a document
 abbrev pub answer : Document → Rendered
-answer d = rendered same_entry plain_answers (wanted_of d) (accepted d.requests) d.offset
+answer d = rendered same_entry same_payload plain_answers (wanted_of d) (accepted d.requests) d.offset
 
 -- the first ring of a document's styles: the style's place, and that of its first macro on a ring
 abbrev pub HasFirstRing : RingPlace → ℕ → Document → Type 0

@@ -2,7 +2,7 @@
 use crate::taxonomy::{Term, TermForm};
 
 /// A language tag as `de-AT`; its base language is the text before the first `-`.
-#[derive(PartialEq, Eq, Drop)]
+#[derive(Clone, PartialEq, Eq, Drop)]
 pub struct LocaleCode(pub String);
 
 /// A term's words in one form.

@@ -1,4 +1,5 @@
-pub mod Joined
 pub mod RingLemmas
-pub mod Lists
-pub mod Answered
+pub mod FirstPlaced
+pub mod Standing
+pub mod Counted
+pub mod Halves

@@ -1,63 +1,69 @@
 -- The whole answer, from the whole list of requests.
-use Rattle.std.specs.Prelude.{ℕ, Bool, List, [], map, None, option_map, unwrap_or}
+use Rattle.std.specs.Prelude.{ℕ, Bool, List, map, Option, None, Some, if◌then◌else◌, option_map}
+use Rattle.std.specs.List.{filter_map}
+use Rattle.csl_assembly.specs.BibliographyItems.{bibliography_of}
+use Rattle.csl_assembly.specs.CitationTree.{citation_tree, has_no_purpose}
+use Rattle.csl_assembly.specs.declared.rendered.Rendered.{Rendered}
+use Rattle.csl_assembly.specs.declared.rendered.RenderedCitation.{RenderedCitation}
 use Rattle.csl_base.specs.Answers.{Answers}
-use Rattle.csl_base.specs.Child.{Child}
-use Rattle.csl_base.specs.Style.{BibliographyValue}
-use Rattle.csl_base.specs.Simplify.{simplified}
-use Rattle.csl_writing.specs.CiteText.{bibliography_text}
-use Rattle.csl_lookup.specs.Lookup.{Source}
-use Rattle.csl_lookup.specs.Properties.{Properties}
-use Rattle.csl_driver.specs.Assembly.{citation_tree}
-use Rattle.csl_driver.specs.CiteTree.{properties_of, cite_tree_at}
-use Rattle.csl_entries.specs.Entries.{used_order, bibliography_order, number}
-use Rattle.csl_entries.specs.Table.{first_place}
-use Rattle.csl_passes.specs.Request.{Cite, Request, Wanted, cited, source_of, wanted_source}
-use Rattle.csl_driver.specs.declared.rendered.BibliographyItem.{BibliographyItem}
-use Rattle.csl_driver.specs.declared.rendered.Rendered.{Rendered}
-use Rattle.csl_driver.specs.declared.rendered.RenderedBibliography.{RenderedBibliography}
-use Rattle.csl_driver.specs.declared.rendered.RenderedCitation.{RenderedCitation}
+use Rattle.csl_collapse.specs.Collapsed.{collapsed}
+use Rattle.csl_entries.specs.Entries.{used_order, bibliography_order, distinct, number}
+use Rattle.csl_grouping.specs.Blocks.{grouped}
+use Rattle.csl_passes.specs.Renders.{CiteRender, ItemRender}
+use Rattle.csl_passes.specs.Request.{Request, Wanted, cited, wanted_source}
+use Rattle.csl_positions.specs.FinalProperties.{cited_finally, first_item, with_final_properties}
+use Rattle.csl_positions.specs.FirstProperties.{first_properties}
+use Rattle.csl_rounds.specs.FirstRenders.{first_renders}
+use Rattle.csl_rounds.specs.Rounds.{disambiguated}
 
--- an entry's properties are those of its first cite, without the locator
-abbrev pub entry_properties : {E P : Type 0} → (E → E → Bool) → List (Request E P) → (E → ℕ) → E → Properties P
-entry_properties eq requests number_of e = properties_of None (number_of e) (first_place eq requests e)
+-- the order that the bibliography goes by, if it goes by one
+abbrev pub order_in_use : {E : Type 0} → Wanted E → Option (List E)
+order_in_use wanted = used_order wanted.style wanted.order
 
--- the item of an entry
-abbrev pub bibliography_item : {E P : Type 0} → (E → Answers) → Source → Properties P → E → BibliographyItem
-bibliography_item answers source properties e = record {
-  key = (answers e).key;
-  first_field = None;
-  content = simplified (unwrap_or (bibliography_text source (answers e) properties) []);
-}
+module _ {E P : Type 0} (eq : E → E → Bool) where
+  -- the bibliography's entries
+  abbrev pub entries_listed : Wanted E → List (Request E P) → List E
+  entries_listed wanted requests = bibliography_order eq (order_in_use wanted) (cited requests)
 
-module _ {E P : Type 0} (answers : E → Answers) where
-  -- the tree of a cite with its number
-  abbrev pub numbered_tree : Source → (E → ℕ) → Cite E P → List Child
-  numbered_tree source number_of c = cite_tree_at answers source (number_of c.entry) c
+  -- the entries by which the final numbers go: the bibliography's where an order is used, else those of the cites in their
+  -- final order
+  abbrev pub numbered_finally : Option (List E) → List (Request E P) → List (CiteRender E P) → List E
+  numbered_finally None requests cites = distinct eq (cited_finally cites)
+  numbered_finally (Some order) requests cites = bibliography_order eq (Some order) (cited requests)
 
-  -- the answer to one request
-  abbrev pub rendered_citation : (E → ℕ) → Request E P → RenderedCitation
-  rendered_citation number_of request = record {
-    note_number = request.note_number;
-    citation = citation_tree (numbered_tree (source_of request) number_of) request;
-  }
+-- the cites of a request drawn together, where none has a purpose
+abbrev pub drawn_together : {E P : Type 0} → CiteRender E P → CiteRender E P
+drawn_together c = if has_no_purpose c.items then collapsed c else c
 
-module _ {E P : Type 0} (eq : E → E → Bool) (answers : E → Answers) where
-  -- the bibliography: one item for each entry, in their order
-  abbrev pub rendered_bibliography : Source → List (Request E P) → (E → ℕ) → List E → BibliographyValue → RenderedBibliography
-  rendered_bibliography source requests number_of entries bibliography = record {
-    hanging_indent = bibliography.hanging_indent;
-    second_field_align = bibliography.second_field_align;
-    line_spacing = bibliography.line_spacing;
-    entry_spacing = bibliography.entry_spacing;
-    items = map (λ e. bibliography_item answers source (entry_properties eq requests number_of e) e) entries;
-  }
+-- the answer to one request, from its cites as they stand in the end
+abbrev pub citation_of : {E P : Type 0} → (E → Answers) → CiteRender E P → RenderedCitation
+citation_of answers c = record { note_number = c.request.note_number; citation = citation_tree answers c }
 
-  -- the whole answer: one citation for each request, and the bibliography where the style that was asked for has one
-  abbrev pub rendered : Wanted E → List (Request E P) → ℕ → Rendered
-  rendered wanted requests offset =
-      let entries = bibliography_order eq (used_order wanted.style wanted.order) (cited requests) in
-      let number_of = number eq offset entries in
-      record {
-        bibliography = option_map (rendered_bibliography (wanted_source wanted) requests number_of entries) wanted.style.bibliography;
-        citations = map (rendered_citation answers number_of) requests;
-      }
+module _ {E P : Type 0} (eq : E → E → Bool) (payload_eq : P → P → Bool) (answers : E → Answers) where
+  -- the cites of all requests, rendered by their first properties and then told apart
+  abbrev pub told_apart : (E → ℕ) → List (Request E P) → List (CiteRender E P)
+  told_apart number_of requests = disambiguated eq answers (first_renders answers requests (first_properties eq payload_eq number_of requests))
+
+  module _ (wanted : Wanted E) (requests : List (Request E P)) (offset : ℕ) where
+    -- the cites in their final order: told apart, and those of each request in their blocks
+    abbrev pub in_final_order : List (CiteRender E P)
+    in_final_order = map grouped (told_apart (number eq offset (entries_listed eq wanted requests)) requests)
+
+    -- the number of an entry in the end
+    abbrev pub final_number : E → ℕ
+    final_number = number eq offset (numbered_finally eq (order_in_use wanted) requests in_final_order)
+
+    -- the cites with their final positions and numbers
+    abbrev pub in_the_end : List (CiteRender E P)
+    in_the_end = with_final_properties eq payload_eq final_number in_final_order
+
+    -- the first cites, in the final order, of the bibliography's entries
+    abbrev pub first_cites : List (ItemRender E P)
+    first_cites = filter_map (first_item eq in_the_end) (entries_listed eq wanted requests)
+
+    -- the whole answer: one citation for each request, and the bibliography where the style that was asked for has one
+    abbrev pub rendered : Rendered
+    rendered = record {
+      bibliography = option_map (λ b. bibliography_of answers (wanted_source wanted) b first_cites) wanted.style.bibliography;
+      citations = map (λ c. citation_of answers (drawn_together c)) in_the_end;
+    }

@@ -1,12 +1,12 @@
 -- The tree of one cite.
-use Rattle.std.specs.Prelude.{ℕ, Bool, true, false, List, Option, Some, None, if◌then◌else◌}
+use Rattle.std.specs.Prelude.{ℕ, List, Option, None, if◌then◌else◌}
+use Rattle.csl_assembly.specs.LastTree.{is_for_year}
 use Rattle.csl_base.specs.Answers.{Answers}
 use Rattle.csl_base.specs.Child.{Child}
 use Rattle.csl_writing.specs.CiteText.{cite_text, date_text}
 use Rattle.csl_lookup.specs.Lookup.{Source}
 use Rattle.csl_lookup.specs.NoProperties.{nothing_certain, speculated}
 use Rattle.csl_lookup.specs.Properties.{LocatorValue, Properties}
-use Rattle.csl_lookup.specs.declared.purpose.CitePurpose.{CitePurpose}
 use Rattle.csl_lookup.specs.declared.state.IbidState.{IbidState}
 use Rattle.csl_passes.specs.Request.{Cite}
 
@@ -17,16 +17,8 @@ properties_of locator number place = record {
   speculative = speculated locator number IbidState.Different;
 }
 
-abbrev pub is_for_year : Option CitePurpose → Bool
-is_for_year (Some CitePurpose.Year) = true
-is_for_year _ = false
-
 -- a cite with these properties: the date text where it is written for the year alone, else the cite text for its purpose
 abbrev pub cite_tree : {E P : Type 0} → (E → Answers) → Source → Properties P → Cite E P → List Child
 cite_tree answers source properties c =
     if is_for_year c.purpose then date_text source (answers c.entry)
     else cite_text source (answers c.entry) properties c.purpose None
-
--- the tree of a cite with the number n
-abbrev pub cite_tree_at : {E P : Type 0} → (E → Answers) → Source → ℕ → Cite E P → List Child
-cite_tree_at answers source n c = cite_tree answers source (properties_of c.locator n c.place) c

@@ -1,12 +1,21 @@
 -- A citation that stands for itself.
-use Rattle.std.specs.Prelude.{true, List, map, filter, Some, unwrap_or, codes}
+use Rattle.std.specs.Prelude.{ℕ, true, not, List, map, filter, Some, unwrap_or, codes}
+use Rattle.csl_base.specs.Style.{LayoutValue}
 use Rattle.csl_base.specs.Answers.{Answers}
 use Rattle.csl_base.specs.Child.{Child}
 use Rattle.csl_base.specs.Tree.{has_content}
 use Rattle.csl_lookup.specs.Lookup.{Source}
-use Rattle.csl_driver.specs.Assembly.{shown, assembled}
+use Rattle.csl_assembly.specs.Assembly.{Shown, assembled}
 use Rattle.csl_driver.specs.CiteTree.{properties_of, cite_tree}
 use Rattle.csl_passes.specs.Request.{Cite, Request, source_of}
+
+-- what stands between cites: the layout's delimiter, or else a comma and a space
+abbrev pub lone_delimiter : LayoutValue → List ℕ
+lone_delimiter layout = unwrap_or layout.delimiter (codes ", ")
+
+-- a tree behind this delimiter
+abbrev pub behind : List ℕ → List Child → Shown
+behind delimiter tree = record { delimiter = Some delimiter; tree = tree }
 
 module _ {E P : Type 0} (answers : E → Answers) where
   -- the tree of a cite that has no number and no place of its own
@@ -15,10 +24,10 @@ module _ {E P : Type 0} (answers : E → Answers) where
 
   -- the trees of the cites that aren't hidden and have content
   abbrev pub lone_trees : Source → List (Cite E P) → List (List Child)
-  lone_trees source cites = filter has_content (map (lone_tree source) (shown cites))
+  lone_trees source cites = filter has_content (map (lone_tree source) (filter (λ c. not c.hidden) cites))
 
   -- these trees between the layout's prefix and suffix, joined by its delimiter, or else by `, `
   abbrev pub standalone : Request E P → List Child
   standalone request =
       let layout = request.style.citation.layout in
-      assembled true layout (Some (unwrap_or layout.delimiter (codes ", "))) (lone_trees (source_of request) request.cites)
+      assembled true layout (map (behind (lone_delimiter layout)) (lone_trees (source_of request) request.cites))

@@ -1,12 +1,15 @@
 //! The cited entries, their order and their numbers.
-ghost use Rattle.std.specs.Prelude.{◌≡◌};
-ghost use Rattle.csl_driver.specs.Cited.{NumbersFit, number_at};
+ghost use Rattle.std.specs.Prelude.{◌≡◌, ◌+◌, ◌<◌, ◌^◌, IfOk, length, ℕ};
+ghost use Rattle.csl_entries.specs.ListingView.{listing_view};
+ghost use Rattle.csl_entries.specs.TableView.{table_view};
+ghost use Rattle.csl_driver.specs.Cited.{number_at, numbers_at};
 
 use csl_base::entry::EntryLike;
 use csl_entries::listing::Listing;
 use csl_entries::table::EntryTable;
+use std::alloc::{AllocError, Global};
 
-/// The entries that are cited, and the order and the numbers that they have.
+/// The entries that are cited, in the order of their first cites and in that of the bibliography.
 #[derive(Drop)]
 pub(crate) struct Cited<'a, T: EntryLike> {
     pub(crate) table: EntryTable<'a, T>,
@@ -16,11 +19,19 @@ pub(crate) struct Cited<'a, T: EntryLike> {
 }
 
 impl<'a, T: EntryLike> Cited<'a, T> {
-    /// The number of the entry at a place of the table.
-    pub(crate) fn number_of(&self, place: usize) -> usize
-        requires fits { NumbersFit self.now }
-        ensures { result ≡ number_at self.now place }
+    /// The numbers that a listing gives the entries, by their places in the table, and behind them that
+    /// which the next entry would have.
+    pub(crate) fn numbers(&self, alloc: Global, listing: &Listing) -> Result<Vec<usize>, AllocError>
+        requires fits { (p : ℕ) → number_at (listing_view listing.now) self.now.offset p < 2 ^ 64 }
+        ensures { IfOk result (λ v. v.items
+            ≡ numbers_at (listing_view listing.now) self.now.offset (length (table_view self.now.table).entries)) }
     {
-        self.offset + self.listing.number_of(place)
+        let count = self.table.len();
+        let mut numbers = Vec::with_capacity(alloc, count)?;
+        for place in 0..count {
+            numbers.push(self.offset + listing.number_of(place))?;
+        }
+        numbers.push(self.offset + listing.number_of(count))?;
+        Ok(numbers)
     }
 }

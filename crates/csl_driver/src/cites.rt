@@ -3,39 +3,20 @@ ghost use Rattle.std.specs.Prelude.{◌≡◌, IfOk, option_map};
 ghost use Rattle.csl_base.specs.Ring.{HasNoRing};
 ghost use Rattle.csl_lookup.specs.PropertiesView.{locator_view, properties_view};
 ghost use Rattle.csl_writing.specs.ContextSource.{context_source};
-ghost use Rattle.csl_driver.specs.CiteTree.{cite_tree, is_for_year, properties_of};
-ghost use Rattle.csl_passes.specs.Request.{source_of, wanted_source};
-ghost use Rattle.csl_passes.specs.RequestView.{cite_view, request_view, wanted_view};
+ghost use Rattle.csl_assembly.specs.LastTree.{is_for_year};
+ghost use Rattle.csl_driver.specs.CiteTree.{cite_tree, properties_of};
+ghost use Rattle.csl_passes.specs.RequestView.{cite_view};
 
 use csl_base::elem::ElemChildren;
 use csl_base::entry::EntryLike;
 use csl_base::locale::LocaleCode;
 use csl_passes::item::CitationItem;
-use csl_passes::request::{BibliographyRequest, CitationRequest};
 use csl_writing::counter::Renders;
 use csl_writing::locator::SpecificLocator;
 use csl_writing::lookup::StyleContext;
 use csl_writing::properties::CiteProperties;
 use csl_writing::purpose::CitePurpose;
 use std::alloc::{AllocError, Global};
-
-/// The style of a request, with its locales.
-pub(crate) fn request_context<'r, T, P>(request: &'r CitationRequest<'_, T, P>) -> StyleContext<'r>
-    ensures { context_source result ≡ source_of (request_view request.now) }
-{
-    StyleContext::new(
-        request.style(),
-        request.locale.as_ref(),
-        request.locale_files,
-    )
-}
-
-/// The style of a request for a bibliography, with its locales.
-pub(crate) fn wanted_context<'w, T>(wanted: &'w BibliographyRequest<'_, '_, T>) -> StyleContext<'w>
-    ensures { context_source result ≡ wanted_source (wanted_view wanted.now) }
-{
-    StyleContext::new(wanted.style, wanted.locale.as_ref(), wanted.locale_files)
-}
 
 /// The properties of a cite that stands for itself.
 pub(crate) fn cite_properties<'a, P: Drop>(

@@ -1,35 +1,48 @@
 //! The whole answer, from all requests at once.
-ghost use Rattle.std.specs.Prelude.{◌≡◌, ◌+◌, ◌<◌, ◌^◌, length, OnOk, IfOk, IfErr};
+ghost use Rattle.std.specs.Prelude.{◌≡◌, ◌+◌, ◌<◌, ◌≤◌, ◌^◌, All, length, map, OnOk, IfOk, IfErr};
+ghost use Rattle.csl_base.specs.Ring.{HasNoRing};
 ghost use Rattle.csl_base.specs.StyleView.{style_view};
-ghost use Rattle.csl_driver.specs.Answer.{rendered};
+ghost use Rattle.csl_driver.specs.Answer.{citation_of, drawn_together, in_the_end, numbered_finally, order_in_use, rendered, told_apart};
+ghost use Rattle.csl_driver.specs.AreCitesOf.{AreCitesOf};
+ghost use Rattle.csl_driver.specs.Cited.{IsCitedBy};
 ghost use Rattle.csl_driver.specs.DriverView.{driver_view};
-ghost use Rattle.csl_entries.specs.Entries.{bibliography_order, distinct, used_order};
-ghost use Rattle.csl_entries.specs.Listed.{IsListingOf};
-ghost use Rattle.csl_entries.specs.ListingView.{listing_view};
+ghost use Rattle.csl_driver.specs.Rings.{NoRingAtAll, NoRingIn, Refuses};
+ghost use Rattle.csl_entries.specs.Entries.{distinct, number, place};
+ghost use Rattle.csl_entries.specs.PlacedItems.{ArePlaced};
 ghost use Rattle.csl_entries.specs.Table.{table_of};
 ghost use Rattle.csl_entries.specs.TableView.{table_view};
+ghost use Rattle.csl_grouping.specs.Blocks.{grouped};
+ghost use Rattle.csl_passes.specs.RendersView.{render_view, renders_view};
 ghost use Rattle.csl_passes.specs.Request.{cited};
+ghost use Rattle.csl_positions.specs.FinalProperties.{with_final_properties};
+ghost use Rattle.csl_positions.specs.FirstProperties.{numbered_by};
+ghost use Rattle.csl_rounds.specs.Rounds.{disambiguated};
 ghost use Rattle.csl_passes.specs.RequestView.{order_view, requests_view, wanted_view};
-ghost use Rattle.csl_driver.specs.Rings.{NoRingAtAll, Refuses};
 
 use crate::bibliography::wanted_bibliography;
-use crate::citation::rendered_citations;
 use crate::cited::Cited;
 use crate::driver::{BibliographyDriver, discard};
 use crate::error::DriverError;
-use crate::rendered::Rendered;
 use crate::rings::refuse_rings;
+use csl_assembly::citation::{citation_tree, has_no_purpose};
+use csl_assembly::rendered::{Rendered, RenderedCitation};
 use csl_base::entry::EntryLike;
 use csl_base::seq::Seq;
+use csl_collapse::collapse::collapse_items;
 use csl_entries::listing::Listing;
 use csl_entries::table::EntryTable;
+use csl_grouping::grouping::group_cites;
+use csl_passes::renders::SpeculativeCiteRender;
 use csl_passes::request::{BibliographyRequest, CitationRequest, Order};
+use csl_positions::final_order::{final_listing, set_final_properties};
+use csl_positions::first::first_properties;
+use csl_rounds::first_renders::{discard_renders, first_renders};
+use csl_rounds::rounds::disambiguate;
 use csl_writing::counter::Renders;
-use std::alloc::Global;
-
+use std::alloc::{AllocError, Global};
 /// The order that the bibliography goes by, if its style has one and an order was handed in.
 fn used_order<'o, 'a, T>(wanted: &BibliographyRequest<'o, 'a, T>) -> Option<Order<'o, 'a, T>>
-    ensures { order_view result ≡ used_order (wanted_view wanted.now).style (wanted_view wanted.now).order }
+    ensures { order_view result ≡ order_in_use (wanted_view wanted.now) }
 {
     match (&wanted.style.bibliography, &wanted.order) {
         (Some(_), Some(order)) => Some(Order(order.0)),
@@ -45,9 +58,7 @@ fn cited_by<'a, T: EntryLike, P>(
     offset: usize,
 ) -> Result<Cited<'a, T>, DriverError>
     requires no_ring { NoRingAtAll (requests_view requests.now) (style_view wanted.now.style.now) }
-    ensures table { IfOk result (λ c. table_view c.table ≡ table_of T.eq (requests_view requests.now)) }
-    ensures listed { IfOk result (λ c. IsListingOf T.eq (distinct T.eq (cited (requests_view requests.now)))
-        (bibliography_order T.eq (used_order (wanted_view wanted.now).style (wanted_view wanted.now).order) (cited (requests_view requests.now))) (listing_view c.listing)) }
+    ensures known { IfOk result (λ c. IsCitedBy T.eq (requests_view requests.now) (order_in_use (wanted_view wanted.now)) c) }
     ensures offset { IfOk result (λ c. c.offset ≡ offset) }
     ensures fits { OnOk result (offset + length (distinct T.eq (cited (requests_view requests.now))) < 2 ^ 64) }
     ensures refused { IfErr result (Refuses T.eq (requests_view requests.now) (style_view wanted.now.style.now) offset) }
@@ -64,14 +75,192 @@ fn cited_by<'a, T: EntryLike, P>(
     })
 }
 
+/// The cites of all requests. They are let go one by one: a list of lists that hold references to a type
+/// parameter can't be let go as a whole.
+struct Cites<'r, 'a, T, P> {
+    renders: Vec<SpeculativeCiteRender<'r, 'a, T, P>>,
+}
+
+impl<'r, 'a, T, P: Drop> Drop for Cites<'r, 'a, T, P> {
+    fn drop(self) {
+        let Cites { renders } = self;
+        discard_renders(renders);
+    }
+}
+
+/// The cites of all requests, rendered by their first properties and then told apart.
+fn told_apart<'r, 'a, T: EntryLike, P: Eq + Drop>(
+    alloc: Global,
+    requests: &'r [CitationRequest<'a, T, P>],
+    table: &EntryTable<'a, T>,
+    numbers: &[usize],
+    renders: &mut Renders,
+) -> Result<Cites<'r, 'a, T, P>, AllocError>
+    requires no_ring { NoRingIn (requests_view requests.now) }
+    requires table { table_view table.now ≡ table_of T.eq (requests_view requests.now) }
+    requires numbered { length (table_view table.now).entries ≤ length numbers.now }
+    ensures { IfOk result (λ c. renders_view c.renders.items
+        ≡ told_apart T.eq P.eq T.answers (numbered_by T.eq numbers.now (table_view table.now).entries) (requests_view requests.now)) }
+{
+    let firsts = first_properties(alloc, requests, table, numbers)?;
+    let cites = Cites {
+        renders: first_renders(alloc, requests, &firsts, renders)?,
+    };
+    after_rounds(alloc, cites, table, renders)
+}
+
+/// The cites after the rounds.
+fn after_rounds<'r, 'a, T: EntryLike, P: Drop>(
+    alloc: Global,
+    mut cites: Cites<'r, 'a, T, P>,
+    table: &EntryTable<'a, T>,
+    renders: &mut Renders,
+) -> Result<Cites<'r, 'a, T, P>, AllocError>
+    requires no_ring { All (λ c. HasNoRing c.request.style.macros) (renders_view cites.entry.renders.items) }
+    requires placed { (table_view table.now).places ≡ map (λ c. map (λ i. place T.eq i.entry (table_view table.now).entries) c.items) (renders_view cites.entry.renders.items) }
+    requires listed { All (λ ps. All (λ p. p < length (table_view table.now).entries) ps) (table_view table.now).places }
+    ensures { IfOk result (λ c. renders_view c.renders.items ≡ disambiguated T.eq T.answers (renders_view cites.entry.renders.items)) }
+{
+    disambiguate(alloc, &mut cites.renders, table, renders)?;
+    Ok(cites)
+}
+
+/// The cites, those of each request in their blocks.
+fn in_blocks<'r, 'a, T, P: Drop>(
+    alloc: Global,
+    mut cites: Cites<'r, 'a, T, P>,
+) -> Result<Cites<'r, 'a, T, P>, AllocError>
+    ensures { IfOk result (λ c. renders_view c.renders.items ≡ map grouped (renders_view cites.entry.renders.items)) }
+{
+    group_all(alloc, &mut cites.renders)?;
+    Ok(cites)
+}
+
+/// The cites in their final order, with their final positions and numbers.
+fn with_final_properties<'r, 'a, T: EntryLike, P: Eq + Drop>(
+    mut cites: Cites<'r, 'a, T, P>,
+    table: &EntryTable<'a, T>,
+    numbers: &[usize],
+) -> Cites<'r, 'a, T, P>
+    requires placed { ArePlaced T.eq (table_view table.now) (renders_view cites.entry.renders.items) }
+    ensures { renders_view result.renders.items
+        ≡ with_final_properties T.eq P.eq (numbered_by T.eq numbers.now (table_view table.now).entries) (renders_view cites.entry.renders.items) }
+{
+    set_final_properties(&mut cites.renders, table, numbers);
+    cites
+}
+
+/// The cites, those of each request drawn together where none of them has a purpose.
+fn drawn_together<'r, 'a, T, P: Drop>(mut cites: Cites<'r, 'a, T, P>) -> Cites<'r, 'a, T, P>
+    ensures { renders_view result.renders.items ≡ map drawn_together (renders_view cites.entry.renders.items) }
+{
+    draw_together(&mut cites.renders);
+    cites
+}
+
+/// Brings the cites of each request into their blocks.
+fn group_all<T, P>(
+    alloc: Global,
+    cites: &mut [SpeculativeCiteRender<'_, '_, T, P>],
+) -> Result<(), AllocError>
+    ensures { OnOk result (renders_view cites.new ≡ map grouped (renders_view cites.old)) }
+{
+    for r in 0..cites.len() {
+        group_cites(alloc, &mut cites[r])?;
+    }
+    Ok(())
+}
+
+/// The numbers of the entries in the end, by their places in the table: those of the bibliography where an
+/// order is used, else those of the cites in their final order. Behind them stands the number that the next
+/// entry would have.
+fn final_numbers<'a, T: EntryLike, P>(
+    alloc: Global,
+    requests: &[CitationRequest<'a, T, P>],
+    wanted: &BibliographyRequest<'_, 'a, T>,
+    cited: &Cited<'a, T>,
+    cites: &[SpeculativeCiteRender<'_, 'a, T, P>],
+) -> Result<Vec<usize>, AllocError>
+    requires known { IsCitedBy T.eq (requests_view requests.now) (order_in_use (wanted_view wanted.now)) cited.now }
+    requires cites { AreCitesOf T.eq (table_view cited.now.table) (requests_view requests.now) (renders_view cites.now) }
+    ensures { IfOk result (λ v. numbered_by T.eq v.items (table_view cited.now.table).entries
+        ≡ number T.eq cited.now.offset (numbered_finally T.eq (order_in_use (wanted_view wanted.now)) (requests_view requests.now) (renders_view cites.now))) }
+{
+    match used_order(wanted) {
+        Some(_) => cited.numbers(alloc, &cited.listing),
+        None => {
+            let listing = final_listing(alloc, cites, &cited.table)?;
+            cited.numbers(alloc, &listing)
+        }
+    }
+}
+
+/// The cites of all requests in their final order, with their final positions and numbers.
+fn cites_in_the_end<'r, 'a, T: EntryLike, P: Eq + Drop>(
+    alloc: Global,
+    requests: &'r [CitationRequest<'a, T, P>],
+    wanted: &BibliographyRequest<'_, 'a, T>,
+    cited: &Cited<'a, T>,
+    renders: &mut Renders,
+) -> Result<Cites<'r, 'a, T, P>, AllocError>
+    requires no_ring { NoRingIn (requests_view requests.now) }
+    requires known { IsCitedBy T.eq (requests_view requests.now) (order_in_use (wanted_view wanted.now)) cited.now }
+    ensures cites { IfOk result (λ c. renders_view c.renders.items
+        ≡ in_the_end T.eq P.eq T.answers (wanted_view wanted.now) (requests_view requests.now) cited.now.offset) }
+    ensures placed { IfOk result (λ c. AreCitesOf T.eq (table_view cited.now.table) (requests_view requests.now) (renders_view c.renders.items)) }
+{
+    let numbers = cited.numbers(alloc, &cited.listing)?;
+    let cites = told_apart(alloc, requests, &cited.table, &numbers, renders)?;
+    let cites = in_blocks(alloc, cites)?;
+    let numbers = final_numbers(alloc, requests, wanted, cited, &cites.renders)?;
+    Ok(with_final_properties(cites, &cited.table, &numbers))
+}
+
+/// Draws the cites of a request together, where none of them has a purpose.
+fn draw_one_together<T, P>(cite: &mut SpeculativeCiteRender<'_, '_, T, P>)
+    ensures { render_view cite.new ≡ drawn_together (render_view cite.old) }
+{
+    if has_no_purpose(&cite.items) {
+        collapse_items(cite);
+    }
+}
+
+/// The same for the cites of each request.
+fn draw_together<T, P>(cites: &mut [SpeculativeCiteRender<'_, '_, T, P>])
+    ensures { renders_view cites.new ≡ map drawn_together (renders_view cites.old) }
+{
+    for r in 0..cites.len() {
+        draw_one_together(&mut cites[r]);
+    }
+}
+
+/// The citation of each request, from its cites as they stand in the end.
+fn rendered_citations<T: EntryLike, P: Drop>(
+    alloc: Global,
+    cites: &[SpeculativeCiteRender<'_, '_, T, P>],
+    renders: &mut Renders,
+) -> Result<Vec<RenderedCitation>, AllocError>
+    requires no_ring { All (λ c. HasNoRing c.request.style.macros) (renders_view cites.now) }
+    ensures { IfOk result (λ v. v.items ≡ map (citation_of T.answers) (renders_view cites.now)) }
+{
+    let mut citations = Vec::with_capacity(alloc, cites.len())?;
+    for cite in cites {
+        citations.push(RenderedCitation {
+            note_number: cite.request.note_number(),
+            citation: citation_tree(alloc, cite, renders)?,
+        })?;
+    }
+    Ok(citations)
+}
+
 /// The answer to the requests.
-fn answer<'a, T: EntryLike, P: Drop>(
+fn answer<'a, T: EntryLike, P: Eq + Drop>(
     alloc: Global,
     requests: &[CitationRequest<'a, T, P>],
     wanted: &BibliographyRequest<'_, 'a, T>,
     offset: usize,
 ) -> Result<Rendered, DriverError>
-    ensures ok { IfOk result (λ r. r ≡ rendered T.eq T.answers (wanted_view wanted.now) (requests_view requests.now) offset) }
+    ensures ok { IfOk result (λ r. r ≡ rendered T.eq P.eq T.answers (wanted_view wanted.now) (requests_view requests.now) offset) }
     ensures ringless { OnOk result (NoRingAtAll (requests_view requests.now) (style_view wanted.now.style.now)) }
     ensures fits { OnOk result (offset + length (distinct T.eq (cited (requests_view requests.now))) < 2 ^ 64) }
     ensures refused { IfErr result (Refuses T.eq (requests_view requests.now) (style_view wanted.now.style.now) offset) }
@@ -79,14 +268,18 @@ fn answer<'a, T: EntryLike, P: Drop>(
     refuse_rings(alloc, requests, wanted.style)?;
     let cited = cited_by(alloc, requests, wanted, offset)?;
     let mut renders = Renders::new();
-    let citations = rendered_citations(alloc, requests, &cited, &mut renders)?;
+    let cites = cites_in_the_end(alloc, requests, wanted, &cited, &mut renders)?;
+    let bibliography =
+        wanted_bibliography(alloc, requests, wanted, &cited, &cites.renders, &mut renders)?;
+    let cites = drawn_together(cites);
+    let citations = rendered_citations(alloc, &cites.renders, &mut renders)?;
     Ok(Rendered {
         citations: Seq::new(citations),
-        bibliography: wanted_bibliography::<T, P>(alloc, wanted, &cited, &mut renders)?,
+        bibliography,
     })
 }
 
-impl<'a, T: EntryLike, P: Drop> BibliographyDriver<'a, T, P> {
+impl<'a, T: EntryLike, P: Eq + Drop> BibliographyDriver<'a, T, P> {
     /// Answers all requests: a citation for each, and the bibliography, where its style has one.
     ///
     /// Each shown cite is rendered once, for its purpose, by its locator and its number; a cite of the
@@ -100,7 +293,7 @@ impl<'a, T: EntryLike, P: Drop> BibliographyDriver<'a, T, P> {
     /// `usize::MAX`; `OutOfMemory` where memory runs out, at any point.
     pub fn finish(self, request: BibliographyRequest<'_, 'a, T>) -> Result<Rendered, DriverError>
         ensures ok { IfOk result
-            (λ r. r ≡ rendered T.eq T.answers (wanted_view request.entry) (driver_view self.entry).requests (driver_view self.entry).offset) }
+            (λ r. r ≡ rendered T.eq P.eq T.answers (wanted_view request.entry) (driver_view self.entry).requests (driver_view self.entry).offset) }
         ensures ringless { OnOk result (NoRingAtAll (driver_view self.entry).requests (style_view request.entry.style.now)) }
         ensures fits { OnOk result ((driver_view self.entry).offset + length (distinct T.eq (cited (driver_view self.entry).requests)) < 2 ^ 64) }
         ensures refused { IfErr result (Refuses T.eq (driver_view self.entry).requests (style_view request.entry.style.now) (driver_view self.entry).offset) }

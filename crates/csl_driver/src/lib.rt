@@ -7,6 +7,7 @@
 pub use csl_base::{
     elem, element, entry, formatting, initials, locale, names, seq, stack, style, taxonomy, text,
 };
+pub use csl_assembly::rendered;
 pub use csl_entries::laws;
 pub use csl_passes::{item, request};
 pub use csl_writing::{
@@ -14,15 +15,12 @@ pub use csl_writing::{
     year,
 };
 
-mod assemble;
 mod bibliography;
-mod citation;
 mod cited;
 mod cites;
 pub mod driver;
 pub mod error;
 mod finish;
 pub mod passes;
-pub mod rendered;
 mod rings;
 pub mod standalone;

@@ -1,17 +1,18 @@
 //! A citation that stands for itself.
-ghost use Rattle.std.specs.Prelude.{◌≡◌, ◌++◌, ◌∷◌, [], ℕ, Some, IfOk, OnOk, IfErr, option_map, unwrap_or, codes};
-ghost use Rattle.csl_base.specs.ElementView.{text_view};
+ghost use Rattle.std.specs.Prelude.{◌≡◌, IfOk, OnOk, IfErr, map};
 ghost use Rattle.csl_base.specs.Ring.{HasNoRing};
-ghost use Rattle.csl_base.specs.StyleView.{style_view};
+ghost use Rattle.csl_base.specs.StyleView.{layout_view, style_view};
 ghost use Rattle.csl_writing.specs.ContextSource.{context_source};
 ghost use Rattle.csl_passes.specs.Request.{source_of};
 ghost use Rattle.csl_passes.specs.RequestView.{cite_view, request_view};
 ghost use Rattle.csl_driver.specs.Rings.{RefusesAlone};
-ghost use Rattle.csl_driver.specs.StandaloneCitation.{lone_tree, lone_trees, standalone};
+ghost use Rattle.csl_assembly.specs.ShownView.{shown_views};
+ghost use Rattle.csl_driver.specs.StandaloneCitation.{behind, lone_delimiter, lone_tree, lone_trees, standalone};
 
-use crate::assemble::assembled;
-use crate::cites::{cite_properties, cite_tree, request_context};
+use crate::cites::{cite_properties, cite_tree};
 use crate::error::{DriverError, RingPlace};
+use csl_assembly::assemble::{ShownCite, assembled};
+use csl_assembly::citation::request_context;
 use csl_base::elem::ElemChildren;
 use csl_base::entry::EntryLike;
 use csl_base::locale::LocaleCode;
@@ -38,22 +39,28 @@ fn lone_cite<T: EntryLike, P: Drop>(
 }
 
 /// The trees of the cites that aren't hidden and have content.
-fn lone_cites<T: EntryLike, P: Drop>(
+fn lone_cites<'r, T: EntryLike, P: Drop>(
     alloc: Global,
-    request: &CitationRequest<'_, T, P>,
-) -> Result<Vec<ElemChildren>, AllocError>
+    request: &'r CitationRequest<'_, T, P>,
+) -> Result<Vec<ShownCite<'r>>, AllocError>
     requires no_ring { HasNoRing (style_view request.now.style.now).macros }
-    ensures { IfOk result (λ cites. cites.items ≡ lone_trees T.answers (source_of (request_view request.now)) (request_view request.now).cites) }
+    ensures { IfOk result (λ cites. shown_views cites.items
+        ≡ map (behind (lone_delimiter (request_view request.now).style.citation.layout))
+            (lone_trees T.answers (source_of (request_view request.now)) (request_view request.now).cites)) }
 {
+    let delimiter = delimiter_of(&request.style().citation.layout);
     let context = request_context(request);
     let locale = request.locale.as_ref();
     let mut renders = Renders::new();
     let mut cites = Vec::new(alloc);
     for item in &request.items {
         if !item.hidden {
-            let cite = lone_cite(alloc, &context, locale, item, &mut renders)?;
-            if cite.has_content() {
-                cites.push(cite)?;
+            let tree = lone_cite(alloc, &context, locale, item, &mut renders)?;
+            if tree.has_content() {
+                cites.push(ShownCite {
+                    delimiter: Some(delimiter),
+                    tree,
+                })?;
             }
         }
     }
@@ -62,7 +69,7 @@ fn lone_cites<T: EntryLike, P: Drop>(
 
 /// What stands between cites: the layout's delimiter, or else a comma and a space.
 fn delimiter_of(layout: &Layout) -> &str
-    ensures { result.now ≡ unwrap_or (text_view layout.now.delimiter) (codes ", ") }
+    ensures { result.now ≡ lone_delimiter (layout_view layout.now) }
 {
     match &layout.delimiter {
         Some(delimiter) => delimiter.as_str(),
@@ -94,5 +101,5 @@ pub fn standalone_citation<T: EntryLike, P: Drop>(
     }
     let cites = lone_cites(alloc, &request)?;
     let layout = &request.style().citation.layout;
-    Ok(assembled(alloc, layout, Some(delimiter_of(layout)), cites, true)?)
+    Ok(assembled(alloc, layout, cites, true)?)
 }

@@ -10,6 +10,7 @@ use csl_lookup::purpose::CitePurpose;
 
 /// An entry that is cited in a request.
 #[derive(PartialEq, Eq, Drop)]
+#[derive_where(Clone; P: Drop)]
 pub struct CitationItem<'a, T, P> {
     pub entry: &'a T,
     /// Where in the entry the cite points.

@@ -120,6 +120,7 @@ pub mod of_driver {
     pub use csl_driver::passes::find_ambiguous_sets;
     pub use csl_driver::passes::group_cites;
     pub use csl_driver::passes::substitute_subsequent_authors;
+    pub use csl_driver::passes::with_last;
     pub use csl_driver::properties::CertainCiteProperties;
     pub use csl_driver::properties::CiteProperties;
     pub use csl_driver::properties::SpeculativeCiteProperties;

@@ -1,10 +1,13 @@
-use Rattle.std.proofs.Common.{◌≡◌, ◌++◌, drop}
+use Rattle.std.proofs.Common.{◌≡◌, ◌++◌, drop, map}
+use Rattle.csl_assembly.specs.ShownView.{shown_views}
 use Rattle.csl_passes.specs.Request.{source_of}
 use Rattle.csl_passes.specs.RequestView.{cites_view, request_view}
-use Rattle.csl_driver.specs.StandaloneCitation.{lone_trees}
+use Rattle.csl_driver.specs.StandaloneCitation.{behind, lone_delimiter, lone_trees}
 use Rattle.csl_driver.proofs.standalone.lone_cites.Given as goal
 
 abbrev pub invariant-loop-item : goal.invariant-loop-item
 invariant-loop-item g l =
-    l.cites.items ++ lone_trees g.T.EntryLike.answers (source_of (request_view l.request)) (cites_view (drop l.item-index l.item-items))
-    ≡ lone_trees g.T.EntryLike.answers (source_of (request_view l.request)) (cites_view l.item-items)
+    let request = request_view l.request in
+    let one = behind (lone_delimiter request.style.citation.layout) in
+    let trees = lone_trees g.T.EntryLike.answers (source_of request) in
+    shown_views l.cites.items ++ map one (trees (cites_view (drop l.item-index l.item-items))) ≡ map one (trees (cites_view l.item-items))

@@ -1,0 +1,137 @@
+-- What holds of the cites of requests, from their first renders to the end: they know their places.
+use Rattle.std.proofs.Common.{◌≡◌, ℕ, ◌+◌, Bool, true, false, List, [], ◌∷◌, ◌++◌, Option, Some, None, length, map, take, refl, ap, sym, subst, ◌∙◌}
+use Rattle.std.specs.Prelude.{All, flat_map, if◌then◌else◌}
+use Rattle.std.specs.Cmp.{IsEquivalence}
+use Rattle.std.specs.List.{AllZip, enumerate_from}
+use Rattle.std.proofs.lemmas.List.Elements.{All-cons, All-head, All-nil, All-tail}
+use Rattle.csl_base.specs.Answers.{Answers}
+use Rattle.csl_base.specs.Ring.{HasNoRing}
+use Rattle.csl_driver.specs.AreCitesOf.{AreCitesOf}
+use Rattle.csl_driver.proofs.FirstPlaced.{first-cited, first-placed, first-requests}
+use Rattle.csl_entries.specs.Entries.{distinct, is_in}
+use Rattle.csl_entries.specs.PlacedItems.{IsPlaced}
+use Rattle.csl_entries.specs.Table.{Table as Entered, table_of}
+use Rattle.csl_entries.proofs.Distinct.{is_in-distinct}
+use Rattle.csl_grouping.specs.Blocks.{group_delimiter, grouped, grouped_cites, is_grouped}
+use Rattle.csl_grouping.proofs.Kept.{cited-same, grouped-placed}
+use Rattle.csl_lookup.specs.declared.state.DisambiguateState.{DisambiguateState}
+use Rattle.csl_passes.specs.Renders.{CiteRender, ItemRender}
+use Rattle.csl_passes.specs.Request.{Request, cited}
+use Rattle.csl_positions.specs.FinalProperties.{cited_finally, items_before, with_final, with_final_items, with_final_properties}
+use Rattle.csl_positions.specs.FirstProperties.{first_properties}
+use Rattle.csl_rounds.specs.FirstRenders.{first_renders}
+use Rattle.csl_rounds.specs.Rounds.{Table, at_table, request_at, with_any}
+
+module _ {X : Type 0} (h : ℕ → X → X) where
+  -- members changed by their places
+  abbrev changed : ℕ → List X → List X
+  changed n xs = map (λ p. h p.0 p.1) (enumerate_from n xs)
+
+  all-changed : (Q : X → Type 0) → ((k : ℕ) (x : X) → Q x → Q (h k x)) → (n : ℕ) (xs : List X) → All Q xs → All Q (changed n xs)
+  all-changed Q kept n [] a = All-nil Q
+  all-changed Q kept n (x ∷ xs) a = All-cons Q (h n x) (changed (n + 1) xs) (kept n x (All-head Q x xs a)) (all-changed Q kept (n + 1) xs (All-tail Q x xs a))
+
+  same-changed : {B : Type 0} (v : X → B) → ((k : ℕ) (x : X) → v (h k x) ≡ v x) → (n : ℕ) (xs : List X) → map v (changed n xs) ≡ map v xs
+  same-changed v kept n [] = refl
+  same-changed v kept n (x ∷ xs) = rw (kept n x, same-changed v kept (n + 1) xs) refl
+
+  flat-changed : {B : Type 0} (v : X → List B) → ((k : ℕ) (x : X) → v (h k x) ≡ v x) → (n : ℕ) (xs : List X) → flat_map v (changed n xs) ≡ flat_map v xs
+  flat-changed v kept n [] = refl
+  flat-changed v kept n (x ∷ xs) = rw (kept n x, flat-changed v kept (n + 1) xs) refl
+
+  zip-changed : {Y : Type 0} (R : Y → X → Type 0) → ((k : ℕ) (y : Y) (x : X) → R y x → R y (h k x)) → (n : ℕ) (ys : List Y) (xs : List X) → AllZip R ys xs → AllZip R ys (changed n xs)
+  zip-changed R kept n [] [] a = a
+  zip-changed R kept n [] (x ∷ xs) a = absurd a
+  zip-changed R kept n (y ∷ ys) [] a = absurd a
+  zip-changed R kept n (y ∷ ys) (x ∷ xs) a = (kept n y x a.0, zip-changed R kept (n + 1) ys xs a.1)
+
+module _ {X : Type 0} (f : X → X) where
+  all-mapped : (Q : X → Type 0) → ((x : X) → Q x → Q (f x)) → (xs : List X) → All Q xs → All Q (map f xs)
+  all-mapped Q kept [] a = All-nil Q
+  all-mapped Q kept (x ∷ xs) a = All-cons Q (f x) (map f xs) (kept x (All-head Q x xs a)) (all-mapped Q kept xs (All-tail Q x xs a))
+
+  same-mapped : {B : Type 0} (v : X → B) → ((x : X) → v (f x) ≡ v x) → (xs : List X) → map v (map f xs) ≡ map v xs
+  same-mapped v kept [] = refl
+  same-mapped v kept (x ∷ xs) = rw (kept x, same-mapped v kept xs) refl
+
+  flat-mapped : {B : Type 0} (v : X → List B) → ((x : X) → v (f x) ≡ v x) → (xs : List X) → flat_map v (map f xs) ≡ flat_map v xs
+  flat-mapped v kept [] = refl
+  flat-mapped v kept (x ∷ xs) = rw (kept x, flat-mapped v kept xs) refl
+
+  zip-mapped : {Y : Type 0} (R : Y → X → Type 0) → ((y : Y) (x : X) → R y x → R y (f x)) → (ys : List Y) (xs : List X) → AllZip R ys xs → AllZip R ys (map f xs)
+  zip-mapped R kept [] [] a = a
+  zip-mapped R kept [] (x ∷ xs) a = absurd a
+  zip-mapped R kept (y ∷ ys) [] a = absurd a
+  zip-mapped R kept (y ∷ ys) (x ∷ xs) a = (kept y x a.0, zip-mapped R kept ys xs a.1)
+
+-- the request stays
+grouped-request : {E P : Type 0} (c : CiteRender E P) → (grouped c).request ≡ c.request
+grouped-request c = by (is_grouped c.request.style.citation)
+  where
+    by : (b : Bool) → (if b then record c { items = grouped_cites (group_delimiter c.request.style.citation) c.items } else c).request ≡ c.request
+    by true = refl
+    by false = refl
+
+-- what is asked of requests holds of the requests of their cites
+pub of-requests : {E P : Type 0} (Q : Request E P → Type 0) (renders : List (CiteRender E P)) (requests : List (Request E P))
+    → map (λ c. c.request) renders ≡ requests → All Q requests → All (λ c. Q c.request) renders
+of-requests {E} {P} Q renders requests same all = from renders (subst (All Q) (sym same) all)
+  where
+    from : (cs : List (CiteRender E P)) → All Q (map (λ c. c.request) cs) → All (λ c. Q c.request) cs
+    from [] a = All-nil (λ c. Q c.request)
+    from (c ∷ cs) a = All-cons (λ d. Q d.request) c cs (All-head Q c.request (map (λ d. d.request) cs) a) (from cs (All-tail Q c.request (map (λ d. d.request) cs) a))
+
+module _ {E P : Type 0} (eq : E → E → Bool) (laws : IsEquivalence eq) (answers : E → Answers) where
+  -- the first renders
+  pub first-stand : (payload_eq : P → P → Bool) (number_of : E → ℕ) (requests : List (Request E P))
+      → AreCitesOf eq (table_of eq requests) requests (first_renders answers requests (first_properties eq payload_eq number_of requests))
+  first-stand payload_eq number_of requests = record {
+    of = first-requests eq payload_eq answers number_of (distinct eq (cited requests)) requests;
+    placed = first-placed eq payload_eq answers number_of (distinct eq (cited requests)) requests;
+    same = λ e. ap (is_in eq e) (first-cited eq payload_eq answers number_of (distinct eq (cited requests)) requests) ∙ sym (is_in-distinct eq laws e (cited requests));
+  }
+
+  module _ (entered : Entered E) (requests : List (Request E P)) (renders : List (CiteRender E P)) (h : AreCitesOf eq entered requests renders) where
+    entry-again : (table : Table E) (r : Request E P) (s : Option DisambiguateState) (i : ItemRender E P) → (with_any answers r s i).entry ≡ i.entry
+    entry-again table r None i = refl
+    entry-again table r (Some s) i = refl
+
+    placed-again : (entries : List E) (places : List ℕ) (r : Request E P) (s : Option DisambiguateState) (i : ItemRender E P)
+        → IsPlaced eq entries places i → IsPlaced eq entries places (with_any answers r s i)
+    placed-again entries places r None i a = a
+    placed-again entries places r (Some s) i a = a
+
+    -- rendered again
+    pub again-stand : (table : Table E) → AreCitesOf eq entered requests (at_table answers table renders)
+    again-stand table = record {
+      of = same-mapped (request_at answers table) (λ c. c.request) (λ c. refl) renders ∙ h.of;
+      placed = zip-mapped (request_at answers table) (λ places c. All (IsPlaced eq entered.entries places) c.items)
+          (λ places c a. all-mapped (λ i. with_any answers c.request (table i.entry) i) (IsPlaced eq entered.entries places)
+            (λ i b. placed-again entered.entries places c.request (table i.entry) i b) c.items a) entered.places renders h.placed;
+      same = λ e. ap (is_in eq e) (flat-mapped (request_at answers table) (λ c. map (λ i. i.entry) c.items)
+          (λ c. same-mapped (λ i. with_any answers c.request (table i.entry) i) (λ i. i.entry) (λ i. entry-again table c.request (table i.entry) i) c.items) renders) ∙ h.same e;
+    }
+
+    -- in their blocks
+    pub grouped-stand : AreCitesOf eq entered requests (map grouped renders)
+    grouped-stand = record {
+      of = same-mapped grouped (λ c. c.request) grouped-request renders ∙ h.of;
+      placed = grouped-placed eq entered renders h.placed;
+      same = λ e. cited-same eq laws e renders ∙ h.same e;
+    }
+
+    -- with their final properties
+    pub final-stand : (payload_eq : P → P → Bool) (number_of : E → ℕ) → AreCitesOf eq entered requests (with_final_properties eq payload_eq number_of renders)
+    final-stand payload_eq number_of = record {
+      of = same-changed settled (λ c. c.request) (λ k c. refl) 0 renders ∙ h.of;
+      placed = zip-changed settled (λ places c. All (IsPlaced eq entered.entries places) c.items)
+          (λ k places c a. all-changed (item k c) (IsPlaced eq entered.entries places) (λ j i b. b) 0 c.items a) 0 entered.places renders h.placed;
+      same = λ e. ap (is_in eq e) (flat-changed settled (λ c. map (λ i. i.entry) c.items)
+          (λ k c. same-changed (item k c) (λ i. i.entry) (λ j i. refl) 0 c.items) 0 renders) ∙ h.same e;
+    }
+      where
+        item : ℕ → CiteRender E P → ℕ → ItemRender E P → ItemRender E P
+        item k c j i = with_final eq payload_eq number_of (items_before renders k ++ take j c.items) i
+
+        settled : ℕ → CiteRender E P → CiteRender E P
+        settled k c = record c { items = with_final_items eq payload_eq number_of (items_before renders k) c.items }

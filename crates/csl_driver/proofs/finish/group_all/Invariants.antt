@@ -1,0 +1,8 @@
+use Rattle.std.proofs.Common.{◌≡◌}
+use Rattle.csl_passes.specs.RendersView.{renders_view}
+use Rattle.csl_grouping.specs.Blocks.{grouped}
+use Rattle.csl_driver.proofs.Halves.{half}
+use Rattle.csl_driver.proofs.finish.group_all.Given as goal
+
+abbrev pub invariant-loop-r : goal.invariant-loop-r
+invariant-loop-r g l = renders_view l.cites ≡ half grouped l.r (renders_view l.initial.cites)
