@@ -15,13 +15,6 @@ use Rattle.document_reading.specs.Form.{Document}
 use Rattle.cite_document.specs.Print.{print}
 use Rattle.cite_document.specs.Run.{same_entry, same_payload, accepted, wanted_of, answer, HasAnswer, HasTooLargeNumbers}
 
--- all tests of such payloads are one
-pub any-payload : (f : Infallible → Infallible → Bool) → f ≡ same_payload
-any-payload f = λ i a. by a i
-  where
-    by : (a : Infallible) → f a ≡ same_payload a
-    by a = elim a [ ]
-
 module _ (v : Driver PlainEntry Infallible) (d : Document) (p : v ≡ record { requests = accepted d.requests; offset = d.offset }) where
   pub has_answer : NoRingAtAll v.requests d.style → v.offset + length (distinct same_entry (cited v.requests)) < 2 ^ 64 → HasAnswer d
   has_answer a b = subst (λ w. NoRingAtAll w.requests d.style × (w.offset + length (distinct same_entry (cited w.requests)) < 2 ^ 64)) p (a, b)

@@ -5,6 +5,7 @@ use Rattle.std.specs.declared.convert.Infallible.{Infallible}
 use Rattle.csl_base.specs.PlainEntry.{plain_answers}
 use Rattle.csl_base.specs.declared.entry.PlainEntry.{PlainEntry}
 use Rattle.csl_base.specs.contracts.entry.PlainEntryPartialEq.TheImpl as plain_entry_eq
+use Rattle.std.specs.contracts.prelude.InfalliblePartialEq.TheImpl as infallible_eq
 use Rattle.csl_driver.specs.Answer.{rendered}
 use Rattle.csl_entries.specs.Entries.{distinct}
 use Rattle.csl_passes.specs.Request.{Request, Wanted, cited, with_places}
@@ -20,9 +21,9 @@ use Rattle.cite_document.specs.declared.error.RunError.TheVariants as errors
 abbrev pub same_entry : PlainEntry → PlainEntry → Bool
 same_entry = (plain_entry_eq.ghosts).eq
 
--- a document's locators are texts, so it has no two payloads of a caller's own to compare
+-- whether two payloads of a caller's own are equal; a document's locators are texts, so it has none
 abbrev pub same_payload : Infallible → Infallible → Bool
-same_payload a b = elim a [ ]
+same_payload = (infallible_eq.ghosts).eq
 
 -- requests as the driver keeps them
 abbrev pub accepted : List (Request PlainEntry Infallible) → List (Request PlainEntry Infallible)

@@ -1,8 +1,9 @@
 -- The numbers that a listing gives.
-use Rattle.std.proofs.Common.{◌≡◌, ℕ, zero, suc, ◌+◌, ◌<◌, ◌≤◌, ◌^◌, Bool, not, List, [], ◌∷◌, ◌++◌, length, map, refl, ap, sym, subst, ◌∙◌, arith}
+use Rattle.std.proofs.Common.{◌≡◌, ℕ, zero, suc, ◌+◌, ◌<◌, ◌≤◌, ◌^◌, Bool, not, List, [], ◌∷◌, ◌++◌, length, map, refl, ap, sym, subst, ◌∙◌, arith, length-append}
 use Rattle.std.specs.Prelude.{slice_get, unwrap_or}
 use Rattle.std.specs.List.{range_with_len, slice_index_or}
 use Rattle.std.proofs.Math.ListN.{length-map}
+use Rattle.std.proofs.lemmas.List.FromFn.{length-map-range_with_len}
 use Rattle.std.proofs.lemmas.List.Sums.{prefix_len-le-length}
 use Rattle.csl_driver.specs.Cited.{number_at, numbers_at}
 use Rattle.csl_entries.specs.Entries.{number, place}
@@ -22,6 +23,12 @@ ranged f b (suc n) (suc p) w =
     let m : b + suc n ≡ b + 1 + n = omega arith in
     ap (λ k. slice_index_or (map f (range_with_len (b + 1) n) ++ f k ∷ []) p 0) m ∙ ranged f (b + 1) n p (omega (arith, w)) ∙ ap f e
 
+from_start : (f : ℕ → ℕ) (n p : ℕ) → p ≤ n → slice_index_or (map f (range_with_len 0 n) ++ f n ∷ []) p 0 ≡ f p
+from_start f n p w =
+    let whole : n ≡ 0 + n = omega arith in
+    let here : 0 + p ≡ p = omega arith in
+    ap (λ m. slice_index_or (map f (range_with_len 0 n) ++ f m ∷ []) p 0) whole ∙ ranged f 0 n p w ∙ ap f here
+
 most : {E : Type 0} (f : E → ℕ) (n : ℕ) → ((e : E) → f e ≤ n) → (es : List E) (p : ℕ) → unwrap_or (slice_get (map f es) p) n ≤ n
 most f n h [] p = omega arith
 most f n h (e ∷ es) zero = h e
@@ -30,7 +37,8 @@ most f n h (e ∷ es) (suc p) = most f n h es p
 module _ {E : Type 0} (eq : E → E → Bool) (entries order : List E) (l : Listed) (h : IsListingOf eq entries order l) (offset : ℕ) where
   -- they are those of the entries in its order
   pub numbered : numbered_by eq (numbers_at l offset (length entries)) entries ≡ number eq offset order
-  numbered = funext (λ e. ranged (number_at l offset) 0 (length entries) (place eq e entries) (prefix_len-le-length (λ x. not (eq e x)) entries) ∙ ap (λ n. offset + n) (h.numbered e))
+  numbered =
+      funext (λ e. from_start (number_at l offset) (length entries) (place eq e entries) (prefix_len-le-length (λ x. not (eq e x)) entries) ∙ ap (λ n. offset + n) (h.numbered e))
 
   -- and they fit where those of all entries do
   pub fits : offset + length entries < 2 ^ 64 → (p : ℕ) → number_at l offset p < 2 ^ 64
@@ -42,3 +50,10 @@ module _ {E : Type 0} (eq : E → E → Bool) (entries order : List E) (l : List
       subst (λ ns. unwrap_or (slice_get ns p) (length l.order) ≤ length l.order) (sym (ap (λ (m : Listed). m.numbers) h.listed))
       (most (λ e. place eq e order) (length l.order) bound entries p) in
       omega (arith, shown, counted, small)
+
+  -- there is one for each entry
+  pub enough : (n : ℕ) → n ≤ length (numbers_at l offset n)
+  enough n =
+      let shown : length (map (number_at l offset) (range_with_len 0 n)) ≡ n = length-map-range_with_len (number_at l offset) 0 n in
+      let more = length-append (map (number_at l offset) (range_with_len 0 n)) (number_at l offset n ∷ []) in
+      omega (arith, shown, more)

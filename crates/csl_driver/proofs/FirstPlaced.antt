@@ -1,14 +1,15 @@
 -- The first renders of cites know their places, and through these those of their entries.
-use Rattle.std.proofs.Common.{◌≡◌, ℕ, zero, suc, ◌+◌, ◌<◌, ◌≤◌, Bool, List, [], ◌∷◌, ◌++◌, Option, Some, None, length, map, take, refl, ap, sym, subst, ◌∙◌, arith, append_assoc, length-append}
+use Rattle.std.proofs.Common.{◌≡◌, ℕ, suc, ◌+◌, Bool, List, [], ◌∷◌, ◌++◌, Some, length, map, take, refl, ap, sym, ◌∙◌, arith, append_assoc, length-append}
 use Rattle.std.specs.Prelude.{All, flat_map, option_map, slice_get, zip}
 use Rattle.std.specs.List.{AllZip, enumerate_from}
 use Rattle.std.proofs.Math.Seq.{take-append_seam}
 use Rattle.std.proofs.lemmas.List.Elements.{All-cons, All-nil}
 use Rattle.std.proofs.lemmas.Option.{slice_get-map}
 use Rattle.csl_base.specs.Answers.{Answers}
-use Rattle.csl_entries.specs.Entries.{place}
+use Rattle.csl_entries.specs.Entries.{distinct, place}
 use Rattle.csl_entries.specs.PlacedItems.{IsPlaced}
-use Rattle.csl_entries.specs.Table.{places_in}
+use Rattle.csl_entries.specs.Table.{Table, places_in, table_of}
+use Rattle.csl_passes.specs.Renders.{CiteRender}
 use Rattle.csl_passes.specs.Request.{Cite, Request, cited, entries_of}
 use Rattle.csl_passes.specs.declared.first.FirstProperties.{FirstProperties}
 use Rattle.csl_positions.specs.FirstProperties.{cite_properties, first_properties, request_properties}
@@ -59,13 +60,13 @@ module _ {E P : Type 0} (eq : E → E → Bool) (payload_eq : P → P → Bool) 
   -- of all requests
   placed-rows : (ys : List (Request E P)) (n : ℕ) (requests : List (Request E P))
       → AllZip (λ ps c. All (IsPlaced eq entries ps) c.items) (map (λ r. places_in eq entries r.cites) requests)
-        (first_renders answers requests (from (request_properties eq payload_eq number_of) ys n requests))
+      (first_renders answers requests (from (request_properties eq payload_eq number_of) ys n requests))
   placed-rows ys n [] = tt
   placed-rows ys n (r ∷ requests) = (placed-row (take n ys) r, placed-rows ys (n + 1) requests)
 
   pub first-placed : (requests : List (Request E P))
       → AllZip (λ ps c. All (IsPlaced eq entries ps) c.items) (map (λ r. places_in eq entries r.cites) requests)
-        (first_renders answers requests (first_properties eq payload_eq number_of requests))
+      (first_renders answers requests (first_properties eq payload_eq number_of requests))
   first-placed requests = placed-rows requests 0 requests
 
   -- each cite has its first properties
@@ -88,15 +89,17 @@ module _ {E P : Type 0} (eq : E → E → Bool) (payload_eq : P → P → Bool) 
 
   rows-entries : (ys : List (Request E P)) (n : ℕ) (requests : List (Request E P))
       → map (λ c. map (λ i. place eq i.entry entries) c.items) (first_renders answers requests (from (request_properties eq payload_eq number_of) ys n requests))
-        ≡ map (λ r. places_in eq entries r.cites) requests
+      ≡ map (λ r. places_in eq entries r.cites) requests
   rows-entries ys n [] = refl
   rows-entries ys n (r ∷ requests) =
-      rw (row-entries r r.cites (request_properties eq payload_eq number_of (take n ys) r) (length-from (cite_properties eq payload_eq number_of (take n ys) r) r.cites 0 r.cites),
-          rows-entries ys (n + 1) requests) refl
+      rw (
+        row-entries r r.cites (request_properties eq payload_eq number_of (take n ys) r) (length-from (cite_properties eq payload_eq number_of (take n ys) r) r.cites 0 r.cites),
+        rows-entries ys (n + 1) requests,
+      ) refl
 
   pub first-entries : (requests : List (Request E P))
       → map (λ c. map (λ i. place eq i.entry entries) c.items) (first_renders answers requests (first_properties eq payload_eq number_of requests))
-        ≡ map (λ r. places_in eq entries r.cites) requests
+      ≡ map (λ r. places_in eq entries r.cites) requests
   first-entries requests = rows-entries requests 0 requests
 
   -- and which requests they belong to
@@ -121,9 +124,21 @@ module _ {E P : Type 0} (eq : E → E → Bool) (payload_eq : P → P → Bool) 
       → flat_map (λ c. map (λ i. i.entry) c.items) (first_renders answers requests (from (request_properties eq payload_eq number_of) ys n requests)) ≡ cited requests
   rows-cited ys n [] = refl
   rows-cited ys n (r ∷ requests) =
-      rw (row-cited r r.cites (request_properties eq payload_eq number_of (take n ys) r) (length-from (cite_properties eq payload_eq number_of (take n ys) r) r.cites 0 r.cites),
-          rows-cited ys (n + 1) requests) refl
+      rw (
+        row-cited r r.cites (request_properties eq payload_eq number_of (take n ys) r) (length-from (cite_properties eq payload_eq number_of (take n ys) r) r.cites 0 r.cites),
+        rows-cited ys (n + 1) requests,
+      ) refl
 
   pub first-cited : (requests : List (Request E P))
       → flat_map (λ c. map (λ i. i.entry) c.items) (first_renders answers requests (first_properties eq payload_eq number_of requests)) ≡ cited requests
   first-cited requests = rows-cited requests 0 requests
+
+module _ {E P : Type 0} (eq : E → E → Bool) (payload_eq : P → P → Bool) (answers : E → Answers) (number_of : E → ℕ) (requests : List (Request E P))
+    (table : Table E) (is : table ≡ table_of eq requests) (renders : List (CiteRender E P)) (made : renders ≡ first_renders answers requests (first_properties eq payload_eq number_of requests)) where
+  -- the table has where their entries stand
+  pub first-places : table.places ≡ map (λ c. map (λ i. place eq i.entry table.entries) c.items) renders
+  first-places =
+      ap (λ (t : Table E). t.places) is
+      ∙ sym (ap (λ (t : Table E). map (λ c. map (λ i. place eq i.entry t.entries) c.items) renders) is
+      ∙ ap (map (λ c. map (λ i. place eq i.entry (distinct eq (cited requests))) c.items)) made
+      ∙ first-entries eq payload_eq answers number_of (distinct eq (cited requests)) requests)

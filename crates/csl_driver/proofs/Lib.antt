@@ -1,5 +1,9 @@
 pub mod RingLemmas
 pub mod FirstPlaced
 pub mod Standing
+pub mod Listings
 pub mod Counted
 pub mod Halves
+pub mod FirstCites
+pub mod Numbering
+pub mod Whole

@@ -1,26 +1,28 @@
 -- What holds of the cites of requests, from their first renders to the end: they know their places.
-use Rattle.std.proofs.Common.{◌≡◌, ℕ, ◌+◌, Bool, true, false, List, [], ◌∷◌, ◌++◌, Option, Some, None, length, map, take, refl, ap, sym, subst, ◌∙◌}
+use Rattle.std.proofs.Common.{◌≡◌, ℕ, ◌+◌, Bool, true, false, List, [], ◌∷◌, ◌++◌, Option, Some, None, map, take, refl, ap, sym, subst, ◌∙◌}
 use Rattle.std.specs.Prelude.{All, flat_map, if◌then◌else◌}
 use Rattle.std.specs.Cmp.{IsEquivalence}
 use Rattle.std.specs.List.{AllZip, enumerate_from}
 use Rattle.std.proofs.lemmas.List.Elements.{All-cons, All-head, All-nil, All-tail}
+use Rattle.csl_assembly.specs.CitationTree.{has_no_purpose}
 use Rattle.csl_base.specs.Answers.{Answers}
-use Rattle.csl_base.specs.Ring.{HasNoRing}
+use Rattle.csl_collapse.specs.Collapsed.{collapsed}
+use Rattle.csl_driver.specs.Answer.{drawn_together}
 use Rattle.csl_driver.specs.AreCitesOf.{AreCitesOf}
 use Rattle.csl_driver.proofs.FirstPlaced.{first-cited, first-placed, first-requests}
 use Rattle.csl_entries.specs.Entries.{distinct, is_in}
 use Rattle.csl_entries.specs.PlacedItems.{IsPlaced}
-use Rattle.csl_entries.specs.Table.{Table as Entered, table_of}
+use Rattle.csl_entries.specs.Table.{Table, table_of}
 use Rattle.csl_entries.proofs.Distinct.{is_in-distinct}
 use Rattle.csl_grouping.specs.Blocks.{group_delimiter, grouped, grouped_cites, is_grouped}
 use Rattle.csl_grouping.proofs.Kept.{cited-same, grouped-placed}
 use Rattle.csl_lookup.specs.declared.state.DisambiguateState.{DisambiguateState}
 use Rattle.csl_passes.specs.Renders.{CiteRender, ItemRender}
 use Rattle.csl_passes.specs.Request.{Request, cited}
-use Rattle.csl_positions.specs.FinalProperties.{cited_finally, items_before, with_final, with_final_items, with_final_properties}
+use Rattle.csl_positions.specs.FinalProperties.{items_before, with_final, with_final_items, with_final_properties}
 use Rattle.csl_positions.specs.FirstProperties.{first_properties}
 use Rattle.csl_rounds.specs.FirstRenders.{first_renders}
-use Rattle.csl_rounds.specs.Rounds.{Table, at_table, request_at, with_any}
+use Rattle.csl_rounds.specs.Rounds.{Table as States, after_rounds, at_table, disambiguated, no_states, request_at, with_any}
 
 module _ {X : Type 0} (h : ℕ → X → X) where
   -- members changed by their places
@@ -72,6 +74,17 @@ grouped-request c = by (is_grouped c.request.style.citation)
     by true = refl
     by false = refl
 
+drawn-request : {E P : Type 0} (c : CiteRender E P) → (drawn_together c).request ≡ c.request
+drawn-request c = by (has_no_purpose c.items)
+  where
+    by : (b : Bool) → (if b then collapsed c else c).request ≡ c.request
+    by true = refl
+    by false = refl
+
+-- drawing together keeps the requests
+pub drawn-requests : {E P : Type 0} (renders : List (CiteRender E P)) → map (λ c. c.request) (map drawn_together renders) ≡ map (λ c. c.request) renders
+drawn-requests renders = same-mapped drawn_together (λ c. c.request) drawn-request renders
+
 -- what is asked of requests holds of the requests of their cites
 pub of-requests : {E P : Type 0} (Q : Request E P → Type 0) (renders : List (CiteRender E P)) (requests : List (Request E P))
     → map (λ c. c.request) renders ≡ requests → All Q requests → All (λ c. Q c.request) renders
@@ -91,8 +104,8 @@ module _ {E P : Type 0} (eq : E → E → Bool) (laws : IsEquivalence eq) (answe
     same = λ e. ap (is_in eq e) (first-cited eq payload_eq answers number_of (distinct eq (cited requests)) requests) ∙ sym (is_in-distinct eq laws e (cited requests));
   }
 
-  module _ (entered : Entered E) (requests : List (Request E P)) (renders : List (CiteRender E P)) (h : AreCitesOf eq entered requests renders) where
-    entry-again : (table : Table E) (r : Request E P) (s : Option DisambiguateState) (i : ItemRender E P) → (with_any answers r s i).entry ≡ i.entry
+  module _ (entered : Table E) (requests : List (Request E P)) (renders : List (CiteRender E P)) (h : AreCitesOf eq entered requests renders) where
+    entry-again : (table : States E) (r : Request E P) (s : Option DisambiguateState) (i : ItemRender E P) → (with_any answers r s i).entry ≡ i.entry
     entry-again table r None i = refl
     entry-again table r (Some s) i = refl
 
@@ -102,15 +115,20 @@ module _ {E P : Type 0} (eq : E → E → Bool) (laws : IsEquivalence eq) (answe
     placed-again entries places r (Some s) i a = a
 
     -- rendered again
-    pub again-stand : (table : Table E) → AreCitesOf eq entered requests (at_table answers table renders)
+    pub again-stand : (table : States E) → AreCitesOf eq entered requests (at_table answers table renders)
     again-stand table = record {
       of = same-mapped (request_at answers table) (λ c. c.request) (λ c. refl) renders ∙ h.of;
       placed = zip-mapped (request_at answers table) (λ places c. All (IsPlaced eq entered.entries places) c.items)
           (λ places c a. all-mapped (λ i. with_any answers c.request (table i.entry) i) (IsPlaced eq entered.entries places)
-            (λ i b. placed-again entered.entries places c.request (table i.entry) i b) c.items a) entered.places renders h.placed;
+          (λ i b. placed-again entered.entries places c.request (table i.entry) i b) c.items a) entered.places renders h.placed;
       same = λ e. ap (is_in eq e) (flat-mapped (request_at answers table) (λ c. map (λ i. i.entry) c.items)
           (λ c. same-mapped (λ i. with_any answers c.request (table i.entry) i) (λ i. i.entry) (λ i. entry-again table c.request (table i.entry) i) c.items) renders) ∙ h.same e;
     }
+
+    -- told apart
+    pub disambiguated-stand : AreCitesOf eq entered requests (disambiguated eq answers renders)
+    unfolding disambiguated
+    disambiguated-stand = again-stand (after_rounds answers eq renders 3 no_states)
 
     -- in their blocks
     pub grouped-stand : AreCitesOf eq entered requests (map grouped renders)
@@ -135,3 +153,20 @@ module _ {E P : Type 0} (eq : E → E → Bool) (laws : IsEquivalence eq) (answe
 
         settled : ℕ → CiteRender E P → CiteRender E P
         settled k c = record c { items = with_final_items eq payload_eq number_of (items_before renders k) c.items }
+
+module _ {E P : Type 0} (eq : E → E → Bool) (laws : IsEquivalence eq) (answers : E → Answers) (payload_eq : P → P → Bool) (number_of : E → ℕ)
+    (requests : List (Request E P)) (table : Table E) (is : table ≡ table_of eq requests)
+    (begun : List (CiteRender E P)) (first : begun ≡ first_renders answers requests (first_properties eq payload_eq number_of requests)) where
+  -- the first renders, over the table
+  pub begun-stand : AreCitesOf eq table requests begun
+  begun-stand =
+      subst (AreCitesOf eq table requests) (sym first)
+      (subst (λ t. AreCitesOf eq t requests (first_renders answers requests (first_properties eq payload_eq number_of requests))) (sym is)
+      (first-stand eq laws answers payload_eq number_of requests))
+
+  -- told apart and in their blocks
+  pub ordered-stand : (told ordered : List (CiteRender E P)) → told ≡ disambiguated eq answers begun → ordered ≡ map grouped told → AreCitesOf eq table requests ordered
+  ordered-stand told ordered apart grouping =
+      subst (AreCitesOf eq table requests) (sym grouping)
+      (grouped-stand eq laws answers table requests told
+      (subst (AreCitesOf eq table requests) (sym apart) (disambiguated-stand eq laws answers table requests begun begun-stand)))

@@ -40,14 +40,14 @@ abbrev pub citation_of : {E P : Type 0} → (E → Answers) → CiteRender E P �
 citation_of answers c = record { note_number = c.request.note_number; citation = citation_tree answers c }
 
 module _ {E P : Type 0} (eq : E → E → Bool) (payload_eq : P → P → Bool) (answers : E → Answers) where
-  -- the cites of all requests, rendered by their first properties and then told apart
-  abbrev pub told_apart : (E → ℕ) → List (Request E P) → List (CiteRender E P)
-  told_apart number_of requests = disambiguated eq answers (first_renders answers requests (first_properties eq payload_eq number_of requests))
-
   module _ (wanted : Wanted E) (requests : List (Request E P)) (offset : ℕ) where
+    -- the cites of all requests, rendered by their first properties; their numbers are those of the bibliography
+    abbrev pub rendered_first : List (CiteRender E P)
+    rendered_first = first_renders answers requests (first_properties eq payload_eq (number eq offset (entries_listed eq wanted requests)) requests)
+
     -- the cites in their final order: told apart, and those of each request in their blocks
     abbrev pub in_final_order : List (CiteRender E P)
-    in_final_order = map grouped (told_apart (number eq offset (entries_listed eq wanted requests)) requests)
+    in_final_order = map grouped (disambiguated eq answers rendered_first)
 
     -- the number of an entry in the end
     abbrev pub final_number : E → ℕ

@@ -47,7 +47,8 @@ fn first_cites<'a, T: EntryLike, P>(
     let order = cited.listing.order();
     let mut firsts = Vec::with_capacity(alloc, order.len())?;
     for entry in order {
-        if let Some(place) = places[*entry] {
+        let first = places[*entry];
+        if let Some(place) = first {
             firsts.push(place)?;
         }
     }
@@ -68,7 +69,7 @@ pub(crate) fn wanted_bibliography<'a, T: EntryLike, P: Drop>(
     requires cites { AreCitesOf T.eq (table_view cited.now.table) (requests_view requests.now) (renders_view cites.now) }
     ensures { IfOk result (λ r. r ≡ option_map
         (λ b. bibliography_of T.answers (wanted_source (wanted_view wanted.now)) b
-            (filter_map (first_item T.eq (renders_view cites.now)) (entries_listed T.eq (wanted_view wanted.now) (requests_view requests.now))))
+        (filter_map (first_item T.eq (renders_view cites.now)) (entries_listed T.eq (wanted_view wanted.now) (requests_view requests.now))))
         (style_view wanted.now.style.now).bibliography) }
 {
     match &wanted.style.bibliography {

@@ -3,7 +3,6 @@ ghost use Rattle.std.specs.Prelude.{◌≡◌, IfOk, option_map};
 ghost use Rattle.csl_base.specs.Ring.{HasNoRing};
 ghost use Rattle.csl_lookup.specs.PropertiesView.{locator_view, properties_view};
 ghost use Rattle.csl_writing.specs.ContextSource.{context_source};
-ghost use Rattle.csl_assembly.specs.LastTree.{is_for_year};
 ghost use Rattle.csl_driver.specs.CiteTree.{cite_tree, properties_of};
 ghost use Rattle.csl_passes.specs.RequestView.{cite_view};
 

@@ -1,23 +1,19 @@
 //! The whole answer, from all requests at once.
-ghost use Rattle.std.specs.Prelude.{◌≡◌, ◌+◌, ◌<◌, ◌≤◌, ◌^◌, All, length, map, OnOk, IfOk, IfErr};
+ghost use Rattle.std.specs.Prelude.{◌≡◌, ◌+◌, ◌<◌, ◌^◌, All, length, map, OnOk, IfOk, IfErr};
 ghost use Rattle.csl_base.specs.Ring.{HasNoRing};
 ghost use Rattle.csl_base.specs.StyleView.{style_view};
-ghost use Rattle.csl_driver.specs.Answer.{citation_of, drawn_together, in_the_end, numbered_finally, order_in_use, rendered, told_apart};
+ghost use Rattle.csl_driver.specs.Answer.{citation_of, drawn_together, in_the_end, numbered_finally, order_in_use, rendered, rendered_first};
 ghost use Rattle.csl_driver.specs.AreCitesOf.{AreCitesOf};
 ghost use Rattle.csl_driver.specs.Cited.{IsCitedBy};
 ghost use Rattle.csl_driver.specs.DriverView.{driver_view};
 ghost use Rattle.csl_driver.specs.Rings.{NoRingAtAll, NoRingIn, Refuses};
-ghost use Rattle.csl_entries.specs.Entries.{distinct, number, place};
-ghost use Rattle.csl_entries.specs.PlacedItems.{ArePlaced};
-ghost use Rattle.csl_entries.specs.Table.{table_of};
+ghost use Rattle.csl_entries.specs.Entries.{distinct, number};
 ghost use Rattle.csl_entries.specs.TableView.{table_view};
 ghost use Rattle.csl_grouping.specs.Blocks.{grouped};
 ghost use Rattle.csl_passes.specs.RendersView.{render_view, renders_view};
 ghost use Rattle.csl_passes.specs.Request.{cited};
-ghost use Rattle.csl_positions.specs.FinalProperties.{with_final_properties};
-ghost use Rattle.csl_positions.specs.FirstProperties.{numbered_by};
-ghost use Rattle.csl_rounds.specs.Rounds.{disambiguated};
 ghost use Rattle.csl_passes.specs.RequestView.{order_view, requests_view, wanted_view};
+ghost use Rattle.csl_positions.specs.FirstProperties.{numbered_by};
 
 use crate::bibliography::wanted_bibliography;
 use crate::cited::Cited;
@@ -40,6 +36,7 @@ use csl_rounds::first_renders::{discard_renders, first_renders};
 use csl_rounds::rounds::disambiguate;
 use csl_writing::counter::Renders;
 use std::alloc::{AllocError, Global};
+
 /// The order that the bibliography goes by, if its style has one and an order was handed in.
 fn used_order<'o, 'a, T>(wanted: &BibliographyRequest<'o, 'a, T>) -> Option<Order<'o, 'a, T>>
     ensures { order_view result ≡ order_in_use (wanted_view wanted.now) }
@@ -88,74 +85,25 @@ impl<'r, 'a, T, P: Drop> Drop for Cites<'r, 'a, T, P> {
     }
 }
 
-/// The cites of all requests, rendered by their first properties and then told apart.
-fn told_apart<'r, 'a, T: EntryLike, P: Eq + Drop>(
+/// The cites of all requests, rendered by their first properties. Their numbers are those of the
+/// bibliography.
+fn rendered_first<'r, 'a, T: EntryLike, P: Eq + Drop>(
     alloc: Global,
     requests: &'r [CitationRequest<'a, T, P>],
-    table: &EntryTable<'a, T>,
-    numbers: &[usize],
+    wanted: &BibliographyRequest<'_, 'a, T>,
+    cited: &Cited<'a, T>,
     renders: &mut Renders,
 ) -> Result<Cites<'r, 'a, T, P>, AllocError>
     requires no_ring { NoRingIn (requests_view requests.now) }
-    requires table { table_view table.now ≡ table_of T.eq (requests_view requests.now) }
-    requires numbered { length (table_view table.now).entries ≤ length numbers.now }
+    requires known { IsCitedBy T.eq (requests_view requests.now) (order_in_use (wanted_view wanted.now)) cited.now }
     ensures { IfOk result (λ c. renders_view c.renders.items
-        ≡ told_apart T.eq P.eq T.answers (numbered_by T.eq numbers.now (table_view table.now).entries) (requests_view requests.now)) }
+        ≡ rendered_first T.eq P.eq T.answers (wanted_view wanted.now) (requests_view requests.now) cited.now.offset) }
 {
-    let firsts = first_properties(alloc, requests, table, numbers)?;
-    let cites = Cites {
+    let numbers = cited.numbers(alloc, &cited.listing)?;
+    let firsts = first_properties(alloc, requests, &cited.table, &numbers)?;
+    Ok(Cites {
         renders: first_renders(alloc, requests, &firsts, renders)?,
-    };
-    after_rounds(alloc, cites, table, renders)
-}
-
-/// The cites after the rounds.
-fn after_rounds<'r, 'a, T: EntryLike, P: Drop>(
-    alloc: Global,
-    mut cites: Cites<'r, 'a, T, P>,
-    table: &EntryTable<'a, T>,
-    renders: &mut Renders,
-) -> Result<Cites<'r, 'a, T, P>, AllocError>
-    requires no_ring { All (λ c. HasNoRing c.request.style.macros) (renders_view cites.entry.renders.items) }
-    requires placed { (table_view table.now).places ≡ map (λ c. map (λ i. place T.eq i.entry (table_view table.now).entries) c.items) (renders_view cites.entry.renders.items) }
-    requires listed { All (λ ps. All (λ p. p < length (table_view table.now).entries) ps) (table_view table.now).places }
-    ensures { IfOk result (λ c. renders_view c.renders.items ≡ disambiguated T.eq T.answers (renders_view cites.entry.renders.items)) }
-{
-    disambiguate(alloc, &mut cites.renders, table, renders)?;
-    Ok(cites)
-}
-
-/// The cites, those of each request in their blocks.
-fn in_blocks<'r, 'a, T, P: Drop>(
-    alloc: Global,
-    mut cites: Cites<'r, 'a, T, P>,
-) -> Result<Cites<'r, 'a, T, P>, AllocError>
-    ensures { IfOk result (λ c. renders_view c.renders.items ≡ map grouped (renders_view cites.entry.renders.items)) }
-{
-    group_all(alloc, &mut cites.renders)?;
-    Ok(cites)
-}
-
-/// The cites in their final order, with their final positions and numbers.
-fn with_final_properties<'r, 'a, T: EntryLike, P: Eq + Drop>(
-    mut cites: Cites<'r, 'a, T, P>,
-    table: &EntryTable<'a, T>,
-    numbers: &[usize],
-) -> Cites<'r, 'a, T, P>
-    requires placed { ArePlaced T.eq (table_view table.now) (renders_view cites.entry.renders.items) }
-    ensures { renders_view result.renders.items
-        ≡ with_final_properties T.eq P.eq (numbered_by T.eq numbers.now (table_view table.now).entries) (renders_view cites.entry.renders.items) }
-{
-    set_final_properties(&mut cites.renders, table, numbers);
-    cites
-}
-
-/// The cites, those of each request drawn together where none of them has a purpose.
-fn drawn_together<'r, 'a, T, P: Drop>(mut cites: Cites<'r, 'a, T, P>) -> Cites<'r, 'a, T, P>
-    ensures { renders_view result.renders.items ≡ map drawn_together (renders_view cites.entry.renders.items) }
-{
-    draw_together(&mut cites.renders);
-    cites
+    })
 }
 
 /// Brings the cites of each request into their blocks.
@@ -195,25 +143,28 @@ fn final_numbers<'a, T: EntryLike, P>(
     }
 }
 
-/// The cites of all requests in their final order, with their final positions and numbers.
-fn cites_in_the_end<'r, 'a, T: EntryLike, P: Eq + Drop>(
+/// Tells the cites of all requests apart, brings them into their final order, and sets their final
+/// positions and numbers.
+fn settle<'a, T: EntryLike, P: Eq>(
     alloc: Global,
-    requests: &'r [CitationRequest<'a, T, P>],
+    requests: &[CitationRequest<'a, T, P>],
     wanted: &BibliographyRequest<'_, 'a, T>,
     cited: &Cited<'a, T>,
+    cites: &mut [SpeculativeCiteRender<'_, 'a, T, P>],
     renders: &mut Renders,
-) -> Result<Cites<'r, 'a, T, P>, AllocError>
+) -> Result<(), AllocError>
     requires no_ring { NoRingIn (requests_view requests.now) }
     requires known { IsCitedBy T.eq (requests_view requests.now) (order_in_use (wanted_view wanted.now)) cited.now }
-    ensures cites { IfOk result (λ c. renders_view c.renders.items
+    requires first { renders_view cites.old ≡ rendered_first T.eq P.eq T.answers (wanted_view wanted.now) (requests_view requests.now) cited.now.offset }
+    ensures settled { OnOk result (renders_view cites.new
         ≡ in_the_end T.eq P.eq T.answers (wanted_view wanted.now) (requests_view requests.now) cited.now.offset) }
-    ensures placed { IfOk result (λ c. AreCitesOf T.eq (table_view cited.now.table) (requests_view requests.now) (renders_view c.renders.items)) }
+    ensures stand { OnOk result (AreCitesOf T.eq (table_view cited.now.table) (requests_view requests.now) (renders_view cites.new)) }
 {
-    let numbers = cited.numbers(alloc, &cited.listing)?;
-    let cites = told_apart(alloc, requests, &cited.table, &numbers, renders)?;
-    let cites = in_blocks(alloc, cites)?;
-    let numbers = final_numbers(alloc, requests, wanted, cited, &cites.renders)?;
-    Ok(with_final_properties(cites, &cited.table, &numbers))
+    disambiguate(alloc, cites, &cited.table, renders)?;
+    group_all(alloc, cites)?;
+    let numbers = final_numbers(alloc, requests, wanted, cited, cites)?;
+    set_final_properties(cites, &cited.table, &numbers);
+    Ok(())
 }
 
 /// Draws the cites of a request together, where none of them has a purpose.
@@ -253,6 +204,30 @@ fn rendered_citations<T: EntryLike, P: Drop>(
     Ok(citations)
 }
 
+/// The answer, from the cites of all requests as they were rendered first.
+fn answer_from<'a, T: EntryLike, P: Eq + Drop>(
+    alloc: Global,
+    requests: &[CitationRequest<'a, T, P>],
+    wanted: &BibliographyRequest<'_, 'a, T>,
+    cited: &Cited<'a, T>,
+    cites: &mut [SpeculativeCiteRender<'_, 'a, T, P>],
+    renders: &mut Renders,
+) -> Result<Rendered, AllocError>
+    requires no_ring { NoRingAtAll (requests_view requests.now) (style_view wanted.now.style.now) }
+    requires known { IsCitedBy T.eq (requests_view requests.now) (order_in_use (wanted_view wanted.now)) cited.now }
+    requires first { renders_view cites.old ≡ rendered_first T.eq P.eq T.answers (wanted_view wanted.now) (requests_view requests.now) cited.now.offset }
+    ensures { IfOk result (λ r. r ≡ rendered T.eq P.eq T.answers (wanted_view wanted.now) (requests_view requests.now) cited.now.offset) }
+{
+    settle(alloc, requests, wanted, cited, cites, renders)?;
+    let bibliography = wanted_bibliography(alloc, requests, wanted, cited, cites, renders)?;
+    draw_together(cites);
+    let citations = rendered_citations(alloc, cites, renders)?;
+    Ok(Rendered {
+        citations: Seq::new(citations),
+        bibliography,
+    })
+}
+
 /// The answer to the requests.
 fn answer<'a, T: EntryLike, P: Eq + Drop>(
     alloc: Global,
@@ -268,24 +243,28 @@ fn answer<'a, T: EntryLike, P: Eq + Drop>(
     refuse_rings(alloc, requests, wanted.style)?;
     let cited = cited_by(alloc, requests, wanted, offset)?;
     let mut renders = Renders::new();
-    let cites = cites_in_the_end(alloc, requests, wanted, &cited, &mut renders)?;
-    let bibliography =
-        wanted_bibliography(alloc, requests, wanted, &cited, &cites.renders, &mut renders)?;
-    let cites = drawn_together(cites);
-    let citations = rendered_citations(alloc, &cites.renders, &mut renders)?;
-    Ok(Rendered {
-        citations: Seq::new(citations),
-        bibliography,
-    })
+    let mut cites = rendered_first(alloc, requests, wanted, &cited, &mut renders)?;
+    let rendered = answer_from(
+        alloc,
+        requests,
+        wanted,
+        &cited,
+        &mut cites.renders,
+        &mut renders,
+    )?;
+    Ok(rendered)
 }
 
 impl<'a, T: EntryLike, P: Eq + Drop> BibliographyDriver<'a, T, P> {
     /// Answers all requests: a citation for each, and the bibliography, where its style has one.
     ///
-    /// Each shown cite is rendered once, for its purpose, by its locator and its number; a cite of the
-    /// year alone is its date text. The entries of the bibliography are those of the handed order
-    /// that are cited, and then all that are cited, each rendered once. Their numbers begin at the
-    /// offset.
+    /// Cites that read alike are told apart, cites of one author are grouped, and runs of numbers and years
+    /// are collapsed, as their styles ask for (CSL 1.0.2, disambiguation, cite grouping, cite collapsing);
+    /// positions and numbers are those of the final order. Each cite is written for its purpose, by its
+    /// locator; a cite of the year alone is its date text. The entries of the bibliography are those of the
+    /// handed order that are cited, and then all that are cited, with repeated authors substituted and first
+    /// fields apart where its style asks for it. Where an order is handed in and the style has a bibliography
+    /// its order gives the numbers, else that of the cites; they begin at the offset.
     ///
     /// # Errors
     /// `MacroRing` exactly where a style has macros that call each other in a ring; `NumberOverflow`

@@ -4,10 +4,10 @@
 //! values, entries and trees, and what a cite is written with.
 #![tactic(auto)]
 
+pub use csl_assembly::rendered;
 pub use csl_base::{
     elem, element, entry, formatting, initials, locale, names, seq, stack, style, taxonomy, text,
 };
-pub use csl_assembly::rendered;
 pub use csl_entries::laws;
 pub use csl_passes::{item, request};
 pub use csl_writing::{

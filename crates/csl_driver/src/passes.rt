@@ -6,6 +6,7 @@ pub use csl_ambiguity::suffixes::disambiguate_year_suffix;
 pub use csl_collapse::collapse::collapse_items;
 pub use csl_grouping::grouping::group_cites;
 pub use csl_name_marks::marks::disambiguate_names;
+pub use csl_passes::positions::with_last;
 pub use csl_passes::renders::{
     AmbiguousGroup, Marks, SpeculativeCiteRender, SpeculativeItemRender,
 };

@@ -1,6 +1,5 @@
 //! Styles whose macros call each other in a ring are refused before anything is rendered.
-ghost use Rattle.std.specs.Prelude.{◌≡◌, ℕ, IfOk, IfErr, IfSome, OnOk, None};
-ghost use Rattle.csl_base.specs.Ring.{HasNoRing};
+ghost use Rattle.std.specs.Prelude.{◌≡◌, IfOk, IfErr, IfSome, OnOk, None};
 ghost use Rattle.csl_base.specs.StyleView.{style_view};
 ghost use Rattle.csl_passes.specs.RequestView.{requests_view};
 ghost use Rattle.csl_driver.specs.Rings.{IsFirstRingOf, NoRingAtAll, NoRingIn, RefusesRing};

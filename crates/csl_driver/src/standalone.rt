@@ -46,7 +46,7 @@ fn lone_cites<'r, T: EntryLike, P: Drop>(
     requires no_ring { HasNoRing (style_view request.now.style.now).macros }
     ensures { IfOk result (λ cites. shown_views cites.items
         ≡ map (behind (lone_delimiter (request_view request.now).style.citation.layout))
-            (lone_trees T.answers (source_of (request_view request.now)) (request_view request.now).cites)) }
+        (lone_trees T.answers (source_of (request_view request.now)) (request_view request.now).cites)) }
 {
     let delimiter = delimiter_of(&request.style().citation.layout);
     let context = request_context(request);

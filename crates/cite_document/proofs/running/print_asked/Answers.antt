@@ -8,7 +8,7 @@ use Rattle.csl_passes.specs.RequestView.{order_view}
 use Rattle.document_reading.specs.AskedView.{asked_requests_view}
 use Rattle.document_reading.specs.DocumentView.{document_view}
 use Rattle.cite_document.specs.Run.{accepted, same_entry, same_payload, wanted_of}
-use Rattle.cite_document.proofs.Refusals.{any-payload, has_answer, is_answer, too_large}
+use Rattle.cite_document.proofs.Refusals.{has_answer, is_answer, too_large}
 use Rattle.cite_document.proofs.running.print_asked.Goals as goal
 
 pub returns-in_ok-print_rendered-in-Ok : goal.returns-in_ok-print_rendered-in-Ok
@@ -23,8 +23,7 @@ returns-in_ok-print_rendered-in-Ok c =
     let text = string_bytes c.in_ok-print_rendered-in-Ok.field-0 in
     let order = order_view c.order_of.result in
     let answered : c.in-Ok.rendered ≡ rendered same_entry same_payload plain_answers (record (wanted_of d) { order = order }) v.requests v.offset =
-    c.in-Ok.ensures.ok ∙ ap (λ l. rendered same_entry _ plain_answers (record (wanted_of d) { locale = l; order = order }) v.requests v.offset) c.in_ok-copied_code.ensures
-    ∙ ap (λ q. rendered same_entry q plain_answers (record (wanted_of d) { order = order }) v.requests v.offset) (any-payload _) in
+    c.in-Ok.ensures.ok ∙ ap (λ l. rendered same_entry same_payload plain_answers (record (wanted_of d) { locale = l; order = order }) v.requests v.offset) c.in_ok-copied_code.ensures in
     (d, refl, (a, is_answer v d made order c.in-Ok.rendered text c.order_of.ensures answered c.in_ok-print_rendered-in-Ok.ensures))
 
 pub returns-in-Err-NumberOverflow : goal.returns-in-Err-NumberOverflow

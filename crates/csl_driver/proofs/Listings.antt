@@ -1,0 +1,53 @@
+-- The places of entries that are listed or cited lie within their table.
+use Rattle.std.proofs.Common.{Option, ◌≡◌, ◌+◌, ◌<◌, ◌^◌, Bool, true, List, [], ◌∷◌, length, map, ap, sym, subst}
+use Rattle.std.specs.Prelude.{All}
+use Rattle.std.specs.Cmp.{IsEquivalence}
+use Rattle.std.proofs.lemmas.List.Elements.{All-cons, All-nil}
+use Rattle.csl_driver.specs.Cited.{IsCitedBy}
+use Rattle.csl_driver.specs.declared.cited.Cited.{Cited}
+use Rattle.csl_entries.specs.Entries.{bibliography_order, distinct}
+use Rattle.csl_entries.specs.Laws.{NoTwoEqual}
+use Rattle.csl_entries.specs.Listed.{IsListingOf, Listed}
+use Rattle.csl_entries.specs.ListingView.{listing_view}
+use Rattle.csl_entries.specs.Table.{Table, places_in, table_of}
+use Rattle.csl_entries.specs.TableView.{table_view}
+use Rattle.csl_entries.proofs.Distinct.{is_in-distinct}
+use Rattle.csl_entries.proofs.ListedPlaces.{all-cited, places-below}
+use Rattle.csl_entries.proofs.Once.{NoTwoEqual-distinct}
+use Rattle.csl_entries.proofs.Placing.{all_in, all_in-behind, all_in-front}
+use Rattle.csl_passes.specs.Request.{Request, cited, entries_of}
+
+module _ {E : Type 0} (eq : E → E → Bool) (laws : IsEquivalence eq) where
+  -- of a listing
+  pub listed-within : (entries order : List E) (l : Listed) → IsListingOf eq entries order l → All (λ p. p < length entries) l.order
+  listed-within entries order l h =
+      subst (All (λ p. p < length entries)) (sym (ap (λ (m : Listed). m.order) h.listed)) (places-below eq laws entries order (all-cited eq laws entries order h.same))
+
+  module _ {P : Type 0} where
+    rows-within : (entries : List E) (requests : List (Request E P)) → all_in eq laws entries (cited requests) ≡ true
+        → All (λ ps. All (λ p. p < length entries) ps) (map (λ r. places_in eq entries r.cites) requests)
+    rows-within entries [] h = All-nil (λ ps. All (λ p. p < length entries) ps)
+    rows-within entries (r ∷ requests) h =
+        All-cons (λ ps. All (λ p. p < length entries) ps) (places_in eq entries r.cites) (map (λ q. places_in eq entries q.cites) requests)
+        (places-below eq laws entries (entries_of r.cites) (all_in-front eq laws entries (entries_of r.cites) (cited requests) h))
+        (rows-within entries requests (all_in-behind eq laws entries (entries_of r.cites) (cited requests) h))
+
+    module _ (requests : List (Request E P)) (table : Table E) (is : table ≡ table_of eq requests) where
+      -- of a table of requests
+      pub table-within : All (λ ps. All (λ p. p < length table.entries) ps) table.places
+      table-within =
+          subst (λ (t : Table E). All (λ ps. All (λ p. p < length t.entries) ps) t.places) (sym is)
+          (rows-within (distinct eq (cited requests)) requests
+          (all-cited eq laws (distinct eq (cited requests)) (cited requests) (λ e. sym (is_in-distinct eq laws e (cited requests)))))
+
+      -- each of its entries stands there once
+      pub table-once : NoTwoEqual eq table.entries
+      table-once = subst (λ (t : Table E). NoTwoEqual eq t.entries) (sym is) (NoTwoEqual-distinct eq laws (cited requests))
+
+-- what is known of the cited entries, over the table's own entries
+module _ {E P : Type 0} (eq : E → E → Bool) (requests : List (Request E P)) (order : Option (List E)) (c : Cited E) (known : IsCitedBy eq requests order c) where
+  pub known-listed : IsListingOf eq (table_view c.table).entries (bibliography_order eq order (cited requests)) (listing_view c.listing)
+  known-listed = subst (λ (t : Table E). IsListingOf eq t.entries (bibliography_order eq order (cited requests)) (listing_view c.listing)) (sym known.table) known.listed
+
+  pub known-fits : c.offset + length (table_view c.table).entries < 2 ^ 64
+  known-fits = subst (λ (t : Table E). c.offset + length t.entries < 2 ^ 64) (sym known.table) known.fits

@@ -1,0 +1,32 @@
+-- The whole answer, put together.
+use Rattle.std.proofs.Common.{◌≡◌, ℕ, Bool, List, Option, map, ap, ◌∙◌}
+use Rattle.std.specs.Prelude.{option_map}
+use Rattle.std.specs.List.{filter_map}
+use Rattle.csl_assembly.specs.BibliographyItems.{bibliography_of}
+use Rattle.csl_assembly.specs.declared.rendered.Rendered.{Rendered}
+use Rattle.csl_assembly.specs.declared.rendered.RenderedBibliography.{RenderedBibliography}
+use Rattle.csl_assembly.specs.declared.rendered.RenderedCitation.{RenderedCitation}
+use Rattle.csl_base.specs.Answers.{Answers}
+use Rattle.csl_driver.specs.Answer.{citation_of, drawn_together, entries_listed, in_the_end, rendered}
+use Rattle.csl_passes.specs.Renders.{CiteRender}
+use Rattle.csl_passes.specs.Request.{Request, Wanted, wanted_source}
+use Rattle.csl_positions.specs.FinalProperties.{first_item}
+use Rattle.csl_positions.proofs.Tables.{map-map}
+
+module _ {E P : Type 0} (eq : E → E → Bool) (payload_eq : P → P → Bool) (answers : E → Answers) (wanted : Wanted E) (requests : List (Request E P)) (offset : ℕ)
+    (settled drawn : List (CiteRender E P)) (in_end : settled ≡ in_the_end eq payload_eq answers wanted requests offset) (together : drawn ≡ map drawn_together settled) where
+  pub whole : {citations : List RenderedCitation} {bibliography : Option RenderedBibliography} → citations ≡ map (citation_of answers) drawn
+      → bibliography ≡ option_map (λ b. bibliography_of answers (wanted_source wanted) b (filter_map (first_item eq settled) (entries_listed eq wanted requests))) wanted.style.bibliography
+      → let r : Rendered = record { bibliography = bibliography; citations = citations } in r ≡ rendered eq payload_eq answers wanted requests offset
+  whole {citations} {bibliography} cites items = λ i. record { bibliography = all_items i; citations = all_cites i }
+    where
+      last : List (CiteRender E P)
+      last = in_the_end eq payload_eq answers wanted requests offset
+
+      all_cites : citations ≡ map (λ c. citation_of answers (drawn_together c)) last
+      all_cites = cites ∙ ap (map (citation_of answers)) (together ∙ ap (map drawn_together) in_end) ∙ map-map (citation_of answers) drawn_together last
+
+      all_items : bibliography ≡ option_map (λ b. bibliography_of answers (wanted_source wanted) b (filter_map (first_item eq last) (entries_listed eq wanted requests))) wanted.style.bibliography
+      all_items =
+          items
+          ∙ ap (λ cs. option_map (λ b. bibliography_of answers (wanted_source wanted) b (filter_map (first_item eq cs) (entries_listed eq wanted requests))) wanted.style.bibliography) in_end

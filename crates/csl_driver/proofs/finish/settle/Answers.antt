@@ -1,0 +1,87 @@
+use Rattle.std.proofs.Common.{ap, map, subst, sym, ◌∙◌}
+use Rattle.csl_base.specs.Ring.{HasNoRing}
+use Rattle.csl_driver.specs.Answer.{entries_listed, numbered_finally, order_in_use}
+use Rattle.csl_driver.specs.AreCitesOf.{AreCitesOf}
+use Rattle.csl_entries.specs.Entries.{number}
+use Rattle.csl_entries.specs.TableView.{table_view}
+use Rattle.csl_grouping.specs.Blocks.{grouped}
+use Rattle.csl_passes.specs.RendersView.{renders_view}
+use Rattle.csl_passes.specs.RequestView.{requests_view, wanted_view}
+use Rattle.csl_positions.specs.FinalProperties.{with_final_properties}
+use Rattle.csl_positions.specs.FirstProperties.{numbered_by}
+use Rattle.csl_rounds.specs.Rounds.{disambiguated}
+use Rattle.csl_driver.proofs.FirstPlaced.{first-places}
+use Rattle.csl_driver.proofs.Listings.{table-within}
+use Rattle.csl_driver.proofs.Standing.{begun-stand, final-stand, of-requests, ordered-stand}
+use Rattle.csl_driver.proofs.finish.settle.Goals as goal
+
+pub disambiguate-requires-clause-no_ring : goal.disambiguate-requires-clause-no_ring
+disambiguate-requires-clause-no_ring g c =
+    let eq = g.T.PartialEq.eq in
+    let requests = requests_view c.args.requests.now in
+    let wanted = wanted_view c.args.wanted.now in
+    let cited_now = c.args.cited.now in
+    let peq = g.P.PartialEq.eq in
+    let stand = begun-stand eq g.met.T.Eq.laws g.T.EntryLike.answers peq (number eq cited_now.offset (entries_listed eq wanted requests)) requests (table_view cited_now.table) c.requires.known.table (renders_view c.args.cites.now) c.requires.first in
+    of-requests (λ r. HasNoRing r.style.macros) (renders_view c.args.cites.now) requests stand.of c.requires.no_ring
+
+pub disambiguate-requires-clause-placed : goal.disambiguate-requires-clause-placed
+disambiguate-requires-clause-placed g c =
+    let eq = g.T.PartialEq.eq in
+    let requests = requests_view c.args.requests.now in
+    let wanted = wanted_view c.args.wanted.now in
+    let cited_now = c.args.cited.now in
+    let peq = g.P.PartialEq.eq in
+    first-places eq peq g.T.EntryLike.answers (number eq cited_now.offset (entries_listed eq wanted requests)) requests
+    (table_view cited_now.table) c.requires.known.table (renders_view c.args.cites.now) c.requires.first
+
+pub disambiguate-requires-clause-listed : goal.disambiguate-requires-clause-listed
+disambiguate-requires-clause-listed g c = table-within g.T.PartialEq.eq g.met.T.Eq.laws (requests_view c.args.requests.now) (table_view c.args.cited.now.table) c.requires.known.table
+
+pub final_numbers-requires-clause-cites : goal.final_numbers-requires-clause-cites
+final_numbers-requires-clause-cites g c =
+    let eq = g.T.PartialEq.eq in
+    let requests = requests_view c.args.requests.now in
+    let wanted = wanted_view c.args.wanted.now in
+    let cited_now = c.args.cited.now in
+    let peq = g.P.PartialEq.eq in
+    ordered-stand eq g.met.T.Eq.laws g.T.EntryLike.answers peq (number eq cited_now.offset (entries_listed eq wanted requests)) requests (table_view cited_now.table) c.requires.known.table (renders_view c.args.cites.now) c.requires.first
+    (renders_view c.disambiguate.new.renders) (renders_view c.group_all.new.cites) c.in_ok-disambiguate.ensures c.in_ok-group_all.ensures
+
+pub set_final_properties-requires : goal.set_final_properties-requires
+set_final_properties-requires g c =
+    let eq = g.T.PartialEq.eq in
+    let requests = requests_view c.args.requests.now in
+    let wanted = wanted_view c.args.wanted.now in
+    let cited_now = c.args.cited.now in
+    let peq = g.P.PartialEq.eq in
+    let stand = ordered-stand eq g.met.T.Eq.laws g.T.EntryLike.answers peq (number eq cited_now.offset (entries_listed eq wanted requests)) requests (table_view cited_now.table) c.requires.known.table (renders_view c.args.cites.now) c.requires.first
+    (renders_view c.disambiguate.new.renders) (renders_view c.group_all.new.cites) c.in_ok-disambiguate.ensures c.in_ok-group_all.ensures in
+    record { placed = stand.placed }
+
+pub returns-clause-settled : goal.returns-clause-settled
+returns-clause-settled g c =
+    let eq = g.T.PartialEq.eq in
+    let requests = requests_view c.args.requests.now in
+    let wanted = wanted_view c.args.wanted.now in
+    let cited_now = c.args.cited.now in
+    let order = order_in_use wanted in
+    let peq = g.P.PartialEq.eq in
+    let now = renders_view c.group_all.new.cites in
+    c.set_final_properties.ensures ∙ ap (λ ns. with_final_properties eq peq (numbered_by eq ns (table_view cited_now.table).entries) now) c.deref.ensures.value
+    ∙ ap (λ number_of. with_final_properties eq peq number_of now) c.in_ok-numbers.ensures
+    ∙ ap (λ cs. with_final_properties eq peq (number eq cited_now.offset (numbered_finally eq order requests cs)) cs)
+    (c.in_ok-group_all.ensures ∙ ap (map grouped) (c.in_ok-disambiguate.ensures ∙ ap (disambiguated eq g.T.EntryLike.answers) c.requires.first))
+
+pub returns-clause-stand : goal.returns-clause-stand
+returns-clause-stand g c =
+    let eq = g.T.PartialEq.eq in
+    let requests = requests_view c.args.requests.now in
+    let wanted = wanted_view c.args.wanted.now in
+    let cited_now = c.args.cited.now in
+    let peq = g.P.PartialEq.eq in
+    let stand = ordered-stand eq g.met.T.Eq.laws g.T.EntryLike.answers peq (number eq cited_now.offset (entries_listed eq wanted requests)) requests (table_view cited_now.table) c.requires.known.table (renders_view c.args.cites.now) c.requires.first
+    (renders_view c.disambiguate.new.renders) (renders_view c.group_all.new.cites) c.in_ok-disambiguate.ensures c.in_ok-group_all.ensures in
+    let number_of = numbered_by eq c.deref.result.now (table_view cited_now.table).entries in
+    subst (AreCitesOf eq (table_view cited_now.table) requests) (sym c.set_final_properties.ensures)
+    (final-stand eq g.met.T.Eq.laws g.T.EntryLike.answers (table_view cited_now.table) requests (renders_view c.group_all.new.cites) stand peq number_of)
