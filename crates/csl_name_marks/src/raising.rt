@@ -1,9 +1,11 @@
 //! How far given names are written to tell persons apart.
-ghost use Rattle.std.specs.Prelude.{◌≡◌, ◌∷◌, [], IfOk, OnOk};
+ghost use Rattle.std.specs.Prelude.{◌≡◌, ◌∷◌, [], true, IfOk, OnOk};
 ghost use Rattle.std.specs.List.{flat_map};
+ghost use Rattle.csl_name_marks.specs.ByName.{AreByName, persons_elsewhere, shown};
 ghost use Rattle.csl_name_marks.specs.Raising.{fuller, is_namesake, raise, raised, same_initials};
 ghost use Rattle.csl_name_marks.specs.Steps.{others};
 
+use crate::by_name::{ByName, Holder};
 use crate::named_cite::NamedCite;
 use crate::steps::same_place;
 use csl_base::entry::Person;
@@ -61,18 +63,34 @@ fn raised_by(
     }
 }
 
-/// The form of a person, raised among those of another member.
-fn raised(
+fn is_full(form: DisambiguatedNameForm) -> bool
+    ensures { result ≡ true → form ≡ DisambiguatedNameForm.LongFull }
+{
+    match form {
+        DisambiguatedNameForm::LongFull => true,
+        _ => false,
+    }
+}
+
+/// The form of a person, raised among those whose holders stand elsewhere than at this place. A full
+/// form is decided.
+fn raised_elsewhere(
     alloc: Global,
     person: &Person,
-    member: &NamedCite,
+    place: (usize, usize),
+    holders: &[Holder],
     form: DisambiguatedNameForm,
 ) -> Result<DisambiguatedNameForm, AllocError>
-    ensures { IfOk result (λ r. r ≡ raised person.now member.now.persons form) }
+    ensures { IfOk result (λ r. r ≡ raised person.now (persons_elsewhere place holders.now) form) }
 {
     let mut form = form;
-    for other in member.persons.as_slice() {
-        form = raised_by(alloc, person, other, form)?;
+    for holder in holders {
+        if is_full(form) {
+            return Ok(form);
+        }
+        if !same_place(place, holder.place) {
+            form = raised_by(alloc, person, &holder.person, form)?;
+        }
     }
     Ok(form)
 }
@@ -83,17 +101,16 @@ fn raised_in_group(
     person: &Person,
     member: &NamedCite,
     group: &[NamedCite],
+    by_name: &ByName,
     form: DisambiguatedNameForm,
 ) -> Result<DisambiguatedNameForm, AllocError>
+    requires { AreByName by_name.now (shown group.now) }
     ensures { IfOk result (λ r. r ≡ raised person.now (flat_map (λ y. y.persons) (others group.now member.now)) form) }
 {
-    let mut form = form;
-    for other in group {
-        if !same_place(member.place, other.place) {
-            form = raised(alloc, person, other, form)?;
-        }
+    match by_name.get(&person.name) {
+        Some(holders) => raised_elsewhere(alloc, person, member.place, holders, form),
+        None => Ok(form),
     }
-    Ok(form)
 }
 
 /// Raises the form of a member's name `i`, counted from 1. Nothing changes at 0, where the member has
@@ -102,9 +119,11 @@ pub(crate) fn raise(
     alloc: Global,
     member: &NamedCite,
     group: &[NamedCite],
+    by_name: &ByName,
     i: usize,
     forms: &mut NameDisambiguationProperties,
 ) -> Result<(), AllocError>
+    requires { AreByName by_name.now (shown group.now) }
     ensures { OnOk result (forms.new ≡ record { forms = raise group.now member.now i forms.old.forms }) }
 {
     if i == 0 {
@@ -114,7 +133,7 @@ pub(crate) fn raise(
         return Ok(());
     };
     if let Some(form) = forms.get_form_mut(i - 1) {
-        *form = raised_in_group(alloc, person, member, group, *form)?;
+        *form = raised_in_group(alloc, person, member, group, by_name, *form)?;
     }
     Ok(())
 }
