@@ -1,7 +1,7 @@
 //! Entries: what they answer, and copies of what they hold.
-use csl_base::entry::{Chunk, ChunkKind, ChunkedString, EntryLike, Person, PlainEntry};
+use csl_base::entry::{Chunk, ChunkKind, ChunkedString, Date, EntryLike, Person, PlainEntry};
 use csl_base::seq::Seq;
-use csl_base::taxonomy::{NameVariable, StandardVariable};
+use csl_base::taxonomy::{DateVariable, NameVariable, NumberVariable, StandardVariable};
 use csl_base::text::Text;
 use row_styles::styles::entry;
 use std::alloc::{AllocError, Global};
@@ -55,6 +55,44 @@ fn the_first_pair_answers(rt: HostRuntime) -> Result<(), Fail> {
     assert!(rt; persons[0] == person(alloc, "Roe")?);
     let title = doubled.resolve_standard_variable(StandardVariable::Title);
     assert!(rt; title.ok_or("no title")? == &chunked(alloc, "One")?);
+    Ok(())
+}
+
+#[test]
+fn what_is_absent_gives_none(rt: HostRuntime) -> Result<(), Fail> {
+    let doubled = doubled(rt.alloc())?;
+    assert_eq!(rt; doubled.key(), "k");
+    assert!(rt; doubled.citation_label().is_none());
+    assert!(rt;
+        doubled
+            .resolve_name_variable(NameVariable::Author)
+            .is_empty()
+    );
+    assert!(rt;
+        doubled
+            .resolve_date_variable(DateVariable::Issued)
+            .is_none()
+    );
+    assert!(rt;
+        doubled
+            .resolve_number_variable(NumberVariable::Volume)
+            .is_none()
+    );
+    Ok(())
+}
+
+#[test]
+fn answers_dates_numbers_and_labels(rt: HostRuntime) -> Result<(), Fail> {
+    let alloc = rt.alloc();
+    let mut one = entry(alloc, "k")?;
+    one.label = Some(text(alloc, "Che+21")?);
+    one.dates = Seq::new(vec![in alloc; (DateVariable::Issued, Date { year: -43 })]?);
+    one.numbers = Seq::new(vec![in alloc; (NumberVariable::Volume, text(alloc, "7")?)]?);
+    assert_eq!(rt; one.citation_label().ok_or("no label")?, "Che+21");
+    let issued = one.resolve_date_variable(DateVariable::Issued);
+    assert!(rt; issued.ok_or("no date")?.year == -43);
+    let volume = one.resolve_number_variable(NumberVariable::Volume);
+    assert_eq!(rt; volume.ok_or("no volume")?, "7");
     Ok(())
 }
 

@@ -1,6 +1,6 @@
 //! Rings of macros that call each other.
-use csl_base::element::{CslMacro, LayoutRenderingElement};
-use row_styles::styles::{call, numeric};
+use csl_base::element::{ChooseBranch, ChooseMatch, Condition, CslMacro, LayoutRenderingElement};
+use row_styles::styles::{call, group, numeric};
 use std::alloc::AllocError;
 use std::test::Fail;
 
@@ -42,13 +42,70 @@ fn ring_of(rt: &HostRuntime, rows: &[(&str, &[&str])]) -> Result<Option<usize>, 
 
 #[test]
 fn finds_the_first_macro_on_a_ring(rt: HostRuntime) -> Result<(), Fail> {
+    assert!(rt; ring_of(&rt, &[])? == None);
+    assert!(rt; ring_of(&rt, &[("p", &["q"]), ("q", &["p"])])? == Some(0));
     assert!(rt; ring_of(&rt, &[("p", &["q"]), ("q", &["q"])])? == Some(1));
+    assert!(rt; ring_of(&rt, &[("p", &[]), ("p", &["p"])])? == None);
+    assert!(rt; ring_of(&rt, &[("p", &["z"])])? == None);
+    assert!(rt; ring_of(&rt, &[("p", &["p"])])? == Some(0));
+    assert!(rt; ring_of(&rt, &[("p", &["p"]), ("p", &[])])? == Some(0));
     assert!(rt;
         ring_of(
             &rt,
             &[("a", &["b"]), ("b", &["c", "d"]), ("c", &[]), ("d", &["b"])]
         )? == Some(1)
     );
+    Ok(())
+}
+
+/// The ring of one macro that calls itself from inside the elements that `wrap` makes of the call.
+fn ring_inside(
+    rt: &HostRuntime,
+    children: Vec<LayoutRenderingElement>,
+) -> Result<Option<usize>, AllocError> {
+    let mut macros = Vec::new(rt.alloc());
+    add(rt, &mut macros, "p", children)?;
+    ring_in(rt, macros)
+}
+
+fn one(
+    rt: &HostRuntime,
+    element: LayoutRenderingElement,
+) -> Result<Vec<LayoutRenderingElement>, AllocError> {
+    let mut elements = Vec::new(rt.alloc());
+    elements.push(element)?;
+    Ok(elements)
+}
+
+/// A choice of one branch and what stands otherwise.
+fn choose(
+    rt: &HostRuntime,
+    children: Vec<LayoutRenderingElement>,
+    otherwise: Vec<LayoutRenderingElement>,
+) -> Result<LayoutRenderingElement, AllocError> {
+    let conditions = vec![in rt.alloc(); Condition::Disambiguate]?;
+    let mut branches = Vec::new(rt.alloc());
+    branches.push(ChooseBranch {
+        conditions,
+        rule: ChooseMatch::All,
+        children,
+    })?;
+    Ok(LayoutRenderingElement::Choose {
+        branches,
+        otherwise,
+    })
+}
+
+#[test]
+fn calls_count_wherever_they_stand(rt: HostRuntime) -> Result<(), Fail> {
+    let none = Vec::new(rt.alloc());
+    let nothing = Vec::new(rt.alloc());
+    let in_group = one(&rt, group(rt.alloc(), calls(&rt, &["p"])?, " ")?)?;
+    assert!(rt; ring_inside(&rt, in_group)? == Some(0));
+    let in_branch = one(&rt, choose(&rt, calls(&rt, &["p"])?, none)?)?;
+    assert!(rt; ring_inside(&rt, in_branch)? == Some(0));
+    let otherwise = one(&rt, choose(&rt, nothing, calls(&rt, &["p"])?)?)?;
+    assert!(rt; ring_inside(&rt, otherwise)? == Some(0));
     Ok(())
 }
 
@@ -73,6 +130,7 @@ fn chain(rt: &HostRuntime, length: usize, end: usize) -> Result<Option<usize>, A
 #[test]
 fn long_chains_are_answered_at_once(rt: HostRuntime) -> Result<(), Fail> {
     assert!(rt; chain(&rt, 2000, 2000)? == None);
+    assert!(rt; chain(&rt, 2000, 0)? == Some(0));
     assert!(rt; chain(&rt, 2000, 1999)? == Some(1999));
     Ok(())
 }

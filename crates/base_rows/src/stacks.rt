@@ -18,6 +18,18 @@ fn grows_and_shrinks_at_the_top(rt: HostRuntime) -> Result<(), Fail> {
 }
 
 #[test]
+fn lends_its_ends(rt: HostRuntime) -> Result<(), Fail> {
+    let mut stack = NonEmptyStack::new(rt.alloc(), 1)?;
+    stack.push(2)?;
+    *stack.last_mut() = 20;
+    *stack.first_mut() = 10;
+    assert_eq!(rt; stack.pop(), Some(20));
+    *stack.last_mut() = 11;
+    assert_eq!(rt; stack.finish(), 11);
+    Ok(())
+}
+
+#[test]
 fn lends_the_topmost_that_passes(rt: HostRuntime) -> Result<(), Fail> {
     let mut stack = NonEmptyStack::new(rt.alloc(), 2)?;
     stack.push(4)?;
@@ -29,5 +41,20 @@ fn lends_the_topmost_that_passes(rt: HostRuntime) -> Result<(), Fail> {
     assert_eq!(rt; stack.pop(), Some(5));
     assert_eq!(rt; stack.pop(), Some(40));
     assert_eq!(rt; stack.finish(), 2);
+    Ok(())
+}
+
+#[test]
+fn is_cut_from_above(rt: HostRuntime) -> Result<(), Fail> {
+    let mut stack = NonEmptyStack::new(rt.alloc(), 1)?;
+    stack.push(2)?;
+    stack.push(3)?;
+    stack.cut(5);
+    assert_eq!(rt; stack.len(), 3);
+    stack.cut(2);
+    assert_eq!(rt; *stack.last(), 2);
+    stack.cut(1);
+    assert_eq!(rt; stack.len(), 1);
+    assert_eq!(rt; stack.finish(), 1);
     Ok(())
 }

@@ -2,7 +2,9 @@
 use csl_base::elem::{BufWriteFormat, Elem, ElemChild, ElemChildren, ElemMeta};
 use csl_base::entry::Person;
 use csl_base::equality::equality_laws;
-use csl_base::formatting::{Display, FontStyle, Formatted, Formatting};
+use csl_base::formatting::{
+    Display, FontStyle, FontWeight, Formatted, Formatting, StyleFormatting,
+};
 use csl_base::seq::Seq;
 use csl_base::simplify::simplify_laws;
 use csl_base::taxonomy::NameVariable;
@@ -88,12 +90,31 @@ fn writes_plain_text(rt: HostRuntime) -> Result<(), Fail> {
 
 #[test]
 fn has_content_beside_white_space(rt: HostRuntime) -> Result<(), Fail> {
-    for (bytes, want) in [("\u{A0}\u{3000}", false), ("\u{200B}", true)] {
+    for (bytes, want) in [
+        ("", false),
+        (" \t\n", false),
+        ("\u{A0}", false),
+        ("\u{3000}", false),
+        ("\u{A0}x\u{3000}", true),
+        ("\u{200B}", true),
+    ] {
         let tree = alone(&rt, bytes)?;
-        assert_eq!(rt; tree.has_content(), want);
-        assert_eq!(rt; text(&rt, bytes)?.has_content(), want);
-        assert!(rt; !tree.is_empty());
+        assert_eq!(rt; tree.has_content(), want, "of {bytes:?}");
+        assert_eq!(rt;
+            text(&rt, bytes)?.has_content(),
+            want,
+            "of the text {bytes:?}"
+        );
+        let mut outer = ElemChildren::new(rt.alloc());
+        outer.push(block(tree).into())?;
+        assert_eq!(rt; outer.has_content(), want, "of {bytes:?} in an element");
     }
+    let mut tree = ElemChildren::new(rt.alloc());
+    assert!(rt; !tree.has_content());
+    assert!(rt; tree.is_empty());
+    tree.push(link(&rt, "", "https://example.org/")?)?;
+    assert!(rt; tree.has_content(), "a link is content whatever its text");
+    assert!(rt; !tree.is_empty());
     Ok(())
 }
 
@@ -133,6 +154,17 @@ fn joins_adjacent_texts(rt: HostRuntime) -> Result<(), Fail> {
 }
 
 #[test]
+fn keeps_texts_of_other_weight_apart(rt: HostRuntime) -> Result<(), Fail> {
+    let mut bold = plain(&rt, "b")?;
+    bold.formatting.font_weight = FontWeight::Bold;
+    let mut tree = alone(&rt, "a")?;
+    tree.push(bold.into())?;
+    tree.simplify_children()?;
+    assert_eq!(rt; tree.into_vec().len(), 2);
+    Ok(())
+}
+
+#[test]
 fn copies_are_equal(rt: HostRuntime) -> Result<(), Fail> {
     equality_laws();
     let tree = each_kind(&rt)?;
@@ -146,7 +178,7 @@ fn copies_are_equal(rt: HostRuntime) -> Result<(), Fail> {
     other.meta = None;
     assert!(rt; !(other == block(alone(&rt, "a")?)), "another meta");
     let last = tree.last_text().ok_or("no last text")?;
-    assert!(rt; last.clone()? == plain(&rt, "!")?);
+    assert!(rt; *last == plain(&rt, "!")?);
     Ok(())
 }
 
@@ -193,5 +225,27 @@ fn copies_texts_and_lists(rt: HostRuntime) -> Result<(), Fail> {
     named.push((persons, NameVariable::Author))?;
     let meta = ElemMeta::Names(Seq::new(named));
     assert!(rt; meta.clone()? == meta);
+    Ok(())
+}
+
+#[test]
+fn applies_what_a_style_asks_for(rt: HostRuntime) -> Result<(), Fail> {
+    let mut slanted = Formatting::default();
+    slanted.font_style = FontStyle::Italic;
+    let bold = slanted.apply(StyleFormatting {
+        font_style: None,
+        font_weight: Some(FontWeight::Bold),
+    });
+    assert!(rt; bold.font_style == FontStyle::Italic);
+    assert!(rt; bold.font_weight == FontWeight::Bold);
+    let upright = bold.apply(StyleFormatting {
+        font_style: Some(FontStyle::Normal),
+        font_weight: None,
+    });
+    assert!(rt; upright.font_style == FontStyle::Normal);
+    assert!(rt; upright.font_weight == FontWeight::Bold);
+    let formatted = upright.add_text(String::from_str(rt.alloc(), "a")?);
+    assert!(rt; formatted.clone()? == formatted);
+    assert!(rt; formatted.formatting == upright);
     Ok(())
 }

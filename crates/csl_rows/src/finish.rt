@@ -134,13 +134,25 @@ fn ring_at(place: RingPlace) -> Option<DriverError> {
 }
 
 #[test]
+fn macro_ring(rt: HostRuntime) -> Result<(), Fail> {
+    let alloc = rt.alloc();
+    let cited = entry(alloc, "a")?;
+    let two = numeric_with_macros(alloc, &[("p", "q"), ("q", "p")])?;
+    let own = numeric_with_macros(alloc, &[("p", "p")])?;
+    assert!(rt; ring(alloc, &cited, &[&two], &two)? == ring_at(RingPlace::Request(0)));
+    assert!(rt; ring(alloc, &cited, &[&own], &own)? == ring_at(RingPlace::Request(0)));
+    assert!(rt; ring(alloc, &cited, &[], &two)? == ring_at(RingPlace::Bibliography));
+    Ok(())
+}
+
+#[test]
 fn first_macro_ring(rt: HostRuntime) -> Result<(), Fail> {
     let alloc = rt.alloc();
     let cited = entry(alloc, "a")?;
     let sound = numeric_with_macros(alloc, &[("p", "q"), ("q", "z")])?;
     let own = numeric_with_macros(alloc, &[("p", "p")])?;
     assert!(rt; ring(alloc, &cited, &[&sound, &own], &own)? == ring_at(RingPlace::Request(1)));
-    assert!(rt; ring(alloc, &cited, &[&sound], &own)? == ring_at(RingPlace::Bibliography));
+    assert!(rt; ring(alloc, &cited, &[&sound], &sound)? == Some(DriverError::NumberOverflow));
     Ok(())
 }
 

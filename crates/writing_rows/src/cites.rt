@@ -161,6 +161,15 @@ fn an_item_goes_by_what_cites_have_written(rt: HostRuntime) -> Result<(), Fail> 
 }
 
 #[test]
+fn a_style_without_a_bibliography_has_no_items(rt: HostRuntime) -> Result<(), Fail> {
+    let style = author_date(rt.alloc())?;
+    let cited = entry(rt.alloc(), "a")?;
+    let properties = in_state(DisambiguateState::None);
+    assert!(rt; item(rt.alloc(), &style, &cited, &properties)?.is_none());
+    Ok(())
+}
+
+#[test]
 fn verdicts_cut_a_cite(rt: HostRuntime) -> Result<(), Fail> {
     let alloc = rt.alloc();
     let style = author_date(alloc)?;
@@ -181,6 +190,21 @@ fn verdicts_cut_a_cite(rt: HostRuntime) -> Result<(), Fail> {
             text
         );
     }
+    Ok(())
+}
+
+#[test]
+fn a_suffix_of_its_own_stands_alone(rt: HostRuntime) -> Result<(), Fail> {
+    let alloc = rt.alloc();
+    let mut style = author_date(alloc)?;
+    let suffix = text_of(TextTarget::Standard(StandardVariable::YearSuffix));
+    style.citation.layout.elements.push(suffix)?;
+    let cited = dated(alloc, "Doe", 1999)?;
+    let third = in_state(DisambiguateState::YearSuffix(2));
+    assert_eq!(rt;
+        shown(alloc, &style, &cited, &third, None)?.as_str(),
+        "Doe 1999c"
+    );
     Ok(())
 }
 

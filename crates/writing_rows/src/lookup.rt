@@ -51,9 +51,26 @@ fn asks_the_primary_dialect_and_american_english(rt: HostRuntime) -> Result<(), 
     let style = numeric(rt.alloc())?;
     let files = files(rt.alloc())?;
     let austrian = code(rt.alloc(), "de-AT")?;
+    let french = code(rt.alloc(), "fr-FR")?;
     let found = et_al(&StyleContext::new(&style, Some(&austrian), &files));
     assert!(rt; found == Some("u. a."));
+    let found = et_al(&StyleContext::new(&style, Some(&french), &files));
+    assert!(rt; found == Some("et al."));
     let found = et_al(&StyleContext::new(&style, None, &files));
     assert!(rt; found == Some("et al."));
+    Ok(())
+}
+
+#[test]
+fn first_locale_that_says_so_decides_on_punctuation(rt: HostRuntime) -> Result<(), Fail> {
+    let style = numeric(rt.alloc())?;
+    let mut files = files(rt.alloc())?;
+    let context = StyleContext::new(&style, None, &files);
+    assert_eq!(rt; context.locale(), "en-US");
+    assert!(rt; !context.punctuation_in_quotes());
+    if let Some(american) = files.get_mut(1) {
+        american.punctuation_in_quote = Some(true);
+    }
+    assert!(rt; StyleContext::new(&style, None, &files).punctuation_in_quotes());
     Ok(())
 }

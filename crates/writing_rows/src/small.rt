@@ -14,8 +14,15 @@ use std::test::Fail;
 #[test]
 fn years(rt: HostRuntime) -> Result<(), Fail> {
     let rows = [
+        (2021, false, "2021"),
         (2021, true, "21"),
+        (1000, true, "00"),
+        (999, true, "999AD"),
+        (1, false, "1AD"),
+        (0, false, "1BC"),
         (0, true, "1BC"),
+        (-1, false, "2BC"),
+        (-2147483647, false, "2147483648BC"),
         (-2147483648, false, "2147483649BC"),
     ];
     for (year, short, want) in rows {
@@ -29,7 +36,7 @@ fn years(rt: HostRuntime) -> Result<(), Fail> {
 #[test]
 fn letters(rt: HostRuntime) -> Result<(), Fail> {
     suffixes_differ();
-    for (suffix, want) in [(25, "z"), (26, "aa")] {
+    for (suffix, want) in [(0, "a"), (25, "z"), (26, "aa"), (27, "ab")] {
         let text = letters_of_suffix(rt.alloc(), suffix)?;
         assert_eq!(rt; text.as_str(), want);
     }

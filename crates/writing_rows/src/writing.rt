@@ -81,6 +81,29 @@ fn formula(alloc: Global, formula: &str) -> Result<ChunkedString, AllocError> {
     Ok(ChunkedString(Seq::new(vec![in alloc; chunk]?)))
 }
 
+fn meeting(
+    alloc: Global,
+    style: &IndependentStyle,
+    first: &str,
+    second: &str,
+) -> Result<String, AllocError> {
+    let mut context = begin(alloc, style)?;
+    context.push_str(first)?;
+    context.push_str(second)?;
+    shown(alloc, context)
+}
+
+fn without_periods(
+    alloc: Global,
+    style: &IndependentStyle,
+    text: &str,
+) -> Result<String, AllocError> {
+    let mut context = begin(alloc, style)?;
+    context.may_strip_periods(true);
+    context.push_str(text)?;
+    shown(alloc, context)
+}
+
 fn quoted(alloc: Global, style: &IndependentStyle) -> Result<String, AllocError> {
     let mut context = begin(alloc, style)?;
     context.push_quotes()?;
@@ -151,6 +174,26 @@ fn in_stacks(alloc: Global, style: &IndependentStyle) -> Result<String, AllocErr
     context.writing.pop_name_options();
     context.writing.pop_delimiter(delimiter);
     shown(alloc, context)
+}
+
+#[test]
+fn texts_meet(rt: HostRuntime) -> Result<(), Fail> {
+    let style = numeric(rt.alloc())?;
+    for (first, second, want) in [("et al.", ". ", "et al. "), ("A ", ", B", "A, B")] {
+        let shown = meeting(rt.alloc(), &style, first, second)?;
+        assert_eq!(rt; shown.as_str(), want);
+    }
+    Ok(())
+}
+
+#[test]
+fn periods_are_left_out(rt: HostRuntime) -> Result<(), Fail> {
+    let style = numeric(rt.alloc())?;
+    for (text, want) in [("Ph.D.", "PhD"), ("a..b", "a.b")] {
+        let shown = without_periods(rt.alloc(), &style, text)?;
+        assert_eq!(rt; shown.as_str(), want);
+    }
+    Ok(())
 }
 
 #[test]
