@@ -1,3 +1,12 @@
+pub mod Numbers
+pub mod Sizes
+pub mod Alike
+pub mod Zipped
+pub mod Keys
+pub mod Alone
+pub mod Waiting
+pub mod Rules
+pub mod Apart
 pub mod Shown
 pub mod Telling
 pub mod Namesakes

@@ -1,6 +1,6 @@
 //! How much of each person a rule keeps.
 ghost use Rattle.std.specs.Prelude.{◌≡◌, IfOk};
-ghost use Rattle.csl_name_marks.specs.Cut.{cut, initialized, kept, without_given};
+ghost use Rattle.csl_name_marks.specs.Cut.{initialized, kept, without_given};
 
 use csl_base::entry::Person;
 use csl_base::style::DisambiguationRule;
@@ -26,7 +26,7 @@ fn initialized(alloc: Global, person: &Person) -> Result<Person, AllocError>
 
 /// What a rule keeps of the first person of a cite or a later one; without a rule no given name is
 /// kept.
-fn kept(
+pub(crate) fn kept(
     alloc: Global,
     rule: Option<DisambiguationRule>,
     is_first: bool,
@@ -54,19 +54,4 @@ fn kept(
             }
         }
     }
-}
-
-/// The persons of a cite, cut by a rule.
-pub(crate) fn cut(
-    alloc: Global,
-    rule: Option<DisambiguationRule>,
-    persons: &[Person],
-) -> Result<Vec<Person>, AllocError>
-    ensures { IfOk result (λ v. v.items ≡ cut rule persons.now) }
-{
-    let mut found = Vec::new(alloc);
-    for (k, person) in persons.iter().enumerate() {
-        found.push(kept(alloc, rule, k == 0, person)?)?;
-    }
-    Ok(found)
 }

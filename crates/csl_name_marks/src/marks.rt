@@ -4,6 +4,7 @@ ghost use Rattle.std.specs.Prelude.{◌≡◌, fold, length, zip, All, IfOk, OnO
 ghost use Rattle.std.specs.List.{filter_map};
 ghost use Rattle.csl_passes.specs.Places.{AreDistinct, IsPlace};
 ghost use Rattle.csl_passes.specs.RendersView.{renders_view};
+ghost use Rattle.csl_name_marks.specs.Classes.{StandApart};
 ghost use Rattle.csl_name_marks.specs.NameMarks.{after_step, is_by_cite, mark, marks_after, name_marks};
 ghost use Rattle.csl_name_marks.specs.Steps.{step, steps};
 
@@ -99,6 +100,7 @@ fn member_marks(
 
 /// The marks of a group of members, where at most this many names are tried.
 fn group_marks(alloc: Global, group: &[NamedCite], greatest: usize) -> Result<Marks, AllocError>
+    requires { StandApart group.now }
     ensures { IfOk result (λ v. v.items ≡ marks_after group.now (steps group.now greatest) (step group.now greatest)) }
 {
     let own_steps = own_steps(alloc, group, greatest)?;

@@ -1,14 +1,24 @@
 //! With how many names the members of a group are told apart.
-ghost use Rattle.std.specs.Prelude.{◌≡◌, not, filter, find, map, take, IfOk};
-ghost use Rattle.std.specs.List.{list_all, list_any, range_with_len};
-ghost use Rattle.csl_name_marks.specs.Cut.{cut};
-ghost use Rattle.csl_name_marks.specs.Steps.{is_at, others, same_persons, same_place, step};
+ghost use Rattle.std.specs.Prelude.{◌≡◌, ◌+◌, filter, length, map, zip, IfOk};
+ghost use Rattle.std.specs.List.{list_any, range_with_len};
+ghost use Rattle.std.specs.Option.{option_or};
+ghost use Rattle.csl_name_marks.specs.Classes.{AreClasses, StandApart, first_step, is_alone, step_after, step_by, waits};
+ghost use Rattle.csl_name_marks.specs.Steps.{is_at, same_place, step};
 
-use crate::cut::cut;
+use crate::classes::{class_sizes, next_classes};
 use crate::named_cite::NamedCite;
-use csl_base::entry::Person;
-use csl_base::seq::Seq;
+use csl_base::style::DisambiguationRule;
 use std::alloc::{AllocError, Global};
+
+/// Each rule by which a style may add given names; none stands for a style that adds none.
+const RULES: [Option<DisambiguationRule>; 6] = [
+    None,
+    Some(DisambiguationRule::AllNames),
+    Some(DisambiguationRule::AllNamesWithInitials),
+    Some(DisambiguationRule::PrimaryName),
+    Some(DisambiguationRule::PrimaryNameWithInitials),
+    Some(DisambiguationRule::ByCite),
+];
 
 pub(crate) fn same_place(a: (usize, usize), b: (usize, usize)) -> bool
     ensures { result ≡ same_place a b }
@@ -16,78 +26,108 @@ pub(crate) fn same_place(a: (usize, usize), b: (usize, usize)) -> bool
     a.0 == b.0 && a.1 == b.1
 }
 
-fn first_persons(i: usize, persons: &[Person]) -> &[Person]
-    ensures { result.now ≡ take i persons.now }
+/// Whether a member of this rule has no step yet, and may have one.
+fn waits(rule: Option<DisambiguationRule>, member: &NamedCite, own: Option<usize>) -> bool
+    ensures { result ≡ waits rule member.now own }
 {
-    if i < persons.len() {
-        &persons[..i]
-    } else {
-        persons
-    }
+    own.is_none() && member.may_be_named && member.rule == rule
 }
 
-fn begin_alike(i: usize, own: &[Person], other: &[Person]) -> bool
-    ensures { result ≡ same_persons (take i own.now) (take i other.now) }
-{
-    first_persons(i, own) == first_persons(i, other)
-}
-
-fn is_told_apart(i: usize, own: &[Person], others: &[Seq<Person>]) -> bool
-    ensures { result ≡ list_all (λ ps. not (same_persons (take i own.now) (take i ps))) others.now }
-{
-    for other in others {
-        if begin_alike(i, own, other.as_slice()) {
-            return false;
-        }
-    }
-    true
-}
-
-fn least_telling(own: &[Person], others: &[Seq<Person>], greatest: usize) -> Option<usize>
-    ensures { result
-        ≡ find (λ i. list_all (λ ps. not (same_persons (take i own.now) (take i ps))) others.now) (range_with_len 1 greatest) }
-{
-    for k in 0..greatest {
-        if is_told_apart(k + 1, own, others) {
-            return Some(k + 1);
-        }
-    }
-    None
-}
-
-/// The persons of the other members, cut by the rule of this one.
-fn cut_others(
-    alloc: Global,
-    member: &NamedCite,
+fn some_waits(
+    rule: Option<DisambiguationRule>,
     group: &[NamedCite],
-) -> Result<Vec<Seq<Person>>, AllocError>
-    ensures { IfOk result (λ v. v.items ≡ map (λ y. cut member.now.rule y.persons) (others group.now member.now)) }
+    steps: &[Option<usize>],
+) -> bool
+    requires { length steps.now ≡ length group.now }
+    ensures { result ≡ list_any (λ p. waits rule p.0 p.1) (zip group.now steps.now) }
 {
-    let mut found = Vec::new(alloc);
-    for other in group {
-        if !same_place(member.place, other.place) {
-            found.push(Seq::new(cut(alloc, member.rule, other.persons.as_slice())?))?;
+    for (k, member) in group.iter().enumerate() {
+        if waits(rule, member, steps[k]) {
+            return true;
         }
+    }
+    false
+}
+
+/// The step of a member after its group was told apart by `i` names.
+fn step_after(
+    rule: Option<DisambiguationRule>,
+    i: usize,
+    member: &NamedCite,
+    own: Option<usize>,
+    is_alone: bool,
+) -> Option<usize>
+    ensures { result ≡ step_after rule i member.now own is_alone }
+{
+    if is_alone && waits(rule, member, own) {
+        Some(i)
+    } else {
+        own
+    }
+}
+
+/// The steps of the members after their group was told apart by `i` names, into these classes.
+fn steps_after(
+    alloc: Global,
+    rule: Option<DisambiguationRule>,
+    i: usize,
+    group: &[NamedCite],
+    classes: &[usize],
+    steps: &[Option<usize>],
+) -> Result<Vec<Option<usize>>, AllocError>
+    requires apart { StandApart group.now }
+    requires classes { AreClasses rule group.now i classes.now }
+    requires long { length steps.now ≡ length group.now }
+    ensures { IfOk result (λ v. v.items ≡ map (λ p. step_after rule i p.0 p.1 (is_alone rule group.now i p.0)) (zip group.now steps.now)) }
+{
+    let sizes = class_sizes(alloc, classes)?;
+    let mut found = Vec::new(alloc);
+    for (k, member) in group.iter().enumerate() {
+        let is_alone = sizes[classes[k]] == 1;
+        found.push(step_after(rule, i, member, steps[k], is_alone))?;
     }
     Ok(found)
 }
 
-/// The least number of names, up to the greatest that may be tried, by which a member is told apart
-/// from the others.
-fn step_of(
+/// Adds the steps of the members of a rule.
+fn with_steps_of(
     alloc: Global,
-    member: &NamedCite,
+    rule: Option<DisambiguationRule>,
     group: &[NamedCite],
     greatest: usize,
-) -> Result<Option<usize>, AllocError>
-    ensures { IfOk result (λ s. s ≡ step group.now greatest member.now) }
+    steps: Vec<Option<usize>>,
+) -> Result<Vec<Option<usize>>, AllocError>
+    requires apart { StandApart group.now }
+    requires long { length steps.items ≡ length group.now }
+    ensures { IfOk result (λ v. v.items ≡ map (λ p. option_or p.1 (first_step rule group.now greatest p.0)) (zip group.now steps.items)) }
 {
-    if !member.may_be_named {
-        return Ok(None);
+    let mut steps = steps;
+    let mut classes = vec![in alloc; 0; group.len()]?;
+    for i in 0..greatest {
+        if !some_waits(rule, group, &steps) {
+            return Ok(steps);
+        }
+        classes = next_classes(alloc, rule, i, group, &classes)?;
+        steps = steps_after(alloc, rule, i + 1, group, &classes, &steps)?;
     }
-    let own = cut(alloc, member.rule, member.persons.as_slice())?;
-    let others = cut_others(alloc, member, group)?;
-    Ok(least_telling(&own, &others, greatest))
+    Ok(steps)
+}
+
+/// The steps of the members of these rules, in the group's order.
+fn steps_by(
+    alloc: Global,
+    rules: &[Option<DisambiguationRule>],
+    group: &[NamedCite],
+    greatest: usize,
+) -> Result<Vec<Option<usize>>, AllocError>
+    requires { StandApart group.now }
+    ensures { IfOk result (λ v. v.items ≡ map (step_by rules.now group.now greatest) group.now) }
+{
+    let mut found = vec![in alloc; None; group.len()]?;
+    for rule in rules {
+        found = with_steps_of(alloc, *rule, group, greatest, found)?;
+    }
+    Ok(found)
 }
 
 /// The step of each member, in the group's order.
@@ -96,13 +136,10 @@ pub(crate) fn own_steps(
     group: &[NamedCite],
     greatest: usize,
 ) -> Result<Vec<Option<usize>>, AllocError>
+    requires { StandApart group.now }
     ensures { IfOk result (λ v. v.items ≡ map (step group.now greatest) group.now) }
 {
-    let mut found = Vec::new(alloc);
-    for member in group {
-        found.push(step_of(alloc, member, group, greatest)?)?;
-    }
-    Ok(found)
+    steps_by(alloc, &RULES, group, greatest)
 }
 
 fn is_step(i: usize, own_steps: &[Option<usize>]) -> bool

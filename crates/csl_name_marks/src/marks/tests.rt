@@ -1,4 +1,6 @@
 //! Groups of members, with marks worked out by hand from the rules.
+ghost use Rattle.std.specs.Prelude.{◌≡◌, IfOk};
+
 use super::group_marks;
 use crate::named_cite::NamedCite;
 use csl_base::entry::Person;
@@ -48,7 +50,9 @@ fn member(
     rule: Option<DisambiguationRule>,
     names: &[(&str, &str)],
     start: &str,
-) -> Result<NamedCite, AllocError> {
+) -> Result<NamedCite, AllocError>
+    ensures { IfOk result (λ m. m.place ≡ (request, 0)) }
+{
     let mut persons = Vec::new(alloc);
     for name in names {
         persons.push(person(alloc, name.0, name.1)?)?;

@@ -1,10 +1,18 @@
-use Rattle.std.proofs.Common.{ap, ◌∙◌}
+use Rattle.std.proofs.Common.{ap, subst, sym, ◌∙◌}
 use Rattle.csl_passes.specs.RendersView.{renders_view}
+use Rattle.csl_name_marks.specs.Classes.{StandApart}
 use Rattle.csl_name_marks.specs.NamedCites.{greatest_step, named_cites}
 use Rattle.csl_name_marks.specs.NameMarks.{marks_after}
 use Rattle.csl_name_marks.specs.Steps.{step, steps}
+use Rattle.csl_name_marks.proofs.Apart.{members-apart}
 use Rattle.csl_name_marks.proofs.Marking.{in_other_words, marks-are}
 use Rattle.csl_name_marks.proofs.marks.disambiguate_names.Goals as goal
+
+pub group_marks-requires : goal.group_marks-requires
+group_marks-requires g c =
+    let renders = renders_view c.args.renders.now in
+    subst StandApart (sym (c.deref-3.ensures.value ∙ c.in_ok-members.ensures ∙ ap (named_cites renders) c.deref.ensures.value))
+    (members-apart renders c.args.group.now.items c.requires.distinct)
 
 pub returns : goal.returns
 returns g c =
