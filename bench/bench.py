@@ -21,6 +21,7 @@ import subprocess
 import sys
 import tempfile
 
+ROOT = pathlib.Path(__file__).resolve().parent.parent
 SIZES = [1_000, 4_000, 16_000, 64_000]
 DOCUMENT_REFUSED = 2
 LINE = "{:<18} {:>7} {:>9} {:>9} {:>9} {:>7} {:>8}"
@@ -163,11 +164,83 @@ def collapsing(n):
     return made
 
 
+def one_text(n):
+    """n requests, each of another work of one title, which nothing tells apart."""
+    entries = [{"key": key, "title": "Works"} for key in keys_of(n)]
+    title = {"kind": "text", "variable": "title"}
+    style = citing([NAMES, title], add_names=True, add_givenname=True, add_year_suffix=True)
+    return document(style, entries, [[entry["key"]] for entry in entries])
+
+
+def last_person_differs(n):
+    """n requests, each of a work of six persons and one year, of which the last alone is another one."""
+    first = [[f"Roe{i}", "Jane"] for i in range(5)]
+    entries = [{"key": key, "author": [*first, [f"Doe{i}"]], "issued": 1999} for i, key in enumerate(keys_of(n))]
+    names = {**NAMES, "options": {"name_form": "short", "et_al_min": 3, "et_al_use_first": 1}}
+    style = citing([names, YEAR], add_names=True, add_givenname=True, add_year_suffix=True)
+    return document(style, entries, [[entry["key"]] for entry in entries])
+
+
+def greatest_distance(n):
+    """n notes, each of one of a hundred entries, with the greatest distance of near notes."""
+    near = {"if": ["near-note"], "children": [{"kind": "text", "value": "near"}]}
+    choose = {"kind": "choose", "branches": [near], "else": [{"kind": "text", "value": "far"}]}
+    style = {"class": "note", "citation": {"elements": [choose], "near_note_distance": 2**32 - 1}}
+    keys = keys_of(100)
+    made = document(style, [{"key": key} for key in keys], [[keys[i * 7 % 100]] for i in range(n)])
+    for i, request in enumerate(made["requests"]):
+        request["note"] = i + 1
+    return made
+
+
+def copies(name, n):
+    """An example's document over and over, up to n requests: the families of each copy are its own, and so are its keys."""
+    made = json.loads((ROOT / f"examples/{name}.json").read_text())
+    count = -(-n // len(made["requests"]))
+    order = made["bibliography"].get("order")
+    if order:
+        made["bibliography"]["order"] = [f"{key}-{i}" for i in range(count) for key in order]
+    made["entries"] = [copied_entry(entry, i) for i in range(count) for entry in made["entries"]]
+    made["requests"] = [
+        copied_request(request, i * len(made["requests"]), i) for i in range(count) for request in made["requests"]
+    ][:n]
+    return made
+
+
+def copied_entry(entry, i):
+    """The entry of the i-th copy."""
+    persons = {key: [[f"{family}{i}", *given] for family, *given in entry[key]] for key in ("author", "editor") if key in entry}
+    return {**entry, "key": f"{entry['key']}-{i}", **persons}
+
+
+def copied_request(request, before, i):
+    """The request of the i-th copy, behind so many other requests."""
+    items = [{**item, "entry": f"{item['entry']}-{i}"} for item in request["items"]]
+    note = {"note": request["note"] + before} if "note" in request else {}
+    return {**request, "items": items, **note}
+
+
+def whole_author_date(n):
+    """n requests as users have them: names, given names, suffixes, groups, and a bibliography with repeated authors."""
+    return copies("author_date", n)
+
+
+def whole_numeric(n):
+    """The same in a numeric style, whose numbers collapse."""
+    return copies("numeric", n)
+
+
+def whole_notes(n):
+    """The same in a style of notes, with ibid and references to first notes."""
+    return copies("note", n)
+
+
 KINDS = {
     kind.__name__: kind
     for kind in (
         numeric, all_distinct, one_entry, one_request, handed_order, macros, author_date,
         ambiguous_pairs, one_author, one_family, without_text, interleaved, collapsing,
+        one_text, last_person_differs, greatest_distance, whole_author_date, whole_numeric, whole_notes,
     )
 }
 
@@ -216,9 +289,8 @@ def measure(folder, chosen, name):
 
 
 def main():
-    root = pathlib.Path(__file__).resolve().parent.parent
     parser = argparse.ArgumentParser(description=__doc__, formatter_class=argparse.RawDescriptionHelpFormatter)
-    parser.add_argument("--program", default=str(root / "crates/cite_run/out/cite_run"))
+    parser.add_argument("--program", default=str(ROOT / "crates/cite_run/out/cite_run"))
     parser.add_argument("--kinds", default=",".join(KINDS), help="which kinds, joined by commas")
     parser.add_argument("--most", type=int, default=SIZES[-1], help="the greatest n")
     parser.add_argument("--runs", type=int, default=3)
