@@ -4,7 +4,7 @@ use Rattle.std.specs.Prelude.{Vec}
 use Rattle.std.specs.HashMap.{HashMap, get}
 use Rattle.std.specs.Map.{lookup}
 use Rattle.std.specs.Option.{option_map_or}
-use Rattle.std.specs.List.{flat_map, list_any}
+use Rattle.std.specs.List.{flat_map}
 use Rattle.std.specs.declared.alloc.Global.{Global}
 use Rattle.std.proofs.lemmas.Grind.{flat_map-append}
 use Rattle.std.proofs.lemmas.List.{take_more}
@@ -107,11 +107,6 @@ module _ (q : Person) (place : Place) (hs : List Holder) where
       by p x true c e f = sym (ap (λ d. is_other_held p x hs || (not d && not (same_place x place))) e ∙ or-false (is_other_held p x hs))
       by p x false true e f = sym ((λ i. is_other_held p x hs || (not (e i) && not (f i))) ∙ or-false (is_other_held p x hs))
       by p x false false e f = h p x e f ∙ sym (ap (λ d. d || is_other p x one) (h p x e f))
-
-  pub grows-pushed : (new : List Holder) → new ≡ hs ++ one ∷ [] → Grows q place hs new
-  grows-pushed new e = λ p x.
-      ap (is_other_held p x) e ∙ list_any-append (is_other p x) hs (one ∷ [])
-      ∙ ap (λ b. is_other_held p x hs || b) (or-false (is_other p x one))
 
 module _ {S : Type 0} (q : Person) (place : Place) (key : SharedName) (old new : HashMap SharedName (Vec Holder Global) S) (hs : List Holder) where
   -- one person more, by a name

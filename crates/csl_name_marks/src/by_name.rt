@@ -46,12 +46,7 @@ fn is_other_held(holders: &[Holder], person: &Person, place: (usize, usize)) -> 
 }
 
 /// Whether the holders tell all that a person at a place adds of others than this one.
-fn tells_without(
-    holders: &[Holder],
-    person: &Person,
-    added: &Person,
-    place: (usize, usize),
-) -> bool
+fn tells_without(holders: &[Holder], person: &Person, added: &Person, place: (usize, usize)) -> bool
     ensures { result ≡ true → same_person person.now added.now ≡ false → (other : Place) → same_place other place ≡ false → is_other_held person.now other holders.now ≡ true }
 {
     if person == added {
@@ -174,11 +169,7 @@ fn add_person(
     add_named(alloc, by_name, by_initials(alloc, person)?, person, place)
 }
 
-fn add_member(
-    alloc: Global,
-    by_name: &mut ByName,
-    member: &NamedCite,
-) -> Result<(), AllocError>
+fn add_member(alloc: Global, by_name: &mut ByName, member: &NamedCite) -> Result<(), AllocError>
     ensures { OnOk result ((so_far : List (SharedNameValue × HolderValue)) → AreByName by_name.old so_far → AreByName by_name.new (so_far ++ shown_by member.now)) }
 {
     for person in member.persons.as_slice() {

@@ -1,6 +1,6 @@
 use Rattle.std.proofs.Common.{subst}
 use Rattle.csl_name_marks.specs.ByName.{IsTold}
-use Rattle.csl_name_marks.proofs.Holders.{grows-pushed, grows-told}
+use Rattle.csl_name_marks.proofs.Holders.{grows-told}
 use Rattle.csl_name_marks.proofs.by_name.add_holder.Goals as goal
 
 pub returns-then-is_told : goal.returns-then-is_told
