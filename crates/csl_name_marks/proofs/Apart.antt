@@ -16,7 +16,7 @@ use Rattle.csl_name_marks.specs.NamedCites.{named_cite, named_cite_at, named_cit
 use Rattle.csl_name_marks.specs.Steps.{same_place}
 use Rattle.csl_name_marks.specs.declared.named_cite.NamedCite.{NamedCite}
 
-places_find : Finds same_place
+pub places_find : Finds same_place
 places_find = pairs_find (finds unsigned_Decides) (finds unsigned_Decides)
 
 module _ {E P : Type 0} (renders : List (CiteRender E P)) where

@@ -7,6 +7,7 @@ pub mod Alone
 pub mod Waiting
 pub mod Rules
 pub mod Apart
+pub mod Holders
 pub mod Shown
 pub mod Telling
 pub mod Namesakes

@@ -4,4 +4,5 @@ pub mod NamedCites
 pub mod Steps
 pub mod Classes
 pub mod Raising
+pub mod ByName
 pub mod NameMarks

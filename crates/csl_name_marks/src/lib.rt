@@ -1,6 +1,7 @@
 //! Cites that read alike are told apart by their names (CSL 1.0.2, disambiguation).
 #![tactic(auto)]
 
+mod by_name;
 mod classes;
 mod cut;
 mod group;

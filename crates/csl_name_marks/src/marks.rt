@@ -4,10 +4,12 @@ ghost use Rattle.std.specs.Prelude.{◌≡◌, fold, length, zip, All, IfOk, OnO
 ghost use Rattle.std.specs.List.{filter_map};
 ghost use Rattle.csl_passes.specs.Places.{AreDistinct, IsPlace};
 ghost use Rattle.csl_passes.specs.RendersView.{renders_view};
+ghost use Rattle.csl_name_marks.specs.ByName.{AreByName, shown};
 ghost use Rattle.csl_name_marks.specs.Classes.{StandApart};
 ghost use Rattle.csl_name_marks.specs.NameMarks.{after_step, is_by_cite, mark, marks_after, name_marks};
 ghost use Rattle.csl_name_marks.specs.Steps.{step, steps};
 
+use crate::by_name::{ByName, by_name};
 use crate::group::{first_adds_names, greatest_step, named_cites};
 use crate::named_cite::{NamedCite, copied};
 use crate::raising::raise;
@@ -30,15 +32,17 @@ fn is_by_cite(rule: Option<DisambiguationRule>) -> bool
 fn take_step(
     alloc: Global,
     group: &[NamedCite],
+    by_name: &ByName,
     member: &NamedCite,
     own: Option<usize>,
     i: usize,
     forms: &mut NameDisambiguationProperties,
 ) -> Result<(), AllocError>
+    requires { AreByName by_name.now (shown group.now) }
     ensures { OnOk result (forms.new ≡ record { forms = after_step group.now member.now own forms.old.forms i }) }
 {
     if is_by_cite(member.rule) && own == Some(i) {
-        raise(alloc, member, group, i, forms)?;
+        raise(alloc, member, group, by_name, i, forms)?;
     }
     forms.add_name(i);
     Ok(())
@@ -48,16 +52,18 @@ fn take_step(
 fn forms_after(
     alloc: Global,
     group: &[NamedCite],
+    by_name: &ByName,
     steps: &[usize],
     member: &NamedCite,
     own: Option<usize>,
     start: &NameDisambiguationProperties,
 ) -> Result<NameDisambiguationProperties, AllocError>
+    requires { AreByName by_name.now (shown group.now) }
     ensures { IfOk result (λ f. f ≡ record { forms = fold (after_step group.now member.now own) start.now.forms steps.now }) }
 {
     let mut forms = copied(start)?;
     for i in steps {
-        take_step(alloc, group, member, own, *i, &mut forms)?;
+        take_step(alloc, group, by_name, member, own, *i, &mut forms)?;
     }
     Ok(forms)
 }
@@ -65,15 +71,17 @@ fn forms_after(
 fn mark_of(
     alloc: Global,
     group: &[NamedCite],
+    by_name: &ByName,
     steps: &[usize],
     member: &NamedCite,
     own: Option<usize>,
 ) -> Result<Option<((usize, usize), DisambiguateState)>, AllocError>
+    requires { AreByName by_name.now (shown group.now) }
     ensures { IfOk result (λ m. m ≡ mark group.now steps.now member.now own) }
 {
     match &member.start {
         Some(start) => {
-            let forms = forms_after(alloc, group, steps, member, own, start)?;
+            let forms = forms_after(alloc, group, by_name, steps, member, own, start)?;
             Ok(Some((member.place, DisambiguateState::NameDisambiguation(forms))))
         }
         None => Ok(None),
@@ -83,15 +91,17 @@ fn mark_of(
 fn member_marks(
     alloc: Global,
     group: &[NamedCite],
+    by_name: &ByName,
     steps: &[usize],
     own_steps: &[Option<usize>],
 ) -> Result<Marks, AllocError>
-    requires { length own_steps.now ≡ length group.now }
+    requires long { length own_steps.now ≡ length group.now }
+    requires by_name { AreByName by_name.now (shown group.now) }
     ensures { IfOk result (λ v. v.items ≡ filter_map (λ p. mark group.now steps.now p.0 p.1) (zip group.now own_steps.now)) }
 {
     let mut found = Vec::new(alloc);
     for (k, member) in group.iter().enumerate() {
-        if let Some(mark) = mark_of(alloc, group, steps, member, own_steps[k])? {
+        if let Some(mark) = mark_of(alloc, group, by_name, steps, member, own_steps[k])? {
             found.push(mark)?;
         }
     }
@@ -108,7 +118,8 @@ fn group_marks(alloc: Global, group: &[NamedCite], greatest: usize) -> Result<Ma
     if steps.is_empty() {
         return Ok(Vec::new(alloc));
     }
-    member_marks(alloc, group, &steps, &own_steps)
+    let by_name = by_name(alloc, group)?;
+    member_marks(alloc, group, &by_name, &steps, &own_steps)
 }
 
 /// The marks that tell the cites of a group apart by more of their names, in the group's order. No

@@ -1,80 +1,35 @@
 //! How far given names are written to tell persons apart.
-ghost use Rattle.std.specs.Prelude.{◌≡◌, ◌∷◌, [], IfOk, OnOk};
+ghost use Rattle.std.specs.Prelude.{◌≡◌, IfOk, OnOk};
 ghost use Rattle.std.specs.List.{flat_map};
-ghost use Rattle.csl_name_marks.specs.Raising.{fuller, is_namesake, raise, raised, same_initials};
+ghost use Rattle.csl_name_marks.specs.ByName.{AreByName, by_family, by_initials, fuller_by, holders, is_other_held, shown};
+ghost use Rattle.csl_name_marks.specs.Raising.{raise, raised};
 ghost use Rattle.csl_name_marks.specs.Steps.{others};
 
+use crate::by_name::{ByName, by_family, by_initials, has_other};
 use crate::named_cite::NamedCite;
-use crate::steps::same_place;
 use csl_base::entry::Person;
 use csl_base::names::{DisambiguatedNameForm, NameDisambiguationProperties};
 use std::alloc::{AllocError, Global};
 
-/// Whether the other is another person of the same family name.
-fn is_namesake(person: &Person, other: &Person) -> bool
-    ensures { result ≡ is_namesake person.now other.now }
-{
-    person.name == other.name && person != other
-}
-
-fn have_same_initials(alloc: Global, person: &Person, other: &Person) -> Result<bool, AllocError>
-    ensures { IfOk result (λ b. b ≡ same_initials person.now other.now) }
-{
-    let initials = person.initials(alloc)?;
-    let others = other.initials(alloc)?;
-    Ok(initials == others)
-}
-
-/// The form that tells a person apart from a namesake.
-fn telling_form(
+/// The form of a person at a place, among those whom the names hold. The names of those who share its
+/// initials are asked only where it has namesakes.
+fn fuller(
     alloc: Global,
     person: &Person,
-    other: &Person,
+    place: (usize, usize),
+    by_name: &ByName,
+    form: DisambiguatedNameForm,
 ) -> Result<DisambiguatedNameForm, AllocError>
-    ensures { IfOk result (λ form. form ≡ fuller person.now (other.now ∷ []) DisambiguatedNameForm.Short) }
+    ensures { IfOk result (λ r. r ≡ fuller_by (is_other_held person.now place (holders by_name.now (by_family person.now))) (is_other_held person.now place (holders by_name.now (by_initials person.now))) form) }
 {
-    if have_same_initials(alloc, person, other)? {
+    if !has_other(by_name, &by_family(person)?, person, place) {
+        return Ok(form);
+    }
+    if has_other(by_name, &by_initials(alloc, person)?, person, place) {
         Ok(DisambiguatedNameForm::LongFull)
     } else {
         Ok(DisambiguatedNameForm::LongInitialized)
     }
-}
-
-/// The form of a person, raised for another one.
-fn raised_by(
-    alloc: Global,
-    person: &Person,
-    other: &Person,
-    form: DisambiguatedNameForm,
-) -> Result<DisambiguatedNameForm, AllocError>
-    ensures { IfOk result (λ r. r ≡ raised person.now (other.now ∷ []) form) }
-{
-    match form {
-        DisambiguatedNameForm::Count | DisambiguatedNameForm::LongFull => Ok(form),
-        DisambiguatedNameForm::Short | DisambiguatedNameForm::LongInitialized => {
-            if is_namesake(person, other) {
-                telling_form(alloc, person, other)
-            } else {
-                Ok(form)
-            }
-        }
-    }
-}
-
-/// The form of a person, raised among those of another member.
-fn raised(
-    alloc: Global,
-    person: &Person,
-    member: &NamedCite,
-    form: DisambiguatedNameForm,
-) -> Result<DisambiguatedNameForm, AllocError>
-    ensures { IfOk result (λ r. r ≡ raised person.now member.now.persons form) }
-{
-    let mut form = form;
-    for other in member.persons.as_slice() {
-        form = raised_by(alloc, person, other, form)?;
-    }
-    Ok(form)
 }
 
 /// The form of a person of a member, raised among the persons of all other members.
@@ -83,17 +38,18 @@ fn raised_in_group(
     person: &Person,
     member: &NamedCite,
     group: &[NamedCite],
+    by_name: &ByName,
     form: DisambiguatedNameForm,
 ) -> Result<DisambiguatedNameForm, AllocError>
+    requires { AreByName by_name.now (shown group.now) }
     ensures { IfOk result (λ r. r ≡ raised person.now (flat_map (λ y. y.persons) (others group.now member.now)) form) }
 {
-    let mut form = form;
-    for other in group {
-        if !same_place(member.place, other.place) {
-            form = raised(alloc, person, other, form)?;
+    match form {
+        DisambiguatedNameForm::Count | DisambiguatedNameForm::LongFull => Ok(form),
+        DisambiguatedNameForm::Short | DisambiguatedNameForm::LongInitialized => {
+            fuller(alloc, person, member.place, by_name, form)
         }
     }
-    Ok(form)
 }
 
 /// Raises the form of a member's name `i`, counted from 1. Nothing changes at 0, where the member has
@@ -102,9 +58,11 @@ pub(crate) fn raise(
     alloc: Global,
     member: &NamedCite,
     group: &[NamedCite],
+    by_name: &ByName,
     i: usize,
     forms: &mut NameDisambiguationProperties,
 ) -> Result<(), AllocError>
+    requires { AreByName by_name.now (shown group.now) }
     ensures { OnOk result (forms.new ≡ record { forms = raise group.now member.now i forms.old.forms }) }
 {
     if i == 0 {
@@ -114,7 +72,7 @@ pub(crate) fn raise(
         return Ok(());
     };
     if let Some(form) = forms.get_form_mut(i - 1) {
-        *form = raised_in_group(alloc, person, member, group, *form)?;
+        *form = raised_in_group(alloc, person, member, group, by_name, *form)?;
     }
     Ok(())
 }

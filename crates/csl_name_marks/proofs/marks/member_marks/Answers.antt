@@ -11,8 +11,8 @@ loop-k-preserved c =
     let steps = c.args.own_steps.now in
     let k = c.loop-k.k in
     let own = get_or steps k None in
-    let long = zip-long group steps k c.loop-k-test.true c.requires in
-    let here = zip-at group steps k c.index-group-k.result own c.loop-k-test.true c.requires c.index-group-k.is (same-default steps k None own (omega (arith, c.requires))) in
+    let long = zip-long group steps k c.loop-k-test.true c.requires.long in
+    let here = zip-at group steps k c.index-group-k.result own c.loop-k-test.true c.requires.long c.index-group-k.is (same-default steps k None own (omega (arith, c.requires.long))) in
     elim c.match-branch-2.branch [
       | in-Some+in_ok-push w ↦
           filter_map-more (λ p. mark group c.args.steps.now p.0 p.1) (zip group steps) k (c.index-group-k.result, own) w.in-Some.mark long here
@@ -26,4 +26,4 @@ loop-k-preserved c =
 pub returns : goal.returns
 returns c =
     c.loop-k.invariant
-    ∙ ap (filter_map (λ p. mark c.args.group.now c.args.steps.now p.0 p.1)) (zip-past c.args.group.now c.args.own_steps.now c.loop-k.k c.loop-k-test.false c.requires)
+    ∙ ap (filter_map (λ p. mark c.args.group.now c.args.steps.now p.0 p.1)) (zip-past c.args.group.now c.args.own_steps.now c.loop-k.k c.loop-k-test.false c.requires.long)

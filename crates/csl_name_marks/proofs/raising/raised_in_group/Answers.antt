@@ -1,17 +1,8 @@
-use Rattle.std.proofs.Common.{sym, ◌∙◌}
-use Rattle.csl_name_marks.proofs.Namesakes.{among-more, among-same}
+use Rattle.std.proofs.Common.{IfOk, ◌≡◌, subst}
+use Rattle.csl_name_marks.proofs.Namesakes.{raised-by-name}
 use Rattle.csl_name_marks.proofs.raising.raised_in_group.Goals as goal
-use Rattle.csl_name_marks.proofs.raising.raised_in_group.Goals.{then-not-same_place+in_ok-form, else-not-same_place}
 
-pub loop-other-preserved : goal.loop-other-preserved
-loop-other-preserved c =
-    elim c.if-not-same_place.branch [
-      | then-not-same_place+in_ok-form w ↦
-          w.form-is
-          ∙ among-more c.args.person.now c.args.member.now c.args.group.now c.loop-other.other-index c.other-item.result c.args.form c.loop-other-test.true c.other-item.is
-          (sym c.same_place.ensures ∙ w.if-not-same_place.true) w.in_ok-form.ensures c.loop-other.invariant
-      | else-not-same_place w ↦
-          w.form-is
-          ∙ among-same c.args.person.now c.args.member.now c.args.group.now c.loop-other.other-index c.other-item.result c.args.form c.loop-other-test.true c.other-item.is
-          (sym c.same_place.ensures ∙ w.if-not-same_place.false) c.loop-other.invariant
-    ]
+pub returns-in-Short : goal.returns-in-Short
+returns-in-Short c =
+    subst (λ f. IfOk c.fuller.result (λ r. r ≡ f))
+    (raised-by-name c.args.person.now c.args.member.now c.args.group.now c.args.by_name.now c.args.form c.in-Short.is c.requires) c.fuller.ensures
