@@ -49,7 +49,7 @@ pub mod of_writing {
     };
     pub use csl_writing::locator::{LocatorPayload, SpecificLocator, TransparentLocator};
     pub use csl_writing::lookup::StyleContext;
-    pub use csl_writing::picking::macros_unfold;
+    pub use csl_writing::picking::{macros_unfold, suffixes_unfold};
     pub use csl_writing::properties::{
         CertainCiteProperties, CiteProperties, SpeculativeCiteProperties,
     };

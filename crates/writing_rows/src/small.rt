@@ -6,7 +6,7 @@ use csl_writing::laws::{
     usage_counts_once,
 };
 use csl_writing::locator::{LocatorPayload, SpecificLocator, TransparentLocator};
-use csl_writing::picking::macros_unfold;
+use csl_writing::picking::{macros_unfold, suffixes_unfold};
 use csl_writing::properties::CiteProperties;
 use csl_writing::state::{DisambiguateState, IdentifierUsage};
 use csl_writing::year::{letters_of_suffix, write_year};
@@ -49,6 +49,7 @@ fn small_values(rt: HostRuntime) -> Result<(), Fail> {
     states_have_a_greatest();
     usage_counts_once();
     macros_unfold();
+    suffixes_unfold();
     assert!(rt; Brackets::Square.left() == Some('['));
     assert!(rt; Brackets::Square.right() == Some(']'));
     assert!(rt; Brackets::None.left() == None);
