@@ -36,7 +36,7 @@ payload_copied P d _ _ h = absurd h
 pub locator_copied : (P : RattleType) (d : Dict) (a b : SpecificLocator P.Denot) → (locator_clone.ghosts P d).is_clone a b → b ≡ a
 locator_copied P d a b h = let kind : b.0 ≡ a.0 = search rules in let payload = payload_copied P d a.1 b.1 h.1 in λ i. record { 0 = kind i; 1 = payload i }
 
-some_locator_copied : (P : RattleType) (d e i : Dict) (a b : Option (SpecificLocator P.Denot)) → (option_clone.ghosts (the_row static_lft P) (locator_clone.ghosts P d) e i).is_clone a b → b ≡ a
+pub some_locator_copied : (P : RattleType) (d e i : Dict) (a b : Option (SpecificLocator P.Denot)) → (option_clone.ghosts (the_row static_lft P) (locator_clone.ghosts P d) e i).is_clone a b → b ≡ a
 some_locator_copied P d e i None None h = refl
 some_locator_copied P d e i (Some x) (Some y) h = ap Some (locator_copied P d x y h)
 some_locator_copied P d e i _ _ h = absurd h
