@@ -5,4 +5,5 @@ pub mod assemble;
 pub mod bibliography;
 pub mod citation;
 pub mod last_tree;
+pub mod laws;
 pub mod rendered;

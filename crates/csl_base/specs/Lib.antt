@@ -16,6 +16,7 @@ pub mod Tree
 pub mod Simplify
 pub mod SameTree
 pub mod TreeHash
+pub mod Weight
 pub mod EqualTrees
 pub mod Elements
 pub mod Nested

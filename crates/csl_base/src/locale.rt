@@ -20,6 +20,6 @@ pub struct Locale {
     /// The language; none stands for every language.
     pub lang: Option<LocaleCode>,
     pub terms: Vec<LocalizedTerm>,
-    /// Whether `.` and `,` go before a closing quote.
+    /// Whether a mark (`.`, `,`, `;`, `!` or `?`) goes before a closing quote.
     pub punctuation_in_quote: Option<bool>,
 }

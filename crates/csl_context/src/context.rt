@@ -1,5 +1,5 @@
 //! The context in which a cite is written.
-ghost use Rattle.std.specs.Prelude.{◌≡◌, ◌+◌, OnOk, OnErr, IfOk, length, min, string_bytes, option_map};
+ghost use Rattle.std.specs.Prelude.{◌≡◌, ◌+◌, IsOk, OnOk, OnErr, IfOk, length, min, string_bytes, option_map};
 ghost use Rattle.csl_base.specs.ElementView.{affixes_view, options_view};
 ghost use Rattle.csl_lookup.specs.Lookup.{term_of};
 ghost use Rattle.csl_lookup.specs.SourceView.{lookup_view};
@@ -228,7 +228,11 @@ impl<'a, T, P> fmt::Write for Context<'a, T, P> {
     ghost write_str_gives = { λ c s d. (state d.writing ≡ pushed (words_of c) s (state c.writing)) × IsOfSameCite c d };
 
     /// Writes `s` as `push_str` does. Fails where memory is refused.
-    fn write_str(&mut self, s: &str) -> fmt::Result {
+    fn write_str(&mut self, s: &str) -> fmt::Result
+        ensures ok { IsOk result → (state self.new.writing ≡ pushed (words_of self.old) s.now (state self.old.writing)) × IsOfSameCite self.old self.new }
+        ensures heights { heights (state self.new.writing) ≡ heights (state self.old.writing) }
+        ensures same { IsOfSameCite self.old self.new }
+    {
         match self.push_str(s) {
             Ok(()) => Ok(()),
             Err(_) => Err(fmt::Error),

@@ -514,7 +514,7 @@ impl<'a> WritingContext<'a> {
         self.delimiters.cut(token.height);
     }
 
-    /// Pushes name options upon those before, from which they take what they lack.
+    /// Pushes name options as they are upon those before.
     ///
     /// # Errors
     ///

@@ -3,3 +3,4 @@ pub mod StateOrder
 pub mod FirstAnswers
 pub mod Letters
 pub mod Copies
+pub mod Equal

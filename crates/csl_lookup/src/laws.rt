@@ -1,14 +1,20 @@
 //! Laws of the small values, each on a call of its own.
 ghost use Rattle.std.specs.Prelude.{◌≡◌};
 ghost use Rattle.csl_base.specs.Ordered.{IsValueOrder};
+ghost use Rattle.csl_lookup.specs.PropertiesView.{payload_view, locator_view, speculative_view};
+ghost use Rattle.csl_lookup.specs.declared.locator.LocatorPayload.{LocatorPayload};
+ghost use Rattle.csl_lookup.specs.declared.locator.SpecificLocator.{SpecificLocator};
 ghost use Rattle.csl_lookup.specs.declared.properties.CiteProperties.{CiteProperties};
+ghost use Rattle.csl_lookup.specs.declared.properties.SpeculativeCiteProperties.{SpeculativeCiteProperties};
 ghost use Rattle.csl_lookup.specs.declared.state.DisambiguateState.{DisambiguateState};
+ghost use Rattle.csl_lookup.specs.declared.state.IdentifierUsage.{IdentifierUsage};
 ghost use Rattle.csl_lookup.specs.States.{with_label, with_number, state_cmp, greater};
 ghost use Rattle.csl_lookup.specs.SuffixLetters.{SuffixesDiffer};
-ghost use Rattle.csl_lookup.specs.ValueLaws.{IsCommutative, IsAssociative, IsIdempotent, IsNeverBelow, IsOnce, Commute};
+ghost use Rattle.csl_lookup.specs.ValueLaws.{IsCommutative, IsAssociative, IsIdempotent, IsNeverBelow, IsOnce, Commute, TellsEqual, TellsSeen};
 
-use crate::properties::CiteProperties;
-use crate::state::DisambiguateState;
+use crate::locator::{LocatorPayload, SpecificLocator, TransparentLocator};
+use crate::properties::{CiteProperties, SpeculativeCiteProperties};
+use crate::state::{DisambiguateState, IdentifierUsage};
 use csl_base::names::forms_are_in_order;
 
 /// A law: what was written counts once, in whatever order.
@@ -37,8 +43,28 @@ pub fn suffixes_differ()
     ensures { SuffixesDiffer }
 {}
 
-/// A law: a copy of a state, and of the properties of a cite, is equal to it.
+/// A law: a copy of a state, of a locator and its payload, and of the properties of a cite is equal
+/// to it.
 pub fn copies_are_equal<P: Drop>()
     ensures state { (a b : DisambiguateState) → ⟦<DisambiguateState as Clone>⟧.is_clone a b → b ≡ a }
+    ensures shared { (a b : P) → ⟦<TransparentLocator<P> as Clone>⟧.is_clone a b → b ≡ a }
+    ensures payload { (a b : LocatorPayload P) → ⟦<LocatorPayload<'static, P> as Clone>⟧.is_clone a b → b ≡ a }
+    ensures locator { (a b : SpecificLocator P) → ⟦<SpecificLocator<'static, P> as Clone>⟧.is_clone a b → b ≡ a }
+    ensures speculative { (a b : SpeculativeCiteProperties P) → ⟦<SpeculativeCiteProperties<'static, P> as Clone>⟧.is_clone a b → b ≡ a }
     ensures properties { (a b : CiteProperties P) → ⟦<CiteProperties<'static, P> as Clone>⟧.is_clone a b → b ≡ a }
+{}
+
+/// A law: `==` of locators, of their payloads and of what may change of a cite is true exactly where
+/// the plain data is equal, if that of the caller's own payloads is.
+pub fn equality_decides<P: PartialEq>()
+    ensures shared { TellsEqual P.eq → TellsEqual ⟦<TransparentLocator<P> as PartialEq>⟧.eq }
+    ensures payload { TellsEqual P.eq → TellsSeen payload_view ⟦<LocatorPayload<'static, P> as PartialEq>⟧.eq }
+    ensures locator { TellsEqual P.eq → TellsSeen locator_view ⟦<SpecificLocator<'static, P> as PartialEq>⟧.eq }
+    ensures speculative { TellsEqual P.eq → TellsSeen speculative_view ⟦<SpeculativeCiteProperties<'static, P> as PartialEq>⟧.eq }
+{}
+
+/// A law: at first a cite has written no identifier, and nothing tells its entry apart.
+pub fn defaults_are_none()
+    ensures usage { (u : IdentifierUsage) → ⟦<IdentifierUsage as Default>⟧.is_default u → u ≡ IdentifierUsage.None }
+    ensures state { (s : DisambiguateState) → ⟦<DisambiguateState as Default>⟧.is_default s → s ≡ DisambiguateState.None }
 {}

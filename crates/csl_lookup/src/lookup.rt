@@ -94,8 +94,8 @@ impl<'a> StyleLocales<'a> {
         answer_of(self.files, Some("en-US"), f)
     }
 
-    /// Whether `.` and `,` go before a closing quote: as the first locale says that is asked and
-    /// says so, else not.
+    /// Whether a mark (`.`, `,`, `;`, `!` or `?`) goes before a closing quote: as the first locale
+    /// says that is asked and says anything of it, else not.
     pub fn punctuation_in_quotes(&self) -> bool
         ensures { result ≡ found.punctuation_in_quotes (lookup_view self.now) }
     {

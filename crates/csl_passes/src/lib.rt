@@ -3,6 +3,7 @@
 
 pub mod first;
 pub mod item;
+pub mod laws;
 pub mod places;
 pub mod positions;
 pub mod renders;

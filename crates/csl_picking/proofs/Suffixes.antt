@@ -2,6 +2,7 @@
 use Rattle.std.proofs.Common.{◌≡◌, ℕ, zero, suc, ◌+◌, ◌<◌, ◌≤◌, List, [], ◌∷◌, ◌++◌, length, take, get_or, length-append, Bool, true, false, ◌||◌, Option, Some, None, is_some, inl, inr, sym, ap, ◌∙◌, refl, subst, arith}
 use Rattle.std.specs.Prelude.{bytes_eq}
 use Rattle.std.specs.List.{list_any}
+use Rattle.std.specs.Option.{option_map_or}
 use Rattle.std.specs.Cmp.Lexicographic.{same_text}
 use Rattle.std.proofs.lemmas.Cmp.{nat_list_eq_equiv}
 use Rattle.std.proofs.lemmas.List.{take_all, take_more, take-append-le}
@@ -9,7 +10,7 @@ use Rattle.csl_base.specs.Element.{Name, Target, value_target, standard_target, 
 use Rattle.csl_base.specs.Calls.{Names, target_calls, calls, calls_of_all, calls_of_branches}
 use Rattle.csl_base.specs.Ring.{has_name, body_of, body_calls, macro_calls, Calls, HasNoRing}
 use Rattle.csl_picking.specs.Gathered.{add_each}
-use Rattle.csl_picking.specs.SuffixText.{suffix_in_target, suffix_in, suffix_in_all, suffix_in_branches, no_call, suffix_in_body, suffix_in_macro, suffix_stands}
+use Rattle.csl_picking.specs.SuffixText.{suffix_in_target, suffix_in, suffix_in_all, suffix_in_branches, no_call, suffix_in_body, suffix_in_macro, suffix_stands, suffix_called, SuffixesUnfold}
 use Rattle.csl_picking.proofs.NameLists.{or-left, or-right, or-either, has_name-either, has_name-same}
 use Rattle.csl_picking.proofs.Settled.{meaning, settled}
 use Rattle.csl_picking.proofs.Gathering.{is_added, grows, has_name-at}
@@ -209,3 +210,12 @@ module _ (ms : List Macro) (no_ring : HasNoRing ms) where
   at_end es ns at g le none =
       sym (in_all (stands ms) es ∙ both-false _ _ none (any-false (stands ms) (calls_of_all es) (λ c k.
       none_stands (calls_of_all es) ns at g le (length ms) c (g.start c k))))
+
+called_is : (ms : List Macro) (o : Option Elements) → suffix_in_body (stands ms) o ≡ option_map_or (suffix_stands ms) o false
+called_is ms None = refl
+called_is ms (Some es) = refl
+
+pub suffixes_unfold : SuffixesUnfold
+suffixes_unfold ms no_ring es =
+    let called : (a : Name) → stands ms a ≡ suffix_called ms a = λ a. sym (stands_is ms no_ring a) ∙ called_is ms (body_of a ms) in
+    ap (λ f. suffix_in_all f es) (λ i a. called a i)

@@ -7,7 +7,7 @@ use Rattle.csl_base.specs.declared.element.ChooseMatch.{ChooseMatch}
 use Rattle.csl_base.specs.Element.{Name, value_target, standard_target, macro_target, term_target, Element, text_element, number_element, date_element, names_element, group_element, choose_element, Elements, element, Branches, branch, Macro}
 use Rattle.csl_base.specs.ElementView.{elements_view}
 use Rattle.csl_base.specs.Ring.{body_of}
-use Rattle.csl_base.proofs.Weight.{weight_all_with}
+use Rattle.csl_base.specs.Weight.{weight_all_with}
 use Rattle.csl_picking.specs.declared.held.Opened.{Opened}
 use Rattle.csl_picking.specs.declared.notes.Notes.{Notes}
 use Rattle.csl_picking.specs.declared.picking.Step.{Step}

@@ -1,5 +1,6 @@
 -- The tests of a choice's branches (CSL 1.0.2, choose).
-use Rattle.std.specs.Prelude.{List, [], ◌∷◌, Bool, true, false, not, ◌||◌, ◌&&◌, is_some}
+use Rattle.std.specs.Prelude.{List, [], ◌∷◌, Bool, true, false, not, ◌||◌, is_some}
+use Rattle.std.specs.List.{list_any, list_all}
 use Rattle.csl_base.specs.declared.taxonomy.Variable.{Variable}
 use Rattle.csl_base.specs.declared.taxonomy.StandardVariable.TheVariants as standard
 use Rattle.csl_base.specs.declared.taxonomy.NumberVariable.TheVariants as number
@@ -54,25 +55,16 @@ holds env Condition.Disambiguate = is_choose env.cite.state
 holds env (Condition.Position p) = is_at env.cite p
 holds env (Condition.Variable v) = has_variable env v
 
-abbrev pub some_holds : Env → List Condition → Bool
-some_holds env [] = false
-some_holds env (c ∷ cs) = holds env c || some_holds env cs
-
-abbrev pub all_hold : Env → List Condition → Bool
-all_hold env [] = true
-all_hold env (c ∷ cs) = holds env c && all_hold env cs
-
 -- whether a branch's test holds
 abbrev pub passes : Env → ChooseMatch → List Condition → Bool
-passes env ChooseMatch.Any cs = some_holds env cs
-passes env ChooseMatch.All cs = all_hold env cs
-passes env ChooseMatch.None cs = not (some_holds env cs)
+passes env ChooseMatch.Any cs = list_any (holds env) cs
+passes env ChooseMatch.All cs = list_all (holds env) cs
+passes env ChooseMatch.None cs = not (list_any (holds env) cs)
 
-abbrev pub tests_disambiguate : List Condition → Bool
-tests_disambiguate [] = false
-tests_disambiguate (Condition.Disambiguate ∷ cs) = true
-tests_disambiguate (_ ∷ cs) = tests_disambiguate cs
+abbrev pub is_disambiguate : Condition → Bool
+is_disambiguate Condition.Disambiguate = true
+is_disambiguate _ = false
 
 -- what is noted behind the test of a branch: each of its conditions was tested
 abbrev pub tested : List Condition → Notes → Notes
-tested cs n = record n { checked_disambiguate = n.checked_disambiguate || tests_disambiguate cs }
+tested cs n = record n { checked_disambiguate = n.checked_disambiguate || list_any is_disambiguate cs }

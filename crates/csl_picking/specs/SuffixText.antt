@@ -1,8 +1,9 @@
 -- Whether a year-suffix text stands in the layouts of a style.
-use Rattle.std.specs.Prelude.{ℕ, zero, suc, List, length, Bool, true, false, ◌||◌, Option, Some, None}
+use Rattle.std.specs.Prelude.{◌≡◌, ℕ, zero, suc, List, length, Bool, true, false, ◌||◌, Option, Some, None}
+use Rattle.std.specs.Option.{option_map_or}
 use Rattle.csl_base.specs.declared.taxonomy.StandardVariable.TheVariants as standard
 use Rattle.csl_base.specs.Element.{Name, Target, standard_target, macro_target, Element, text_element, number_element, date_element, names_element, group_element, choose_element, Elements, no_elements, element, Branches, otherwise, branch, Macro}
-use Rattle.csl_base.specs.Ring.{body_of}
+use Rattle.csl_base.specs.Ring.{body_of, HasNoRing}
 use Rattle.csl_base.specs.Style.{StyleValue, BibliographyValue}
 
 -- the year suffix is meant, where `call` says it of the macros that are called
@@ -37,7 +38,7 @@ abbrev pub suffix_in_body : (Name → Bool) → Option Elements → Bool
 suffix_in_body call None = false
 suffix_in_body call (Some elements) = suffix_in_all call elements
 
--- the same of a macro, where macros are followed at most so deep
+-- the same of a macro, where macros are followed at most so deep; that is never felt, as the law below says
 abbrev pub suffix_in_macro : List Macro → ℕ → Name → Bool
 suffix_in_macro macros zero name = false
 suffix_in_macro macros (suc depth) name = suffix_in_body (suffix_in_macro macros depth) (body_of name macros)
@@ -53,3 +54,13 @@ suffix_in_bibliography macros (Some b) = suffix_stands macros b.layout.elements
 -- in either layout of a style
 abbrev pub explicit_suffix : StyleValue → Bool
 explicit_suffix style = suffix_stands style.macros style.citation.layout.elements || suffix_in_bibliography style.macros style.bibliography
+
+-- a call of a macro means the first macro of its name: the text stands in what is called where it stands in that
+-- one's children
+abbrev pub suffix_called : List Macro → Name → Bool
+suffix_called macros name = option_map_or (suffix_stands macros) (body_of name macros) false
+
+-- it is looked for element by element, with that meaning of calls
+abbrev pub SuffixesUnfold : Type 0
+SuffixesUnfold =
+    (macros : List Macro) → HasNoRing macros → (es : Elements) → suffix_stands macros es ≡ suffix_in_all (suffix_called macros) es

@@ -3,7 +3,7 @@ use Rattle.std.specs.Prelude.{ℕ, zero, suc, ◌+◌, ◌*◌, List, [], ◌∷
 use Rattle.csl_base.specs.Element.{Name, macro_target, Element, text_element, group_element, choose_element, Elements, Macro}
 use Rattle.csl_base.specs.ElementView.{elements_view}
 use Rattle.csl_base.specs.Ring.{body_of}
-use Rattle.csl_base.proofs.Weight.{weight_with, weight_all_with}
+use Rattle.csl_base.specs.Weight.{weight_with, weight_all_with}
 use Rattle.csl_picking.specs.declared.held.Opened.{Opened}
 use Rattle.csl_picking.specs.declared.picking.Step.{Step}
 use Rattle.csl_picking.specs.declared.picking.Step.TheVariants as steps

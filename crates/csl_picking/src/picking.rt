@@ -2,7 +2,7 @@
 ghost use Rattle.std.specs.Prelude.{◌≡◌, ℕ, ◌+◌, ◌*◌, ◌<◌, OnOk, None, false};
 ghost use Rattle.csl_base.specs.ElementView.{element_view, elements_view, branches_view, target_view, text_view, look};
 ghost use Rattle.csl_base.specs.Element.{Name, text_element};
-ghost use Rattle.csl_base.proofs.Weight.{weight_all_with, weight_branches_with};
+ghost use Rattle.csl_base.specs.Weight.{weight_all_with, weight_branches_with};
 ghost use Rattle.csl_picking.specs.Picked.{added};
 ghost use Rattle.csl_picking.specs.PiecesView.{node_view, shape_look};
 ghost use Rattle.csl_picking.specs.Pieces.{plain_node};

@@ -5,7 +5,7 @@ ghost use Rattle.csl_base.specs.StyleView.{style_view};
 ghost use Rattle.csl_base.specs.Calls.{calls_of_all};
 ghost use Rattle.csl_base.specs.Ring.{has_name, body_of, macro_calls, HasNoRing};
 ghost use Rattle.csl_picking.specs.Gathered.{add_new, add_each};
-ghost use Rattle.csl_picking.specs.SuffixText.{no_call, suffix_in_body, suffix_in, suffix_in_all, suffix_in_branches, suffix_stands, explicit_suffix};
+ghost use Rattle.csl_picking.specs.SuffixText.{no_call, suffix_in_body, suffix_in, suffix_in_all, suffix_in_branches, suffix_stands, explicit_suffix, SuffixesUnfold};
 
 use csl_base::calls::add_all_calls;
 use csl_base::element::{ChooseBranch, CslMacro, LayoutRenderingElement, TextTarget};
@@ -153,6 +153,13 @@ fn suffix_stands<'a>(
     }
     Ok(false)
 }
+
+/// A law: in a style without a ring a year-suffix text stands in a call of a macro exactly where it
+/// stands in its first macro's children.
+#[tactic(auto, using(crate::proofs::Suffixes::suffixes_unfold))]
+pub fn suffixes_unfold()
+    ensures { SuffixesUnfold }
+{}
 
 /// Whether a year-suffix text stands in either layout of a style, at any depth, through macros
 /// too. Each macro is looked at once for a layout.

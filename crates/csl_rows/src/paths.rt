@@ -44,11 +44,12 @@ pub mod of_writing {
     pub use csl_writing::context::Context;
     pub use csl_writing::counter::Renders;
     pub use csl_writing::laws::{
-        copies_are_equal, states_have_a_greatest, suffixes_differ, usage_counts_once,
+        copies_are_equal, defaults_are_none, equality_decides, states_have_a_greatest,
+        suffixes_differ, usage_counts_once,
     };
     pub use csl_writing::locator::{LocatorPayload, SpecificLocator, TransparentLocator};
     pub use csl_writing::lookup::StyleContext;
-    pub use csl_writing::picking::macros_unfold;
+    pub use csl_writing::picking::{macros_unfold, suffixes_unfold};
     pub use csl_writing::properties::{
         CertainCiteProperties, CiteProperties, SpeculativeCiteProperties,
     };

@@ -57,8 +57,8 @@ impl<'a> StyleContext<'a> {
         self.locales.lookup_locale(f)
     }
 
-    /// Whether `.` and `,` go before a closing quote: as the first locale says that is asked and
-    /// says so, else not.
+    /// Whether a mark (`.`, `,`, `;`, `!` or `?`) goes before a closing quote: as the first locale
+    /// says that is asked and says anything of it, else not.
     pub fn punctuation_in_quotes(&self) -> bool
         ensures { result ≡ found.punctuation_in_quotes (found.lookup (context_source self.now)) }
     {

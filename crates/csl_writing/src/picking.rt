@@ -1,2 +1,3 @@
-//! The law of what a layout picks.
+//! Laws of what layouts pick.
 pub use csl_picking::picking::macros_unfold;
+pub use csl_picking::suffix_text::suffixes_unfold;

@@ -172,8 +172,9 @@ impl<'a> StyleContext<'a> {
         ensures cite { IfOk result (λ c. c ≡ rendered.cite (context_source self.now) (T.answers entry.now) (properties_view props.now) purpose verdict) }
         ensures count { renders.new ≡ counted renders.old }
     {
+        let cite = self.cite_of(alloc, entry, props, purpose, verdict);
         renders.add_one();
-        self.cite_of(alloc, entry, props, purpose, verdict)
+        cite
     }
 
     /// The tree of the cite that `do_citation` renders from the same arguments; counts a rendering,

@@ -2,10 +2,11 @@
 use csl_base::taxonomy::Locator;
 use csl_writing::brackets::Brackets;
 use csl_writing::laws::{
-    copies_are_equal, states_have_a_greatest, suffixes_differ, usage_counts_once,
+    copies_are_equal, defaults_are_none, equality_decides, states_have_a_greatest, suffixes_differ,
+    usage_counts_once,
 };
 use csl_writing::locator::{LocatorPayload, SpecificLocator, TransparentLocator};
-use csl_writing::picking::macros_unfold;
+use csl_writing::picking::{macros_unfold, suffixes_unfold};
 use csl_writing::properties::CiteProperties;
 use csl_writing::state::{DisambiguateState, IdentifierUsage};
 use csl_writing::year::{letters_of_suffix, write_year};
@@ -48,9 +49,12 @@ fn small_values(rt: HostRuntime) -> Result<(), Fail> {
     states_have_a_greatest();
     usage_counts_once();
     macros_unfold();
+    suffixes_unfold();
     assert!(rt; Brackets::Square.left() == Some('['));
     assert!(rt; Brackets::Square.right() == Some(']'));
     assert!(rt; Brackets::None.left() == None);
+    defaults_are_none();
+    assert!(rt; DisambiguateState::default() == DisambiguateState::None);
     let state = DisambiguateState::Choose.max(DisambiguateState::YearSuffix(3));
     assert!(rt; state == DisambiguateState::YearSuffix(3));
     assert!(rt; IdentifierUsage::default().label().number() == IdentifierUsage::Mixed);
@@ -74,6 +78,7 @@ fn properties_are_copied(rt: HostRuntime) -> Result<(), Fail> {
 #[test]
 fn locators_are_equal_where_their_payloads_are(rt: HostRuntime) -> Result<(), Fail> {
     let alloc = rt.alloc();
+    equality_decides::<u32>();
     let one = TransparentLocator::new(alloc, 7u32)?;
     let same = TransparentLocator::new(alloc, 7u32)?;
     let other = TransparentLocator::new(alloc, 8u32)?;

@@ -2,7 +2,7 @@ use Rattle.std.proofs.Common.{◌≡◌, ◌++◌, map, drop}
 use Rattle.csl_base.specs.Calls.{calls_of_all, calls_of_branches}
 use Rattle.csl_base.specs.ElementView.{elements_view, branches_view}
 use Rattle.csl_base.specs.ElementView.{element_view}
-use Rattle.csl_base.proofs.Weight.{weight_with, weight_all_with, weight_branches_with}
+use Rattle.csl_base.specs.Weight.{weight_with, weight_all_with, weight_branches_with}
 use Rattle.csl_base.proofs.calls.+calls.Given as goal
 
 abbrev pub invariant-add_all_calls-loop-element : goal.invariant-add_all_calls-loop-element

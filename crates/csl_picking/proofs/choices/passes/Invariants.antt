@@ -1,6 +1,7 @@
 use Rattle.std.proofs.Common.{◌≡◌, ◌||◌, ◌&&◌, drop}
+use Rattle.std.specs.List.{list_any, list_all}
 use Rattle.csl_picking.specs.InputView.{env_of}
-use Rattle.csl_picking.specs.Conditions.{some_holds, all_hold, tested}
+use Rattle.csl_picking.specs.Conditions.{holds, tested}
 use Rattle.csl_picking.proofs.choices.passes.Given as goal
 
 abbrev pub invariant-loop-condition : goal.invariant-loop-condition
@@ -8,7 +9,7 @@ invariant-loop-condition g l =
     let env = env_of (g.T.EntryLike.answers l.input.entry.now) l.input.setting in
     let left = drop l.condition-index l.condition-items in
     record {
-      some : (l.some || some_holds env left) ≡ some_holds env l.condition-items;
-      all : (l.all && all_hold env left) ≡ all_hold env l.condition-items;
+      some : (l.some || list_any (holds env) left) ≡ list_any (holds env) l.condition-items;
+      all : (l.all && list_all (holds env) left) ≡ list_all (holds env) l.condition-items;
       noted : tested left l.notes ≡ tested l.condition-items l.initial.notes;
     }

@@ -3,7 +3,8 @@ use Rattle.std.proofs.lemmas.List.{drop_all}
 use Rattle.csl_base.specs.ElementView.{elements_view, branches_view}
 use Rattle.csl_base.specs.declared.element.ChooseBranch.{ChooseBranch}
 use Rattle.csl_base.proofs.Views.{branches_rest}
-use Rattle.csl_base.proofs.Weight.{weight_all_with, weight_branches_with, lt-branches, lt-last}
+use Rattle.csl_base.specs.Weight.{weight_all_with, weight_branches_with}
+use Rattle.csl_base.proofs.Weight.{lt-branches, lt-last}
 use Rattle.csl_picking.specs.InputView.{env_of}
 use Rattle.csl_picking.specs.Pick.{pick_first_with}
 use Rattle.csl_picking.proofs.WorkSteps.{taken, passed}
