@@ -81,19 +81,29 @@ pub fn group(
     })
 }
 
+/// A macro that calls one.
+fn macro_of(alloc: Global, name: &str, called: &str) -> Result<CslMacro, AllocError> {
+    let children = vec![in alloc; call(alloc, called)?]?;
+    Ok(CslMacro {
+        name: String::from_str(alloc, name)?,
+        children,
+    })
+}
+
+fn macros_of(alloc: Global, rows: &[(&str, &str)]) -> Result<Vec<CslMacro>, AllocError> {
+    let mut macros = Vec::new(alloc);
+    for row in rows {
+        macros.push(macro_of(alloc, row.0, row.1)?)?;
+    }
+    Ok(macros)
+}
+
 /// The numeric style with these macros: each name, and the name that it calls.
 pub fn numeric_with_macros(
     alloc: Global,
     macros: &[(&str, &str)],
 ) -> Result<IndependentStyle, AllocError> {
-    let mut style = numeric(alloc)?;
-    for each in macros {
-        let mut children = Vec::new(alloc);
-        children.push(call(alloc, each.1)?)?;
-        let name = String::from_str(alloc, each.0)?;
-        style.macros.push(CslMacro { name, children })?;
-    }
-    Ok(style)
+    numeric_of(alloc, macros_of(alloc, macros)?)
 }
 
 /// A style of this class that writes this text in italics, with the suffix `.` and no bibliography.
@@ -102,10 +112,22 @@ pub fn value_style(
     class: StyleClass,
     written: &str,
 ) -> Result<IndependentStyle, AllocError> {
-    let mut layout = layout_of(alloc, value(alloc, written)?)?;
-    layout.suffix = text(alloc, ".")?;
-    layout.formatting.font_style = Some(FontStyle::Italic);
-    Ok(style_of(alloc, class, citation_of(layout), None))
+    let citation = citation_of(italic_layout(alloc, written)?, None, None);
+    Ok(style_of(alloc, class, Vec::new(alloc), citation, None))
+}
+
+fn italic_layout(alloc: Global, written: &str) -> Result<Layout, AllocError> {
+    let elements = vec![in alloc; value(alloc, written)?]?;
+    Ok(Layout {
+        elements,
+        formatting: StyleFormatting {
+            font_style: Some(FontStyle::Italic),
+            font_weight: None,
+        },
+        prefix: None,
+        suffix: text(alloc, ".")?,
+        delimiter: None,
+    })
 }
 
 /// A number element.
@@ -123,9 +145,15 @@ pub fn authors(
     alloc: Global,
     et_al_min: Option<usize>,
 ) -> Result<LayoutRenderingElement, AllocError> {
-    let mut options = no_options();
-    options.name_form = Some(NameForm::Short);
-    options.et_al_min = et_al_min;
+    let options = InheritableNameOptions {
+        and: None,
+        name_delimiter: None,
+        names_delimiter: None,
+        et_al_min,
+        et_al_use_first: None,
+        name_form: Some(NameForm::Short),
+        initialize_with: None,
+    };
     Ok(LayoutRenderingElement::Names {
         variables: vec![in alloc; NameVariable::Author]?,
         substitute: Vec::new(alloc),
@@ -151,29 +179,51 @@ pub fn writing(
     alloc: Global,
     element: LayoutRenderingElement,
 ) -> Result<IndependentStyle, AllocError> {
-    let layout = layout_of(alloc, element)?;
-    Ok(style_of(alloc, StyleClass::InText, citation_of(layout), None))
+    Ok(in_text(alloc, layout_of(alloc, element)?))
+}
+
+fn in_text(alloc: Global, layout: Layout) -> IndependentStyle {
+    let citation = citation_of(layout, None, None);
+    style_of(alloc, StyleClass::InText, Vec::new(alloc), citation, None)
+}
+
+/// Authors, years and original years.
+fn names_and_dates(alloc: Global) -> Result<LayoutRenderingElement, AllocError> {
+    let names = authors(alloc, None)?;
+    let dates = (date(DateVariable::Issued), date(DateVariable::OriginalDate));
+    group(alloc, vec![in alloc; names, dates.0, dates.1]?, " ")
 }
 
 /// An in-text style of authors, years and original years in parentheses, without a bibliography.
 pub fn author_date(alloc: Global) -> Result<IndependentStyle, AllocError> {
-    let mut children = Vec::new(alloc);
-    children.push(authors(alloc, None)?)?;
-    children.push(date(DateVariable::Issued))?;
-    children.push(date(DateVariable::OriginalDate))?;
-    let mut style = writing(alloc, group(alloc, children, " ")?)?;
-    let layout = &mut style.citation.layout;
-    layout.prefix = text(alloc, "(")?;
-    layout.suffix = text(alloc, ")")?;
-    layout.delimiter = text(alloc, "; ")?;
-    Ok(style)
+    let layout = framed(alloc, "(", ")", "; ")?;
+    Ok(in_text(alloc, holding(layout, names_and_dates(alloc)?)?))
+}
+
+/// A layout of no elements with these affixes and this delimiter.
+fn framed(
+    alloc: Global,
+    prefix: &str,
+    suffix: &str,
+    delimiter: &str,
+) -> Result<Layout, AllocError> {
+    Ok(Layout {
+        elements: Vec::new(alloc),
+        formatting: no_formatting(),
+        prefix: text(alloc, prefix)?,
+        suffix: text(alloc, suffix)?,
+        delimiter: text(alloc, delimiter)?,
+    })
+}
+
+fn holding(mut layout: Layout, element: LayoutRenderingElement) -> Result<Layout, AllocError> {
+    layout.elements.push(element)?;
+    Ok(layout)
 }
 
 pub fn layout_of(alloc: Global, element: LayoutRenderingElement) -> Result<Layout, AllocError> {
-    let mut elements = Vec::new(alloc);
-    elements.push(element)?;
     Ok(Layout {
-        elements,
+        elements: vec![in alloc; element]?,
         formatting: no_formatting(),
         prefix: None,
         suffix: None,
@@ -181,7 +231,11 @@ pub fn layout_of(alloc: Global, element: LayoutRenderingElement) -> Result<Layou
     })
 }
 
-fn citation_of(layout: Layout) -> Citation {
+fn citation_of(
+    layout: Layout,
+    collapse: Option<Collapse>,
+    after_collapse_delimiter: Option<String>,
+) -> Citation {
     Citation {
         layout,
         disambiguate_add_givenname: false,
@@ -190,8 +244,8 @@ fn citation_of(layout: Layout) -> Citation {
         disambiguate_add_year_suffix: false,
         cite_group_delimiter: None,
         year_suffix_delimiter: None,
-        after_collapse_delimiter: None,
-        collapse: None,
+        after_collapse_delimiter,
+        collapse,
         near_note_distance: 5,
         name_options: no_options(),
     }
@@ -213,6 +267,7 @@ pub fn bibliography_of(layout: Layout) -> Bibliography {
 fn style_of(
     alloc: Global,
     class: StyleClass,
+    macros: Vec<CslMacro>,
     citation: Citation,
     bibliography: Option<Bibliography>,
 ) -> IndependentStyle {
@@ -226,7 +281,7 @@ fn style_of(
         },
         default_locale: None,
         locale: Vec::new(alloc),
-        macros: Vec::new(alloc),
+        macros,
         citation,
         bibliography,
     }
@@ -234,56 +289,86 @@ fn style_of(
 
 /// An in-text style of citation numbers in brackets, whose bibliography writes them so too.
 pub fn numeric(alloc: Global) -> Result<IndependentStyle, AllocError> {
-    let mut layout = layout_of(alloc, number(NumberVariable::CitationNumber, no_affixes()))?;
-    layout.prefix = text(alloc, "[")?;
-    layout.suffix = text(alloc, "]")?;
-    layout.delimiter = text(alloc, ", ")?;
-    let mut citation = citation_of(layout);
-    citation.collapse = Some(Collapse::CitationNumber);
-    citation.after_collapse_delimiter = text(alloc, "; ")?;
-    let affixes = Affixes {
+    numeric_of(alloc, Vec::new(alloc))
+}
+
+fn numeric_of(alloc: Global, macros: Vec<CslMacro>) -> Result<IndependentStyle, AllocError> {
+    let citation = numeric_citation(alloc)?;
+    let bibliography = Some(numeric_bibliography(alloc)?);
+    let class = StyleClass::InText;
+    Ok(style_of(alloc, class, macros, citation, bibliography))
+}
+
+fn numeric_citation(alloc: Global) -> Result<Citation, AllocError> {
+    let layout = framed(alloc, "[", "]", ", ")?;
+    let layout = holding(layout, number(NumberVariable::CitationNumber, no_affixes()))?;
+    let collapse = Some(Collapse::CitationNumber);
+    Ok(citation_of(layout, collapse, text(alloc, "; ")?))
+}
+
+fn bracketed(alloc: Global) -> Result<Affixes, AllocError> {
+    Ok(Affixes {
         prefix: text(alloc, "[")?,
         suffix: text(alloc, "]")?,
-    };
-    let items = layout_of(alloc, number(NumberVariable::CitationNumber, affixes))?;
-    Ok(style_of(
-        alloc,
-        StyleClass::InText,
-        citation,
-        Some(bibliography_of(items)),
-    ))
+    })
+}
+
+fn numeric_bibliography(alloc: Global) -> Result<Bibliography, AllocError> {
+    let number = number(NumberVariable::CitationNumber, bracketed(alloc)?);
+    Ok(bibliography_of(layout_of(alloc, number)?))
 }
 
 /// An entry that has a key alone.
 pub fn entry(alloc: Global, key: &str) -> Result<PlainEntry, AllocError> {
+    entry_of(alloc, key, Vec::new(alloc), Vec::new(alloc))
+}
+
+fn entry_of(
+    alloc: Global,
+    key: &str,
+    names: Vec<(NameVariable, Seq<Person>)>,
+    dates: Vec<(DateVariable, Date)>,
+) -> Result<PlainEntry, AllocError> {
     Ok(PlainEntry {
         key: Text::new(String::from_str(alloc, key)?),
         label: None,
-        names: Seq::new(Vec::new(alloc)),
-        dates: Seq::new(Vec::new(alloc)),
+        names: Seq::new(names),
+        dates: Seq::new(dates),
         texts: Seq::new(Vec::new(alloc)),
         numbers: Seq::new(Vec::new(alloc)),
     })
 }
 
+fn person(alloc: Global, name: &str) -> Result<Person, AllocError> {
+    Ok(Person {
+        name: Text::new(String::from_str(alloc, name)?),
+        given_name: None,
+    })
+}
+
+fn persons(alloc: Global, names: &[&str]) -> Result<Vec<Person>, AllocError> {
+    let mut persons = Vec::new(alloc);
+    for name in names {
+        persons.push(person(alloc, *name)?)?;
+    }
+    Ok(persons)
+}
+
+fn names_of(
+    alloc: Global,
+    authors: &[&str],
+) -> Result<Vec<(NameVariable, Seq<Person>)>, AllocError> {
+    let persons = Seq::new(persons(alloc, authors)?);
+    Ok(vec![in alloc; (NameVariable::Author, persons)]?)
+}
+
 /// An entry of these authors.
 pub fn written_by(alloc: Global, authors: &[&str]) -> Result<PlainEntry, AllocError> {
-    let mut written = entry(alloc, "")?;
-    let mut persons = Vec::new(alloc);
-    for author in authors {
-        let name = Text::new(String::from_str(alloc, *author)?);
-        persons.push(Person {
-            name,
-            given_name: None,
-        })?;
-    }
-    written.names = Seq::new(vec![in alloc; (NameVariable::Author, Seq::new(persons))]?);
-    Ok(written)
+    entry_of(alloc, "", names_of(alloc, authors)?, Vec::new(alloc))
 }
 
 /// An entry of one author, issued in a year.
 pub fn dated(alloc: Global, author: &str, year: i32) -> Result<PlainEntry, AllocError> {
-    let mut dated = written_by(alloc, &[author])?;
-    dated.dates = Seq::new(vec![in alloc; (DateVariable::Issued, Date { year })]?);
-    Ok(dated)
+    let dates = vec![in alloc; (DateVariable::Issued, Date { year })]?;
+    entry_of(alloc, "", names_of(alloc, &[author])?, dates)
 }
