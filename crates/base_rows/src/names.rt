@@ -1,49 +1,54 @@
 //! The forms of names.
 use csl_base::names::{DisambiguatedNameForm, NameDisambiguationProperties, forms_are_in_order};
 use csl_base::seq::Seq;
+use std::alloc::{AllocError, Global};
 use std::test::Fail;
+
+type Form = DisambiguatedNameForm;
+
+fn named(alloc: Global, forms: [Form; 3]) -> Result<NameDisambiguationProperties, AllocError> {
+    Ok(NameDisambiguationProperties {
+        forms: Seq::new(vec![in alloc; forms[0], forms[1], forms[2]]?),
+    })
+}
 
 #[test]
 fn adds_names_that_only_count(rt: HostRuntime) -> Result<(), Fail> {
-    let forms = vec![in rt.alloc();
-        DisambiguatedNameForm::Count,
-        DisambiguatedNameForm::LongFull,
-        DisambiguatedNameForm::Count,
-    ]?;
-    let mut names = NameDisambiguationProperties {
-        forms: Seq::new(forms),
-    };
-    let before = names.clone()?;
-    names.add_name(0);
-    names.add_name(2);
-    names.add_name(4);
-    assert!(rt; names == before);
+    let before = named(rt.alloc(), [Form::Count, Form::LongFull, Form::Count])?;
+    let raised = named(rt.alloc(), [Form::Count, Form::LongFull, Form::Short])?;
+    let mut names = before.clone()?;
     names.add_name(3);
-    let raised = vec![in rt.alloc();
-        DisambiguatedNameForm::Count,
-        DisambiguatedNameForm::LongFull,
-        DisambiguatedNameForm::Short,
-    ]?;
-    assert!(rt; names.forms == Seq::new(raised));
+    assert!(rt; names == raised);
     assert!(rt; before < names);
     Ok(())
 }
 
 #[test]
+fn other_names_stay(rt: HostRuntime) -> Result<(), Fail> {
+    let before = named(rt.alloc(), [Form::Count, Form::LongFull, Form::Count])?;
+    let mut names = before.clone()?;
+    for i in [0, 2, 4] {
+        names.add_name(i);
+    }
+    assert!(rt; names == before);
+    Ok(())
+}
+
+fn two(alloc: Global, second: Form) -> Result<NameDisambiguationProperties, AllocError> {
+    Ok(NameDisambiguationProperties {
+        forms: Seq::new(vec![in alloc; Form::Count, second]?),
+    })
+}
+
+#[test]
 fn lends_forms_from_zero_on(rt: HostRuntime) -> Result<(), Fail> {
-    let forms = vec![in rt.alloc(); DisambiguatedNameForm::Count, DisambiguatedNameForm::Short]?;
-    let mut names = NameDisambiguationProperties {
-        forms: Seq::new(forms),
-    };
+    let mut names = two(rt.alloc(), Form::Short)?;
     if let Some(form) = names.get_form_mut(1) {
-        *form = DisambiguatedNameForm::LongInitialized;
+        *form = Form::LongInitialized;
     }
     assert!(rt; names.get_form_mut(2).is_none());
-    let changed = vec![in rt.alloc();
-        DisambiguatedNameForm::Count,
-        DisambiguatedNameForm::LongInitialized,
-    ]?;
-    assert!(rt; names.forms == Seq::new(changed));
+    let changed = two(rt.alloc(), Form::LongInitialized)?;
+    assert!(rt; names == changed);
     Ok(())
 }
 

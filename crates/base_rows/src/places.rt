@@ -12,26 +12,34 @@ use csl_base::first_names::first_names_laws;
 use csl_base::formatting::{Display, FontStyle, Formatted, Formatting};
 use csl_base::last_text::last_text_laws;
 use csl_base::seq::Seq;
-use std::alloc::AllocError;
+use std::alloc::{AllocError, Global};
 use std::test::Fail;
 
-fn text(rt: &HostRuntime, bytes: &str) -> Result<Formatted, AllocError> {
-    Ok(Formatting::default().add_text(String::from_str(rt.alloc(), bytes)?))
+fn text(alloc: Global, bytes: &str) -> Result<Formatted, AllocError> {
+    Ok(Formatting::default().add_text(String::from_str(alloc, bytes)?))
+}
+
+fn push_text(alloc: Global, tree: &mut ElemChildren, bytes: &str) -> Result<(), AllocError> {
+    tree.push(ElemChild::Text(text(alloc, bytes)?))
+}
+
+fn alone(alloc: Global, bytes: &str) -> Result<ElemChildren, AllocError> {
+    let mut children = ElemChildren::new(alloc);
+    push_text(alloc, &mut children, bytes)?;
+    Ok(children)
 }
 
 /// An element around one text.
-fn leaf(rt: &HostRuntime, bytes: &str, meta: Option<ElemMeta>) -> Result<Elem, AllocError> {
-    let mut children = ElemChildren::new(rt.alloc());
-    children.push(ElemChild::Text(text(rt, bytes)?))?;
+fn leaf(alloc: Global, bytes: &str, meta: Option<ElemMeta>) -> Result<Elem, AllocError> {
     Ok(Elem {
-        children,
+        children: alone(alloc, bytes)?,
         display: None,
         meta,
     })
 }
 
-fn around(rt: &HostRuntime, inner: Elem, meta: Option<ElemMeta>) -> Result<Elem, AllocError> {
-    let mut children = ElemChildren::new(rt.alloc());
+fn around(alloc: Global, inner: Elem, meta: Option<ElemMeta>) -> Result<Elem, AllocError> {
+    let mut children = ElemChildren::new(alloc);
     children.push(ElemChild::Elem(inner))?;
     Ok(Elem {
         children,
@@ -40,33 +48,68 @@ fn around(rt: &HostRuntime, inner: Elem, meta: Option<ElemMeta>) -> Result<Elem,
     })
 }
 
-fn names(rt: &HostRuntime) -> Option<ElemMeta> {
-    Some(ElemMeta::Names(Seq::new(Vec::new(rt.alloc()))))
+fn names(alloc: Global) -> Option<ElemMeta> {
+    Some(ElemMeta::Names(Seq::new(Vec::new(alloc))))
 }
 
-/// `See `, an entry that holds the names `Doe`, the label `Doe21` and, further in, the date `2021`;
-/// then the number `7`, and at the end an element around `p. 5`.
-fn cite(rt: &HostRuntime) -> Result<ElemChildren, AllocError> {
-    let mut entry = ElemChildren::new(rt.alloc());
-    entry.push(ElemChild::Elem(around(rt, leaf(rt, "Doe", names(rt))?, None)?))?;
-    entry.push(ElemChild::Elem(leaf(rt, "Doe21", Some(ElemMeta::CitationLabel))?))?;
-    entry.push(ElemChild::Elem(around(rt, leaf(rt, "2021", Some(ElemMeta::Date))?, None)?))?;
-    let mut tree = ElemChildren::new(rt.alloc());
-    tree.push(ElemChild::Text(text(rt, "See ")?))?;
-    tree.push(ElemChild::Elem(Elem {
-        children: entry,
+fn push(tree: &mut ElemChildren, elem: Elem) -> Result<(), AllocError> {
+    tree.push(ElemChild::Elem(elem))
+}
+
+/// The names `Doe`, the label `Doe21` and, further in, the date `2021`.
+fn parts(alloc: Global) -> Result<ElemChildren, AllocError> {
+    let mut parts = ElemChildren::new(alloc);
+    push(
+        &mut parts,
+        around(alloc, leaf(alloc, "Doe", names(alloc))?, None)?,
+    )?;
+    push_leaf(alloc, &mut parts, "Doe21", Some(ElemMeta::CitationLabel))?;
+    push(
+        &mut parts,
+        around(alloc, leaf(alloc, "2021", Some(ElemMeta::Date))?, None)?,
+    )?;
+    Ok(parts)
+}
+
+fn push_leaf(
+    alloc: Global,
+    tree: &mut ElemChildren,
+    bytes: &str,
+    meta: Option<ElemMeta>,
+) -> Result<(), AllocError> {
+    push(tree, leaf(alloc, bytes, meta)?)
+}
+
+/// An entry that holds those.
+fn entry(alloc: Global) -> Result<Elem, AllocError> {
+    Ok(Elem {
+        children: parts(alloc)?,
         display: Some(Display::Indent),
         meta: Some(ElemMeta::Entry(3)),
-    }))?;
-    tree.push(ElemChild::Elem(leaf(rt, "7", Some(ElemMeta::CitationNumber))?))?;
-    tree.push(ElemChild::Elem(leaf(rt, "p. 5", None)?))?;
+    })
+}
+
+/// `See `, the entry, the number `7`, and at the end an element around `p. 5`.
+fn cite(alloc: Global) -> Result<ElemChildren, AllocError> {
+    let mut tree = alone(alloc, "See ")?;
+    push(&mut tree, entry(alloc)?)?;
+    push_leaf(alloc, &mut tree, "7", Some(ElemMeta::CitationNumber))?;
+    push_leaf(alloc, &mut tree, "p. 5", None)?;
     Ok(tree)
 }
 
-fn shows(rt: &HostRuntime, tree: &ElemChildren, want: &str) -> Result<bool, Fail> {
-    let mut shown = String::new(rt.alloc());
+fn shows(alloc: Global, tree: &ElemChildren, want: &str) -> Result<bool, Fail> {
+    let mut shown = String::new(alloc);
     tree.write_buf(&mut shown, BufWriteFormat::Plain)?;
     Ok(shown.as_str() == want)
+}
+
+/// Whether an element was found, and shows this.
+fn found(alloc: Global, elem: Option<&Elem>, want: &str) -> Result<bool, Fail> {
+    match elem {
+        Some(elem) => shows(alloc, &elem.children, want),
+        None => Ok(false),
+    }
 }
 
 /// Writes one field. The contract shows what a caller learns of a tree that lent its last text.
@@ -91,89 +134,152 @@ fn strip_first_names(tree: &mut ElemChildren)
 
 #[test]
 fn finds_elements(rt: HostRuntime) -> Result<(), Fail> {
-    let tree = cite(&rt)?;
-    assert!(rt; shows(&rt, &tree, "See DoeDoe2120217p. 5")?);
-
-    let plain = tree
-        .find_elem_by(|elem| elem.meta.is_none())
-        .ok_or("no plain element")?;
+    let tree = cite(rt.alloc())?;
+    assert!(rt; shows(rt.alloc(), &tree, "See DoeDoe2120217p. 5")?);
+    let plain = tree.find_elem_by(|elem| elem.meta.is_none());
     assert!(rt;
-        shows(&rt, &plain.children, "Doe")?,
+        found(rt.alloc(), plain, "Doe")?,
         "an element comes before those after it"
     );
-    let shifted = tree
-        .find_elem_by(|elem| elem.display.is_some())
-        .ok_or("no display")?;
-    assert!(rt; shows(&rt, &shifted.children, "DoeDoe212021")?);
-    assert!(rt; tree.find_elem_by(|elem| elem.children.is_empty()).is_none());
-
-    let date = tree.find_meta(&ElemMeta::Date).ok_or("no date")?;
-    assert!(rt;
-        shows(&rt, &date.children, "2021")?,
-        "the date stands two levels in"
-    );
-    assert!(rt; tree.find_meta(&ElemMeta::Entry(3)).is_some());
-    assert!(rt; tree.find_meta(&ElemMeta::Entry(4)).is_none());
     Ok(())
 }
 
 #[test]
-fn takes_out_what_has_a_meta(rt: HostRuntime) -> Result<(), Fail> {
-    let mut tree = cite(&rt)?;
-    let first = tree.remove_any_meta().ok_or("no entry")?;
-    assert!(rt; matches!(&first, ElemChild::Elem(elem) if elem.meta == Some(ElemMeta::Entry(3))));
-    assert!(rt; shows(&rt, &tree, "See 7p. 5")?);
-    let second = tree.remove_any_meta().ok_or("no number")?;
-    assert!(rt;
-        matches!(&second, ElemChild::Elem(elem) if elem.meta == Some(ElemMeta::CitationNumber))
-    );
-    assert!(rt; shows(&rt, &tree, "See p. 5")?);
-    assert!(rt; tree.remove_any_meta().is_none());
-    assert!(rt; shows(&rt, &tree, "See p. 5")?);
+fn finds_elements_by_their_parts(rt: HostRuntime) -> Result<(), Fail> {
+    let tree = cite(rt.alloc())?;
+    let shifted = tree.find_elem_by(|elem| elem.display.is_some());
+    assert!(rt; found(rt.alloc(), shifted, "DoeDoe212021")?);
+    assert!(rt; tree.find_elem_by(|elem| elem.children.is_empty()).is_none());
     Ok(())
+}
+
+#[test]
+fn finds_a_meta(rt: HostRuntime) -> Result<(), Fail> {
+    let tree = cite(rt.alloc())?;
+    let date = tree.find_meta(&ElemMeta::Date);
+    assert!(rt;
+        found(rt.alloc(), date, "2021")?,
+        "the date stands two levels in"
+    );
+    for (place, there) in [(3, true), (4, false)] {
+        assert!(rt; tree.find_meta(&ElemMeta::Entry(place)).is_some() == there);
+    }
+    Ok(())
+}
+
+/// The meta of the first child that has one, which is taken out.
+fn taken(tree: &mut ElemChildren) -> Option<ElemMeta> {
+    match tree.remove_any_meta() {
+        Some(ElemChild::Elem(elem)) => elem.meta,
+        _ => None,
+    }
+}
+
+#[test]
+fn takes_out_what_has_a_meta(rt: HostRuntime) -> Result<(), Fail> {
+    let mut tree = cite(rt.alloc())?;
+    for (meta, left) in [
+        (ElemMeta::Entry(3), "See 7p. 5"),
+        (ElemMeta::CitationNumber, "See p. 5"),
+    ] {
+        assert!(rt; taken(&mut tree) == Some(meta));
+        assert!(rt; shows(rt.alloc(), &tree, left)?);
+    }
+    Ok(())
+}
+
+#[test]
+fn takes_out_nothing_without_a_meta(rt: HostRuntime) -> Result<(), Fail> {
+    let mut tree = cite(rt.alloc())?;
+    for _ in 0..2 {
+        let _ = tree.remove_any_meta();
+    }
+    assert!(rt; tree.remove_any_meta().is_none());
+    assert!(rt; shows(rt.alloc(), &tree, "See p. 5")?);
+    Ok(())
+}
+
+/// The cite, whose last text became `p. 6`.
+fn cite_of_page_6(alloc: Global) -> Result<ElemChildren, Fail> {
+    let mut tree = cite(alloc)?;
+    let last = tree.last_text_mut().ok_or("no last text")?;
+    *last = text(alloc, "p. 6")?;
+    Ok(tree)
 }
 
 #[test]
 fn writes_the_last_text(rt: HostRuntime) -> Result<(), Fail> {
     last_text_laws();
-    let mut tree = cite(&rt)?;
-    let last = tree.last_text_mut().ok_or("no last text")?;
-    *last = text(&rt, "p. 6")?;
-    assert!(rt; shows(&rt, &tree, "See DoeDoe2120217p. 6")?);
-    make_last_text_italic(&mut tree);
-    let read = tree.last_text().ok_or("no last text")?;
-    assert!(rt; read.formatting.font_style == FontStyle::Italic);
-    assert!(rt; shows(&rt, &tree, "See DoeDoe2120217p. 6")?);
+    let tree = cite_of_page_6(rt.alloc())?;
+    assert!(rt; shows(rt.alloc(), &tree, "See DoeDoe2120217p. 6")?);
+    Ok(())
+}
 
+fn in_italics(tree: &ElemChildren) -> bool {
+    match tree.last_text() {
+        Some(text) => text.formatting.font_style == FontStyle::Italic,
+        None => false,
+    }
+}
+
+#[test]
+fn only_the_field_that_was_written_changes(rt: HostRuntime) -> Result<(), Fail> {
+    let mut tree = cite_of_page_6(rt.alloc())?;
+    make_last_text_italic(&mut tree);
+    assert!(rt; in_italics(&tree));
+    assert!(rt; shows(rt.alloc(), &tree, "See DoeDoe2120217p. 6")?);
+    Ok(())
+}
+
+#[test]
+fn an_empty_tree_has_no_last_text(rt: HostRuntime) {
     let mut none = ElemChildren::new(rt.alloc());
     assert!(rt; none.last_text_mut().is_none());
-    none.push(ElemChild::Text(text(&rt, "a")?))?;
-    none.push(ElemChild::Markup(csl_base::text::Text::new(String::from_str(rt.alloc(), "b")?)))?;
-    assert!(rt; none.last_text_mut().is_none(), "the last child is markup");
+    assert!(rt; none.find_names_mut().is_none());
+}
+
+#[test]
+fn markup_is_no_text(rt: HostRuntime) -> Result<(), Fail> {
+    let mut tree = alone(rt.alloc(), "a")?;
+    let markup = csl_base::text::Text::new(String::from_str(rt.alloc(), "b")?);
+    tree.push(ElemChild::Markup(markup))?;
+    assert!(rt; tree.last_text_mut().is_none(), "the last child is markup");
     Ok(())
+}
+
+fn cite_with_more_names(alloc: Global) -> Result<ElemChildren, Fail> {
+    let mut tree = cite(alloc)?;
+    let found = tree.find_names_mut().ok_or("no names")?;
+    found.display = Some(Display::Block);
+    push_text(alloc, &mut found.children, " et al.")?;
+    Ok(tree)
 }
 
 #[test]
 fn writes_the_first_names(rt: HostRuntime) -> Result<(), Fail> {
     first_names_laws();
-    let mut tree = cite(&rt)?;
-    let found = tree.find_names_mut().ok_or("no names")?;
-    found.display = Some(Display::Block);
-    found.children.push(ElemChild::Text(text(&rt, " et al.")?))?;
-    assert!(rt; shows(&rt, &tree, "See Doe et al.Doe2120217p. 5")?);
+    let tree = cite_with_more_names(rt.alloc())?;
+    assert!(rt; shows(rt.alloc(), &tree, "See Doe et al.Doe2120217p. 5")?);
     let read = tree.find_names().ok_or("no names")?;
     assert!(rt; read.display == Some(Display::Block));
+    Ok(())
+}
 
-    let mut nested = ElemChildren::new(rt.alloc());
-    nested.push(ElemChild::Elem(around(&rt, leaf(&rt, "Roe", names(&rt))?, names(&rt))?))?;
+fn nested(alloc: Global) -> Result<ElemChildren, AllocError> {
+    let inner = leaf(alloc, "Roe", names(alloc))?;
+    let mut nested = ElemChildren::new(alloc);
+    push(&mut nested, around(alloc, inner, names(alloc))?)?;
+    Ok(nested)
+}
+
+#[test]
+fn writes_the_outer_of_two_names(rt: HostRuntime) -> Result<(), Fail> {
+    let mut nested = nested(rt.alloc())?;
     strip_first_names(&mut nested);
-    let inner = nested.find_names().ok_or("no inner names")?;
+    let inner = nested.find_names();
     assert!(rt;
-        shows(&rt, &inner.children, "Roe")?,
+        found(rt.alloc(), inner, "Roe")?,
         "the outer of two was written"
     );
-
-    let mut none = ElemChildren::new(rt.alloc());
-    assert!(rt; none.find_names_mut().is_none());
     Ok(())
 }

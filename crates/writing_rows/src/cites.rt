@@ -86,24 +86,32 @@ fn in_state(state: DisambiguateState) -> Properties<'static> {
     })
 }
 
-#[test]
-fn a_cite_counts_and_notes_its_number(rt: HostRuntime) -> Result<(), Fail> {
-    let alloc = rt.alloc();
+/// A cite of the greatest number.
+fn number_cite(alloc: Global, renders: &mut Renders) -> Result<Cite, Fail> {
     let style = numeric(alloc)?;
     let cited = entry(alloc, "a")?;
     let properties = CiteProperties::for_sorting(None, usize::MAX);
+    cite(alloc, &style, &cited, &properties, None, None, renders)
+}
+
+#[test]
+fn a_cite_counts(rt: HostRuntime) -> Result<(), Fail> {
     let mut renders = Renders::new();
     for _ in 0..7 {
-        let _cite = cite(alloc, &style, &cited, &properties, None, None, &mut renders)?;
+        let _cite = number_cite(rt.alloc(), &mut renders)?;
     }
-    assert_eq!(rt; renders.count(), 7);
-    let cite = cite(alloc, &style, &cited, &properties, None, None, &mut renders)?;
-    assert_eq!(rt; renders.count(), 8);
+    assert!(rt; renders.count() == 7);
+    let _cite = number_cite(rt.alloc(), &mut renders)?;
+    assert!(rt; renders.count() == 8);
+    Ok(())
+}
+
+#[test]
+fn a_cite_notes_its_number(rt: HostRuntime) -> Result<(), Fail> {
+    let cite = number_cite(rt.alloc(), &mut Renders::new())?;
     assert!(rt; cite.identifier_usage == IdentifierUsage::OnlyCitationNumber);
-    assert_eq!(rt;
-        cite.children.to_string(alloc)?.as_str(),
-        "18446744073709551616"
-    );
+    let text = cite.children.to_string(rt.alloc())?;
+    assert!(rt; text.as_str() == "18446744073709551616");
     Ok(())
 }
 
@@ -142,21 +150,36 @@ fn labelling(alloc: Global) -> Result<IndependentStyle, AllocError> {
     Ok(style)
 }
 
-#[test]
-fn an_item_goes_by_what_cites_have_written(rt: HostRuntime) -> Result<(), Fail> {
-    let alloc = rt.alloc();
-    let label = IdentifierUsage::OnlyCitationLabel;
-    let number = IdentifierUsage::OnlyCitationNumber;
+/// The item of an entry with a label.
+fn shown_labelled(
+    alloc: Global,
+    style: &IndependentStyle,
+    usage: IdentifierUsage,
+) -> Result<String, Fail> {
     let mut cited = entry(alloc, "a")?;
     cited.label = Some(Text::new(String::from_str(alloc, "Doe99")?));
-    let style = labelling(alloc)?;
-    assert_eq!(rt; shown_item(alloc, &style, &cited, number)?.as_str(), "5");
-    assert_eq!(rt; shown_item(alloc, &style, &cited, label)?.as_str(), "Doe99");
-    let style = numeric(alloc)?;
-    assert_eq!(rt;
-        shown_item(alloc, &style, &cited, label)?.as_str(),
-        "[Doe99]"
-    );
+    shown_item(alloc, style, &cited, usage)
+}
+
+#[test]
+fn an_item_goes_by_what_cites_have_written(rt: HostRuntime) -> Result<(), Fail> {
+    let style = labelling(rt.alloc())?;
+    for (usage, want) in [
+        (IdentifierUsage::OnlyCitationNumber, "5"),
+        (IdentifierUsage::OnlyCitationLabel, "Doe99"),
+    ] {
+        let shown = shown_labelled(rt.alloc(), &style, usage)?;
+        assert!(rt; shown.as_str() == want);
+    }
+    Ok(())
+}
+
+#[test]
+fn a_label_stands_in_for_a_number(rt: HostRuntime) -> Result<(), Fail> {
+    let style = numeric(rt.alloc())?;
+    let label = IdentifierUsage::OnlyCitationLabel;
+    let shown = shown_labelled(rt.alloc(), &style, label)?;
+    assert!(rt; shown.as_str() == "[Doe99]");
     Ok(())
 }
 
@@ -169,102 +192,121 @@ fn a_style_without_a_bibliography_has_no_items(rt: HostRuntime) -> Result<(), Fa
     Ok(())
 }
 
-#[test]
-fn verdicts_cut_a_cite(rt: HostRuntime) -> Result<(), Fail> {
-    let alloc = rt.alloc();
-    let style = author_date(alloc)?;
+/// An entry of 1999, first published in 1899.
+fn twice_dated(alloc: Global) -> Result<PlainEntry, AllocError> {
     let mut cited = dated(alloc, "Doe", 1999)?;
     let dates = vec![in alloc;
         (DateVariable::OriginalDate, Date { year: 1899 }),
         (DateVariable::Issued, Date { year: 1999 }),
     ]?;
     cited.dates = Seq::new(dates);
+    Ok(cited)
+}
+
+/// What such a verdict leaves of the cite of a second entry of its year.
+fn cut(alloc: Global, verdict: Option<CollapseVerdict>) -> Result<String, Fail> {
+    let style = author_date(alloc)?;
+    let cited = twice_dated(alloc)?;
     let second = in_state(DisambiguateState::YearSuffix(1));
+    shown(alloc, &style, &cited, &second, verdict)
+}
+
+#[test]
+fn verdicts_cut_a_cite(rt: HostRuntime) -> Result<(), Fail> {
     for (verdict, text) in [
         (None, "Doe 1999b 1899"),
         (Some(CollapseVerdict::First), "1999b"),
         (Some(CollapseVerdict::YearSuffix), "b"),
     ] {
-        assert_eq!(rt;
-            shown(alloc, &style, &cited, &second, verdict)?.as_str(),
-            text
-        );
+        assert!(rt; cut(rt.alloc(), verdict)?.as_str() == text);
     }
     Ok(())
 }
 
-#[test]
-fn a_suffix_of_its_own_stands_alone(rt: HostRuntime) -> Result<(), Fail> {
-    let alloc = rt.alloc();
+/// Authors, years, and behind them the suffix.
+fn suffixing(alloc: Global) -> Result<IndependentStyle, AllocError> {
     let mut style = author_date(alloc)?;
     let suffix = text_of(TextTarget::Standard(StandardVariable::YearSuffix));
     style.citation.layout.elements.push(suffix)?;
-    let cited = dated(alloc, "Doe", 1999)?;
-    let third = in_state(DisambiguateState::YearSuffix(2));
-    assert_eq!(rt;
-        shown(alloc, &style, &cited, &third, None)?.as_str(),
-        "Doe 1999c"
-    );
-    Ok(())
+    Ok(style)
 }
 
 #[test]
-fn names_stand_in_the_forms_of_their_state(rt: HostRuntime) -> Result<(), Fail> {
-    let alloc = rt.alloc();
+fn a_suffix_of_its_own_stands_alone(rt: HostRuntime) -> Result<(), Fail> {
+    let style = suffixing(rt.alloc())?;
+    let cited = dated(rt.alloc(), "Doe", 1999)?;
+    let third = in_state(DisambiguateState::YearSuffix(2));
+    let shown = shown(rt.alloc(), &style, &cited, &third, None)?;
+    assert!(rt; shown.as_str() == "Doe 1999c");
+    Ok(())
+}
+
+/// The names of three authors, cut from three on.
+fn shown_names(alloc: Global, state: DisambiguateState) -> Result<String, Fail> {
     let style = writing(alloc, authors(alloc, Some(3))?)?;
     let cited = written_by(alloc, &["Chen", "Frey", "He"])?;
-    let none = in_state(DisambiguateState::None);
-    assert_eq!(rt;
-        shown(alloc, &style, &cited, &none, None)?.as_str(),
-        "Chen et al."
-    );
+    shown(alloc, &style, &cited, &in_state(state), None)
+}
+
+/// The state in which two of three names are written.
+fn two_names(alloc: Global) -> Result<DisambiguateState, AllocError> {
     let forms = vec![in alloc;
         DisambiguatedNameForm::Short,
         DisambiguatedNameForm::Short,
         DisambiguatedNameForm::Count,
     ]?;
-    let state = NameDisambiguationProperties {
+    Ok(DisambiguateState::NameDisambiguation(NameDisambiguationProperties {
         forms: Seq::new(forms),
-    };
-    let two = in_state(DisambiguateState::NameDisambiguation(state));
-    assert_eq!(rt;
-        shown(alloc, &style, &cited, &two, None)?.as_str(),
-        "Chen, Frey et al."
-    );
+    }))
+}
+
+#[test]
+fn names_stand_in_the_forms_of_their_state(rt: HostRuntime) -> Result<(), Fail> {
+    let one = shown_names(rt.alloc(), DisambiguateState::None)?;
+    assert!(rt; one.as_str() == "Chen et al.");
+    let two = shown_names(rt.alloc(), two_names(rt.alloc())?)?;
+    assert!(rt; two.as_str() == "Chen, Frey et al.");
     Ok(())
 }
 
-/// `T`, and behind it `!` where `disambiguate` holds.
-fn asking(alloc: Global) -> Result<IndependentStyle, AllocError> {
-    let mut style = writing(alloc, value(alloc, "T")?)?;
+/// `!` where `disambiguate` holds.
+fn choice(alloc: Global) -> Result<LayoutRenderingElement, AllocError> {
+    let children = vec![in alloc; value(alloc, "!")?]?;
     let branch = ChooseBranch {
         conditions: vec![in alloc; Condition::Disambiguate]?,
         rule: ChooseMatch::All,
-        children: vec![in alloc; value(alloc, "!")?]?,
+        children,
     };
-    let choice = LayoutRenderingElement::Choose {
+    Ok(LayoutRenderingElement::Choose {
         branches: vec![in alloc; branch]?,
         otherwise: Vec::new(alloc),
-    };
-    style.citation.layout.elements.push(choice)?;
+    })
+}
+
+/// `T`, and behind it the choice.
+fn asking(alloc: Global) -> Result<IndependentStyle, AllocError> {
+    let mut style = writing(alloc, value(alloc, "T")?)?;
+    style.citation.layout.elements.push(choice(alloc)?)?;
     Ok(style)
+}
+
+fn asked(alloc: Global, state: DisambiguateState) -> Result<Cite, Fail> {
+    let style = asking(alloc)?;
+    let cited = entry(alloc, "a")?;
+    let properties = in_state(state);
+    let mut renders = Renders::new();
+    cite(alloc, &style, &cited, &properties, None, None, &mut renders)
 }
 
 #[test]
 fn a_choice_asks_for_its_state(rt: HostRuntime) -> Result<(), Fail> {
-    let alloc = rt.alloc();
-    let style = asking(alloc)?;
-    let cited = entry(alloc, "a")?;
     for (state, text) in [
         (DisambiguateState::None, "T"),
         (DisambiguateState::Choose, "T!"),
     ] {
-        let properties = in_state(state);
-        let mut renders = Renders::new();
-        let cite = cite(alloc, &style, &cited, &properties, None, None, &mut renders)?;
-        assert!(rt; cite.checked_disambiguate);
-        assert!(rt; cite.first_name.is_none());
-        assert_eq!(rt; cite.children.to_string(alloc)?.as_str(), text);
+        let cite = asked(rt.alloc(), state)?;
+        assert!(rt; cite.checked_disambiguate && cite.first_name.is_none());
+        assert!(rt; cite.children.to_string(rt.alloc())?.as_str() == text);
     }
     Ok(())
 }
@@ -281,67 +323,101 @@ fn branch(
     })
 }
 
+fn located(alloc: Global) -> Result<Vec<LayoutRenderingElement>, AllocError> {
+    Ok(vec![in alloc; number(NumberVariable::Locator, no_affixes())]?)
+}
+
+/// A branch with the locator, and behind it one without.
+fn branches(alloc: Global) -> Result<Vec<ChooseBranch>, AllocError> {
+    let with = branch(alloc, TestPosition::IbidWithLocator, located(alloc)?)?;
+    let without = branch(alloc, TestPosition::Ibid, Vec::new(alloc))?;
+    Ok(vec![in alloc; with, without]?)
+}
+
 /// The locator, but nothing where a cite repeats the one before it with its locator.
 fn locating(alloc: Global) -> Result<IndependentStyle, AllocError> {
-    let locator = vec![in alloc; number(NumberVariable::Locator, no_affixes())]?;
-    let otherwise = vec![in alloc; number(NumberVariable::Locator, no_affixes())]?;
-    let mut branches = Vec::new(alloc);
-    branches.push(branch(alloc, TestPosition::IbidWithLocator, locator)?)?;
-    branches.push(branch(alloc, TestPosition::Ibid, Vec::new(alloc))?)?;
+    let branches = branches(alloc)?;
     let choice = LayoutRenderingElement::Choose {
         branches,
-        otherwise,
+        otherwise: located(alloc)?,
     };
     writing(alloc, choice)
 }
 
-#[test]
-fn prose_without_an_author_at_each_position(rt: HostRuntime) -> Result<(), Fail> {
-    let alloc = rt.alloc();
+/// The cite of a page in a sentence, at this position.
+fn prose(alloc: Global, position: IbidState, page: &str) -> Result<String, Fail> {
     let style = locating(alloc)?;
     let cited = entry(alloc, "a")?;
+    let locator = SpecificLocator(Locator::Page, LocatorPayload::Str(page));
+    let properties = known(SpeculativeCiteProperties::speculate(Some(locator), 0, position));
+    let purpose = Some(CitePurpose::Prose);
+    let mut renders = Renders::new();
+    let cite = cite(
+        alloc,
+        &style,
+        &cited,
+        &properties,
+        purpose,
+        None,
+        &mut renders,
+    )?;
+    Ok(cite.children.to_string(alloc)?)
+}
+
+#[test]
+fn prose_without_an_author_at_each_position(rt: HostRuntime) -> Result<(), Fail> {
     for (position, page, text) in [
         (IbidState::Different, "33", "(33)"),
         (IbidState::Ibid, "33", "()"),
         (IbidState::IbidWithLocator, "34", "(34)"),
     ] {
-        let locator = SpecificLocator(Locator::Page, LocatorPayload::Str(page));
-        let properties = known(SpeculativeCiteProperties::speculate(Some(locator), 0, position));
-        let prose = Some(CitePurpose::Prose);
-        let mut renders = Renders::new();
-        let cite = cite(
-            alloc,
-            &style,
-            &cited,
-            &properties,
-            prose,
-            None,
-            &mut renders,
-        )?;
-        assert_eq!(rt; cite.children.to_string(alloc)?.as_str(), text);
+        assert!(rt; prose(rt.alloc(), position, page)?.as_str() == text);
     }
     Ok(())
 }
 
-#[test]
-fn a_locator_of_the_callers_own_is_marked(rt: HostRuntime) -> Result<(), Fail> {
-    let alloc = rt.alloc();
-    let style = writing(alloc, number(NumberVariable::Locator, no_affixes()))?;
-    let cited = entry(alloc, "a")?;
+/// The properties of a cite at place 3 with a locator of the caller's own.
+fn supplement(alloc: Global) -> Result<Properties<'static>, AllocError> {
     let payload = LocatorPayload::Transparent(TransparentLocator::new(alloc, 7u8)?);
     let locator = SpecificLocator(Locator::Supplement, payload);
     let mut properties: Properties = CiteProperties::for_sorting(Some(locator), 0);
     properties.certain.initial_idx = 3;
+    Ok(properties)
+}
+
+/// What an in-text style writes of this element for the entry.
+fn children(
+    alloc: Global,
+    element: LayoutRenderingElement,
+    cited: &PlainEntry,
+    properties: &Properties<'_>,
+) -> Result<Vec<ElemChild>, Fail> {
+    let style = writing(alloc, element)?;
     let mut renders = Renders::new();
-    let cite = cite(alloc, &style, &cited, &properties, None, None, &mut renders)?;
+    let cite = cite(alloc, &style, cited, properties, None, None, &mut renders)?;
+    Ok(cite.children.into_vec())
+}
+
+#[test]
+fn a_locator_of_the_callers_own_is_marked(rt: HostRuntime) -> Result<(), Fail> {
+    let cited = entry(rt.alloc(), "a")?;
+    let properties = supplement(rt.alloc())?;
+    let locator = number(NumberVariable::Locator, no_affixes());
+    let children = children(rt.alloc(), locator, &cited, &properties)?;
     let mark = ElemChild::Transparent {
         cite_idx: 3,
         format: Formatting::default(),
     };
-    let children = cite.children.into_vec();
-    assert_eq!(rt; children.len(), 1);
+    assert!(rt; children.len() == 1);
     assert!(rt; children.first() == Some(&mark));
     Ok(())
+}
+
+fn piece(alloc: Global, value: &str, kind: ChunkKind) -> Result<Chunk, AllocError> {
+    Ok(Chunk {
+        value: Text::new(String::from_str(alloc, value)?),
+        kind,
+    })
 }
 
 /// Text, verbatim text that begins with a comma, and a formula.
@@ -352,27 +428,32 @@ fn pieces(alloc: Global) -> Result<ChunkedString, AllocError> {
         (", b", ChunkKind::Verbatim),
         ("x", ChunkKind::Math),
     ] {
-        let value = Text::new(String::from_str(alloc, value)?);
-        chunks.push(Chunk { value, kind })?;
+        chunks.push(piece(alloc, value, kind)?)?;
     }
     Ok(ChunkedString(Seq::new(chunks)))
 }
 
-#[test]
-fn pieces_of_a_text_are_written_by_kind(rt: HostRuntime) -> Result<(), Fail> {
-    let alloc = rt.alloc();
-    let title = text_of(TextTarget::Standard(StandardVariable::Title));
-    let style = writing(alloc, title)?;
+/// The children of a cite that writes a title of those pieces.
+fn titled(alloc: Global) -> Result<Vec<ElemChild>, Fail> {
     let mut cited = entry(alloc, "a")?;
     cited.texts = Seq::new(vec![in alloc; (StandardVariable::Title, pieces(alloc)?)]?);
-    let properties = in_state(DisambiguateState::None);
-    let mut renders = Renders::new();
-    let cite = cite(alloc, &style, &cited, &properties, None, None, &mut renders)?;
-    let children = cite.children.into_vec();
-    let text = Formatting::default().add_text(String::from_str(alloc, "a , b")?);
-    let markup = Text::new(String::from_str(alloc, "x")?);
-    assert_eq!(rt; children.len(), 2);
+    let title = text_of(TextTarget::Standard(StandardVariable::Title));
+    children(alloc, title, &cited, &in_state(DisambiguateState::None))
+}
+
+#[test]
+fn pieces_of_a_text_are_written_together(rt: HostRuntime) -> Result<(), Fail> {
+    let children = titled(rt.alloc())?;
+    let text = Formatting::default().add_text(String::from_str(rt.alloc(), "a , b")?);
+    assert!(rt; children.len() == 2);
     assert!(rt; children.first() == Some(&ElemChild::Text(text)));
+    Ok(())
+}
+
+#[test]
+fn a_formula_is_written_as_markup(rt: HostRuntime) -> Result<(), Fail> {
+    let children = titled(rt.alloc())?;
+    let markup = Text::new(String::from_str(rt.alloc(), "x")?);
     assert!(rt; children.last() == Some(&ElemChild::Markup(markup)));
     Ok(())
 }

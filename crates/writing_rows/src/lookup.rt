@@ -46,18 +46,37 @@ fn et_al<'a>(context: &StyleContext<'a>) -> Option<&'a str> {
     context.lookup_locale(|locale| words(locale))
 }
 
+/// Whether the look-up for this code finds these words.
+fn finds(alloc: Global, asked: &str, want: &str) -> Result<bool, AllocError> {
+    let style = numeric(alloc)?;
+    let files = files(alloc)?;
+    let asked = code(alloc, asked)?;
+    Ok(et_al(&StyleContext::new(&style, Some(&asked), &files)) == Some(want))
+}
+
 #[test]
 fn asks_the_primary_dialect_and_american_english(rt: HostRuntime) -> Result<(), Fail> {
+    for (asked, words) in [("de-AT", "u. a."), ("fr-FR", "et al.")] {
+        assert!(rt; finds(rt.alloc(), asked, words)?);
+    }
+    Ok(())
+}
+
+#[test]
+fn american_english_answers_where_none_is_asked_for(rt: HostRuntime) -> Result<(), Fail> {
     let style = numeric(rt.alloc())?;
     let files = files(rt.alloc())?;
-    let austrian = code(rt.alloc(), "de-AT")?;
-    let french = code(rt.alloc(), "fr-FR")?;
-    let found = et_al(&StyleContext::new(&style, Some(&austrian), &files));
-    assert!(rt; found == Some("u. a."));
-    let found = et_al(&StyleContext::new(&style, Some(&french), &files));
-    assert!(rt; found == Some("et al."));
-    let found = et_al(&StyleContext::new(&style, None, &files));
-    assert!(rt; found == Some("et al."));
+    assert!(rt; et_al(&StyleContext::new(&style, None, &files)) == Some("et al."));
+    Ok(())
+}
+
+#[test]
+fn no_locale_says_so_on_punctuation(rt: HostRuntime) -> Result<(), Fail> {
+    let style = numeric(rt.alloc())?;
+    let files = files(rt.alloc())?;
+    let context = StyleContext::new(&style, None, &files);
+    assert!(rt; context.locale() == "en-US");
+    assert!(rt; !context.punctuation_in_quotes());
     Ok(())
 }
 
@@ -65,9 +84,6 @@ fn asks_the_primary_dialect_and_american_english(rt: HostRuntime) -> Result<(), 
 fn first_locale_that_says_so_decides_on_punctuation(rt: HostRuntime) -> Result<(), Fail> {
     let style = numeric(rt.alloc())?;
     let mut files = files(rt.alloc())?;
-    let context = StyleContext::new(&style, None, &files);
-    assert_eq!(rt; context.locale(), "en-US");
-    assert!(rt; !context.punctuation_in_quotes());
     if let Some(american) = files.get_mut(1) {
         american.punctuation_in_quote = Some(true);
     }

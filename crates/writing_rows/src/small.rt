@@ -10,6 +10,7 @@ use csl_writing::picking::{macros_unfold, suffixes_unfold};
 use csl_writing::properties::CiteProperties;
 use csl_writing::state::{DisambiguateState, IdentifierUsage};
 use csl_writing::year::{letters_of_suffix, write_year};
+use std::alloc::{AllocError, Global};
 use std::test::Fail;
 
 #[test]
@@ -29,7 +30,7 @@ fn years(rt: HostRuntime) -> Result<(), Fail> {
     for (year, short, want) in rows {
         let mut text = String::new(rt.alloc());
         assert!(rt; write_year(year, short, &mut text, "AD", "BC").is_ok());
-        assert_eq!(rt; text.as_str(), want);
+        assert!(rt; text.as_str() == want);
     }
     Ok(())
 }
@@ -39,37 +40,49 @@ fn letters(rt: HostRuntime) -> Result<(), Fail> {
     suffixes_differ();
     for (suffix, want) in [(0, "a"), (25, "z"), (26, "aa"), (27, "ab")] {
         let text = letters_of_suffix(rt.alloc(), suffix)?;
-        assert_eq!(rt; text.as_str(), want);
+        assert!(rt; text.as_str() == want);
     }
     Ok(())
 }
 
 #[test]
-fn small_values(rt: HostRuntime) -> Result<(), Fail> {
+fn small_values(rt: HostRuntime) {
     states_have_a_greatest();
     usage_counts_once();
     macros_unfold();
     suffixes_unfold();
+    defaults_are_none();
+    assert!(rt; DisambiguateState::default() == DisambiguateState::None);
+    assert!(rt; IdentifierUsage::default().label().number() == IdentifierUsage::Mixed);
+    let state = DisambiguateState::Choose.max(DisambiguateState::YearSuffix(3));
+    assert!(rt; state == DisambiguateState::YearSuffix(3));
+}
+
+#[test]
+fn brackets(rt: HostRuntime) {
     assert!(rt; Brackets::Square.left() == Some('['));
     assert!(rt; Brackets::Square.right() == Some(']'));
     assert!(rt; Brackets::None.left() == None);
-    defaults_are_none();
-    assert!(rt; DisambiguateState::default() == DisambiguateState::None);
-    let state = DisambiguateState::Choose.max(DisambiguateState::YearSuffix(3));
-    assert!(rt; state == DisambiguateState::YearSuffix(3));
-    assert!(rt; IdentifierUsage::default().label().number() == IdentifierUsage::Mixed);
-    Ok(())
+}
+
+fn located(alloc: Global) -> Result<CiteProperties<'static, u32>, AllocError> {
+    let payload = LocatorPayload::Transparent(TransparentLocator::new(alloc, 7u32)?);
+    let locator = SpecificLocator(Locator::Page, payload);
+    Ok(CiteProperties::for_sorting(Some(locator), 2))
 }
 
 #[test]
 fn properties_are_copied(rt: HostRuntime) -> Result<(), Fail> {
     copies_are_equal::<u32>();
-    let payload = LocatorPayload::Transparent(TransparentLocator::new(rt.alloc(), 7u32)?);
-    let locator = SpecificLocator(Locator::Page, payload);
-    let properties = CiteProperties::for_sorting(Some(locator), 2);
-    let copy = properties.clone()?;
-    assert!(rt; copy == properties);
-    let without = copy.speculative.for_bibliography();
+    let properties = located(rt.alloc())?;
+    assert!(rt; properties.clone()? == properties);
+    Ok(())
+}
+
+#[test]
+fn a_bibliography_has_no_locators(rt: HostRuntime) -> Result<(), Fail> {
+    let properties = located(rt.alloc())?;
+    let without = properties.clone()?.speculative.for_bibliography();
     assert!(rt; without.locator.is_none());
     assert!(rt; !(without == properties.speculative));
     Ok(())
@@ -77,15 +90,18 @@ fn properties_are_copied(rt: HostRuntime) -> Result<(), Fail> {
 
 #[test]
 fn locators_are_equal_where_their_payloads_are(rt: HostRuntime) -> Result<(), Fail> {
-    let alloc = rt.alloc();
     equality_decides::<u32>();
-    let one = TransparentLocator::new(alloc, 7u32)?;
-    let same = TransparentLocator::new(alloc, 7u32)?;
-    let other = TransparentLocator::new(alloc, 8u32)?;
-    assert!(rt; one == same);
-    assert!(rt; one != other);
+    let one = TransparentLocator::new(rt.alloc(), 7u32)?;
+    for (payload, equal) in [(7u32, true), (8u32, false)] {
+        let other = TransparentLocator::new(rt.alloc(), payload)?;
+        assert!(rt; (one == other) == equal);
+    }
+    Ok(())
+}
+
+#[test]
+fn locators_differ_by_kind(rt: HostRuntime) {
     let page: SpecificLocator<u32> = SpecificLocator(Locator::Page, LocatorPayload::Str("7"));
     let line: SpecificLocator<u32> = SpecificLocator(Locator::Line, LocatorPayload::Str("7"));
     assert!(rt; page != line);
-    Ok(())
 }
