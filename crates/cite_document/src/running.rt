@@ -22,7 +22,7 @@ use csl_base::locale::Locale;
 use csl_driver::driver::BibliographyDriver;
 use csl_driver::error::DriverError;
 use csl_driver::request::{BibliographyRequest, Order};
-use document_reading::document::{Asked, asked_in, text_of, top_of, value_of};
+use document_reading::document::{Asked, asked_in, top_of, utf8_text, value_of};
 use document_reading::entries::entries_of;
 use document_reading::requests::{AskedRequest, copied_code, driver_request};
 use document_styles::locales::locales_at;
@@ -129,7 +129,7 @@ fn print_value(alloc: Global, value: Value) -> Result<String, RunError>
 fn print_bytes(alloc: Global, bytes: &[u8]) -> Result<String, RunError>
     ensures { Prints result (form bytes.now) }
 {
-    let text = text_of(bytes)?;
+    let text = utf8_text(bytes)?;
     let value = value_of(alloc, text)?;
     print_value(alloc, value)
 }

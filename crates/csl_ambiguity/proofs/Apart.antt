@@ -8,7 +8,7 @@ use Rattle.csl_lookup.specs.States.{may_get_suffix}
 use Rattle.csl_passes.specs.Places.{AreDistinct}
 use Rattle.csl_passes.specs.Renders.{CiteRender, ItemRender, Place}
 use Rattle.csl_ambiguity.specs.Ambiguity.{class_of, classes, seconds, without_suffix}
-use Rattle.csl_ambiguity.specs.Members.{Member, document, place_of, request_cites, state_of, text_of}
+use Rattle.csl_ambiguity.specs.Members.{Member, document, place_of, request_cites, state_of, shown_text}
 
 module _ {E P : Type 0} where
   abbrev StandApart : Member E P → Member E P → Type 0
@@ -63,11 +63,11 @@ module _ {E P : Type 0} where
   pub classes-apart : (renders : List (CiteRender E P)) → AllByRecursion (λ c. AreDistinct (map place_of c)) (classes (without_suffix (document renders)))
   classes-apart renders = by (seconds (without_suffix (document renders)))
     where
-      by : (ms : List (Member E P)) → AllByRecursion (λ c. AreDistinct (map place_of c)) (map (λ m. class_of (without_suffix (document renders)) (text_of m)) ms)
+      by : (ms : List (Member E P)) → AllByRecursion (λ c. AreDistinct (map place_of c)) (map (λ m. class_of (without_suffix (document renders)) (shown_text m)) ms)
       by [] = tt
       by (m ∷ ms) = (
-        places-apart (class_of (without_suffix (document renders)) (text_of m))
-            (AllPairs-filter StandApart (λ x. bytes_eq (text_of m) (text_of x)) (without_suffix (document renders))
+        places-apart (class_of (without_suffix (document renders)) (shown_text m))
+            (AllPairs-filter StandApart (λ x. bytes_eq (shown_text m) (shown_text x)) (without_suffix (document renders))
             (AllPairs-filter StandApart (λ x. may_get_suffix (state_of x)) (document renders) (document-apart 0 renders))),
         by ms,
       )

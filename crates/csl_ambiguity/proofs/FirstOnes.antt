@@ -7,7 +7,7 @@ use Rattle.csl_lookup.specs.declared.state.DisambiguateState.TheVariants.{YearSu
 use Rattle.csl_entries.specs.Entries.{distinct, place, with_all_new, with_new}
 use Rattle.csl_passes.specs.Renders.{CiteRender, ItemRender, Place}
 use Rattle.csl_entries.specs.Gathering.{same_entry}
-use Rattle.csl_ambiguity.specs.FirstCites.{first_of, firsts_view}
+use Rattle.csl_ambiguity.specs.FirstCites.{first_cite_of, firsts_view}
 use Rattle.csl_ambiguity.specs.Members.{Member, entry_of, members}
 use Rattle.csl_ambiguity.specs.SuffixMarks.{first_cites, suffix_among, suffix_marks}
 use Rattle.csl_ambiguity.specs.declared.first_cites.FirstCite.{FirstCite}
@@ -20,7 +20,7 @@ use Rattle.csl_ambiguity.proofs.Walks.{IsNext, rest-end}
 module _ {T P : Type 0} (eq : T → T → Bool) (renders : List (CiteRender T P)) (ps : List Place) (k : ℕ) where
   -- what the gathered cites come to, with those from the k-th place on
   abbrev pub gathered : List (T × Place) → ℕ → List (T × Place)
-  gathered firsts n = with_all_new (same_entry eq) firsts (map first_of (members renders (drop n ps)))
+  gathered firsts n = with_all_new (same_entry eq) firsts (map first_cite_of (members renders (drop n ps)))
 
   -- one more cite
   pub first-more : (d : Place) (i : ItemRender T P) (x : FirstCite T) (keys new : List (FirstCite T)) (all : List (T × Place)) → IsNext renders ps k d (λ m. m.item) i
@@ -29,26 +29,26 @@ module _ {T P : Type 0} (eq : T → T → Bool) (renders : List (CiteRender T P)
       → gathered (firsts_view keys) k ≡ all → gathered (firsts_view new) (k + 1) ≡ all
   first-more d i x keys new all n entry at inserted so_far =
       let later : List (Member T P) = members renders (drop (k + 1) ps) in
-      let first : (x.entry.now, x.place) ≡ first_of n.cite = λ j. (sym (ap (λ y. y.entry) n.known ∙ entry) j, sym (n.place ∙ at) j) in
-      ap (λ fs. with_all_new (same_entry eq) fs (map first_of later)) (insert-view (λ f. (f.entry.now, f.place)) (same_entry eq) x keys new inserted)
-      ∙ ap (λ p. with_all_new (same_entry eq) (with_new (same_entry eq) (firsts_view keys) p) (map first_of later)) first
-      ∙ ap (λ ms. with_all_new (same_entry eq) (firsts_view keys) (map first_of ms)) (sym n.split)
+      let first : (x.entry.now, x.place) ≡ first_cite_of n.cite = λ j. (sym (ap (λ y. y.entry) n.known ∙ entry) j, sym (n.place ∙ at) j) in
+      ap (λ fs. with_all_new (same_entry eq) fs (map first_cite_of later)) (insert-view (λ f. (f.entry.now, f.place)) (same_entry eq) x keys new inserted)
+      ∙ ap (λ p. with_all_new (same_entry eq) (with_new (same_entry eq) (firsts_view keys) p) (map first_cite_of later)) first
+      ∙ ap (λ ms. with_all_new (same_entry eq) (firsts_view keys) (map first_cite_of ms)) (sym n.split)
       ∙ so_far
 
   -- all of them
   pub first-all : (laws : IsEquivalence eq) (firsts : List (T × Place)) → length ps ≤ k
-      → gathered firsts k ≡ with_all_new (same_entry eq) [] (map first_of (members renders ps)) → firsts ≡ map first_of (first_cites eq (members renders ps))
+      → gathered firsts k ≡ with_all_new (same_entry eq) [] (map first_cite_of (members renders ps)) → firsts ≡ map first_cite_of (first_cites eq (members renders ps))
   first-all laws firsts h so_far =
-      ap (λ ms. with_all_new (same_entry eq) firsts (map first_of ms)) (sym (rest-end renders ps k h)) ∙ so_far
-      ∙ all_new_is_distinct (same_entry eq) (same_entry-laws eq laws) (map first_of (members renders ps))
-      ∙ distinct-map first_of (same_entry eq) (members renders ps)
+      ap (λ ms. with_all_new (same_entry eq) firsts (map first_cite_of ms)) (sym (rest-end renders ps k h)) ∙ so_far
+      ∙ all_new_is_distinct (same_entry eq) (same_entry-laws eq laws) (map first_cite_of (members renders ps))
+      ∙ distinct-map first_cite_of (same_entry eq) (members renders ps)
 
 module _ {T P : Type 0} (eq : T → T → Bool) (laws : IsEquivalence eq) (cites : List (Member T P)) where
   abbrev pub Mark : Type 0
   Mark = Place × DisambiguateState
 
   enumerate-map : (k : ℕ) (ms : List (Member T P))
-      → map {B = Mark} (λ p. (p.1.1, YearSuffix p.0)) (enumerate_from k (map first_of ms)) ≡ map {B = Mark} (λ p. (p.1.place, YearSuffix p.0)) (enumerate_from k ms)
+      → map {B = Mark} (λ p. (p.1.1, YearSuffix p.0)) (enumerate_from k (map first_cite_of ms)) ≡ map {B = Mark} (λ p. (p.1.place, YearSuffix p.0)) (enumerate_from k ms)
   enumerate-map k [] = refl
   enumerate-map k (m ∷ ms) = ap (λ t. (m.place, YearSuffix k) ∷ t) (enumerate-map (k + 1) ms)
 
@@ -63,13 +63,13 @@ module _ {T P : Type 0} (eq : T → T → Bool) (laws : IsEquivalence eq) (cites
       λ j. mark (same j) ∷ same-places ms j
 
   -- the numbers of the first cites are the places of their entries
-  pub numbered-firsts : map {B = Mark} (λ p. (p.1.1, YearSuffix p.0)) (enumerate_from 0 (map first_of (first_cites eq cites))) ≡ suffix_marks eq cites
+  pub numbered-firsts : map {B = Mark} (λ p. (p.1.1, YearSuffix p.0)) (enumerate_from 0 (map first_cite_of (first_cites eq cites))) ≡ suffix_marks eq cites
   numbered-firsts =
       enumerate-map 0 (first_cites eq cites)
       ∙ own-places entry_of eq laws {Z = Mark} (λ m n. (m.place, YearSuffix n)) 0 (first_cites eq cites) (are-distinct (λ a b. eq (entry_of a) (entry_of b)) cites)
       ∙ same-places (first_cites eq cites)
 
   pub suffixes-made : (keys firsts : List (FirstCite T)) (marks : List Mark) → marks ≡ map (λ p. (p.1.1, YearSuffix p.0)) (enumerate_from 0 (firsts_view firsts)) → firsts ≡ keys
-      → firsts_view keys ≡ map first_of (first_cites eq cites) → marks ≡ suffix_marks eq cites
+      → firsts_view keys ≡ map first_cite_of (first_cites eq cites) → marks ≡ suffix_marks eq cites
   suffixes-made keys firsts marks made same found =
       made ∙ ap (λ fs. map {B = Mark} (λ p. (p.1.1, YearSuffix p.0)) (enumerate_from 0 fs)) (ap firsts_view same ∙ found) ∙ numbered-firsts

@@ -11,7 +11,7 @@ use Rattle.csl_passes.specs.Renders.{ItemRender, Place}
 use Rattle.csl_ambiguity.specs.Ambiguity.{class_of, classes, seconds, without_suffix}
 use Rattle.csl_ambiguity.specs.ClassesSoFar.{Adds, AddsTo, AreClassesOf, JoinsGroup, MakesGroup, StartsClass, class_at, class_found, found, groups_in, texts}
 use Rattle.csl_ambiguity.specs.InRange.{HeapText}
-use Rattle.csl_ambiguity.specs.Members.{Member, place_of, state_of, text_of}
+use Rattle.csl_ambiguity.specs.Members.{Member, place_of, state_of, shown_text}
 use Rattle.csl_ambiguity.specs.declared.classes.Class.{Class}
 use Rattle.csl_ambiguity.specs.declared.classes.Class.TheVariants.{Single, Group}
 use Rattle.csl_ambiguity.specs.declared.classes.Classes.{Classes}
@@ -32,11 +32,11 @@ module _ {E P : Type 0} where
   groups-of-texts : (cites : List (Member E P)) → map (map place_of) (classes cites) ≡ map (places cites) (texts cites)
   groups-of-texts cites = by (seconds cites)
     where
-      by : (ms : List (Member E P)) → map (map place_of) (map (λ m. class_of cites (text_of m)) ms) ≡ map (places cites) (map text_of ms)
+      by : (ms : List (Member E P)) → map (map place_of) (map (λ m. class_of cites (shown_text m)) ms) ≡ map (places cites) (map shown_text ms)
       by [] = refl
-      by (m ∷ ms) = ap (λ t. places cites (text_of m) ∷ t) (by ms)
+      by (m ∷ ms) = ap (λ t. places cites (shown_text m) ∷ t) (by ms)
 
-module _ {E P : Type 0} (cites : List (Member E P)) (m : Member E P) (text : HeapText) (e : text_of m ≡ string_bytes text) where
+module _ {E P : Type 0} (cites : List (Member E P)) (m : Member E P) (text : HeapText) (e : shown_text m ≡ string_bytes text) where
   abbrev t : List ℕ
   t = string_bytes text
 
@@ -154,7 +154,7 @@ module _ {E P : Type 0} where
       → Adds p text old new → AreClassesOf (without_suffix cites) old → AreClassesOf (without_suffix (cites ++ m ∷ [])) new
   one-more-read cites m i p text start may old new there item is holds empty written adds h =
       let own : may_get_suffix (state_of m) ≡ true = ap (λ x. may_get_suffix x.properties.speculative.disambiguation) item ∙ sym is ∙ holds in
-      let read : text_of m ≡ string_bytes text = ap (λ x. plain x.rendered) item ∙ sym (written ∙ ap (λ s. s ++ plain i.rendered) empty) in
+      let read : shown_text m ≡ string_bytes text = ap (λ x. plain x.rendered) item ∙ sym (written ∙ ap (λ s. s ++ plain i.rendered) empty) in
       let kept : without_suffix (cites ++ m ∷ []) ≡ without_suffix cites ++ m ∷ [] =
       filter-append (λ x. may_get_suffix (state_of x)) cites (m ∷ []) ∙ ap (λ b. without_suffix cites ++ cond b (m ∷ []) []) own in
       subst (λ ms. AreClassesOf ms new) (sym kept) (one-more (without_suffix cites) m text read old new h (subst (λ x. Adds x text old new) (sym there) adds))

@@ -12,7 +12,7 @@ use Rattle.std.proofs.lemmas.List.Folds.{list_any-append}
 use Rattle.std.proofs.lemmas.Slice.Eq.{bytes_eq-Decides}
 use Rattle.csl_ambiguity.specs.Ambiguity.{class_of, is_second, seconds}
 use Rattle.csl_ambiguity.specs.ClassesSoFar.{texts}
-use Rattle.csl_ambiguity.specs.Members.{Member, text_of}
+use Rattle.csl_ambiguity.specs.Members.{Member, shown_text}
 use Rattle.csl_ambiguity.proofs.Distinct.{NoTwoEqual}
 
 pub bytes_laws : IsEquivalence bytes_eq
@@ -43,7 +43,7 @@ module _ {E P : Type 0} where
   -- those that are the second with their text, after others
   abbrev seconds_after : List (Member E P) → List (Member E P) → List (Member E P)
   seconds_after xs [] = []
-  seconds_after xs (y ∷ ys) = cond (is_one (class_of xs (text_of y))) (y ∷ seconds_after (xs ++ y ∷ []) ys) (seconds_after (xs ++ y ∷ []) ys)
+  seconds_after xs (y ∷ ys) = cond (is_one (class_of xs (shown_text y))) (y ∷ seconds_after (xs ++ y ∷ []) ys) (seconds_after (xs ++ y ∷ []) ys)
 
   are-after : (xs ys all : List (Member E P)) → all ≡ xs ++ ys → map (λ p. p.1) (filter (is_second all) (enumerate_from (length xs) ys)) ≡ seconds_after xs ys
   are-after xs [] all e = refl
@@ -52,7 +52,7 @@ module _ {E P : Type 0} where
       let more : all ≡ (xs ++ y ∷ []) ++ ys = e ∙ sym (append_assoc xs (y ∷ []) ys) in
       let rest : map (λ p. p.1) (filter (is_second all) (enumerate_from (length xs + 1) ys)) ≡ seconds_after (xs ++ y ∷ []) ys =
       subst (λ n. map (λ p. p.1) (filter (is_second all) (enumerate_from n ys)) ≡ seconds_after (xs ++ y ∷ []) ys) (length-append xs (y ∷ [])) (are-after (xs ++ y ∷ []) ys all more) in
-      by (is_second all (length xs, y)) (is_one (class_of xs (text_of y))) (ap (λ zs. is_one (class_of zs (text_of y))) before) rest
+      by (is_second all (length xs, y)) (is_one (class_of xs (shown_text y))) (ap (λ zs. is_one (class_of zs (shown_text y))) before) rest
     where
       by : (a b : Bool) → a ≡ b → map (λ p. p.1) (filter (is_second all) (enumerate_from (length xs + 1) ys)) ≡ seconds_after (xs ++ y ∷ []) ys
           → map (λ p. p.1) (cond a ((length xs, y) ∷ filter (is_second all) (enumerate_from (length xs + 1) ys)) (filter (is_second all) (enumerate_from (length xs + 1) ys)))
@@ -62,35 +62,35 @@ module _ {E P : Type 0} where
       by true false q k = cc
       by false true q k = cc
 
-  after-push : (xs ys : List (Member E P)) (z : Member E P) → seconds_after xs (ys ++ z ∷ []) ≡ seconds_after xs ys ++ cond (is_one (class_of (xs ++ ys) (text_of z))) (z ∷ []) []
-  after-push xs [] z = ap (λ zs. cond (is_one (class_of zs (text_of z))) (z ∷ []) []) (sym (append-nil xs))
+  after-push : (xs ys : List (Member E P)) (z : Member E P) → seconds_after xs (ys ++ z ∷ []) ≡ seconds_after xs ys ++ cond (is_one (class_of (xs ++ ys) (shown_text z))) (z ∷ []) []
+  after-push xs [] z = ap (λ zs. cond (is_one (class_of zs (shown_text z))) (z ∷ []) []) (sym (append-nil xs))
   after-push xs (y ∷ ys) z =
-      by (is_one (class_of xs (text_of y)))
+      by (is_one (class_of xs (shown_text y)))
       (after-push (xs ++ y ∷ []) ys z
-      ∙ ap (λ zs. seconds_after (xs ++ y ∷ []) ys ++ cond (is_one (class_of zs (text_of z))) (z ∷ []) []) (append_assoc xs (y ∷ []) ys))
+      ∙ ap (λ zs. seconds_after (xs ++ y ∷ []) ys ++ cond (is_one (class_of zs (shown_text z))) (z ∷ []) []) (append_assoc xs (y ∷ []) ys))
     where
       by : (b : Bool)
-          → seconds_after (xs ++ y ∷ []) (ys ++ z ∷ []) ≡ seconds_after (xs ++ y ∷ []) ys ++ cond (is_one (class_of (xs ++ (y ∷ ys)) (text_of z))) (z ∷ []) []
+          → seconds_after (xs ++ y ∷ []) (ys ++ z ∷ []) ≡ seconds_after (xs ++ y ∷ []) ys ++ cond (is_one (class_of (xs ++ (y ∷ ys)) (shown_text z))) (z ∷ []) []
           → cond b (y ∷ seconds_after (xs ++ y ∷ []) (ys ++ z ∷ [])) (seconds_after (xs ++ y ∷ []) (ys ++ z ∷ []))
-          ≡ cond b (y ∷ seconds_after (xs ++ y ∷ []) ys) (seconds_after (xs ++ y ∷ []) ys) ++ cond (is_one (class_of (xs ++ (y ∷ ys)) (text_of z))) (z ∷ []) []
+          ≡ cond b (y ∷ seconds_after (xs ++ y ∷ []) ys) (seconds_after (xs ++ y ∷ []) ys) ++ cond (is_one (class_of (xs ++ (y ∷ ys)) (shown_text z))) (z ∷ []) []
       by true k = ap (λ t. y ∷ t) k
       by false k = k
 
   -- one more cite
-  pub seconds-push : (xs : List (Member E P)) (y : Member E P) → seconds (xs ++ y ∷ []) ≡ seconds xs ++ cond (is_one (class_of xs (text_of y))) (y ∷ []) []
+  pub seconds-push : (xs : List (Member E P)) (y : Member E P) → seconds (xs ++ y ∷ []) ≡ seconds xs ++ cond (is_one (class_of xs (shown_text y))) (y ∷ []) []
   seconds-push xs y =
       are-after [] (xs ++ y ∷ []) (xs ++ y ∷ []) refl ∙ after-push [] xs y
-      ∙ ap (λ zs. zs ++ cond (is_one (class_of xs (text_of y))) (y ∷ []) []) (sym (are-after [] xs xs refl))
+      ∙ ap (λ zs. zs ++ cond (is_one (class_of xs (shown_text y))) (y ∷ []) []) (sym (are-after [] xs xs refl))
 
-  pub class-push : (xs : List (Member E P)) (y : Member E P) (t : List ℕ) → class_of (xs ++ y ∷ []) t ≡ class_of xs t ++ cond (bytes_eq t (text_of y)) (y ∷ []) []
-  class-push xs y t = filter-append (λ m. bytes_eq t (text_of m)) xs (y ∷ [])
+  pub class-push : (xs : List (Member E P)) (y : Member E P) (t : List ℕ) → class_of (xs ++ y ∷ []) t ≡ class_of xs t ++ cond (bytes_eq t (shown_text y)) (y ∷ []) []
+  class-push xs y t = filter-append (λ m. bytes_eq t (shown_text m)) xs (y ∷ [])
 
-  pub texts-push : (xs : List (Member E P)) (y : Member E P) → texts (xs ++ y ∷ []) ≡ texts xs ++ cond (is_one (class_of xs (text_of y))) (text_of y ∷ []) []
+  pub texts-push : (xs : List (Member E P)) (y : Member E P) → texts (xs ++ y ∷ []) ≡ texts xs ++ cond (is_one (class_of xs (shown_text y))) (shown_text y ∷ []) []
   texts-push xs y =
-      ap (map text_of) (seconds-push xs y) ∙ map-append text_of (seconds xs) (cond (is_one (class_of xs (text_of y))) (y ∷ []) [])
-      ∙ ap (λ ts. texts xs ++ ts) (by (is_one (class_of xs (text_of y))))
+      ap (map shown_text) (seconds-push xs y) ∙ map-append shown_text (seconds xs) (cond (is_one (class_of xs (shown_text y))) (y ∷ []) [])
+      ∙ ap (λ ts. texts xs ++ ts) (by (is_one (class_of xs (shown_text y))))
     where
-      by : (b : Bool) → map text_of (cond b (y ∷ []) []) ≡ cond b (text_of y ∷ []) []
+      by : (b : Bool) → map shown_text (cond b (y ∷ []) []) ≡ cond b (shown_text y ∷ []) []
       by true = refl
       by false = refl
 
@@ -123,19 +123,19 @@ module _ {E P : Type 0} where
       by true h = absurd (two-not-one (length ms) h)
 
   texts-more : (xs : List (Member E P)) (y : Member E P) → AreTexts xs → AreTexts (xs ++ y ∷ [])
-  texts-more xs y h = record { listed = listed; once = subst (NoTwoEqual bytes_eq) (sym (texts-push xs y)) (once (is_one (class_of xs (text_of y))) refl) }
+  texts-more xs y h = record { listed = listed; once = subst (NoTwoEqual bytes_eq) (sym (texts-push xs y)) (once (is_one (class_of xs (shown_text y))) refl) }
     where
       listed : (u : List ℕ) → list_any (bytes_eq u) (texts (xs ++ y ∷ [])) ≡ are_two (class_of (xs ++ y ∷ []) u)
       listed u =
-          ap (list_any (bytes_eq u)) (texts-push xs y) ∙ list_any-append (bytes_eq u) (texts xs) (cond (is_one (class_of xs (text_of y))) (text_of y ∷ []) [])
-          ∙ ap (λ b. b || list_any (bytes_eq u) (cond (is_one (class_of xs (text_of y))) (text_of y ∷ []) [])) (h.listed u)
-          ∙ by (bytes_eq u (text_of y)) refl ∙ ap are_two (sym (class-push xs y u))
+          ap (list_any (bytes_eq u)) (texts-push xs y) ∙ list_any-append (bytes_eq u) (texts xs) (cond (is_one (class_of xs (shown_text y))) (shown_text y ∷ []) [])
+          ∙ ap (λ b. b || list_any (bytes_eq u) (cond (is_one (class_of xs (shown_text y))) (shown_text y ∷ []) [])) (h.listed u)
+          ∙ by (bytes_eq u (shown_text y)) refl ∙ ap are_two (sym (class-push xs y u))
         where
-          unlisted : (b : Bool) → bytes_eq u (text_of y) ≡ false → list_any (bytes_eq u) (cond b (text_of y ∷ []) []) ≡ false
+          unlisted : (b : Bool) → bytes_eq u (shown_text y) ≡ false → list_any (bytes_eq u) (cond b (shown_text y ∷ []) []) ≡ false
           unlisted true e = rw e refl
           unlisted false e = refl
 
-          listed-one : (b : Bool) → bytes_eq u (text_of y) ≡ true → list_any (bytes_eq u) (cond b (text_of y ∷ []) []) ≡ (cond b true false || false)
+          listed-one : (b : Bool) → bytes_eq u (shown_text y) ≡ true → list_any (bytes_eq u) (cond b (shown_text y ∷ []) []) ≡ (cond b true false || false)
           listed-one true e = rw e refl
           listed-one false e = refl
 
@@ -143,20 +143,20 @@ module _ {E P : Type 0} where
           or_false true = refl
           or_false false = refl
 
-          by : (b : Bool) → bytes_eq u (text_of y) ≡ b
-              → (are_two (class_of xs u) || list_any (bytes_eq u) (cond (is_one (class_of xs (text_of y))) (text_of y ∷ []) [])) ≡ are_two (class_of xs u ++ cond b (y ∷ []) [])
+          by : (b : Bool) → bytes_eq u (shown_text y) ≡ b
+              → (are_two (class_of xs u) || list_any (bytes_eq u) (cond (is_one (class_of xs (shown_text y))) (shown_text y ∷ []) [])) ≡ are_two (class_of xs u ++ cond b (y ∷ []) [])
           by false e =
-              ap (λ b. are_two (class_of xs u) || b) (unlisted (is_one (class_of xs (text_of y))) e) ∙ or_false (are_two (class_of xs u))
+              ap (λ b. are_two (class_of xs u) || b) (unlisted (is_one (class_of xs (shown_text y))) e) ∙ or_false (are_two (class_of xs u))
               ∙ ap are_two (sym (append-nil (class_of xs u)))
           by true e =
-              let same : text_of y ≡ u = sym ((bytes_eq-Decides u (text_of y)).0 e) in
-              ap (λ b. are_two (class_of xs u) || b) (listed-one (is_one (class_of xs (text_of y))) e)
+              let same : shown_text y ≡ u = sym ((bytes_eq-Decides u (shown_text y)).0 e) in
+              ap (λ b. are_two (class_of xs u) || b) (listed-one (is_one (class_of xs (shown_text y))) e)
               ∙ ap (λ v. are_two (class_of xs u) || (cond (is_one (class_of xs v)) true false || false)) same
               ∙ two-or-one (class_of xs u) y
 
-      once : (b : Bool) → is_one (class_of xs (text_of y)) ≡ b → NoTwoEqual bytes_eq (texts xs ++ cond b (text_of y ∷ []) [])
+      once : (b : Bool) → is_one (class_of xs (shown_text y)) ≡ b → NoTwoEqual bytes_eq (texts xs ++ cond b (shown_text y ∷ []) [])
       once false e = subst (NoTwoEqual bytes_eq) (sym (append-nil (texts xs))) h.once
-      once true e = once-push (texts xs) (text_of y) h.once (h.listed (text_of y) ∙ one-not-two (class_of xs (text_of y)) e)
+      once true e = once-push (texts xs) (shown_text y) h.once (h.listed (shown_text y) ∙ one-not-two (class_of xs (shown_text y)) e)
 
   texts-all : (xs ys : List (Member E P)) → AreTexts xs → AreTexts (xs ++ ys)
   texts-all xs [] h = subst AreTexts (sym (append-nil xs)) h

@@ -9,7 +9,7 @@ use Rattle.csl_passes.specs.Places.{AreDistinct, IsPlace, cite_at}
 use Rattle.csl_passes.specs.Renders.{CiteRender, ItemRender, Place}
 use Rattle.csl_passes.specs.Request.{Request}
 use Rattle.csl_ambiguity.specs.Ambiguity.{ambiguous_groups, cite_different, class_of, classes, seconds, without_suffix}
-use Rattle.csl_ambiguity.specs.Members.{Member, document, member_at, members, one_or_none, place_of, request_cites, state_of, text_of}
+use Rattle.csl_ambiguity.specs.Members.{Member, document, member_at, members, one_or_none, place_of, request_cites, state_of, shown_text}
 use Rattle.csl_lookup.specs.States.{may_get_suffix}
 use Rattle.csl_ambiguity.proofs.Apart.{classes-apart}
 use Rattle.csl_ambiguity.proofs.Distinct.{all-filter}
@@ -58,10 +58,10 @@ module _ {E P : Type 0} (renders : List (CiteRender E P)) where
   classes-stand : AllByRecursion (AllByRecursion StandsThere) (classes (without_suffix (document renders)))
   classes-stand = by (seconds (without_suffix (document renders)))
     where
-      by : (ms : List (Member E P)) → AllByRecursion (AllByRecursion StandsThere) (map (λ m. class_of (without_suffix (document renders)) (text_of m)) ms)
+      by : (ms : List (Member E P)) → AllByRecursion (AllByRecursion StandsThere) (map (λ m. class_of (without_suffix (document renders)) (shown_text m)) ms)
       by [] = tt
       by (m ∷ ms) = (
-        all-filter StandsThere (λ x. bytes_eq (text_of m) (text_of x)) (without_suffix (document renders))
+        all-filter StandsThere (λ x. bytes_eq (shown_text m) (shown_text x)) (without_suffix (document renders))
             (all-filter StandsThere (λ x. may_get_suffix (state_of x)) (document renders) (document-stands [] renders refl)),
         by ms,
       )

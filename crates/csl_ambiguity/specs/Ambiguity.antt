@@ -3,16 +3,16 @@ use Rattle.std.specs.Prelude.{ℕ, Bool, not, List, map, filter, length, take, n
 use Rattle.std.specs.List.{enumerate_from, list_any}
 use Rattle.csl_lookup.specs.States.{may_get_suffix}
 use Rattle.csl_passes.specs.Renders.{CiteRender, Place}
-use Rattle.csl_ambiguity.specs.Members.{Member, document, entry_of, place_of, state_of, text_of}
+use Rattle.csl_ambiguity.specs.Members.{Member, document, entry_of, place_of, state_of, shown_text}
 
 module _ {E P : Type 0} where
   -- those of the cites that have this plain text
   abbrev pub class_of : List (Member E P) → List ℕ → List (Member E P)
-  class_of cites text = filter (λ m. bytes_eq text (text_of m)) cites
+  class_of cites text = filter (λ m. bytes_eq text (shown_text m)) cites
 
   -- the n-th of the cites is the second with its text: one before it has the same
   abbrev pub is_second : List (Member E P) → ℕ × Member E P → Bool
-  is_second cites p = nat_eq (length (class_of (take p.0 cites) (text_of p.1))) 1
+  is_second cites p = nat_eq (length (class_of (take p.0 cites) (shown_text p.1))) 1
 
   -- the cites that are the second with their text, in order
   abbrev pub seconds : List (Member E P) → List (Member E P)
@@ -20,7 +20,7 @@ module _ {E P : Type 0} where
 
   -- the classes of two or more cites with equal texts, in the order of their second members
   abbrev pub classes : List (Member E P) → List (List (Member E P))
-  classes cites = map (λ m. class_of cites (text_of m)) (seconds cites)
+  classes cites = map (λ m. class_of cites (shown_text m)) (seconds cites)
 
   -- those of the cites whose entry has no suffix
   abbrev pub without_suffix : List (Member E P) → List (Member E P)

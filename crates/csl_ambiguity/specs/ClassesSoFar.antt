@@ -5,7 +5,7 @@ use Rattle.std.specs.HashMap.{get}
 use Rattle.std.specs.String.{string_eq}
 use Rattle.csl_passes.specs.Renders.{Place}
 use Rattle.csl_ambiguity.specs.Ambiguity.{class_of, classes, seconds}
-use Rattle.csl_ambiguity.specs.Members.{Member, place_of, text_of}
+use Rattle.csl_ambiguity.specs.Members.{Member, place_of, shown_text}
 use Rattle.csl_ambiguity.specs.InRange.{HeapText}
 use Rattle.csl_ambiguity.specs.declared.classes.Class.{Class}
 use Rattle.csl_ambiguity.specs.declared.classes.Class.TheVariants.{Single, Group}
@@ -29,7 +29,7 @@ module _ {E P : Type 0} where
 module _ {E P : Type 0} (cites : List (Member E P)) where
   -- the texts of the groups
   abbrev pub texts : List (List ℕ)
-  texts = map text_of (seconds cites)
+  texts = map shown_text (seconds cites)
 
   -- where the cites of this text are found
   abbrev pub found : List ℕ → Option Class

@@ -5,8 +5,8 @@ use Rattle.csl_ambiguity.specs.Members.{Member}
 use Rattle.csl_ambiguity.specs.declared.first_cites.FirstCite.{FirstCite}
 
 -- an entry, and the place of a cite of it
-abbrev pub first_of : {E P : Type 0} → Member E P → E × Place
-first_of m = (m.item.entry, m.place)
+abbrev pub first_cite_of : {E P : Type 0} → Member E P → E × Place
+first_cite_of m = (m.item.entry, m.place)
 
 abbrev pub firsts_view : {T : Type 0} → List (FirstCite T) → List (T × Place)
 firsts_view = map (λ f. (f.entry.now, f.place))

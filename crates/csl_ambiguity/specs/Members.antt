@@ -20,8 +20,8 @@ module _ {E P : Type 0} where
   entry_of m = m.item.entry
 
   -- the plain text of what was written
-  abbrev pub text_of : Member E P → List ℕ
-  text_of m = plain m.item.rendered
+  abbrev pub shown_text : Member E P → List ℕ
+  shown_text m = plain m.item.rendered
 
   -- by what means its entry is told apart
   abbrev pub state_of : Member E P → DisambiguateState

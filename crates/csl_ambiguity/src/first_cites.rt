@@ -1,6 +1,6 @@
 //! The first cites of the entries of a group.
 ghost use Rattle.std.specs.Prelude.{◌≡◌, All, IfOk, map};
-ghost use Rattle.csl_ambiguity.specs.FirstCites.{first_of, firsts_view};
+ghost use Rattle.csl_ambiguity.specs.FirstCites.{first_cite_of, firsts_view};
 ghost use Rattle.csl_ambiguity.specs.Members.{members};
 ghost use Rattle.csl_ambiguity.specs.SuffixMarks.{first_cites};
 ghost use Rattle.csl_passes.specs.Places.{IsPlace};
@@ -60,7 +60,7 @@ pub(crate) fn first_cites<'a, T: EntryLike, P>(
     group: &[(usize, usize)],
 ) -> Result<IndexSet<FirstCite<'a, T>>, AllocError>
     requires exist { All (IsPlace (renders_view renders.now)) group.now }
-    ensures { IfOk result (λ v. firsts_view v.keys ≡ map first_of (first_cites T.eq (members (renders_view renders.now) group.now))) }
+    ensures { IfOk result (λ v. firsts_view v.keys ≡ map first_cite_of (first_cites T.eq (members (renders_view renders.now) group.now))) }
 {
     let mut firsts = IndexSet::new(alloc);
     for place in group {

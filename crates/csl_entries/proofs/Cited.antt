@@ -6,7 +6,7 @@ use Rattle.std.proofs.Math.ListN.{get_or-map}
 use Rattle.std.proofs.lemmas.List.{map-append, take_all}
 use Rattle.std.proofs.lemmas.Option.{slice_get-get_or}
 use Rattle.csl_entries.specs.Entries.{distinct, is_in, with_all_new}
-use Rattle.csl_entries.specs.Gathering.{entries_in, first_of, firsts_view, same_entry}
+use Rattle.csl_entries.specs.Gathering.{entries_in, entry_and_place, firsts_view, same_entry}
 use Rattle.csl_entries.specs.Laws.{NoTwoEqual}
 use Rattle.csl_entries.specs.Table.{Table, first_place, places_in, table_of}
 use Rattle.csl_entries.specs.TableView.{table_view}
@@ -59,26 +59,26 @@ module _ {E : Type 0} (eq : E → E → Bool) (laws : IsEquivalence eq) where
           other x h = ap not (laws.symm p.0 x.0 ∙ sym (laws.congr e x.0 p.0 h) ∙ q)
 
 module _ {E P : Type 0} (eq : E → E → Bool) (laws : IsEquivalence eq) where
-  firsts-cited : (rs : List (Request E P)) → map (λ p. p.0) (map first_of (cites_of rs)) ≡ cited rs
+  firsts-cited : (rs : List (Request E P)) → map (λ p. p.0) (map entry_and_place (cites_of rs)) ≡ cited rs
   firsts-cited [] = refl
   firsts-cited (r ∷ rs) =
-      map-map (λ p. p.0) first_of (cites_of (r ∷ rs)) ∙ map-append (λ c. c.entry) r.cites (cites_of rs)
-      ∙ ap (λ es. entries_of r.cites ++ es) (sym (map-map (λ p. p.0) first_of (cites_of rs)) ∙ firsts-cited rs)
+      map-map (λ p. p.0) entry_and_place (cites_of (r ∷ rs)) ∙ map-append (λ c. c.entry) r.cites (cites_of rs)
+      ∙ ap (λ es. entries_of r.cites ++ es) (sym (map-map (λ p. p.0) entry_and_place (cites_of rs)) ∙ firsts-cited rs)
 
   -- the entries that are gathered
-  gathered : (keys : List (FirstCite E)) (rs : List (Request E P)) → firsts_view keys ≡ distinct (same_entry eq) (map first_of (cites_of rs))
+  gathered : (keys : List (FirstCite E)) (rs : List (Request E P)) → firsts_view keys ≡ distinct (same_entry eq) (map entry_and_place (cites_of rs))
       → entries_in keys ≡ distinct eq (cited rs)
-  gathered keys rs h = ap (λ ps. map (λ p. p.0) ps) h ∙ heads-distinct eq laws (map first_of (cites_of rs)) ∙ ap (λ es. distinct eq es) (firsts-cited rs)
+  gathered keys rs h = ap (λ ps. map (λ p. p.0) ps) h ∙ heads-distinct eq laws (map entry_and_place (cites_of rs)) ∙ ap (λ es. distinct eq es) (firsts-cited rs)
 
   -- where an entry was cited first
-  gathered-firsts : (keys : List (FirstCite E)) (rs : List (Request E P)) (e : E) → firsts_view keys ≡ distinct (same_entry eq) (map first_of (cites_of rs))
+  gathered-firsts : (keys : List (FirstCite E)) (rs : List (Request E P)) (e : E) → firsts_view keys ≡ distinct (same_entry eq) (map entry_and_place (cites_of rs))
       → first_among eq (firsts_view keys) e ≡ first_place eq rs e
   gathered-firsts keys rs e h =
       ap (λ ps. first_among eq ps e) h ∙ ap (λ o. unwrap_or (option_map (λ p. p.1) o) 0)
-      (find-distinct eq laws e (map first_of (cites_of rs)) ∙ find-view first_of (λ p. eq e p.0) (cites_of rs))
+      (find-distinct eq laws e (map entry_and_place (cites_of rs)) ∙ find-view entry_and_place (λ p. eq e p.0) (cites_of rs))
       ∙ ap (λ o. unwrap_or o 0) (twice (find (λ c. eq e c.entry) (cites_of rs)))
     where
-      twice : (o : Option (Cite E P)) → option_map (λ p. p.1) (option_map first_of o) ≡ option_map (λ c. c.place) o
+      twice : (o : Option (Cite E P)) → option_map (λ p. p.1) (option_map entry_and_place o) ≡ option_map (λ c. c.place) o
       twice None = refl
       twice (Some c) = refl
 
@@ -109,15 +109,15 @@ as-table e n p = rw (e, n, p) refl
 
 -- the table of what was gathered
 pub gathered-table : {E P X : Type 0} (eq : E → E → Bool) (laws : IsEquivalence eq) (xs : List X) (k : ℕ) (view : X → Request E P) (t : EntryTable E) → length xs ≤ k
-    → firsts_view t.firsts.keys ≡ with_all_new (same_entry eq) [] (map first_of (cites_of (map view (take k xs))))
+    → firsts_view t.firsts.keys ≡ with_all_new (same_entry eq) [] (map entry_and_place (cites_of (map view (take k xs))))
     → map (λ ps. ps.items) t.places.items ≡ map (λ r. places_in eq (entries_in t.firsts.keys) r.cites) (map view (take k xs))
     → table_view t ≡ table_of eq (map view xs)
 gathered-table eq laws xs k view t past added placed =
     let keys = t.firsts.keys in
     let rs = map view xs in
     let all : map view (take k xs) ≡ rs = ap (λ l. map view l) (take_all k xs past) in
-    let h : firsts_view keys ≡ distinct (same_entry eq) (map first_of (cites_of rs)) =
-    added ∙ ap (λ l. with_all_new (same_entry eq) [] (map first_of (cites_of l))) all ∙ all_new_is_distinct (same_entry eq) (same_entry-laws eq laws) (map first_of (cites_of rs)) in
+    let h : firsts_view keys ≡ distinct (same_entry eq) (map entry_and_place (cites_of rs)) =
+    added ∙ ap (λ l. with_all_new (same_entry eq) [] (map entry_and_place (cites_of l))) all ∙ all_new_is_distinct (same_entry eq) (same_entry-laws eq laws) (map entry_and_place (cites_of rs)) in
     let es : entries_in keys ≡ distinct eq (cited rs) = gathered eq laws keys rs h in
     let once : NoTwoEqual eq (entries_in keys) = subst (NoTwoEqual eq) (sym es) (NoTwoEqual-distinct eq laws (cited rs)) in
     as-table es

@@ -5,8 +5,8 @@ use Rattle.csl_entries.specs.declared.table.FirstCite.{FirstCite}
 use Rattle.csl_passes.specs.Request.{Cite}
 
 -- a cite's entry, and its place in its request
-abbrev pub first_of : {E P : Type 0} → Cite E P → E × ℕ
-first_of c = (c.entry, c.place)
+abbrev pub entry_and_place : {E P : Type 0} → Cite E P → E × ℕ
+entry_and_place c = (c.entry, c.place)
 
 abbrev pub same_entry : {E A : Type 0} → (E → E → Bool) → E × A → E × A → Bool
 same_entry eq a b = eq a.0 b.0

@@ -2,7 +2,7 @@
 ghost use Rattle.std.specs.Prelude.{◌≡◌, ◌<◌, ◌==◌, IfOk, OnOk, Some, length, map, option_map, slice_get};
 ghost use Rattle.std.specs.List.{position};
 ghost use Rattle.csl_entries.specs.Entries.{with_new, with_all_new};
-ghost use Rattle.csl_entries.specs.Gathering.{StandsAt, entries_in, first_of, firsts_view, same_entry};
+ghost use Rattle.csl_entries.specs.Gathering.{StandsAt, entries_in, entry_and_place, firsts_view, same_entry};
 ghost use Rattle.csl_entries.specs.Table.{places_in, table_of};
 ghost use Rattle.csl_entries.specs.TableView.{table_view};
 ghost use Rattle.csl_passes.specs.RequestView.{cite_view, cites_view, requests_view};
@@ -60,7 +60,7 @@ fn place_item<'a, T: EntryLike, P>(
     firsts: &mut IndexSet<FirstCite<'a, T>>,
     item: &CitationItem<'a, T, P>,
 ) -> Result<usize, AllocError>
-    ensures added { OnOk result (firsts_view firsts.new.keys ≡ with_new (same_entry T.eq) (firsts_view firsts.old.keys) (first_of (cite_view item.now))) }
+    ensures added { OnOk result (firsts_view firsts.new.keys ≡ with_new (same_entry T.eq) (firsts_view firsts.old.keys) (entry_and_place (cite_view item.now))) }
     ensures placed { IfOk result (StandsAt T.eq (entries_in firsts.new.keys) item.now.entry.now) }
 {
     let cite = FirstCite {
@@ -78,7 +78,7 @@ fn place_items<'a, T: EntryLike, P>(
     items: &[CitationItem<'a, T, P>],
 ) -> Result<Vec<usize>, AllocError>
     ensures added { OnOk result (firsts_view firsts.new.keys
-        ≡ with_all_new (same_entry T.eq) (firsts_view firsts.old.keys) (map first_of (cites_view items.now))) }
+        ≡ with_all_new (same_entry T.eq) (firsts_view firsts.old.keys) (map entry_and_place (cites_view items.now))) }
     ensures placed { IfOk result (λ places. places.items ≡ places_in T.eq (entries_in firsts.new.keys) (cites_view items.now)) }
 {
     let mut places = Vec::with_capacity(alloc, items.len())?;

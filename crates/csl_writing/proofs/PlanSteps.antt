@@ -9,7 +9,7 @@ use Rattle.csl_lookup.specs.Lookup.{Lookup}
 use Rattle.csl_writing.specs.PartsWritten.{parts_written}
 use Rattle.csl_picking.specs.Pieces.{Part, tokens}
 use Rattle.csl_picking.specs.PiecesView.{tokens_of}
-use Rattle.csl_writing.specs.Plans.{Step, plan_of, text_steps, gap_steps, rest_section, enclosing, prose_plan}
+use Rattle.csl_writing.specs.Plans.{PlanStep, plan_of, text_steps, gap_steps, rest_section, enclosing, prose_plan}
 use Rattle.csl_writing.specs.SectionView.{IsSection}
 use Rattle.csl_writing.specs.Sections.{Section, author_section}
 use Rattle.csl_writing.specs.StepsWritten.{steps_written, IsCarriedOut, IsWritten}
@@ -40,12 +40,12 @@ section_carried k s h a b c d e begun done cut value is =
       frames = ap (λ x. length x.frames) cut ∙ frames-unformatted h c ∙ frames ∙ ap (λ x. length x.frames) begun ∙ frames-formatted s.formatting a;
     }
 
-steps_written-append : (k : Lookup) (xs ys : List Step) (a : State) → steps_written k (xs ++ ys) a ≡ steps_written k ys (steps_written k xs a)
+steps_written-append : (k : Lookup) (xs ys : List PlanStep) (a : State) → steps_written k (xs ++ ys) a ≡ steps_written k ys (steps_written k xs a)
 steps_written-append k [] ys a = refl
 steps_written-append k (x ∷ xs) ys a = steps_written-append k xs ys _
 
 -- steps behind steps
-followed_by : (k : Lookup) (xs ys : List Step) (a b c : State) → IsWritten k xs a b → IsWritten k ys b c → IsWritten k (xs ++ ys) a c
+followed_by : (k : Lookup) (xs ys : List PlanStep) (a b c : State) → IsWritten k xs a b → IsWritten k ys b c → IsWritten k (xs ++ ys) a c
 followed_by k xs ys a b c first then = record {
   written = then.written ∙ ap (λ x. steps_written k ys x) first.written ∙ sym (steps_written-append k xs ys a);
   formats = then.formats ∙ first.formats;

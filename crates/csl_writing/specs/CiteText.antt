@@ -12,7 +12,7 @@ pub use Rattle.csl_writing.specs.DateText.{date_text}
 use Rattle.csl_writing.specs.FirstField.{first_field_first}
 use Rattle.csl_lookup.specs.Lookup.{Source, Lookup, lookup}
 use Rattle.csl_picking.specs.Notes.{first_notes}
-use Rattle.csl_writing.specs.Plans.{Step, step_of, cite_plan}
+use Rattle.csl_writing.specs.Plans.{PlanStep, step_of, cite_plan}
 use Rattle.csl_lookup.specs.Properties.{Properties}
 use Rattle.csl_writing.specs.Sections.{item_section}
 use Rattle.csl_context.specs.Steps.{term_text}
@@ -43,7 +43,7 @@ rendered_cite s purpose verdict =
     }
 
 -- steps between a prefix and a suffix; where they show nothing, nothing is written
-abbrev pub enclosed : Lookup → Affix → List Step → State → State
+abbrev pub enclosed : Lookup → Affix → List PlanStep → State → State
 enclosed k affixes steps a =
     suffixed k affixes.suffix (length a.formats) (length (term_text affixes.prefix)) (steps_written k steps (prefixed affixes.prefix a))
 

@@ -18,27 +18,27 @@ use Rattle.csl_context.specs.Steps.{first_is}
 use Rattle.csl_writing.specs.Subject.{Subject}
 use Rattle.csl_writing.specs.Sections.{Section, citation_section, author_section, regular_section, full_section}
 
-pub data Step : Type 0 where
+pub data PlanStep : Type 0 where
   -- parts in a formatting
-  section_step : StyleFormatting → List Part → Step
+  section_step : StyleFormatting → List Part → PlanStep
   -- a text
-  text_step : List ℕ → Step
+  text_step : List ℕ → PlanStep
   -- a space, where none stands before
-  space_step : Step
+  space_step : PlanStep
 
 -- the steps, and what is noted behind them
 pub record Plan : Type 0 where
-  pub steps : List Step
+  pub steps : List PlanStep
   pub noted : Notes
 
-abbrev pub step_of : Section → Step
+abbrev pub step_of : Section → PlanStep
 step_of section = section_step section.formatting section.picked.parts
 
 -- one section and nothing else
 abbrev pub plan_of : Section → Plan
 plan_of section = record { steps = step_of section ∷ []; noted = section.picked.noted }
 
-abbrev pub text_steps : Option (List ℕ) → List Step
+abbrev pub text_steps : Option (List ℕ) → List PlanStep
 text_steps None = []
 text_steps (Some t) = text_step t ∷ []
 
@@ -57,7 +57,7 @@ opens_with_space None = false
 opens_with_space (Some t) = first_is is_whitespace (chars t)
 
 -- what stands between the author and the rest of a cite in a sentence
-abbrev pub gap_steps : LayoutValue → List Step
+abbrev pub gap_steps : LayoutValue → List PlanStep
 gap_steps layout = if opens_with_space layout.prefix then [] else space_step ∷ []
 
 -- the rest of a cite in a sentence: a label or a number as it is written without a purpose, else all but the author

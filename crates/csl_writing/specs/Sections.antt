@@ -22,15 +22,15 @@ pub record Section : Type 0 where
   pub formatting : StyleFormatting
   pub picked : Picked
 
-abbrev pub unformatted : StyleFormatting
-unformatted = record { font_style = None; font_weight = None }
+abbrev pub no_formatting : StyleFormatting
+no_formatting = record { font_style = None; font_weight = None }
 
 -- what such elements give under what a picking reads, in that formatting
 abbrev pub picked_section : StyleFormatting → Env → List Macro → Elements → Notes → Section
 picked_section f env macros es n = record { formatting = f; picked = pick_layout env macros es n }
 
 abbrev pub no_section : Notes → Section
-no_section n = record { formatting = unformatted; picked = nothing n }
+no_section n = record { formatting = no_formatting; picked = nothing n }
 
 -- the citation's layout, under the citation's name options
 abbrev pub citation_section : Subject → Form → Notes → Section
@@ -65,7 +65,7 @@ no_options = record {
 }
 
 abbrev pub no_look : Look
-no_look = record { affixes = record { prefix = None; suffix = None }; formatting = unformatted; display = None }
+no_look = record { affixes = record { prefix = None; suffix = None }; formatting = no_formatting; display = None }
 
 -- a layout's elements: the author's names and nothing else
 abbrev pub names_alone : Elements

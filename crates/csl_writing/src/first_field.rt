@@ -6,7 +6,7 @@ use csl_base::elem::ElemChildren;
 use std::alloc::{AllocError, Global};
 
 // Adds a space to the last text, if there is one.
-fn add_space(tree: &mut ElemChildren) -> Result<(), AllocError>
+fn push_space(tree: &mut ElemChildren) -> Result<(), AllocError>
     ensures { OnOk result (tree.new ≡ spaced_behind tree.old) }
 {
     match tree.last_text_mut() {
@@ -35,7 +35,7 @@ pub(crate) fn put_first_field_first(
         Some(child) => {
             let mut first = ElemChildren::new(alloc);
             first.push(child)?;
-            add_space(&mut first)?;
+            push_space(&mut first)?;
             followed_by(first, tree)
         }
         None => Ok(tree),

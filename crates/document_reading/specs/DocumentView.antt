@@ -3,16 +3,16 @@ use Rattle.std.specs.Prelude.{map}
 use Rattle.csl_base.specs.StyleView.{locale_view}
 use Rattle.document_reading.specs.AskedView.{asked_requests_view}
 use Rattle.document_reading.specs.Form.{Document}
-use Rattle.document_reading.specs.WantedView.{wanted_view}
+use Rattle.document_reading.specs.WantedView.{asked_bibliography_view}
 use Rattle.document_reading.specs.declared.document.Asked.{Asked}
 
 -- a document
 abbrev pub document_view : Asked → Document
 document_view a = record {
   requests = asked_requests_view (map locale_view a.locales.now) a.requests.items;
-  style = (wanted_view a.wanted).0;
-  locale = (wanted_view a.wanted).1;
+  style = (asked_bibliography_view a.wanted).0;
+  locale = (asked_bibliography_view a.wanted).1;
   locales = map locale_view a.locales.now;
-  order = (wanted_view a.wanted).2;
+  order = (asked_bibliography_view a.wanted).2;
   offset = a.offset;
 }

@@ -45,12 +45,12 @@ document_form d = do
   asked_form (style_named styles) (entry_named entries) locales o
 
 -- the text that the bytes are, if they are UTF-8
-abbrev pub text_of : List ℕ → Option (List ℕ)
-text_of bytes = if is_utf8 bytes then Some bytes else None
+abbrev pub utf8_text : List ℕ → Option (List ℕ)
+utf8_text bytes = if is_utf8 bytes then Some bytes else None
 
 -- the document that the bytes are, or none
 unfoldable pub form : List ℕ → Option Document
 form bytes = do
-  text ← text_of bytes
+  text ← utf8_text bytes
   value ← read text
   document_form value

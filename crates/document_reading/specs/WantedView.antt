@@ -7,5 +7,5 @@ use Rattle.csl_passes.specs.RequestView.{entries_view}
 use Rattle.document_reading.specs.declared.requests.Wanted.{Wanted}
 
 -- the style, the locale and the order
-abbrev pub wanted_view : Wanted → StyleValue × Option (List ℕ) × Option (List PlainEntry)
-wanted_view w = (style_view w.style.now, option_map code_view w.locale, option_map (λ v. entries_view v.items) w.order)
+abbrev pub asked_bibliography_view : Wanted → StyleValue × Option (List ℕ) × Option (List PlainEntry)
+asked_bibliography_view w = (style_view w.style.now, option_map code_view w.locale, option_map (λ v. entries_view v.items) w.order)

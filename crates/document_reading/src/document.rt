@@ -7,7 +7,7 @@ ghost use Rattle.document_reading.specs.Finders.{entry_in, style_in};
 ghost use Rattle.document_styles.specs.NamedStyleView.{named_styles_view};
 ghost use Rattle.document_styles.specs.Styles.{style_named};
 ghost use Rattle.document_reading.specs.Entries.{entry_named};
-ghost use Rattle.document_reading.specs.Form.{asked_form, top_form, text_of};
+ghost use Rattle.document_reading.specs.Form.{asked_form, top_form, utf8_text};
 ghost use Rattle.document_reading.specs.DocumentView.{document_view};
 ghost use Rattle.document_words.specs.Reads.{Reads};
 
@@ -34,8 +34,8 @@ pub struct Asked<'e> {
 
 /// The text that the bytes are, which have to be UTF-8.
 #[tactic(auto, using(crate::proofs::Utf8::text_there, crate::proofs::Utf8::no_text))]
-pub fn text_of(bytes: &[u8]) -> Result<&str, ReadError>
-    ensures { Reads (λ s. s.now) result (text_of bytes.now) }
+pub fn utf8_text(bytes: &[u8]) -> Result<&str, ReadError>
+    ensures { Reads (λ s. s.now) result (utf8_text bytes.now) }
 {
     match str::from_utf8(bytes) {
         Ok(text) => Ok(text),

@@ -8,7 +8,7 @@ ghost use Rattle.document_reading.specs.AskedView.{asked_cite_view, asked_cites_
 ghost use Rattle.document_words.specs.Words.{all_items, items_at, list_of, name_form, required, where_present};
 ghost use Rattle.document_reading.specs.Finders.{entry_in, style_in};
 ghost use Rattle.document_reading.specs.Requests.{locator_form, item_form, request_form, wanted_form};
-ghost use Rattle.document_reading.specs.WantedView.{wanted_view};
+ghost use Rattle.document_reading.specs.WantedView.{asked_bibliography_view};
 ghost use Rattle.document_words.specs.Reads.{Reads};
 
 use crate::finders::{EntriesByKey, StylesByName};
@@ -325,7 +325,7 @@ pub fn wanted_of<'e>(
     entries: &EntriesByKey<'e>,
     value: &Value,
 ) -> Result<Wanted<'e>, ReadError>
-    ensures { Reads wanted_view result (wanted_form (style_in styles.now) (entry_in entries.now) (view value.now)) }
+    ensures { Reads asked_bibliography_view result (wanted_form (style_in styles.now) (entry_in entries.now) (view value.now)) }
 {
     let object = object_with(&["style", "locale", "order"], value)?;
     let style = required_style(styles, object)?;
