@@ -170,3 +170,7 @@ module _ {E P : Type 0} (eq : E → E → Bool) (es : List E) (places : List (Li
 
         pub document-alike : document_again answers states places renders ≡ at_table answers table renders
         document-alike = alike (λ r. request_again answers states (get_or places r [])) (request_at answers table) renders request-alike
+
+        -- by its place an entry has its state
+        pub state-at : (e : E) → place eq e es < length es → get_or states (place eq e es) None ≡ table e
+        state-at e below = great.at (place eq e es) below ∙ marks-at marks there e
