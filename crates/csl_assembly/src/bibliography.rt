@@ -86,7 +86,6 @@ fn cite_at<'c, 'a, T, P>(
 }
 
 /// The entries of the cites at these places, as the bibliography writes them.
-#[tactic(auto, using(crate::proofs::CountedNext::counted_next))]
 fn written_items<T: EntryLike, P: Drop>(
     alloc: Global,
     wanted: &BibliographyRequest<'_, '_, T>,

@@ -79,7 +79,6 @@ fn marked_cite<T: EntryLike, P: Drop>(
 }
 
 /// The shown cites, each with its tree and its delimiter. The others are rendered too.
-#[tactic(auto, using(crate::proofs::CountedNext::counted_next))]
 fn shown_cites<'a, T: EntryLike, P: Drop>(
     alloc: Global,
     render: &SpeculativeCiteRender<'_, 'a, T, P>,

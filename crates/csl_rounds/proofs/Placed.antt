@@ -12,7 +12,7 @@ use Rattle.csl_ambiguity.specs.Members.{Member, entry_of}
 use Rattle.csl_base.specs.Answers.{Answers}
 use Rattle.csl_entries.specs.Entries.{place}
 use Rattle.csl_lookup.specs.declared.state.DisambiguateState.{DisambiguateState}
-use Rattle.csl_passes.specs.Places.{IsPlace, cite_at}
+use Rattle.csl_passes.specs.Places.{IsPlace}
 use Rattle.csl_passes.specs.Renders.{CiteRender, ItemRender, Place}
 use Rattle.csl_passes.specs.Request.{Request}
 use Rattle.csl_rounds.specs.Gathered.{AreGreatest, IsPlaced, by_places, cite_again, document_again, entry_place, greatest_at, request_again}

@@ -1,5 +1,5 @@
 -- How many cites a round renders again, and the states that it leaves.
-use Rattle.std.proofs.Common.{◌≡◌, ℕ, ◌+◌, ◌<◌, Bool, true, false, cond, Option, None, List, [], ◌∷◌, ◌++◌, length, map, filter, get_or, refl, ap, sym, subst, ◌∙◌, arith, length-append}
+use Rattle.std.proofs.Common.{◌≡◌, ℕ, ◌+◌, ◌<◌, Bool, true, false, cond, Option, None, List, [], ◌∷◌, length, map, filter, get_or, refl, ap, sym, subst, ◌∙◌, arith, length-append}
 use Rattle.std.specs.Prelude.{All, is_some}
 use Rattle.std.specs.List.{sum_by}
 use Rattle.std.specs.Option.{option_or}
@@ -12,7 +12,6 @@ use Rattle.csl_rounds.specs.Gathered.{put_before, with_states}
 use Rattle.csl_rounds.specs.Rerenders.{AreStatesOf, entries_cited, marked_among}
 use Rattle.csl_rounds.specs.Rounds.{Table, with_marks}
 use Rattle.csl_rounds.proofs.Halves.{by_places-at, by_places-length}
-use Rattle.csl_rounds.proofs.Placed.{row}
 
 sum_by-map : {A B : Type 0} (f : B → ℕ) (g : A → B) (xs : List A) → sum_by (λ x. f (g x)) xs ≡ sum_by f (map g xs)
 sum_by-map f g [] = refl
