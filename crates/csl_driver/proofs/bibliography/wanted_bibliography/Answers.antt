@@ -45,5 +45,5 @@ returns-in_ok-made-in-Some g c =
     ap (cites_at cites) c.deref.ensures.value ∙ c.in_ok-firsts-in-Some.ensures.firsts
     ∙ ap (λ (l : Listed). filter_map (first_of eq entries cites) l.order) listed.listed
     ∙ first-cites eq entries cites g.met.T.Eq.laws (bibliography_order eq order (cited requests)) (λ e inside. sym (listed.same e) ∙ inside) in
-    ap Some (c.in_ok-made-in-Some.ensures ∙ ap (bibliography_of answers source (bibliography_view c.in-Some.bibliography)) firsts)
+    ap Some (c.in_ok-made-in-Some.ensures.bibliography ∙ ap (bibliography_of answers source (bibliography_view c.in-Some.bibliography)) firsts)
     ∙ sym (ap (λ o. option_map (λ b. bibliography_of answers source b (filter_map (first_item eq cites) (entries_listed eq wanted requests))) (option_map bibliography_view o)) c.in-Some.is)

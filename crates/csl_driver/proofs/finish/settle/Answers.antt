@@ -46,7 +46,7 @@ final_numbers-requires-clause-cites g c =
     let cited_now = c.args.cited.now in
     let peq = g.P.PartialEq.eq in
     ordered-stand eq g.met.T.Eq.laws g.T.EntryLike.answers peq (number eq cited_now.offset (entries_listed eq wanted requests)) requests (table_view cited_now.table) c.requires.known.table (renders_view c.args.cites.now) c.requires.first
-    (renders_view c.disambiguate.new.renders) (renders_view c.group_all.new.cites) c.in_ok-disambiguate.ensures c.in_ok-group_all.ensures
+    (renders_view c.disambiguate.new.renders) (renders_view c.group_all.new.cites) c.in_ok-disambiguate.ensures.renders c.in_ok-group_all.ensures
 
 pub set_final_properties-requires : goal.set_final_properties-requires
 set_final_properties-requires g c =
@@ -56,7 +56,7 @@ set_final_properties-requires g c =
     let cited_now = c.args.cited.now in
     let peq = g.P.PartialEq.eq in
     let stand = ordered-stand eq g.met.T.Eq.laws g.T.EntryLike.answers peq (number eq cited_now.offset (entries_listed eq wanted requests)) requests (table_view cited_now.table) c.requires.known.table (renders_view c.args.cites.now) c.requires.first
-    (renders_view c.disambiguate.new.renders) (renders_view c.group_all.new.cites) c.in_ok-disambiguate.ensures c.in_ok-group_all.ensures in
+    (renders_view c.disambiguate.new.renders) (renders_view c.group_all.new.cites) c.in_ok-disambiguate.ensures.renders c.in_ok-group_all.ensures in
     record { placed = stand.placed }
 
 pub returns-clause-settled : goal.returns-clause-settled
@@ -71,7 +71,7 @@ returns-clause-settled g c =
     c.set_final_properties.ensures ∙ ap (λ ns. with_final_properties eq peq (numbered_by eq ns (table_view cited_now.table).entries) now) c.deref.ensures.value
     ∙ ap (λ number_of. with_final_properties eq peq number_of now) c.in_ok-numbers.ensures
     ∙ ap (λ cs. with_final_properties eq peq (number eq cited_now.offset (numbered_finally eq order requests cs)) cs)
-    (c.in_ok-group_all.ensures ∙ ap (map grouped) (c.in_ok-disambiguate.ensures ∙ ap (disambiguated eq g.T.EntryLike.answers) c.requires.first))
+    (c.in_ok-group_all.ensures ∙ ap (map grouped) (c.in_ok-disambiguate.ensures.renders ∙ ap (disambiguated eq g.T.EntryLike.answers) c.requires.first))
 
 pub returns-clause-stand : goal.returns-clause-stand
 returns-clause-stand g c =
@@ -81,7 +81,7 @@ returns-clause-stand g c =
     let cited_now = c.args.cited.now in
     let peq = g.P.PartialEq.eq in
     let stand = ordered-stand eq g.met.T.Eq.laws g.T.EntryLike.answers peq (number eq cited_now.offset (entries_listed eq wanted requests)) requests (table_view cited_now.table) c.requires.known.table (renders_view c.args.cites.now) c.requires.first
-    (renders_view c.disambiguate.new.renders) (renders_view c.group_all.new.cites) c.in_ok-disambiguate.ensures c.in_ok-group_all.ensures in
+    (renders_view c.disambiguate.new.renders) (renders_view c.group_all.new.cites) c.in_ok-disambiguate.ensures.renders c.in_ok-group_all.ensures in
     let number_of = numbered_by eq c.deref.result.now (table_view cited_now.table).entries in
     subst (AreCitesOf eq (table_view cited_now.table) requests) (sym c.set_final_properties.ensures)
     (final-stand eq g.met.T.Eq.laws g.T.EntryLike.answers (table_view cited_now.table) requests (renders_view c.group_all.new.cites) stand peq number_of)
