@@ -1,3 +1,4 @@
 pub mod Joined
 pub mod Taken
 pub mod Equal
+pub mod CountedNext

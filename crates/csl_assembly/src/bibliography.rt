@@ -1,5 +1,5 @@
 //! The bibliography of an answer.
-ghost use Rattle.std.specs.Prelude.{◌≡◌, All, IfOk, map, option_map, Some, string_bytes};
+ghost use Rattle.std.specs.Prelude.{◌≡◌, All, IfOk, OnOk, length, map, option_map, Some, string_bytes};
 ghost use Rattle.csl_base.specs.Metas.{child_has_any_meta};
 ghost use Rattle.csl_base.specs.Ring.{HasNoRing};
 ghost use Rattle.csl_base.specs.StyleView.{bibliography_view, style_view};
@@ -10,6 +10,7 @@ ghost use Rattle.csl_passes.specs.Request.{wanted_source};
 ghost use Rattle.csl_passes.specs.RequestView.{wanted_view};
 ghost use Rattle.csl_substitution.specs.ItemView.{items_view};
 ghost use Rattle.csl_writing.specs.ContextSource.{context_source};
+ghost use Rattle.csl_writing.specs.Counted.{counted, counted_times};
 ghost use Rattle.std.specs.List.{find, position_or_len, remove};
 ghost use Rattle.csl_assembly.specs.ChildOf.{child_of};
 ghost use Rattle.csl_assembly.specs.BibliographyItems.{bibliography_of, cites_at, unlocated, with_first_field, written_item};
@@ -62,7 +63,8 @@ fn written_item<T: EntryLike, P: Drop>(
     renders: &mut Renders,
 ) -> Result<(ElemChildren, String), AllocError>
     requires no_ring { HasNoRing (context_source context.now).style.macros }
-    ensures { IfOk result (λ item. (item.0, string_bytes item.1) ≡ written_item T.answers (context_source context.now) (item_view first.now)) }
+    ensures item { IfOk result (λ item. (item.0, string_bytes item.1) ≡ written_item T.answers (context_source context.now) (item_view first.now)) }
+    ensures counted { OnOk result (renders.new ≡ counted renders.old) }
 {
     let properties = unlocated(first)?;
     let text = context.bibliography(alloc, first.entry, &properties, None, locale, renders)?;
@@ -93,8 +95,9 @@ fn written_items<T: EntryLike, P: Drop>(
 ) -> Result<Vec<(ElemChildren, String)>, AllocError>
     requires no_ring { HasNoRing (style_view wanted.now.style.now).macros }
     requires exist { All (IsPlace (renders_view cites.now)) firsts.now }
-    ensures { IfOk result (λ made. items_view made.items
+    ensures items { IfOk result (λ made. items_view made.items
         ≡ map (written_item T.answers (wanted_source (wanted_view wanted.now))) (cites_at (renders_view cites.now) firsts.now)) }
+    ensures counted { OnOk result (renders.new ≡ counted_times (length firsts.now) renders.old) }
 {
     let context = wanted_context(wanted);
     let locale = wanted.locale.as_ref();
@@ -152,8 +155,8 @@ fn with_first_fields(
 /// The bibliography of a style: an item for each of the cites at these places, which are the first ones of
 /// its entries, in its order. Each is written by what holds of its cite, but without a locator; then names that it shares
 /// with one before it are substituted, and where second fields are aligned its first field, the first child
-/// of its tree that stands for something, is taken out. The style may have no macros that call each
-/// other in a ring.
+/// of its tree that stands for something, is taken out. Each rendering is counted. The style may have
+/// no macros that call each other in a ring.
 ///
 /// # Errors
 /// Where memory is refused.
@@ -167,8 +170,9 @@ pub fn bibliography_of<T: EntryLike, P: Drop>(
 ) -> Result<RenderedBibliography, AllocError>
     requires no_ring { HasNoRing (style_view wanted.now.style.now).macros }
     requires exist { All (IsPlace (renders_view cites.now)) firsts.now }
-    ensures { IfOk result (λ r. r
+    ensures bibliography { IfOk result (λ r. r
         ≡ bibliography_of T.answers (wanted_source (wanted_view wanted.now)) (bibliography_view bibliography.now) (cites_at (renders_view cites.now) firsts.now)) }
+    ensures counted { OnOk result (renders.new ≡ counted_times (length firsts.now) renders.old) }
 {
     let mut items = written_items(alloc, wanted, cites, firsts, renders)?;
     let substitute = optional_str(&bibliography.subsequent_author_substitute);

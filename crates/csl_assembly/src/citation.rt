@@ -1,5 +1,5 @@
 //! The citation of a request, from its cites as they stand in the end.
-ghost use Rattle.std.specs.Prelude.{◌≡◌, IfOk, map, option_map};
+ghost use Rattle.std.specs.Prelude.{◌≡◌, IfOk, OnOk, length, map, option_map};
 ghost use Rattle.csl_base.specs.Ring.{HasNoRing};
 ghost use Rattle.csl_base.specs.StyleView.{layout_view, style_view};
 ghost use Rattle.csl_passes.specs.Request.{source_of};
@@ -9,6 +9,7 @@ ghost use Rattle.csl_writing.specs.ContextSource.{context_source};
 ghost use Rattle.csl_assembly.specs.CitationTree.{citation_tree, delimiter_before, has_no_purpose, marked, shown, shown_cite};
 ghost use Rattle.csl_assembly.specs.LastTree.{last_tree};
 ghost use Rattle.csl_assembly.specs.ShownView.{shown_views};
+ghost use Rattle.csl_writing.specs.Counted.{counted, counted_times};
 
 use crate::assemble::{ShownCite, assembled, optional_str};
 use crate::last_tree::last_tree;
@@ -64,7 +65,8 @@ fn marked_cite<T: EntryLike, P: Drop>(
     renders: &mut Renders,
 ) -> Result<ElemChildren, AllocError>
     requires no_ring { HasNoRing (context_source context.now).style.macros }
-    ensures { IfOk result (λ tree. tree ≡ marked (item_view item.now) (last_tree T.answers (context_source context.now) (item_view item.now))) }
+    ensures tree { IfOk result (λ tree. tree ≡ marked (item_view item.now) (last_tree T.answers (context_source context.now) (item_view item.now))) }
+    ensures counted { OnOk result (renders.new ≡ counted renders.old) }
 {
     let cite = Elem {
         children: last_tree(alloc, context, locale, item, renders)?,
@@ -83,9 +85,10 @@ fn shown_cites<'a, T: EntryLike, P: Drop>(
     renders: &mut Renders,
 ) -> Result<Vec<ShownCite<'a>>, AllocError>
     requires no_ring { HasNoRing (render_view render.now).request.style.macros }
-    ensures { IfOk result (λ cites. shown_views cites.items
+    ensures cites { IfOk result (λ cites. shown_views cites.items
         ≡ map (shown_cite T.answers (source_of (render_view render.now).request) (render_view render.now).request.style.citation.layout)
         (shown (render_view render.now).items)) }
+    ensures counted { OnOk result (renders.new ≡ counted_times (length (render_view render.now).items) renders.old) }
 {
     let context = request_context(render.request);
     let locale = render.request.locale.as_ref();
@@ -104,8 +107,8 @@ fn shown_cites<'a, T: EntryLike, P: Drop>(
 /// The citation of a request: its shown cites, each written for its purpose and as its verdict cuts it, by
 /// all that holds of it in the end, behind its override or else the layout's delimiter; between the layout's
 /// prefix and suffix where no cite has a purpose. Each is an element with meta `Entry(i)`, where i is its
-/// place in the items of the request. Hidden cites are rendered too. The request's style may have no
-/// macros that call each other in a ring.
+/// place in the items of the request. Hidden cites are rendered too; each rendering is counted. The
+/// request's style may have no macros that call each other in a ring.
 ///
 /// # Errors
 /// Where memory is refused.
@@ -115,7 +118,8 @@ pub fn citation_tree<T: EntryLike, P: Drop>(
     renders: &mut Renders,
 ) -> Result<ElemChildren, AllocError>
     requires no_ring { HasNoRing (render_view render.now).request.style.macros }
-    ensures { IfOk result (λ tree. tree ≡ citation_tree T.answers (render_view render.now)) }
+    ensures tree { IfOk result (λ tree. tree ≡ citation_tree T.answers (render_view render.now)) }
+    ensures counted { OnOk result (renders.new ≡ counted_times (length (render_view render.now).items) renders.old) }
 {
     let cites = shown_cites(alloc, render, renders)?;
     let layout = &render.request.style().citation.layout;

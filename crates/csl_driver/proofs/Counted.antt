@@ -57,3 +57,10 @@ module _ {E : Type 0} (eq : E → E → Bool) (entries order : List E) (l : List
       let shown : length (map (number_at l offset) (range_with_len 0 n)) ≡ n = length-map-range_with_len (number_at l offset) 0 n in
       let more = length-append (map (number_at l offset) (range_with_len 0 n)) (number_at l offset n ∷ []) in
       omega (arith, shown, more)
+
+  -- and one for the next
+  pub one-behind : (n : ℕ) → length (numbers_at l offset n) ≡ n + 1
+  one-behind n =
+      let shown : length (map (number_at l offset) (range_with_len 0 n)) ≡ n = length-map-range_with_len (number_at l offset) 0 n in
+      let more = length-append (map (number_at l offset) (range_with_len 0 n)) (number_at l offset n ∷ []) in
+      omega (arith, shown, more)

@@ -7,3 +7,5 @@ pub mod Halves
 pub mod FirstCites
 pub mod Numbering
 pub mod Whole
+pub mod Sizes
+pub mod ListedCount

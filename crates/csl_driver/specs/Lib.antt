@@ -6,3 +6,4 @@ pub mod Cited
 pub mod AreCitesOf
 pub mod StandaloneCitation
 pub mod Rings
+pub mod Account

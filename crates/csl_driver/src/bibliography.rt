@@ -1,10 +1,11 @@
 //! The bibliography of an answer.
-ghost use Rattle.std.specs.Prelude.{◌≡◌, ◌<◌, All, IfOk, length, option_map, slice_get};
+ghost use Rattle.std.specs.Prelude.{◌≡◌, ◌<◌, All, IfOk, OnOk, length, option_map, slice_get};
 ghost use Rattle.std.specs.List.{filter_map};
 ghost use Rattle.std.specs.Option.{option_and_then};
 ghost use Rattle.csl_assembly.specs.BibliographyItems.{bibliography_of, cites_at};
 ghost use Rattle.csl_base.specs.Ring.{HasNoRing};
 ghost use Rattle.csl_base.specs.StyleView.{style_view};
+ghost use Rattle.csl_driver.specs.Account.{listed_count};
 ghost use Rattle.csl_driver.specs.Answer.{entries_listed, order_in_use};
 ghost use Rattle.csl_driver.specs.AreCitesOf.{AreCitesOf};
 ghost use Rattle.csl_driver.specs.Cited.{IsCitedBy};
@@ -18,6 +19,7 @@ ghost use Rattle.csl_passes.specs.RendersView.{renders_view};
 ghost use Rattle.csl_passes.specs.Request.{wanted_source};
 ghost use Rattle.csl_passes.specs.RequestView.{requests_view, wanted_view};
 ghost use Rattle.csl_positions.specs.FinalProperties.{cited_finally, first_item};
+ghost use Rattle.csl_writing.specs.Counted.{counted_times};
 
 use crate::cited::Cited;
 use csl_assembly::bibliography::bibliography_of;
@@ -67,10 +69,11 @@ pub(crate) fn wanted_bibliography<'a, T: EntryLike, P: Drop>(
     requires no_ring { HasNoRing (style_view wanted.now.style.now).macros }
     requires known { IsCitedBy T.eq (requests_view requests.now) (order_in_use (wanted_view wanted.now)) cited.now }
     requires cites { AreCitesOf T.eq (table_view cited.now.table) (requests_view requests.now) (renders_view cites.now) }
-    ensures { IfOk result (λ r. r ≡ option_map
+    ensures bibliography { IfOk result (λ r. r ≡ option_map
         (λ b. bibliography_of T.answers (wanted_source (wanted_view wanted.now)) b
         (filter_map (first_item T.eq (renders_view cites.now)) (entries_listed T.eq (wanted_view wanted.now) (requests_view requests.now))))
         (style_view wanted.now.style.now).bibliography) }
+    ensures counted { OnOk result (renders.new ≡ counted_times (listed_count T.eq (wanted_view wanted.now) (requests_view requests.now)) renders.old) }
 {
     match &wanted.style.bibliography {
         Some(bibliography) => {

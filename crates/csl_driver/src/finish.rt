@@ -1,8 +1,10 @@
 //! The whole answer, from all requests at once.
 ghost use Rattle.std.specs.Prelude.{◌≡◌, ◌+◌, ◌<◌, ◌^◌, All, length, map, OnOk, IfOk, IfErr};
+ghost use Rattle.std.specs.List.{sum_by};
 ghost use Rattle.csl_base.specs.Ring.{HasNoRing};
 ghost use Rattle.csl_base.specs.StyleView.{style_view};
-ghost use Rattle.csl_driver.specs.Answer.{citation_of, drawn_together, in_the_end, numbered_finally, order_in_use, rendered, rendered_first};
+ghost use Rattle.csl_driver.specs.Account.{listed_count, marking, rerendered};
+ghost use Rattle.csl_driver.specs.Answer.{citation_of, drawn_together, final_number, in_the_end, numbered_finally, order_in_use, rendered, rendered_first};
 ghost use Rattle.csl_driver.specs.AreCitesOf.{AreCitesOf};
 ghost use Rattle.csl_driver.specs.Cited.{IsCitedBy};
 ghost use Rattle.csl_driver.specs.DriverView.{driver_view};
@@ -11,9 +13,11 @@ ghost use Rattle.csl_entries.specs.Entries.{distinct, number};
 ghost use Rattle.csl_entries.specs.TableView.{table_view};
 ghost use Rattle.csl_grouping.specs.Blocks.{grouped};
 ghost use Rattle.csl_passes.specs.RendersView.{render_view, renders_view};
-ghost use Rattle.csl_passes.specs.Request.{cited};
+ghost use Rattle.csl_passes.specs.Request.{cited, cites_of};
 ghost use Rattle.csl_passes.specs.RequestView.{order_view, requests_view, wanted_view};
 ghost use Rattle.csl_positions.specs.FirstProperties.{numbered_by};
+ghost use Rattle.csl_rounds.specs.Rerenders.{AreStatesOf, last_states};
+ghost use Rattle.csl_writing.specs.Counted.{counted_times};
 
 use crate::bibliography::wanted_bibliography;
 use crate::cited::Cited;
@@ -33,7 +37,7 @@ use csl_passes::request::{BibliographyRequest, CitationRequest, Order};
 use csl_positions::final_order::{final_listing, set_final_properties};
 use csl_positions::first::first_properties;
 use csl_rounds::first_renders::{discard_renders, first_renders};
-use csl_rounds::rounds::disambiguate;
+use csl_rounds::rounds::{Rounds, disambiguate};
 use csl_writing::counter::Renders;
 use std::alloc::{AllocError, Global};
 
@@ -96,8 +100,9 @@ fn rendered_first<'r, 'a, T: EntryLike, P: Eq + Drop>(
 ) -> Result<Cites<'r, 'a, T, P>, AllocError>
     requires no_ring { NoRingIn (requests_view requests.now) }
     requires known { IsCitedBy T.eq (requests_view requests.now) (order_in_use (wanted_view wanted.now)) cited.now }
-    ensures { IfOk result (λ c. renders_view c.renders.items
+    ensures first { IfOk result (λ c. renders_view c.renders.items
         ≡ rendered_first T.eq P.eq T.answers (wanted_view wanted.now) (requests_view requests.now) cited.now.offset) }
+    ensures counted { OnOk result (renders.new ≡ counted_times (length (cites_of (requests_view requests.now))) renders.old) }
 {
     let numbers = cited.numbers(alloc, &cited.listing)?;
     let firsts = first_properties(alloc, requests, &cited.table, &numbers)?;
@@ -131,7 +136,8 @@ fn final_numbers<'a, T: EntryLike, P>(
 ) -> Result<Vec<usize>, AllocError>
     requires known { IsCitedBy T.eq (requests_view requests.now) (order_in_use (wanted_view wanted.now)) cited.now }
     requires cites { AreCitesOf T.eq (table_view cited.now.table) (requests_view requests.now) (renders_view cites.now) }
-    ensures { IfOk result (λ v. numbered_by T.eq v.items (table_view cited.now.table).entries
+    ensures long { IfOk result (λ v. length v.items ≡ length (table_view cited.now.table).entries + 1) }
+    ensures numbers { IfOk result (λ v. numbered_by T.eq v.items (table_view cited.now.table).entries
         ≡ number T.eq cited.now.offset (numbered_finally T.eq (order_in_use (wanted_view wanted.now)) (requests_view requests.now) (renders_view cites.now))) }
 {
     match used_order(wanted) {
@@ -143,6 +149,14 @@ fn final_numbers<'a, T: EntryLike, P>(
     }
 }
 
+/// What is known of the entries once their cites have settled.
+#[derive(Drop)]
+struct Settled {
+    rounds: Rounds,
+    /// The final numbers, by the places of the entries, and behind them that of the next.
+    numbers: Vec<usize>,
+}
+
 /// Tells the cites of all requests apart, brings them into their final order, and sets their final
 /// positions and numbers.
 fn settle<'a, T: EntryLike, P: Eq>(
@@ -152,19 +166,27 @@ fn settle<'a, T: EntryLike, P: Eq>(
     cited: &Cited<'a, T>,
     cites: &mut [SpeculativeCiteRender<'_, 'a, T, P>],
     renders: &mut Renders,
-) -> Result<(), AllocError>
+) -> Result<Settled, AllocError>
     requires no_ring { NoRingIn (requests_view requests.now) }
     requires known { IsCitedBy T.eq (requests_view requests.now) (order_in_use (wanted_view wanted.now)) cited.now }
     requires first { renders_view cites.old ≡ rendered_first T.eq P.eq T.answers (wanted_view wanted.now) (requests_view requests.now) cited.now.offset }
     ensures settled { OnOk result (renders_view cites.new
         ≡ in_the_end T.eq P.eq T.answers (wanted_view wanted.now) (requests_view requests.now) cited.now.offset) }
     ensures stand { OnOk result (AreCitesOf T.eq (table_view cited.now.table) (requests_view requests.now) (renders_view cites.new)) }
+    ensures marked { IfOk result (λ s. s.rounds.marked ≡ length (marking T.eq P.eq T.answers (wanted_view wanted.now) (requests_view requests.now) cited.now.offset)) }
+    ensures states { IfOk result (λ s. AreStatesOf T.eq (table_view cited.now.table).entries
+        (last_states T.eq T.answers (rendered_first T.eq P.eq T.answers (wanted_view wanted.now) (requests_view requests.now) cited.now.offset)) s.rounds.states.items) }
+    ensures long { IfOk result (λ s. length s.numbers.items ≡ length (table_view cited.now.table).entries + 1) }
+    ensures numbers { IfOk result (λ s. numbered_by T.eq s.numbers.items (table_view cited.now.table).entries
+        ≡ final_number T.eq P.eq T.answers (wanted_view wanted.now) (requests_view requests.now) cited.now.offset) }
+    ensures counted { OnOk result (renders.new
+        ≡ counted_times (rerendered T.eq P.eq T.answers (wanted_view wanted.now) (requests_view requests.now) cited.now.offset) renders.old) }
 {
-    disambiguate(alloc, cites, &cited.table, renders)?;
+    let rounds = disambiguate(alloc, cites, &cited.table, renders)?;
     group_all(alloc, cites)?;
     let numbers = final_numbers(alloc, requests, wanted, cited, cites)?;
     set_final_properties(cites, &cited.table, &numbers);
-    Ok(())
+    Ok(Settled { rounds, numbers })
 }
 
 /// Draws the cites of a request together, where none of them has a purpose.
@@ -192,7 +214,8 @@ fn rendered_citations<T: EntryLike, P: Drop>(
     renders: &mut Renders,
 ) -> Result<Vec<RenderedCitation>, AllocError>
     requires no_ring { All (λ c. HasNoRing c.request.style.macros) (renders_view cites.now) }
-    ensures { IfOk result (λ v. v.items ≡ map (citation_of T.answers) (renders_view cites.now)) }
+    ensures citations { IfOk result (λ v. v.items ≡ map (citation_of T.answers) (renders_view cites.now)) }
+    ensures counted { OnOk result (renders.new ≡ counted_times (sum_by (λ c. length c.items) (renders_view cites.now)) renders.old) }
 {
     let mut citations = Vec::with_capacity(alloc, cites.len())?;
     for cite in cites {
@@ -216,7 +239,9 @@ fn answer_from<'a, T: EntryLike, P: Eq + Drop>(
     requires no_ring { NoRingAtAll (requests_view requests.now) (style_view wanted.now.style.now) }
     requires known { IsCitedBy T.eq (requests_view requests.now) (order_in_use (wanted_view wanted.now)) cited.now }
     requires first { renders_view cites.old ≡ rendered_first T.eq P.eq T.answers (wanted_view wanted.now) (requests_view requests.now) cited.now.offset }
-    ensures { IfOk result (λ r. r ≡ rendered T.eq P.eq T.answers (wanted_view wanted.now) (requests_view requests.now) cited.now.offset) }
+    ensures rendered { IfOk result (λ r. r ≡ rendered T.eq P.eq T.answers (wanted_view wanted.now) (requests_view requests.now) cited.now.offset) }
+    ensures counted { OnOk result (renders.new ≡ counted_times (length (cites_of (requests_view requests.now)) + (listed_count T.eq (wanted_view wanted.now) (requests_view requests.now)
+        + rerendered T.eq P.eq T.answers (wanted_view wanted.now) (requests_view requests.now) cited.now.offset)) renders.old) }
 {
     settle(alloc, requests, wanted, cited, cites, renders)?;
     let bibliography = wanted_bibliography(alloc, requests, wanted, cited, cites, renders)?;

@@ -9,11 +9,10 @@ use Rattle.csl_base.specs.Ring.{HasNoRing}
 use Rattle.csl_passes.specs.Renders.{CiteRender, ItemRender}
 use Rattle.csl_passes.specs.Request.{Cite, Request, cites_of}
 use Rattle.csl_passes.specs.declared.first.FirstProperties.{FirstProperties}
-use Rattle.csl_rounds.specs.Counts.{counted_times}
 use Rattle.csl_rounds.specs.FirstRenders.{HasShapeOf, first_render, first_renders, first_renders_of}
-use Rattle.csl_rounds.proofs.Counting.{counted_times-add, counted_times-more}
+use Rattle.csl_writing.proofs.Counting.{counted_times-add, counted_times-more}
 use Rattle.csl_rounds.proofs.Pairs.{mapped_zip-more, mapped_zip-all}
-use Rattle.csl_writing.specs.Counted.{counted}
+use Rattle.csl_writing.specs.Counted.{counted, counted_times}
 
 -- the properties of a request's cites
 abbrev pub row_of : Vec FirstProperties Global → List FirstProperties

@@ -2,6 +2,7 @@
 use Rattle.std.proofs.Common.{◌≡◌, ℕ, zero, suc, ◌+◌, ◌<◌, ◌≤◌, List, [], ◌∷◌, ◌++◌, take, drop, length, map, get_or, refl, ap, sym, subst, ◌∙◌, arith, add-one}
 use Rattle.std.proofs.Math.ListN.{get_or-map, length-map, set}
 use Rattle.std.proofs.lemmas.List.{map-set}
+use Rattle.std.proofs.lemmas.List.FromFn.{length-enumerate_from}
 use Rattle.std.proofs.lemmas.List.Elements.{All-get_or}
 use Rattle.std.specs.List.{enumerate_from}
 use Rattle.std.specs.Prelude.{All, None, Option}
@@ -31,6 +32,23 @@ module _ {X : Type 0} (f : ℕ → X → X) where
   whole-from b zero (x ∷ xs) h = absurd (omega arith)
   whole-from b (suc n) [] h = refl
   whole-from b (suc n) (x ∷ xs) h = ap (λ ys. f b x ∷ ys) (whole-from (b + 1) n xs (omega arith))
+
+  -- one more is changed in place
+  pub put : (n : ℕ) (xs now : List X) (d x : X) → now ≡ half n xs → n < length xs → x ≡ f n (get_or now n d) → set now n x ≡ half (n + 1) xs
+  put n xs now d x so_far h q =
+      ap (λ ys. set ys n x) so_far ∙ rw add-one (more-from 0 n n xs d x (omega arith) h (q ∙ ap (λ ys. f n (get_or ys n d)) so_far))
+
+  -- at its place each member is changed
+  pub by_places-at : (xs : List X) (n : ℕ) (d : X) → n < length xs → get_or (by_places f xs) n d ≡ f n (get_or xs n d)
+  by_places-at xs n d h = from 0 n xs h (omega arith)
+    where
+      from : (b k : ℕ) (ys : List X) → k < length ys → n ≡ b + k → get_or (map (λ p. f p.0 p.1) (enumerate_from b ys)) k d ≡ f n (get_or ys k d)
+      from b k [] w e = absurd (omega (arith, w))
+      from b zero (y ∷ ys) w e = let same : b ≡ n = omega (arith, e) in ap (λ m. f m y) same
+      from b (suc k) (y ∷ ys) w e = from (b + 1) k ys (omega (arith, w)) (omega (arith, e))
+
+  pub by_places-length : (xs : List X) → length (by_places f xs) ≡ length xs
+  by_places-length xs = length-map (enumerate_from 0 xs) (λ p. f p.0 p.1) ∙ length-enumerate_from 0 xs
 
 -- a loop over a list whose views are changed
 module _ {X Y : Type 0} (view : X → Y) (f : ℕ → Y → Y) (xs now : List X) (k : ℕ) (so_far : map view now ≡ half f k (map view xs)) where

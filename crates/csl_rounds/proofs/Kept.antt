@@ -1,13 +1,12 @@
 -- What a round needs: its marks stand at cites, and what is known of the renders holds after it too.
-use Rattle.std.proofs.Common.{◌≡◌, ℕ, Bool, true, false, cond, not, ◌&&◌, Option, Some, None, List, [], ◌∷◌, ◌++◌, length, map, filter, refl, ap, sym, subst, ◌∙◌}
-use Rattle.std.specs.Prelude.{⊤, All, IsSome, find, fold, is_some, option_map, slice_get}
+use Rattle.std.proofs.Common.{◌≡◌, ℕ, Bool, true, false, cond, not, ◌&&◌, Option, Some, None, List, [], ◌∷◌, map, filter, refl, ap, subst, ◌∙◌}
+use Rattle.std.specs.Prelude.{⊤, All, find, fold, is_some, option_map}
 use Rattle.std.specs.List.{filter_map, flat_map}
-use Rattle.std.proofs.lemmas.List.Elements.{All-append, All-cons, All-filter, All-head, All-map, All-nil, All-tail, All-weaker}
-use Rattle.std.specs.Option.{option_and_then}
+use Rattle.std.proofs.lemmas.List.Elements.{All-append, All-cons, All-filter, All-head, All-map, All-nil, All-tail}
 use Rattle.csl_ambiguity.specs.Ambiguity.{ambiguous_groups}
-use Rattle.csl_ambiguity.specs.ChooseMarks.{asks, choose_marks, chosen, may_be_chosen}
+use Rattle.csl_ambiguity.specs.ChooseMarks.{asks, chosen, may_be_chosen}
 use Rattle.csl_ambiguity.specs.Members.{Member, entry_of, member_at, members, one_or_none}
-use Rattle.csl_ambiguity.specs.SuffixMarks.{adds_suffix, first_cites, shows_dates, suffix_among, year_suffix_marks}
+use Rattle.csl_ambiguity.specs.SuffixMarks.{adds_suffix, first_cites, shows_dates, suffix_among}
 use Rattle.csl_base.specs.Answers.{Answers}
 use Rattle.csl_base.specs.Ring.{HasNoRing}
 use Rattle.csl_entries.specs.Entries.{distinct, place}
@@ -22,7 +21,7 @@ use Rattle.csl_passes.specs.Places.{IsPlace, cite_at}
 use Rattle.csl_passes.specs.Renders.{CiteRender, ItemRender, Place}
 use Rattle.csl_passes.specs.Request.{Request}
 use Rattle.csl_rounds.proofs.Twice.{same-entry}
-use Rattle.csl_rounds.specs.RoundMarks.{Mark, by_choice, by_suffix, beside_names, can_be_marked, has_any, marks_of, of_first, or_others, round_marks}
+use Rattle.csl_rounds.specs.RoundMarks.{Mark, by_choice, by_suffix, can_be_marked, has_any, of_first, or_others, round_marks}
 use Rattle.csl_rounds.specs.Rounds.{Table, at_table, request_at, with_any}
 
 some-inj : {A : Type 0} (x y : A) → Some x ≡ Some y → x ≡ y

@@ -1,4 +1,3 @@
-pub mod Counting
 pub mod Pairs
 pub mod FirstSteps
 pub mod Halves
@@ -7,4 +6,6 @@ pub mod Raising
 pub mod Placed
 pub mod Kept
 pub mod Twice
+pub mod Rerendered
 pub mod Marked
+pub mod InRounds

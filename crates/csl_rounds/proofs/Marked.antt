@@ -1,5 +1,5 @@
 -- Steps of a round.
-use Rattle.std.proofs.Common.{suc, ◌+◌, ◌-◌, ◌≤◌, ◌≡◌, ℕ, ◌<◌, Bool, true, false, not, ◌==◌, Option, None, List, [], ◌∷◌, length, map, refl, ap, sym, subst, ◌∙◌, arith}
+use Rattle.std.proofs.Common.{◌≡◌, ℕ, ◌<◌, Bool, true, false, not, ◌==◌, Option, None, List, [], ◌∷◌, get_or, length, map, refl, ap, sym, subst, ◌∙◌, arith}
 use Rattle.std.specs.Prelude.{All}
 use Rattle.std.proofs.lemmas.Bool.{eqb-true, eqb-false}
 use Rattle.std.proofs.lemmas.List.Elements.{All-nil, All-cons, All-head, All-tail}
@@ -14,9 +14,14 @@ use Rattle.csl_passes.specs.Places.{IsPlace}
 use Rattle.csl_rounds.specs.Gathered.{AreGreatest, IsPlaced, document_again}
 use Rattle.csl_rounds.specs.RoundMarks.{Mark, has_any, or_others, round_marks}
 use Rattle.csl_rounds.proofs.Kept.{marks-stand, places-kept, rings-kept}
-use Rattle.csl_rounds.proofs.Placed.{are-placed, document-alike}
-use Rattle.csl_rounds.specs.Rounds.{at_table, disambiguated, mark_of}
-use Rattle.csl_rounds.proofs.Twice.{no_more, nothing-new, round-no, round-yes, rounds_on, three-rounds}
+use Rattle.csl_rounds.proofs.Placed.{are-placed, document-alike, state-at}
+use Rattle.csl_rounds.specs.Rerenders.{AreStatesOf, entries_cited, marked_among}
+use Rattle.csl_rounds.specs.Rounds.{Table, at_table, mark_of, with_marks}
+use Rattle.csl_rounds.proofs.Rerendered.{cites-marked, none-marked, states-more}
+use Rattle.csl_rounds.proofs.Twice.{nothing-new}
+use Rattle.csl_rounds.specs.Gathered.{put_before, with_states}
+use Rattle.csl_writing.specs.Counted.{counted_times}
+use Rattle.std.specs.List.{sum_by}
 
 module _ {X : Type 0} where
   pub any-tested : (xs : List X) (n : ℕ) (b : Bool) → length xs ≡ n → b ≡ (n == 0) → has_any xs ≡ not b
@@ -40,6 +45,15 @@ module _ {X : Type 0} where
 -- a round without marks changes nothing
 pub empty-round : {E P : Type 0} (answers : E → Answers) (eq : E → E → Bool) (rs : List (CiteRender E P)) (marks : List Mark) → marks ≡ [] → rs ≡ at_table answers (mark_of eq rs marks) rs
 empty-round answers eq rs marks e = sym (ap (λ ms. at_table answers (mark_of eq rs ms) rs) e ∙ nothing-new answers rs)
+
+module _ {E P : Type 0} (eq : E → E → Bool) (es : List E) (rs : List (CiteRender E P)) (marks : List Mark) (none : marks ≡ []) where
+  -- nor does it give states
+  pub empty-states : (known : Table E) (states : List (Option DisambiguateState)) → AreStatesOf eq es known states → AreStatesOf eq es (with_marks (mark_of eq rs marks) known) states
+  empty-states known states h = subst (λ ms. AreStatesOf eq es (with_marks (mark_of eq rs ms) known) states) (sym none) h
+
+  -- nor is anything rendered again
+  pub empty-counted : (cited : List E) (count : ℕ) → count ≡ counted_times (marked_among cited (mark_of eq rs marks)) count
+  empty-counted cited count = sym (ap (λ ms. counted_times (marked_among cited (mark_of eq rs ms)) count) none ∙ ap (λ k. counted_times k count) (none-marked cited))
 
 -- what is known of the rows of a list
 module _ {A X : Type 0} (view : A → List X) where
@@ -79,16 +93,32 @@ module _ {E P : Type 0} (eq : E → E → Bool) (answers : E → Answers) (es : 
       rows-known view (λ row. All (λ p. p < n) row) xs (subst (λ k. All (λ row. All (λ p. p < k) row) (map view xs)) (sym f) (subst listed-in (sym e) listed))
 
   module _ (laws : IsEquivalence eq) where
-    pub round-done : (first places : List (List ℕ)) (count : ℕ) (marks : List Mark) (states now : List (Option DisambiguateState)) → first ≡ at → places ≡ at → count ≡ length es
-        → marks ≡ round_marks eq answers rs → now ≡ states → AreGreatest first marks count states
-        → document_again answers now places rs ≡ at_table answers (mark_of eq rs (round_marks eq answers rs)) rs
-    round-done first places count marks states now e f n m s great =
-        let there = marks-stand rs eq answers in
-        let one : AreGreatest places marks count states = subst (λ ps. AreGreatest ps marks count states) (e ∙ sym f) great in
-        let two : AreGreatest places (round_marks eq answers rs) count states = subst (λ ms. AreGreatest places ms count states) m one in
-        let three : AreGreatest places (round_marks eq answers rs) (length es) states = subst (λ k. AreGreatest places (round_marks eq answers rs) k states) n two in
-        let four : AreGreatest places (round_marks eq answers rs) (length es) now = subst (λ ss. AreGreatest places (round_marks eq answers rs) (length es) ss) (sym s) three in
-        document-alike eq es places rs (f ∙ placed) (subst listed-in (sym f) listed) laws answers (round_marks eq answers rs) there now four
+    module _ (first places : List (List ℕ)) (count : ℕ) (marks : List Mark) (states now : List (Option DisambiguateState)) (e : first ≡ at) (f : places ≡ at) (n : count ≡ length es)
+        (m : marks ≡ round_marks eq answers rs) (s : now ≡ states) (great : AreGreatest first marks count states) where
+      greatest-now : AreGreatest places (round_marks eq answers rs) (length es) now
+      greatest-now =
+          let one : AreGreatest places marks count states = subst (λ ps. AreGreatest ps marks count states) (e ∙ sym f) great in
+          let two : AreGreatest places (round_marks eq answers rs) count states = subst (λ ms. AreGreatest places ms count states) m one in
+          let three : AreGreatest places (round_marks eq answers rs) (length es) states = subst (λ k. AreGreatest places (round_marks eq answers rs) k states) n two in
+          subst (λ ss. AreGreatest places (round_marks eq answers rs) (length es) ss) (sym s) three
+
+      pub round-done : document_again answers now places rs ≡ at_table answers (mark_of eq rs (round_marks eq answers rs)) rs
+      round-done = document-alike eq es places rs (f ∙ placed) (subst listed-in (sym f) listed) laws answers (round_marks eq answers rs) (marks-stand rs eq answers) now greatest-now
+
+      -- the states that it gives, by the places of the entries
+      state-of : (x : E) → place eq x es < length es → get_or now (place eq x es) None ≡ mark_of eq rs (round_marks eq answers rs) x
+      state-of = state-at eq es places rs (f ∙ placed) (subst listed-in (sym f) listed) laws answers (round_marks eq answers rs) (marks-stand rs eq answers) now greatest-now
+
+      pub round-states : (known : Table E) (old new : List (Option DisambiguateState)) → new ≡ put_before now old → AreStatesOf eq es known old
+          → AreStatesOf eq es (with_marks (mark_of eq rs (round_marks eq answers rs)) known) new
+      round-states known old new put = states-more eq es (mark_of eq rs (round_marks eq answers rs)) now state-of known old new put
+
+      -- and how many cites it renders again
+      pub round-counted : {A : Type 0} (view : A → List ℕ) (rows : List A) (before after : ℕ) → map view rows ≡ at → after ≡ counted_times (sum_by (λ x. with_states now (view x)) rows) before
+          → after ≡ counted_times (marked_among (entries_cited rs) (mark_of eq rs (round_marks eq answers rs))) before
+      round-counted view rows before after g more =
+          more ∙ ap (λ k. counted_times k before)
+          (cites-marked eq es (mark_of eq rs (round_marks eq answers rs)) now state-of view rows rs (g ∙ placed) (subst listed-in (sym g) listed))
 
 -- the rounds, one after another
 module _ {E P : Type 0} (eq : E → E → Bool) (answers : E → Answers) (now new : List (CiteRender E P)) (marked : new ≡ at_table answers (mark_of eq now (round_marks eq answers now)) now) where
@@ -99,22 +129,3 @@ module _ {E P : Type 0} (eq : E → E → Bool) (answers : E → Answers) (now n
   pub places-after : (es : List E) (at : List (List ℕ)) → at ≡ map (λ c. map (λ i. place eq i.entry es) c.items) now → at ≡ map (λ c. map (λ i. place eq i.entry es) c.items) new
   places-after es at h =
       h ∙ sym (places-kept answers (mark_of eq now (round_marks eq answers now)) eq es now) ∙ ap (map (λ c. map (λ i. place eq i.entry es) c.items)) (sym marked)
-
-  module _ (firsts : List (CiteRender E P)) (k : ℕ) (within : k < 3) (so_far : rounds_on answers eq (3 - k) now ≡ rounds_on answers eq 3 firsts) where
-    one-left : suc (3 - (k + 1)) ≡ 3 - k
-    one-left = omega arith
-
-    pub one-round : has_any (round_marks eq answers now) ≡ true → rounds_on answers eq (3 - (k + 1)) new ≡ rounds_on answers eq 3 firsts
-    one-round any =
-        ap (rounds_on answers eq (3 - (k + 1))) marked ∙ sym (round-yes answers eq (3 - (k + 1)) now any) ∙ ap (λ n. rounds_on answers eq n now) one-left ∙ so_far
-
-    pub last-round : has_any (round_marks eq answers now) ≡ false → new ≡ disambiguated eq answers firsts
-    last-round none =
-        marked ∙ sym (empty-round answers eq now (round_marks eq answers now) (nothing-marked (round_marks eq answers now) none))
-        ∙ sym (round-no answers eq (3 - (k + 1)) now none) ∙ ap (λ n. rounds_on answers eq n now) one-left ∙ so_far ∙ three-rounds answers eq firsts
-
-pub no-round-left : {E P : Type 0} (eq : E → E → Bool) (answers : E → Answers) (now firsts : List (CiteRender E P)) (k : ℕ) → 3 ≤ k → rounds_on answers eq (3 - k) now ≡ rounds_on answers eq 3 firsts
-    → now ≡ disambiguated eq answers firsts
-no-round-left eq answers now firsts k past so_far =
-    let none : 0 ≡ 3 - k = omega arith in
-    sym (no_more answers eq now) ∙ ap (λ n. rounds_on answers eq n now) none ∙ so_far ∙ three-rounds answers eq firsts

@@ -12,7 +12,7 @@ use Rattle.csl_ambiguity.specs.Members.{Member, entry_of}
 use Rattle.csl_base.specs.Answers.{Answers}
 use Rattle.csl_entries.specs.Entries.{place}
 use Rattle.csl_lookup.specs.declared.state.DisambiguateState.{DisambiguateState}
-use Rattle.csl_passes.specs.Places.{IsPlace, cite_at}
+use Rattle.csl_passes.specs.Places.{IsPlace}
 use Rattle.csl_passes.specs.Renders.{CiteRender, ItemRender, Place}
 use Rattle.csl_passes.specs.Request.{Request}
 use Rattle.csl_rounds.specs.Gathered.{AreGreatest, IsPlaced, by_places, cite_again, document_again, entry_place, greatest_at, request_again}
@@ -170,3 +170,7 @@ module _ {E P : Type 0} (eq : E → E → Bool) (es : List E) (places : List (Li
 
         pub document-alike : document_again answers states places renders ≡ at_table answers table renders
         document-alike = alike (λ r. request_again answers states (get_or places r [])) (request_at answers table) renders request-alike
+
+        -- by its place an entry has its state
+        pub state-at : (e : E) → place eq e es < length es → get_or states (place eq e es) None ≡ table e
+        state-at e below = great.at (place eq e es) below ∙ marks-at marks there e

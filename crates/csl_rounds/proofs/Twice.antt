@@ -1,12 +1,12 @@
--- Rounds on the renders are rounds on the table.
-use Rattle.std.proofs.Common.{◌≡◌, ℕ, zero, suc, Bool, true, false, cond, Option, Some, None, List, [], ◌∷◌, map, refl, ap, sym, ◌∙◌}
+-- Cites rendered again at one table and then at another.
+use Rattle.std.proofs.Common.{◌≡◌, Option, Some, None, List, [], ◌∷◌, ◌++◌, map, refl, ap, ◌∙◌}
 use Rattle.std.specs.Option.{option_or}
 use Rattle.csl_base.specs.Answers.{Answers}
 use Rattle.csl_lookup.specs.declared.state.DisambiguateState.{DisambiguateState}
 use Rattle.csl_passes.specs.Renders.{CiteRender, ItemRender}
 use Rattle.csl_passes.specs.Request.{Request}
-use Rattle.csl_rounds.specs.RoundMarks.{has_any, round_marks}
-use Rattle.csl_rounds.specs.Rounds.{Table, after_rounds, at_table, disambiguated, mark_of, no_states, request_at, with_any, with_marks}
+use Rattle.csl_rounds.specs.Rerenders.{entries_cited}
+use Rattle.csl_rounds.specs.Rounds.{Table, at_table, no_states, request_at, with_any, with_marks}
 
 module _ {E P : Type 0} (answers : E → Answers) where
   -- the entry stays
@@ -29,7 +29,7 @@ module _ {E P : Type 0} (answers : E → Answers) where
       ∙ ap (λ ys. with_any answers request (with_marks m t i.entry) i ∷ ys) (items-twice m t request xs)
 
   -- rendered again at one table, and then at another
-  twice : (m t : Table E) (rs : List (CiteRender E P)) → at_table answers m (at_table answers t rs) ≡ at_table answers (with_marks m t) rs
+  pub twice : (m t : Table E) (rs : List (CiteRender E P)) → at_table answers m (at_table answers t rs) ≡ at_table answers (with_marks m t) rs
   twice m t [] = refl
   twice m t (c ∷ cs) =
       ap (λ xs. record c { items = xs } ∷ at_table answers m (at_table answers t cs)) (items-twice m t c.request c.items)
@@ -44,44 +44,11 @@ module _ {E P : Type 0} (answers : E → Answers) where
   nothing-new (c ∷ cs) =
       ap (λ xs. record c { items = xs } ∷ at_table answers no_states cs) (same-items c.request c.items) ∙ ap (λ ys. c ∷ ys) (nothing-new cs)
 
-  module _ (eq : E → E → Bool) where
-    -- a round
-    abbrev pub next : List (CiteRender E P) → List (CiteRender E P)
-    next rs = at_table answers (mark_of eq rs (round_marks eq answers rs)) rs
+  -- the cited entries stay
+  row-entries : (t : Table E) (request : Request E P) (xs : List (ItemRender E P)) → map (λ i. i.entry) (map (λ i. with_any answers request (t i.entry) i) xs) ≡ map (λ i. i.entry) xs
+  row-entries t request [] = refl
+  row-entries t request (i ∷ xs) = λ j. same-entry request (t i.entry) i j ∷ row-entries t request xs j
 
-    -- at most so many of them
-    unfoldable pub rounds_on : ℕ → List (CiteRender E P) → List (CiteRender E P)
-    rounds_on zero rs = rs
-    rounds_on (suc n) rs = cond (has_any (round_marks eq answers rs)) (rounds_on n (next rs)) rs
-
-    pub no_more : (rs : List (CiteRender E P)) → rounds_on 0 rs ≡ rs
-    unfolding rounds_on
-    no_more rs = refl
-
-    pub round-yes : (n : ℕ) (rs : List (CiteRender E P)) → has_any (round_marks eq answers rs) ≡ true → rounds_on (suc n) rs ≡ rounds_on n (next rs)
-    unfolding rounds_on
-    round-yes n rs h = rw h refl
-
-    pub round-no : (n : ℕ) (rs : List (CiteRender E P)) → has_any (round_marks eq answers rs) ≡ false → rounds_on (suc n) rs ≡ rs
-    unfolding rounds_on
-    round-no n rs h = rw h refl
-
-    rounds-are : (firsts : List (CiteRender E P)) (n : ℕ) (t : Table E) → at_table answers (after_rounds answers eq firsts n t) firsts ≡ rounds_on n (at_table answers t firsts)
-    unfolding after_rounds rounds_on
-    rounds-are firsts zero t = refl
-    rounds-are firsts (suc n) t =
-        let now = at_table answers t firsts in
-        let m = mark_of eq now (round_marks eq answers now) in
-        by (has_any (round_marks eq answers now)) (rounds-are firsts n (with_marks m t) ∙ ap (rounds_on n) (sym (twice m t firsts)))
-      where
-        by : (b : Bool)
-            → at_table answers (after_rounds answers eq firsts n (with_marks (mark_of eq (at_table answers t firsts) (round_marks eq answers (at_table answers t firsts))) t)) firsts ≡ rounds_on n (next (at_table answers t firsts))
-            → at_table answers (cond b (after_rounds answers eq firsts n (with_marks (mark_of eq (at_table answers t firsts) (round_marks eq answers (at_table answers t firsts))) t)) t) firsts
-            ≡ cond b (rounds_on n (next (at_table answers t firsts))) (at_table answers t firsts)
-        by true more = more
-        by false more = refl
-
-    -- three rounds at most
-    pub three-rounds : (firsts : List (CiteRender E P)) → rounds_on 3 firsts ≡ disambiguated eq answers firsts
-    unfolding disambiguated
-    three-rounds firsts = sym (rounds-are firsts 3 no_states ∙ ap (rounds_on 3) (nothing-new firsts))
+  pub same-entries : (t : Table E) (rs : List (CiteRender E P)) → entries_cited (at_table answers t rs) ≡ entries_cited rs
+  same-entries t [] = refl
+  same-entries t (c ∷ cs) = λ j. row-entries t c.request c.items j ++ same-entries t cs j

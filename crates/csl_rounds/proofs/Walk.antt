@@ -1,5 +1,5 @@
 -- Marks gathered group by group are those of the round.
-use Rattle.std.proofs.Common.{ℕ, zero, suc, ◌≤◌, take, ◌≡◌, ◌<◌, Bool, true, List, [], ◌∷◌, ◌++◌, length, refl, sym, ◌∙◌, append-nil, append_assoc, arith, ap, cond, false, ◌||◌, Option, Some}
+use Rattle.std.proofs.Common.{ℕ, zero, suc, ◌≤◌, take, ◌≡◌, Bool, true, List, [], ◌∷◌, ◌++◌, length, refl, sym, ◌∙◌, append-nil, append_assoc, arith, ap, cond, false, ◌||◌, Option, Some}
 use Rattle.std.specs.Prelude.{fold, find}
 use Rattle.std.specs.List.{flat_map}
 use Rattle.csl_ambiguity.specs.Ambiguity.{ambiguous_groups}

@@ -1,6 +1,7 @@
 -- For the code: marks gathered group by group, and put in by the places of entries.
-use Rattle.std.specs.Prelude.{◌≡◌, ◌<◌, ℕ, Bool, List, [], ◌∷◌, ◌++◌, Option, Some, None, filter, fold, length, map, nat_eq, slice_index, slice_index_or, slice_set}
+use Rattle.std.specs.Prelude.{◌≡◌, ◌<◌, ℕ, Bool, List, [], ◌++◌, Option, Some, None, filter, is_some, length, map, nat_eq, slice_index, slice_index_or}
 use Rattle.std.specs.List.{enumerate_from}
+use Rattle.std.specs.Option.{option_or}
 use Rattle.csl_base.specs.Answers.{Answers}
 use Rattle.csl_lookup.specs.States.{greater}
 use Rattle.csl_lookup.specs.declared.state.DisambiguateState.{DisambiguateState}
@@ -40,9 +41,17 @@ pub record AreGreatest (places : List (List ℕ)) (marks : List Mark) (count : �
   pub long : length states ≡ count
   pub at : (p : ℕ) → p < count → slice_index_or states p None ≡ greatest_at places marks p
 
+-- how many of these places have a state
+abbrev pub with_states : List (Option DisambiguateState) → List ℕ → ℕ
+with_states states places = length (filter (λ p. is_some (slice_index_or states p None)) places)
+
 -- each member changed by its place
 abbrev pub by_places : {X : Type 0} → (ℕ → X → X) → List X → List X
 by_places change xs = map (λ p. change p.0 p.1) (enumerate_from 0 xs)
+
+-- states before those that were there
+abbrev pub put_before : List (Option DisambiguateState) → List (Option DisambiguateState) → List (Option DisambiguateState)
+put_before states = by_places (λ p. option_or (slice_index_or states p None))
 
 module _ {E P : Type 0} (answers : E → Answers) (states : List (Option DisambiguateState)) where
   -- the k-th cite of a request, rendered again where its entry has a state

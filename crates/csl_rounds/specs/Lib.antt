@@ -1,5 +1,5 @@
-pub mod Counts
 pub mod FirstRenders
 pub mod RoundMarks
 pub mod Rounds
 pub mod Gathered
+pub mod Rerenders

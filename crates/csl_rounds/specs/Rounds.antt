@@ -1,5 +1,5 @@
 -- The rounds in which cites that read alike are told apart.
-use Rattle.std.specs.Prelude.{ℕ, zero, suc, Bool, false, List, map, filter, Option, Some, None, if◌then◌else◌}
+use Rattle.std.specs.Prelude.{ℕ, zero, suc, Bool, false, List, [], ◌∷◌, map, filter, Option, Some, None, if◌then◌else◌}
 use Rattle.std.specs.Option.{option_map_or, option_or}
 use Rattle.csl_ambiguity.specs.Members.{entry_of, member_at}
 use Rattle.csl_base.specs.Answers.{Answers}
@@ -61,6 +61,15 @@ module _ {E P : Type 0} where
           let renders = at_table table firsts in
           let marks = round_marks eq answers renders in
           if has_any marks then after_rounds n (with_marks (mark_of eq renders marks) table) else table
+
+      -- what these rounds mark, one table for each that marks
+      unfoldable pub marking_rounds : ℕ → Table E → List (Table E)
+      marking_rounds zero table = []
+      marking_rounds (suc n) table =
+          let renders = at_table table firsts in
+          let marks = round_marks eq answers renders in
+          let marked = mark_of eq renders marks in
+          if has_any marks then marked ∷ marking_rounds n (with_marks marked table) else []
 
 -- the first renders, rendered again with the states that tell their entries apart after three rounds at most
 unfoldable pub disambiguated : {E P : Type 0} → (E → E → Bool) → (E → Answers) → List (CiteRender E P) → List (CiteRender E P)

@@ -6,9 +6,8 @@ ghost use Rattle.csl_lookup.specs.PropertiesView.{properties_view};
 ghost use Rattle.csl_passes.specs.RendersView.{item_view, render_view, renders_view};
 ghost use Rattle.csl_passes.specs.Request.{cites_of};
 ghost use Rattle.csl_passes.specs.RequestView.{cite_view, request_view, requests_view};
-ghost use Rattle.csl_rounds.specs.Counts.{counted_times};
 ghost use Rattle.csl_rounds.specs.FirstRenders.{HasShapeOf, first_render, first_renders, first_renders_of, first_written_by, noted};
-ghost use Rattle.csl_writing.specs.Counted.{counted};
+ghost use Rattle.csl_writing.specs.Counted.{counted, counted_times};
 
 use crate::contexts::request_context;
 use csl_base::entry::EntryLike;

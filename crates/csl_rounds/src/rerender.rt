@@ -1,12 +1,14 @@
 //! Cites rendered again, where their entries are told apart by something new.
-ghost use Rattle.std.specs.Prelude.{◌≡◌, ◌<◌, All, OnOk, length, map};
+ghost use Rattle.std.specs.Prelude.{◌≡◌, ◌<◌, All, OnOk, if◌then◌else◌, is_some, length, map};
+ghost use Rattle.std.specs.List.{sum_by};
 ghost use Rattle.csl_base.specs.Ring.{HasNoRing};
 ghost use Rattle.csl_passes.specs.Request.{source_of};
 ghost use Rattle.csl_passes.specs.RequestView.{request_view};
 ghost use Rattle.csl_passes.specs.RendersView.{item_view, items_view, render_view, renders_view};
-ghost use Rattle.csl_rounds.specs.Gathered.{by_places, cite_again, document_again, request_again};
+ghost use Rattle.csl_rounds.specs.Gathered.{by_places, cite_again, document_again, request_again, with_states};
 ghost use Rattle.csl_rounds.specs.Rounds.{rendered_again, with_any};
 ghost use Rattle.csl_writing.specs.ContextSource.{context_source};
+ghost use Rattle.csl_writing.specs.Counted.{counted, counted_times};
 
 use csl_base::entry::EntryLike;
 use csl_lookup::state::DisambiguateState;
@@ -36,7 +38,8 @@ fn render_again<T: EntryLike, P>(
     counter: &mut Renders,
 ) -> Result<(), AllocError>
     requires no_ring { HasNoRing (request_view request.now).style.macros }
-    ensures { OnOk result (item_view item.new ≡ rendered_again T.answers (request_view request.now) state (item_view item.old)) }
+    ensures again { OnOk result (item_view item.new ≡ rendered_again T.answers (request_view request.now) state (item_view item.old)) }
+    ensures counted { OnOk result (counter.new ≡ counted counter.old) }
 {
     item.cite_props.speculative.disambiguation = state;
     let context = request_context(request);
@@ -62,7 +65,8 @@ fn render_with<T: EntryLike, P>(
     counter: &mut Renders,
 ) -> Result<(), AllocError>
     requires no_ring { HasNoRing (request_view request.now).style.macros }
-    ensures { OnOk result (item_view item.new ≡ with_any T.answers (request_view request.now) state.now (item_view item.old)) }
+    ensures again { OnOk result (item_view item.new ≡ with_any T.answers (request_view request.now) state.now (item_view item.old)) }
+    ensures counted { OnOk result (counter.new ≡ (if is_some state.now then counted counter.old else counter.old)) }
 {
     match state {
         Some(state) => render_again(alloc, request, state.clone()?, item, counter),
@@ -82,7 +86,8 @@ fn render_items<T: EntryLike, P>(
     requires no_ring { HasNoRing (request_view request.now).style.macros }
     requires placed { length places.now ≡ length items.old }
     requires within { All (λ p. p < length states.now) places.now }
-    ensures { OnOk result (items_view items.new ≡ by_places (cite_again T.answers states.now (request_view request.now) places.now) (items_view items.old)) }
+    ensures again { OnOk result (items_view items.new ≡ by_places (cite_again T.answers states.now (request_view request.now) places.now) (items_view items.old)) }
+    ensures counted { OnOk result (counter.new ≡ counted_times (with_states states.now places.now) counter.old) }
 {
     for k in 0..items.len() {
         let state = &states[places[k]];
@@ -102,7 +107,8 @@ fn render_request<T: EntryLike, P>(
     requires no_ring { HasNoRing (render_view render.old).request.style.macros }
     requires placed { length places.now ≡ length (render_view render.old).items }
     requires within { All (λ p. p < length states.now) places.now }
-    ensures { OnOk result (render_view render.new ≡ request_again T.answers states.now places.now (render_view render.old)) }
+    ensures again { OnOk result (render_view render.new ≡ request_again T.answers states.now places.now (render_view render.old)) }
+    ensures counted { OnOk result (counter.new ≡ counted_times (with_states states.now places.now) counter.old) }
 {
     let request = render.request;
     render_items(alloc, request, states, places, &mut render.items, counter)
@@ -119,7 +125,8 @@ pub(crate) fn render_marked<T: EntryLike, P>(
     requires no_ring { All (λ c. HasNoRing c.request.style.macros) (renders_view renders.old) }
     requires placed { map (λ ps. length ps.items) places.now ≡ map (λ c. length c.items) (renders_view renders.old) }
     requires within { All (λ ps. All (λ p. p < length states.now) ps.items) places.now }
-    ensures { OnOk result (renders_view renders.new ≡ document_again T.answers states.now (map (λ ps. ps.items) places.now) (renders_view renders.old)) }
+    ensures again { OnOk result (renders_view renders.new ≡ document_again T.answers states.now (map (λ ps. ps.items) places.now) (renders_view renders.old)) }
+    ensures counted { OnOk result (counter.new ≡ counted_times (sum_by (λ ps. with_states states.now ps.items) places.now) counter.old) }
 {
     for r in 0..renders.len() {
         render_request(alloc, states, &places[r], &mut renders[r], counter)?;

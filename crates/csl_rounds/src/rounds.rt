@@ -4,38 +4,59 @@ ghost use Rattle.csl_base.specs.Ring.{HasNoRing};
 ghost use Rattle.csl_entries.specs.Entries.{place};
 ghost use Rattle.csl_entries.specs.TableView.{table_view};
 ghost use Rattle.csl_passes.specs.RendersView.{renders_view};
+ghost use Rattle.csl_rounds.specs.Rerenders.{AreStatesOf, entries_cited, last_states, marked_among, rerenders, round_tables};
 ghost use Rattle.csl_rounds.specs.RoundMarks.{has_any, round_marks};
-ghost use Rattle.csl_rounds.specs.Rounds.{at_table, disambiguated, mark_of};
+ghost use Rattle.csl_rounds.specs.Rounds.{Table, at_table, disambiguated, mark_of, with_marks};
+ghost use Rattle.csl_writing.specs.Counted.{counted_times};
 
 use crate::marks::round_marks;
 use crate::rerender::render_marked;
-use crate::states::greatest_marks;
+use crate::states::{greatest_marks, no_states, put_before};
 use csl_base::entry::EntryLike;
 use csl_entries::table::EntryTable;
+use csl_lookup::state::DisambiguateState;
 use csl_passes::renders::SpeculativeCiteRender;
 use csl_writing::counter::Renders;
 use std::alloc::{AllocError, Global};
 
-/// One round: the cites whose entries get marks are rendered again with these. Whether there were any.
+/// What the rounds did.
+#[derive(Drop)]
+pub struct Rounds {
+    /// How many of them marked.
+    pub marked: usize,
+    /// The states that the entries have after them, by their places in the table; none where no round
+    /// marked the entry.
+    pub states: Vec<Option<DisambiguateState>>,
+}
+
+/// One round: the cites whose entries get marks are rendered again with these, which are their states from
+/// now on. Whether there were any.
 fn run_round<'a, T: EntryLike, P>(
     alloc: Global,
     renders: &mut [SpeculativeCiteRender<'_, 'a, T, P>],
     table: &EntryTable<'a, T>,
+    states: &mut [Option<DisambiguateState>],
     counter: &mut Renders,
 ) -> Result<bool, AllocError>
     requires no_ring { All (λ c. HasNoRing c.request.style.macros) (renders_view renders.old) }
     requires placed { (table_view table.now).places ≡ map (λ c. map (λ i. place T.eq i.entry (table_view table.now).entries) c.items) (renders_view renders.old) }
     requires listed { All (λ ps. All (λ p. p < length (table_view table.now).entries) ps) (table_view table.now).places }
+    requires long { length states.old ≡ length (table_view table.now).entries }
     ensures again { IfOk result (λ again. again ≡ has_any (round_marks T.eq T.answers (renders_view renders.old))) }
     ensures marked { OnOk result (renders_view renders.new
         ≡ at_table T.answers (mark_of T.eq (renders_view renders.old) (round_marks T.eq T.answers (renders_view renders.old))) (renders_view renders.old)) }
+    ensures states { OnOk result ((known : Table T) → AreStatesOf T.eq (table_view table.now).entries known states.old
+        → AreStatesOf T.eq (table_view table.now).entries (with_marks (mark_of T.eq (renders_view renders.old) (round_marks T.eq T.answers (renders_view renders.old))) known) states.new) }
+    ensures counted { OnOk result (counter.new ≡ counted_times (marked_among (entries_cited (renders_view renders.old))
+        (mark_of T.eq (renders_view renders.old) (round_marks T.eq T.answers (renders_view renders.old)))) counter.old) }
 {
     let marks = round_marks(alloc, renders)?;
     if marks.is_empty() {
         return Ok(false);
     }
-    let states = greatest_marks(alloc, table.places(), table.len(), marks)?;
-    render_marked(alloc, &states, table.places(), renders, counter)?;
+    let marked = greatest_marks(alloc, table.places(), table.len(), marks)?;
+    render_marked(alloc, &marked, table.places(), renders, counter)?;
+    put_before(&marked, states)?;
     Ok(true)
 }
 
@@ -45,7 +66,8 @@ fn run_round<'a, T: EntryLike, P>(
 /// In a round each ambiguous group is marked by names. The first group that can be marked in any way
 /// gets, where it has no marks by names, choose marks, or suffixes where it has none of these either.
 /// An entry with marks gets the greatest of them as its state, and each of its cites is rendered again
-/// with it, for its purpose and with no verdict. A round without marks is the last.
+/// with it, for its purpose and with no verdict. A round without marks is the last. Each rendering is
+/// counted: one in each round that marks for each cite whose entry it marks.
 ///
 /// `renders` has the first renders, its items in the order of their requests; `table` has the place of
 /// each one's entry. No style may have macros that call each other in a ring.
@@ -58,16 +80,25 @@ pub fn disambiguate<'a, T: EntryLike, P>(
     renders: &mut [SpeculativeCiteRender<'_, 'a, T, P>],
     table: &EntryTable<'a, T>,
     counter: &mut Renders,
-) -> Result<(), AllocError>
+) -> Result<Rounds, AllocError>
     requires no_ring { All (λ c. HasNoRing c.request.style.macros) (renders_view renders.old) }
     requires placed { (table_view table.now).places ≡ map (λ c. map (λ i. place T.eq i.entry (table_view table.now).entries) c.items) (renders_view renders.old) }
     requires listed { All (λ ps. All (λ p. p < length (table_view table.now).entries) ps) (table_view table.now).places }
-    ensures { OnOk result (renders_view renders.new ≡ disambiguated T.eq T.answers (renders_view renders.old)) }
+    ensures renders { OnOk result (renders_view renders.new ≡ disambiguated T.eq T.answers (renders_view renders.old)) }
+    ensures marked { IfOk result (λ r. r.marked ≡ length (round_tables T.eq T.answers (renders_view renders.old))) }
+    ensures states { IfOk result (λ r. AreStatesOf T.eq (table_view table.now).entries (last_states T.eq T.answers (renders_view renders.old)) r.states.items) }
+    ensures counted { OnOk result (counter.new
+        ≡ counted_times (rerenders (entries_cited (renders_view renders.old)) (round_tables T.eq T.answers (renders_view renders.old))) counter.old) }
 {
+    let mut rounds = Rounds {
+        marked: 0,
+        states: no_states(alloc, table.len())?,
+    };
     for _round in 0..3usize {
-        if !run_round(alloc, renders, table, counter)? {
-            return Ok(());
+        if !run_round(alloc, renders, table, &mut rounds.states, counter)? {
+            return Ok(rounds);
         }
+        rounds.marked += 1;
     }
-    Ok(())
+    Ok(rounds)
 }

@@ -1,6 +1,7 @@
 //! The states that entries get in a round, by the places of the entries.
-ghost use Rattle.std.specs.Prelude.{◌≡◌, All, IfOk, None, map, replicate};
-ghost use Rattle.csl_rounds.specs.Gathered.{AreGreatest, IsPlaced, entry_place, raised};
+ghost use Rattle.std.specs.Prelude.{◌≡◌, All, IfOk, None, OnOk, length, map, replicate};
+ghost use Rattle.std.specs.Option.{option_or};
+ghost use Rattle.csl_rounds.specs.Gathered.{AreGreatest, IsPlaced, entry_place, put_before, raised};
 
 use csl_lookup::state::DisambiguateState;
 use csl_passes::renders::Marks;
@@ -10,7 +11,7 @@ use std::alloc::{AllocError, Global};
 pub(crate) type States = Vec<Option<DisambiguateState>>;
 
 /// No states for so many entries.
-fn no_states(alloc: Global, count: usize) -> Result<States, AllocError>
+pub(crate) fn no_states(alloc: Global, count: usize) -> Result<States, AllocError>
     ensures { IfOk result (λ v. v.items ≡ replicate count None) }
 {
     let mut states = Vec::with_capacity(alloc, count)?;
@@ -55,4 +56,32 @@ pub(crate) fn greatest_marks(
         raise(&mut states[place], mark);
     }
     Ok(states)
+}
+
+/// Puts a state before the one that was there, if there is one.
+fn put_state_before(
+    state: &Option<DisambiguateState>,
+    kept: &mut Option<DisambiguateState>,
+) -> Result<(), AllocError>
+    ensures { OnOk result (kept.new ≡ option_or state.now kept.old) }
+{
+    if let Some(state) = state {
+        *kept = Some(state.clone()?);
+    }
+    Ok(())
+}
+
+/// Puts the states of a round before those of the rounds before it: an entry that gets one has it from
+/// then on.
+pub(crate) fn put_before(
+    states: &[Option<DisambiguateState>],
+    kept: &mut [Option<DisambiguateState>],
+) -> Result<(), AllocError>
+    requires same { length states.now ≡ length kept.old }
+    ensures { OnOk result (kept.new ≡ put_before states.now kept.old) }
+{
+    for place in 0..kept.len() {
+        put_state_before(&states[place], &mut kept[place])?;
+    }
+    Ok(())
 }

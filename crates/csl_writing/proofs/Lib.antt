@@ -6,3 +6,4 @@ pub mod PlanSteps
 pub mod CiteSteps
 pub mod ItemSteps
 pub mod KeptHeights
+pub mod Counting

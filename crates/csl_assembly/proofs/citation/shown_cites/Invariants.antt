@@ -3,10 +3,14 @@ use Rattle.csl_passes.specs.RendersView.{items_view, render_view}
 use Rattle.csl_passes.specs.Request.{source_of}
 use Rattle.csl_assembly.specs.CitationTree.{shown, shown_cite}
 use Rattle.csl_assembly.specs.ShownView.{shown_views}
+use Rattle.csl_writing.specs.Counted.{counted_times}
 use Rattle.csl_assembly.proofs.citation.shown_cites.Given as goal
 
 abbrev pub invariant-loop-item : goal.invariant-loop-item
 invariant-loop-item g l =
     let request = (render_view l.render).request in
     let one = shown_cite g.T.EntryLike.answers (source_of request) request.style.citation.layout in
-    shown_views l.cites.items ++ map one (shown (items_view (drop l.item-index l.item-items))) ≡ map one (shown (items_view l.item-items))
+    record {
+      cites : shown_views l.cites.items ++ map one (shown (items_view (drop l.item-index l.item-items))) ≡ map one (shown (items_view l.item-items));
+      counted : l.renders ≡ counted_times l.item-index l.fn.renders;
+    }

@@ -1,4 +1,7 @@
-use Rattle.std.proofs.Common.{ap, map, ◌∙◌}
+use Rattle.std.proofs.Common.{ap, length, map, ◌∙◌}
+use Rattle.std.specs.List.{sum_by}
+use Rattle.csl_driver.specs.Answer.{drawn_together}
+use Rattle.csl_driver.proofs.Sizes.{last-size, three-counted}
 use Rattle.csl_base.specs.Ring.{HasNoRing}
 use Rattle.csl_passes.specs.RendersView.{renders_view}
 use Rattle.csl_passes.specs.RequestView.{requests_view, wanted_view}
@@ -12,8 +15,14 @@ rendered_citations-requires g c = record {
       (ap (map (λ r. r.request)) c.draw_together.ensures ∙ drawn-requests (renders_view c.settle.new.cites) ∙ c.in_ok-settle.ensures.stand.of) c.requires.no_ring.0;
 }
 
-pub returns : goal.returns
-returns g c =
+pub returns-clause-rendered : goal.returns-clause-rendered
+returns-clause-rendered g c =
     whole g.T.PartialEq.eq g.P.PartialEq.eq g.T.EntryLike.answers (wanted_view c.args.wanted.now) (requests_view c.args.requests.now) c.args.cited.now.offset
     (renders_view c.settle.new.cites) (renders_view c.draw_together.new.cites) c.in_ok-settle.ensures.settled c.draw_together.ensures
-    (c.new.ensures ∙ c.in_ok-citations.ensures) c.in_ok-bibliography.ensures
+    (c.new.ensures ∙ c.in_ok-citations.ensures.citations) c.in_ok-bibliography.ensures.bibliography
+
+pub returns-clause-counted : goal.returns-clause-counted
+returns-clause-counted g c =
+    three-counted _ _ _ _ c.args.renders.now _ _ _ c.in_ok-settle.ensures.counted c.in_ok-bibliography.ensures.counted c.in_ok-citations.ensures.counted
+    (ap (sum_by (λ r. length r.items)) (c.draw_together.ensures ∙ ap (map drawn_together) c.in_ok-settle.ensures.settled)
+    ∙ last-size g.T.PartialEq.eq g.P.PartialEq.eq g.T.EntryLike.answers (wanted_view c.args.wanted.now) (requests_view c.args.requests.now) c.args.cited.now.offset)

@@ -46,8 +46,8 @@ first_renders-requires-clause-shape g c =
     subst (HasShapeOf requests) (sym (ap (map (λ f. f.items)) c.deref-2.ensures.value ∙ c.in_ok-firsts.ensures))
     (first-shape eq g.P.PartialEq.eq g.T.EntryLike.answers number_of (distinct eq (cited requests)) requests)
 
-pub returns : goal.returns
-returns g c =
+pub returns-clause-first : goal.returns-clause-first
+returns-clause-first g c =
     let eq = g.T.PartialEq.eq in
     let requests = requests_view c.args.requests.now in
     let wanted = wanted_view c.args.wanted.now in

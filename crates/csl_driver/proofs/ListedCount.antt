@@ -1,0 +1,75 @@
+-- Each entry of the bibliography has a first cite.
+use Rattle.std.proofs.Common.{◌≡◌, ℕ, suc, Bool, true, false, cond, ◌||◌, List, [], ◌∷◌, ◌++◌, Option, Some, None, length, map, refl, ap, sym, ◌∙◌}
+use Rattle.std.specs.Prelude.{All, find, flat_map, is_some, option_map}
+use Rattle.std.specs.Cmp.{IsEquivalence}
+use Rattle.std.specs.List.{cons_option, filter_map}
+use Rattle.std.proofs.lemmas.List.{map-append}
+use Rattle.std.proofs.lemmas.List.Elements.{All-cons, All-head, All-nil, All-tail}
+use Rattle.csl_assembly.specs.BibliographyItems.{cites_at}
+use Rattle.csl_driver.specs.AreCitesOf.{AreCitesOf}
+use Rattle.csl_entries.specs.Entries.{bibliography_order, distinct, is_in}
+use Rattle.csl_entries.specs.Table.{Table, table_of}
+use Rattle.csl_entries.proofs.Distinct.{is_in-distinct}
+use Rattle.csl_entries.proofs.ListedPlaces.{all-cited}
+use Rattle.csl_entries.proofs.Once.{holds_each_once}
+use Rattle.csl_entries.proofs.Placing.{all_in, left, right}
+use Rattle.csl_passes.specs.Places.{IsPlace, cite_at}
+use Rattle.csl_passes.specs.Renders.{CiteRender, ItemRender, Place}
+use Rattle.csl_passes.specs.Request.{Request, cited}
+use Rattle.csl_positions.specs.FinalProperties.{cited_finally, first_item, items_finally}
+
+-- where each member gives one, there are as many
+all-found : {A B : Type 0} (f : A → Option B) (xs : List A) → All (λ x. is_some (f x) ≡ true) xs → length (filter_map f xs) ≡ length xs
+all-found f [] h = refl
+all-found {A} {B} f (x ∷ xs) h = by (f x) (All-head (λ x. is_some (f x) ≡ true) x xs h) (all-found f xs (All-tail (λ x. is_some (f x) ≡ true) x xs h))
+  where
+    by : (o : Option B) → is_some o ≡ true → length (filter_map f xs) ≡ length xs → length (cons_option o (filter_map f xs)) ≡ suc (length xs)
+    by None e more = cc
+    by (Some y) e more = ap suc more
+
+module _ {E P : Type 0} (renders : List (CiteRender E P)) where
+  some-mapped : {A B : Type 0} (f : A → B) (o : Option A) → is_some o ≡ true → is_some (option_map f o) ≡ true
+  some-mapped f None h = cc
+  some-mapped f (Some x) h = refl
+
+  places-found : (places : List Place) → All (IsPlace renders) places → All (λ p. is_some (option_map (λ (c : Request E P × ItemRender E P). c.1) (cite_at renders p)) ≡ true) places
+  places-found [] h = All-nil (λ p. is_some (option_map (λ (c : Request E P × ItemRender E P). c.1) (cite_at renders p)) ≡ true)
+  places-found (p ∷ ps) h =
+      All-cons (λ p. is_some (option_map (λ (c : Request E P × ItemRender E P). c.1) (cite_at renders p)) ≡ true) p ps
+      (some-mapped (λ c. c.1) (cite_at renders p) (All-head (IsPlace renders) p ps h)) (places-found ps (All-tail (IsPlace renders) p ps h))
+
+  -- there are as many cites as places
+  pub cites-counted : (places : List Place) → All (IsPlace renders) places → length (cites_at renders places) ≡ length places
+  cites-counted places h = all-found (λ p. option_map (λ (c : Request E P × ItemRender E P). c.1) (cite_at renders p)) places (places-found places h)
+
+module _ {E P : Type 0} (eq : E → E → Bool) where
+  find-in : (e : E) (items : List (ItemRender E P)) → is_some (find (λ i. eq e i.entry) items) ≡ is_in eq e (map (λ i. i.entry) items)
+  find-in e [] = refl
+  find-in e (i ∷ items) = by (eq e i.entry) (find-in e items)
+    where
+      by : (b : Bool) → is_some (find (λ i. eq e i.entry) items) ≡ is_in eq e (map (λ i. i.entry) items)
+          → is_some (cond b (Some i) (find (λ i. eq e i.entry) items)) ≡ (b || is_in eq e (map (λ i. i.entry) items))
+      by true more = refl
+      by false more = more
+
+  entries-joined : (renders : List (CiteRender E P)) → map (λ i. i.entry) (items_finally renders) ≡ cited_finally renders
+  entries-joined [] = refl
+  entries-joined (c ∷ cs) = map-append (λ i. i.entry) c.items (items_finally cs) ∙ ap (λ l. map (λ i. i.entry) c.items ++ l) (entries-joined cs)
+
+  module _ (laws : IsEquivalence eq) (renders : List (CiteRender E P)) where
+    each-found : (order xs : List E) → ((e : E) → is_in eq e order ≡ is_in eq e (cited_finally renders)) → all_in eq laws order xs ≡ true → All (λ e. is_some (first_item eq renders e) ≡ true) xs
+    each-found order [] same h = All-nil (λ e. is_some (first_item eq renders e) ≡ true)
+    each-found order (x ∷ xs) same h =
+        All-cons (λ e. is_some (first_item eq renders e) ≡ true) x xs
+        (find-in x (items_finally renders) ∙ ap (is_in eq x) (entries-joined renders) ∙ sym (same x) ∙ left (is_in eq x order) (all_in eq laws order xs) h)
+        (each-found order xs same (right (is_in eq x order) (all_in eq laws order xs) h))
+
+    -- there are as many first cites as entries
+    pub firsts-counted : (requests : List (Request E P)) (order : Option (List E)) (table : Table E) → table ≡ table_of eq requests → AreCitesOf eq table requests renders
+        → length (filter_map (first_item eq renders) (bibliography_order eq order (cited requests))) ≡ length (bibliography_order eq order (cited requests))
+    firsts-counted requests order table is are =
+        let listed = bibliography_order eq order (cited requests) in
+        all-found (first_item eq renders) listed
+        (each-found listed listed
+        (λ e. (holds_each_once eq laws order (cited requests)).same e ∙ sym (is_in-distinct eq laws e (cited requests)) ∙ sym (ap (λ (t : Table E). is_in eq e t.entries) is) ∙ sym (are.same e))
+        (all-cited eq laws listed listed (λ e. refl)))

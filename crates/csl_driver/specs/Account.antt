@@ -1,0 +1,35 @@
+-- The account of an answer: what it cost, and how it numbers its entries and tells them apart.
+use Rattle.std.specs.Prelude.{ℕ, ◌+◌, ◌*◌, Bool, List, Option, None, Some, length, unwrap_or}
+use Rattle.csl_base.specs.Answers.{Answers}
+use Rattle.csl_driver.specs.Answer.{entries_listed, rendered_first}
+use Rattle.csl_lookup.specs.declared.state.DisambiguateState.{DisambiguateState}
+use Rattle.csl_passes.specs.Request.{Request, Wanted, cited, cites_of}
+use Rattle.csl_rounds.specs.Rerenders.{last_states, rerenders, round_tables}
+use Rattle.csl_rounds.specs.Rounds.{Table}
+
+-- so many where there is a bibliography
+abbrev pub where_listed : {B : Type 0} → Option B → ℕ → ℕ
+where_listed None n = 0
+where_listed (Some b) n = n
+
+-- the entries of the bibliography, where the style that was asked for has one
+abbrev pub listed_count : {E P : Type 0} → (E → E → Bool) → Wanted E → List (Request E P) → ℕ
+listed_count eq wanted requests = where_listed wanted.style.bibliography (length (entries_listed eq wanted requests))
+
+module _ {E P : Type 0} (eq : E → E → Bool) (payload_eq : P → P → Bool) (answers : E → Answers) (wanted : Wanted E) (requests : List (Request E P)) (offset : ℕ) where
+  -- what the rounds mark, one table for each that marks
+  abbrev pub marking : List (Table E)
+  marking = round_tables eq answers (rendered_first eq payload_eq answers wanted requests offset)
+
+  -- the renderings of the rounds: one in each that marks for each cite whose entry it marks
+  abbrev pub rerendered : ℕ
+  rerendered = rerenders (cited requests) marking
+
+  -- the renderings: two for each cite, hidden or not; those of the rounds; and one for each entry of the bibliography,
+  -- where there is one
+  abbrev pub cost : ℕ
+  cost = 2 * length (cites_of requests) + rerendered + listed_count eq wanted requests
+
+  -- by what an entry is told apart in the end
+  abbrev pub final_state : E → DisambiguateState
+  final_state e = unwrap_or (last_states eq answers (rendered_first eq payload_eq answers wanted requests offset) e) DisambiguateState.None
