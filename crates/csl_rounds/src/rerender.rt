@@ -2,32 +2,19 @@
 ghost use Rattle.std.specs.Prelude.{◌≡◌, ◌<◌, All, OnOk, if◌then◌else◌, is_some, length, map};
 ghost use Rattle.std.specs.List.{sum_by};
 ghost use Rattle.csl_base.specs.Ring.{HasNoRing};
-ghost use Rattle.csl_passes.specs.Request.{source_of};
 ghost use Rattle.csl_passes.specs.RequestView.{request_view};
 ghost use Rattle.csl_passes.specs.RendersView.{item_view, items_view, render_view, renders_view};
 ghost use Rattle.csl_rounds.specs.Gathered.{by_places, cite_again, document_again, request_again, with_states};
 ghost use Rattle.csl_rounds.specs.Rounds.{rendered_again, with_any};
-ghost use Rattle.csl_writing.specs.ContextSource.{context_source};
 ghost use Rattle.csl_writing.specs.Counted.{counted, counted_times};
 
+use crate::contexts::request_context;
 use csl_base::entry::EntryLike;
 use csl_lookup::state::DisambiguateState;
 use csl_passes::renders::{SpeculativeCiteRender, SpeculativeItemRender};
 use csl_passes::request::CitationRequest;
 use csl_writing::counter::Renders;
-use csl_writing::lookup::StyleContext;
 use std::alloc::{AllocError, Global};
-
-/// The style of a request, with its locales.
-fn request_context<'r, T, P>(request: &'r CitationRequest<'_, T, P>) -> StyleContext<'r>
-    ensures { context_source result ≡ source_of (request_view request.now) }
-{
-    StyleContext::new(
-        request.style(),
-        request.locale.as_ref(),
-        request.locale_files,
-    )
-}
 
 /// Renders a cite again, with this state of its entry.
 fn render_again<T: EntryLike, P>(
