@@ -1,9 +1,9 @@
 //! The whole answer, from all requests at once.
-ghost use Rattle.std.specs.Prelude.{◌≡◌, ◌+◌, ◌<◌, ◌^◌, All, length, map, OnOk, IfOk, IfErr};
+ghost use Rattle.std.specs.Prelude.{◌≡◌, ◌+◌, ◌-◌, ◌<◌, ◌^◌, All, length, map, min, OnOk, IfOk, IfErr};
 ghost use Rattle.std.specs.List.{sum_by};
 ghost use Rattle.csl_base.specs.Ring.{HasNoRing};
 ghost use Rattle.csl_base.specs.StyleView.{style_view};
-ghost use Rattle.csl_driver.specs.Account.{listed_count, marking, rerendered};
+ghost use Rattle.csl_driver.specs.Account.{cost, final_state, listed_count, marking, rerendered};
 ghost use Rattle.csl_driver.specs.Answer.{citation_of, drawn_together, final_number, in_the_end, numbered_finally, order_in_use, rendered, rendered_first};
 ghost use Rattle.csl_driver.specs.AreCitesOf.{AreCitesOf};
 ghost use Rattle.csl_driver.specs.Cited.{IsCitedBy};
@@ -19,6 +19,7 @@ ghost use Rattle.csl_positions.specs.FirstProperties.{numbered_by};
 ghost use Rattle.csl_rounds.specs.Rerenders.{AreStatesOf, last_states};
 ghost use Rattle.csl_writing.specs.Counted.{counted_times};
 
+use crate::account::{Account, first_numbers, table_entries, told_states};
 use crate::bibliography::wanted_bibliography;
 use crate::cited::Cited;
 use crate::driver::{BibliographyDriver, discard};
@@ -235,22 +236,29 @@ fn answer_from<'a, T: EntryLike, P: Eq + Drop>(
     cited: &Cited<'a, T>,
     cites: &mut [SpeculativeCiteRender<'_, 'a, T, P>],
     renders: &mut Renders,
-) -> Result<Rendered, AllocError>
+) -> Result<(Rendered, Settled), AllocError>
     requires no_ring { NoRingAtAll (requests_view requests.now) (style_view wanted.now.style.now) }
     requires known { IsCitedBy T.eq (requests_view requests.now) (order_in_use (wanted_view wanted.now)) cited.now }
     requires first { renders_view cites.old ≡ rendered_first T.eq P.eq T.answers (wanted_view wanted.now) (requests_view requests.now) cited.now.offset }
-    ensures rendered { IfOk result (λ r. r ≡ rendered T.eq P.eq T.answers (wanted_view wanted.now) (requests_view requests.now) cited.now.offset) }
+    ensures rendered { IfOk result (λ r. r.0 ≡ rendered T.eq P.eq T.answers (wanted_view wanted.now) (requests_view requests.now) cited.now.offset) }
+    ensures marked { IfOk result (λ r. r.1.rounds.marked ≡ length (marking T.eq P.eq T.answers (wanted_view wanted.now) (requests_view requests.now) cited.now.offset)) }
+    ensures states { IfOk result (λ r. AreStatesOf T.eq (table_view cited.now.table).entries
+        (last_states T.eq T.answers (rendered_first T.eq P.eq T.answers (wanted_view wanted.now) (requests_view requests.now) cited.now.offset)) r.1.rounds.states.items) }
+    ensures long { IfOk result (λ r. length r.1.numbers.items ≡ length (table_view cited.now.table).entries + 1) }
+    ensures numbers { IfOk result (λ r. numbered_by T.eq r.1.numbers.items (table_view cited.now.table).entries
+        ≡ final_number T.eq P.eq T.answers (wanted_view wanted.now) (requests_view requests.now) cited.now.offset) }
     ensures counted { OnOk result (renders.new ≡ counted_times (length (cites_of (requests_view requests.now)) + (listed_count T.eq (wanted_view wanted.now) (requests_view requests.now)
         + rerendered T.eq P.eq T.answers (wanted_view wanted.now) (requests_view requests.now) cited.now.offset)) renders.old) }
 {
-    settle(alloc, requests, wanted, cited, cites, renders)?;
+    let settled = settle(alloc, requests, wanted, cited, cites, renders)?;
     let bibliography = wanted_bibliography(alloc, requests, wanted, cited, cites, renders)?;
     draw_together(cites);
     let citations = rendered_citations(alloc, cites, renders)?;
-    Ok(Rendered {
+    let rendered = Rendered {
         citations: Seq::new(citations),
         bibliography,
-    })
+    };
+    Ok((rendered, settled))
 }
 
 /// The answer to the requests.
@@ -259,17 +267,22 @@ fn answer<'a, T: EntryLike, P: Eq + Drop>(
     requests: &[CitationRequest<'a, T, P>],
     wanted: &BibliographyRequest<'_, 'a, T>,
     offset: usize,
-) -> Result<Rendered, DriverError>
-    ensures ok { IfOk result (λ r. r ≡ rendered T.eq P.eq T.answers (wanted_view wanted.now) (requests_view requests.now) offset) }
+) -> Result<(Rendered, Account<'a, T>), DriverError>
+    ensures ok { IfOk result (λ r. r.0 ≡ rendered T.eq P.eq T.answers (wanted_view wanted.now) (requests_view requests.now) offset) }
     ensures ringless { OnOk result (NoRingAtAll (requests_view requests.now) (style_view wanted.now.style.now)) }
     ensures fits { OnOk result (offset + length (distinct T.eq (cited (requests_view requests.now))) < 2 ^ 64) }
     ensures refused { IfErr result (Refuses T.eq (requests_view requests.now) (style_view wanted.now.style.now) offset) }
+    ensures renders { IfOk result (λ r. r.1.renders ≡ min (cost T.eq P.eq T.answers (wanted_view wanted.now) (requests_view requests.now) offset) (2 ^ 128 - 1)) }
+    ensures rounds { IfOk result (λ r. r.1.rounds ≡ length (marking T.eq P.eq T.answers (wanted_view wanted.now) (requests_view requests.now) offset)) }
+    ensures entries { IfOk result (λ r. map (λ e. e.now) r.1.entries.items ≡ distinct T.eq (cited (requests_view requests.now))) }
+    ensures states { IfOk result (λ r. r.1.states.items ≡ map (final_state T.eq P.eq T.answers (wanted_view wanted.now) (requests_view requests.now) offset) (distinct T.eq (cited (requests_view requests.now)))) }
+    ensures numbers { IfOk result (λ r. r.1.numbers.items ≡ map (final_number T.eq P.eq T.answers (wanted_view wanted.now) (requests_view requests.now) offset) (distinct T.eq (cited (requests_view requests.now)))) }
 {
     refuse_rings(alloc, requests, wanted.style)?;
     let cited = cited_by(alloc, requests, wanted, offset)?;
     let mut renders = Renders::new();
     let mut cites = rendered_first(alloc, requests, wanted, &cited, &mut renders)?;
-    let rendered = answer_from(
+    let (rendered, settled) = answer_from(
         alloc,
         requests,
         wanted,
@@ -277,7 +290,15 @@ fn answer<'a, T: EntryLike, P: Eq + Drop>(
         &mut cites.renders,
         &mut renders,
     )?;
-    Ok(rendered)
+    let Settled { rounds, numbers } = settled;
+    let account = Account {
+        renders: renders.count(),
+        rounds: rounds.marked as u128,
+        entries: table_entries(alloc, &cited.table)?,
+        states: told_states(alloc, rounds.states)?,
+        numbers: first_numbers(alloc, &numbers, cited.table.len())?,
+    };
+    Ok((rendered, account))
 }
 
 impl<'a, T: EntryLike, P: Eq + Drop> BibliographyDriver<'a, T, P> {
@@ -305,6 +326,9 @@ impl<'a, T: EntryLike, P: Eq + Drop> BibliographyDriver<'a, T, P> {
         let (citations, offset, alloc) = self.into_parts();
         let result = answer(alloc, &citations, &request, offset);
         discard(citations);
-        result
+        match result {
+            Ok((rendered, _account)) => Ok(rendered),
+            Err(error) => Err(error),
+        }
     }
 }
