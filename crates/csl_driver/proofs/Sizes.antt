@@ -22,10 +22,10 @@ use Rattle.csl_grouping.proofs.OrderLaws.{ordered}
 use Rattle.csl_grouping.proofs.Whole.{final-permuted}
 use Rattle.csl_passes.specs.Renders.{CiteRender, ItemRender}
 use Rattle.csl_passes.specs.Request.{Request, Wanted, cites_of, entries_of}
-use Rattle.csl_positions.specs.FinalProperties.{items_before, with_final_items, with_final_properties}
+use Rattle.csl_positions.specs.FinalProperties.{items_before, with_final_items}
 use Rattle.csl_writing.proofs.Counting.{counted_times-add, counted_times-all}
 use Rattle.csl_writing.specs.Counted.{counted_times}
-use Rattle.csl_rounds.specs.Rounds.{after_rounds, at_table, disambiguated, no_states, request_at}
+use Rattle.csl_rounds.specs.Rounds.{after_rounds, disambiguated, no_states, request_at}
 
 module _ {X : Type 0} where
   sum-same : (v w : X → ℕ) → ((x : X) → v x ≡ w x) → (xs : List X) → sum_by v xs ≡ sum_by w xs

@@ -1,4 +1,4 @@
-use Rattle.std.proofs.Common.{◌≡◌, ◌-◌, ◌^◌, ap, length, map, ◌∙◌}
+use Rattle.std.proofs.Common.{◌-◌, ◌^◌, ap, length, map, ◌∙◌}
 use Rattle.std.specs.Prelude.{min}
 use Rattle.csl_driver.specs.Account.{cost, final_state, marking}
 use Rattle.csl_driver.specs.Answer.{final_number, rendered}
