@@ -9,3 +9,4 @@ pub mod Numbering
 pub mod Whole
 pub mod Sizes
 pub mod ListedCount
+pub mod ByEntries

@@ -1,13 +1,13 @@
 -- Each entry of the bibliography has a first cite.
-use Rattle.std.proofs.Common.{◌≡◌, ℕ, suc, Bool, true, false, cond, ◌||◌, List, [], ◌∷◌, ◌++◌, Option, Some, None, length, map, refl, ap, sym, ◌∙◌}
-use Rattle.std.specs.Prelude.{All, find, flat_map, is_some, option_map}
+use Rattle.std.proofs.Common.{◌≡◌, suc, Bool, true, false, cond, ◌||◌, List, [], ◌∷◌, ◌++◌, Option, Some, None, length, map, refl, ap, sym, ◌∙◌}
+use Rattle.std.specs.Prelude.{All, find, is_some, option_map}
 use Rattle.std.specs.Cmp.{IsEquivalence}
 use Rattle.std.specs.List.{cons_option, filter_map}
 use Rattle.std.proofs.lemmas.List.{map-append}
 use Rattle.std.proofs.lemmas.List.Elements.{All-cons, All-head, All-nil, All-tail}
 use Rattle.csl_assembly.specs.BibliographyItems.{cites_at}
 use Rattle.csl_driver.specs.AreCitesOf.{AreCitesOf}
-use Rattle.csl_entries.specs.Entries.{bibliography_order, distinct, is_in}
+use Rattle.csl_entries.specs.Entries.{bibliography_order, is_in}
 use Rattle.csl_entries.specs.Table.{Table, table_of}
 use Rattle.csl_entries.proofs.Distinct.{is_in-distinct}
 use Rattle.csl_entries.proofs.ListedPlaces.{all-cited}

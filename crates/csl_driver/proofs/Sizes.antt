@@ -1,6 +1,6 @@
 -- How many cites there are, from the first renders to the end.
-use Rattle.std.proofs.Common.{◌≡◌, ℕ, ◌+◌, Bool, true, false, List, [], ◌∷◌, Option, Some, None, length, map, refl, ap, sym, ◌∙◌}
-use Rattle.std.specs.Prelude.{if◌then◌else◌}
+use Rattle.std.proofs.Common.{◌≡◌, ℕ, ◌+◌, ◌-◌, ◌*◌, ◌^◌, arith, Bool, true, false, List, [], ◌∷◌, Option, Some, None, length, map, refl, ap, sym, ◌∙◌}
+use Rattle.std.specs.Prelude.{if◌then◌else◌, min}
 use Rattle.std.specs.List.{enumerate_from, range_with_len, sum_by}
 use Rattle.std.proofs.Math.ListN.{length-map}
 use Rattle.std.proofs.lemmas.List.FromFn.{length-enumerate_from}
@@ -22,10 +22,10 @@ use Rattle.csl_grouping.proofs.OrderLaws.{ordered}
 use Rattle.csl_grouping.proofs.Whole.{final-permuted}
 use Rattle.csl_passes.specs.Renders.{CiteRender, ItemRender}
 use Rattle.csl_passes.specs.Request.{Request, Wanted, cites_of, entries_of}
-use Rattle.csl_positions.specs.FinalProperties.{items_before, with_final_items, with_final_properties}
-use Rattle.csl_writing.proofs.Counting.{counted_times-add}
+use Rattle.csl_positions.specs.FinalProperties.{items_before, with_final_items}
+use Rattle.csl_writing.proofs.Counting.{counted_times-add, counted_times-all}
 use Rattle.csl_writing.specs.Counted.{counted_times}
-use Rattle.csl_rounds.specs.Rounds.{after_rounds, at_table, disambiguated, no_states, request_at}
+use Rattle.csl_rounds.specs.Rounds.{after_rounds, disambiguated, no_states, request_at}
 
 module _ {X : Type 0} where
   sum-same : (v w : X → ℕ) → ((x : X) → v x ≡ w x) → (xs : List X) → sum_by v xs ≡ sum_by w xs
@@ -99,3 +99,9 @@ module _ {E P : Type 0} (eq : E → E → Bool) (payload_eq : P → P → Bool) 
 pub three-counted : (a b c n old one two three : ℕ) → one ≡ counted_times a old → two ≡ counted_times b one → three ≡ counted_times c two → c ≡ n → three ≡ counted_times (n + (b + a)) old
 three-counted a b c n old one two three e f g same =
     g ∙ ap (λ k. counted_times k two) same ∙ ap (counted_times n) (f ∙ ap (counted_times b) e ∙ sym (counted_times-add b a old)) ∙ sym (counted_times-add n (b + a) old)
+
+-- all renderings, from none
+pub all-counted : (n b a one two : ℕ) → one ≡ counted_times n 0 → two ≡ counted_times (n + (b + a)) one → two ≡ min (2 * n + a + b) (2 ^ 128 - 1)
+all-counted n b a one two first rest =
+    let sum : n + (b + a) + n ≡ 2 * n + a + b = omega arith in
+    rest ∙ ap (counted_times (n + (b + a))) first ∙ sym (counted_times-add (n + (b + a)) n 0) ∙ ap (λ k. counted_times k 0) sum ∙ counted_times-all (2 * n + a + b)

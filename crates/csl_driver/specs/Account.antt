@@ -7,6 +7,10 @@ use Rattle.csl_passes.specs.Request.{Request, Wanted, cited, cites_of}
 use Rattle.csl_rounds.specs.Rerenders.{last_states, rerenders, round_tables}
 use Rattle.csl_rounds.specs.Rounds.{Table}
 
+-- by what an entry with this state is told apart
+abbrev pub told_by : Option DisambiguateState → DisambiguateState
+told_by state = unwrap_or state DisambiguateState.None
+
 -- so many where there is a bibliography
 abbrev pub where_listed : {B : Type 0} → Option B → ℕ → ℕ
 where_listed None n = 0
@@ -32,4 +36,4 @@ module _ {E P : Type 0} (eq : E → E → Bool) (payload_eq : P → P → Bool) 
 
   -- by what an entry is told apart in the end
   abbrev pub final_state : E → DisambiguateState
-  final_state e = unwrap_or (last_states eq answers (rendered_first eq payload_eq answers wanted requests offset) e) DisambiguateState.None
+  final_state e = told_by (last_states eq answers (rendered_first eq payload_eq answers wanted requests offset) e)

@@ -1,9 +1,9 @@
 //! The whole answer, from all requests at once.
-ghost use Rattle.std.specs.Prelude.{◌≡◌, ◌+◌, ◌<◌, ◌^◌, All, length, map, OnOk, IfOk, IfErr};
+ghost use Rattle.std.specs.Prelude.{◌≡◌, ◌+◌, ◌-◌, ◌<◌, ◌^◌, All, length, map, min, take, OnOk, IfOk, IfErr};
 ghost use Rattle.std.specs.List.{sum_by};
 ghost use Rattle.csl_base.specs.Ring.{HasNoRing};
 ghost use Rattle.csl_base.specs.StyleView.{style_view};
-ghost use Rattle.csl_driver.specs.Account.{listed_count, marking, rerendered};
+ghost use Rattle.csl_driver.specs.Account.{cost, final_state, listed_count, marking, rerendered, told_by};
 ghost use Rattle.csl_driver.specs.Answer.{citation_of, drawn_together, final_number, in_the_end, numbered_finally, order_in_use, rendered, rendered_first};
 ghost use Rattle.csl_driver.specs.AreCitesOf.{AreCitesOf};
 ghost use Rattle.csl_driver.specs.Cited.{IsCitedBy};
@@ -19,6 +19,7 @@ ghost use Rattle.csl_positions.specs.FirstProperties.{numbered_by};
 ghost use Rattle.csl_rounds.specs.Rerenders.{AreStatesOf, last_states};
 ghost use Rattle.csl_writing.specs.Counted.{counted_times};
 
+use crate::account::{Account, first_numbers, table_entries, told_states};
 use crate::bibliography::wanted_bibliography;
 use crate::cited::Cited;
 use crate::driver::{BibliographyDriver, discard};
@@ -235,49 +236,109 @@ fn answer_from<'a, T: EntryLike, P: Eq + Drop>(
     cited: &Cited<'a, T>,
     cites: &mut [SpeculativeCiteRender<'_, 'a, T, P>],
     renders: &mut Renders,
-) -> Result<Rendered, AllocError>
+) -> Result<(Rendered, Settled), AllocError>
     requires no_ring { NoRingAtAll (requests_view requests.now) (style_view wanted.now.style.now) }
     requires known { IsCitedBy T.eq (requests_view requests.now) (order_in_use (wanted_view wanted.now)) cited.now }
     requires first { renders_view cites.old ≡ rendered_first T.eq P.eq T.answers (wanted_view wanted.now) (requests_view requests.now) cited.now.offset }
-    ensures rendered { IfOk result (λ r. r ≡ rendered T.eq P.eq T.answers (wanted_view wanted.now) (requests_view requests.now) cited.now.offset) }
+    ensures rendered { IfOk result (λ r. r.0 ≡ rendered T.eq P.eq T.answers (wanted_view wanted.now) (requests_view requests.now) cited.now.offset) }
+    ensures marked { IfOk result (λ r. r.1.rounds.marked ≡ length (marking T.eq P.eq T.answers (wanted_view wanted.now) (requests_view requests.now) cited.now.offset)) }
+    ensures states { IfOk result (λ r. AreStatesOf T.eq (table_view cited.now.table).entries
+        (last_states T.eq T.answers (rendered_first T.eq P.eq T.answers (wanted_view wanted.now) (requests_view requests.now) cited.now.offset)) r.1.rounds.states.items) }
+    ensures long { IfOk result (λ r. length r.1.numbers.items ≡ length (table_view cited.now.table).entries + 1) }
+    ensures numbers { IfOk result (λ r. numbered_by T.eq r.1.numbers.items (table_view cited.now.table).entries
+        ≡ final_number T.eq P.eq T.answers (wanted_view wanted.now) (requests_view requests.now) cited.now.offset) }
     ensures counted { OnOk result (renders.new ≡ counted_times (length (cites_of (requests_view requests.now)) + (listed_count T.eq (wanted_view wanted.now) (requests_view requests.now)
         + rerendered T.eq P.eq T.answers (wanted_view wanted.now) (requests_view requests.now) cited.now.offset)) renders.old) }
 {
-    settle(alloc, requests, wanted, cited, cites, renders)?;
+    let settled = settle(alloc, requests, wanted, cited, cites, renders)?;
     let bibliography = wanted_bibliography(alloc, requests, wanted, cited, cites, renders)?;
     draw_together(cites);
     let citations = rendered_citations(alloc, cites, renders)?;
-    Ok(Rendered {
+    let rendered = Rendered {
         citations: Seq::new(citations),
         bibliography,
+    };
+    Ok((rendered, settled))
+}
+
+/// The account of an answer whose cites have settled, after so many renderings.
+fn account_of<'a, T: EntryLike>(
+    alloc: Global,
+    cited: &Cited<'a, T>,
+    settled: Settled,
+    renders: &Renders,
+) -> Result<Account<'a, T>, AllocError>
+    requires long { length settled.numbers.items ≡ length (table_view cited.now.table).entries + 1 }
+    ensures renders { IfOk result (λ a. a.renders ≡ renders.now) }
+    ensures rounds { IfOk result (λ a. a.rounds ≡ settled.rounds.marked) }
+    ensures entries { IfOk result (λ a. map (λ e. e.now) a.entries.items ≡ (table_view cited.now.table).entries) }
+    ensures states { IfOk result (λ a. a.states.items ≡ map told_by settled.rounds.states.items) }
+    ensures numbers { IfOk result (λ a. a.numbers.items ≡ take (length (table_view cited.now.table).entries) settled.numbers.items) }
+{
+    let Settled { rounds, numbers } = settled;
+    let marked = rounds.marked as u128;
+    Ok(Account {
+        renders: renders.count(),
+        rounds: marked,
+        entries: table_entries(alloc, &cited.table)?,
+        states: told_states(alloc, rounds.states)?,
+        numbers: first_numbers(alloc, &numbers, cited.table.len())?,
     })
 }
 
-/// The answer to the requests.
+/// The answer to requests whose cited entries are known, and its account.
+fn answer_of<'a, T: EntryLike, P: Eq + Drop>(
+    alloc: Global,
+    requests: &[CitationRequest<'a, T, P>],
+    wanted: &BibliographyRequest<'_, 'a, T>,
+    cited: &Cited<'a, T>,
+) -> Result<(Rendered, Account<'a, T>), AllocError>
+    requires no_ring { NoRingAtAll (requests_view requests.now) (style_view wanted.now.style.now) }
+    requires known { IsCitedBy T.eq (requests_view requests.now) (order_in_use (wanted_view wanted.now)) cited.now }
+    ensures rendered { IfOk result (λ r. r.0 ≡ rendered T.eq P.eq T.answers (wanted_view wanted.now) (requests_view requests.now) cited.now.offset) }
+    ensures renders { IfOk result (λ r. r.1.renders ≡ min (cost T.eq P.eq T.answers (wanted_view wanted.now) (requests_view requests.now) cited.now.offset) (2 ^ 128 - 1)) }
+    ensures rounds { IfOk result (λ r. r.1.rounds ≡ length (marking T.eq P.eq T.answers (wanted_view wanted.now) (requests_view requests.now) cited.now.offset)) }
+    ensures entries { IfOk result (λ r. map (λ e. e.now) r.1.entries.items ≡ (table_view cited.now.table).entries) }
+    ensures states { IfOk result (λ r. r.1.states.items
+        ≡ map (final_state T.eq P.eq T.answers (wanted_view wanted.now) (requests_view requests.now) cited.now.offset) (table_view cited.now.table).entries) }
+    ensures numbers { IfOk result (λ r. r.1.numbers.items
+        ≡ map (final_number T.eq P.eq T.answers (wanted_view wanted.now) (requests_view requests.now) cited.now.offset) (table_view cited.now.table).entries) }
+{
+    let mut renders = Renders::new();
+    let mut cites = rendered_first(alloc, requests, wanted, cited, &mut renders)?;
+    let (rendered, settled) = answer_from(
+        alloc,
+        requests,
+        wanted,
+        cited,
+        &mut cites.renders,
+        &mut renders,
+    )?;
+    let account = account_of(alloc, cited, settled, &renders)?;
+    Ok((rendered, account))
+}
+
+/// The answer to the requests, and its account.
 fn answer<'a, T: EntryLike, P: Eq + Drop>(
     alloc: Global,
     requests: &[CitationRequest<'a, T, P>],
     wanted: &BibliographyRequest<'_, 'a, T>,
     offset: usize,
-) -> Result<Rendered, DriverError>
-    ensures ok { IfOk result (λ r. r ≡ rendered T.eq P.eq T.answers (wanted_view wanted.now) (requests_view requests.now) offset) }
+) -> Result<(Rendered, Account<'a, T>), DriverError>
+    ensures ok { IfOk result (λ r. r.0 ≡ rendered T.eq P.eq T.answers (wanted_view wanted.now) (requests_view requests.now) offset) }
     ensures ringless { OnOk result (NoRingAtAll (requests_view requests.now) (style_view wanted.now.style.now)) }
     ensures fits { OnOk result (offset + length (distinct T.eq (cited (requests_view requests.now))) < 2 ^ 64) }
     ensures refused { IfErr result (Refuses T.eq (requests_view requests.now) (style_view wanted.now.style.now) offset) }
+    ensures renders { IfOk result (λ r. r.1.renders ≡ min (cost T.eq P.eq T.answers (wanted_view wanted.now) (requests_view requests.now) offset) (2 ^ 128 - 1)) }
+    ensures rounds { IfOk result (λ r. r.1.rounds ≡ length (marking T.eq P.eq T.answers (wanted_view wanted.now) (requests_view requests.now) offset)) }
+    ensures entries { IfOk result (λ r. map (λ e. e.now) r.1.entries.items ≡ distinct T.eq (cited (requests_view requests.now))) }
+    ensures states { IfOk result (λ r. r.1.states.items ≡ map (final_state T.eq P.eq T.answers (wanted_view wanted.now) (requests_view requests.now) offset) (distinct T.eq (cited (requests_view requests.now)))) }
+    ensures numbers { IfOk result (λ r. r.1.numbers.items ≡ map (final_number T.eq P.eq T.answers (wanted_view wanted.now) (requests_view requests.now) offset) (distinct T.eq (cited (requests_view requests.now)))) }
 {
     refuse_rings(alloc, requests, wanted.style)?;
     let cited = cited_by(alloc, requests, wanted, offset)?;
-    let mut renders = Renders::new();
-    let mut cites = rendered_first(alloc, requests, wanted, &cited, &mut renders)?;
-    let rendered = answer_from(
-        alloc,
-        requests,
-        wanted,
-        &cited,
-        &mut cites.renders,
-        &mut renders,
-    )?;
-    Ok(rendered)
+    let answer = answer_of(alloc, requests, wanted, &cited)?;
+    Ok(answer)
 }
 
 impl<'a, T: EntryLike, P: Eq + Drop> BibliographyDriver<'a, T, P> {
@@ -301,6 +362,39 @@ impl<'a, T: EntryLike, P: Eq + Drop> BibliographyDriver<'a, T, P> {
         ensures ringless { OnOk result (NoRingAtAll (driver_view self.entry).requests (style_view request.entry.style.now)) }
         ensures fits { OnOk result ((driver_view self.entry).offset + length (distinct T.eq (cited (driver_view self.entry).requests)) < 2 ^ 64) }
         ensures refused { IfErr result (Refuses T.eq (driver_view self.entry).requests (style_view request.entry.style.now) (driver_view self.entry).offset) }
+    {
+        let (rendered, _account) = self.finish_counted(request)?;
+        Ok(rendered)
+    }
+
+    /// Answers all requests, as `finish` does, and tells what it cost and how its entries are numbered and
+    /// told apart.
+    ///
+    /// The renderings are two for each cite of each request, hidden or not; one in each round that marked
+    /// for each cite whose entry it marked; and, where there is a bibliography, one for each of its entries.
+    ///
+    /// # Errors
+    /// Those of `finish`.
+    pub fn finish_counted(
+        self,
+        request: BibliographyRequest<'_, 'a, T>,
+    ) -> Result<(Rendered, Account<'a, T>), DriverError>
+        ensures ok { IfOk result
+            (λ r. r.0 ≡ rendered T.eq P.eq T.answers (wanted_view request.entry) (driver_view self.entry).requests (driver_view self.entry).offset) }
+        ensures ringless { OnOk result (NoRingAtAll (driver_view self.entry).requests (style_view request.entry.style.now)) }
+        ensures fits { OnOk result ((driver_view self.entry).offset + length (distinct T.eq (cited (driver_view self.entry).requests)) < 2 ^ 64) }
+        ensures refused { IfErr result (Refuses T.eq (driver_view self.entry).requests (style_view request.entry.style.now) (driver_view self.entry).offset) }
+        ensures renders { IfOk result (λ r. r.1.renders
+            ≡ min (cost T.eq P.eq T.answers (wanted_view request.entry) (driver_view self.entry).requests (driver_view self.entry).offset) (2 ^ 128 - 1)) }
+        ensures rounds { IfOk result (λ r. r.1.rounds
+            ≡ length (marking T.eq P.eq T.answers (wanted_view request.entry) (driver_view self.entry).requests (driver_view self.entry).offset)) }
+        ensures entries { IfOk result (λ r. map (λ e. e.now) r.1.entries.items ≡ distinct T.eq (cited (driver_view self.entry).requests)) }
+        ensures states { IfOk result (λ r. r.1.states.items
+            ≡ map (final_state T.eq P.eq T.answers (wanted_view request.entry) (driver_view self.entry).requests (driver_view self.entry).offset)
+            (distinct T.eq (cited (driver_view self.entry).requests))) }
+        ensures numbers { IfOk result (λ r. r.1.numbers.items
+            ≡ map (final_number T.eq P.eq T.answers (wanted_view request.entry) (driver_view self.entry).requests (driver_view self.entry).offset)
+            (distinct T.eq (cited (driver_view self.entry).requests))) }
     {
         let (citations, offset, alloc) = self.into_parts();
         let result = answer(alloc, &citations, &request, offset);

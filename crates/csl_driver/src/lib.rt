@@ -15,6 +15,7 @@ pub use csl_writing::{
     year,
 };
 
+pub mod account;
 mod bibliography;
 mod cited;
 mod cites;

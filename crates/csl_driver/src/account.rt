@@ -1,0 +1,68 @@
+//! What an answer cost, and how it numbers its entries and tells them apart.
+ghost use Rattle.std.specs.Prelude.{◌≡◌, ◌≤◌, IfOk, length, map, take, unwrap_or};
+ghost use Rattle.csl_driver.specs.Account.{told_by};
+ghost use Rattle.csl_entries.specs.TableView.{table_view};
+
+use csl_base::entry::EntryLike;
+use csl_entries::table::EntryTable;
+use csl_lookup::state::DisambiguateState;
+use std::alloc::{AllocError, Global};
+
+/// The account of an answer.
+#[derive(Drop)]
+pub struct Account<'a, T> {
+    /// The renderings that were made; the greatest `u128` where there were more.
+    pub renders: u128,
+    /// The rounds that marked entries.
+    pub rounds: u128,
+    /// The distinct entries, in the order of their first cites in the requests.
+    pub entries: Vec<&'a T>,
+    /// At the same places, by what they are told apart.
+    pub states: Vec<DisambiguateState>,
+    /// At the same places, their final numbers.
+    pub numbers: Vec<usize>,
+}
+
+/// The entries of a table, in its order.
+pub(crate) fn table_entries<'a, T: EntryLike>(
+    alloc: Global,
+    table: &EntryTable<'a, T>,
+) -> Result<Vec<&'a T>, AllocError>
+    ensures { IfOk result (λ v. map (λ e. e.now) v.items ≡ (table_view table.now).entries) }
+{
+    let mut entries = Vec::with_capacity(alloc, table.len())?;
+    for place in 0..table.len() {
+        entries.push(table.entry(place))?;
+    }
+    Ok(entries)
+}
+
+/// By what entries are told apart.
+pub(crate) fn told_states(
+    alloc: Global,
+    states: Vec<Option<DisambiguateState>>,
+) -> Result<Vec<DisambiguateState>, AllocError>
+    ensures { IfOk result (λ v. v.items ≡ map told_by states.items) }
+{
+    let mut told = Vec::with_capacity(alloc, states.len())?;
+    for state in states {
+        told.push(state.unwrap_or(DisambiguateState::None))?;
+    }
+    Ok(told)
+}
+
+/// The first of some numbers.
+pub(crate) fn first_numbers(
+    alloc: Global,
+    numbers: &[usize],
+    count: usize,
+) -> Result<Vec<usize>, AllocError>
+    requires enough { count ≤ length numbers.now }
+    ensures { IfOk result (λ v. v.items ≡ take count numbers.now) }
+{
+    let mut firsts = Vec::with_capacity(alloc, count)?;
+    for place in 0..count {
+        firsts.push(numbers[place])?;
+    }
+    Ok(firsts)
+}
