@@ -8,7 +8,6 @@ pub use csl_assembly::rendered;
 pub use csl_base::{
     elem, element, entry, formatting, initials, locale, names, seq, stack, style, taxonomy, text,
 };
-pub use csl_entries::laws;
 pub use csl_passes::{item, request};
 pub use csl_writing::{
     brackets, cite, context, counter, locator, lookup, properties, purpose, state, token, writing,
@@ -22,6 +21,7 @@ mod cites;
 pub mod driver;
 pub mod error;
 mod finish;
+pub mod laws;
 pub mod passes;
 mod rings;
 pub mod standalone;

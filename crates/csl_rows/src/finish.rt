@@ -6,7 +6,10 @@ use csl_base::style::{IndependentStyle, StyleClass};
 use csl_driver::driver::BibliographyDriver;
 use csl_driver::error::{DriverError, RingPlace};
 use csl_driver::item::CitationItem;
-use csl_driver::laws::{bibliography_holds_each_once, numbers_have_no_gaps};
+use csl_driver::laws::{
+    answer_equality_decides, answers_copy_equal, bibliography_holds_each_once,
+    item_equality_decides, items_copy_equal, numbers_have_no_gaps,
+};
 use csl_driver::rendered::Rendered;
 use csl_driver::request::{BibliographyRequest, CitationRequest, Order};
 use csl_writing::purpose::CitePurpose;
@@ -83,15 +86,33 @@ fn lines(alloc: Global, rendered: &Rendered) -> Result<String, AllocError> {
 }
 
 #[test]
-fn equal_entries_are_one(rt: HostRuntime) -> Result<(), Fail> {
+fn laws() {
     bibliography_holds_each_once::<PlainEntry>();
     numbers_have_no_gaps::<PlainEntry>();
-    let alloc = rt.alloc();
+    items_copy_equal::<PlainEntry, Infallible>();
+    item_equality_decides::<PlainEntry, Infallible>();
+    answers_copy_equal();
+    answer_equality_decides();
+}
+
+/// The answer to a request for each of the keys.
+fn numbered(alloc: Global, keys: &[&str]) -> Result<Rendered, Fail> {
     let style = numeric(alloc)?;
-    let entries = entries_of(alloc, &["a", "a"])?;
+    let entries = entries_of(alloc, keys)?;
     let driver = driver_of(alloc, &style, &entries)?;
-    let rendered = driver.finish(BibliographyRequest::new(&style, None, &[]))?;
-    assert_eq!(rt; lines(alloc, &rendered)?.as_str(), "[1]\n[1]\na [1]\n");
+    Ok(driver.finish(wanted(&style))?)
+}
+
+#[test]
+fn equal_entries_are_one(rt: HostRuntime) -> Result<(), Fail> {
+    let rendered = numbered(rt.alloc(), &["a", "a"])?;
+    assert!(rt; lines(rt.alloc(), &rendered)?.as_str() == "[1]\n[1]\na [1]\n");
+    Ok(())
+}
+
+#[test]
+fn a_copy_is_equal(rt: HostRuntime) -> Result<(), Fail> {
+    let rendered = numbered(rt.alloc(), &["a"])?;
     assert!(rt; rendered.clone()? == rendered);
     Ok(())
 }
@@ -133,71 +154,119 @@ fn ring_at(place: RingPlace) -> Option<DriverError> {
     })
 }
 
+/// Why a run of one request in a style of these macros is refused, with the bibliography in it too.
+fn own_ring(alloc: Global, macros: &[(&str, &str)]) -> Result<Option<DriverError>, Fail> {
+    let cited = entry(alloc, "a")?;
+    let style = numeric_with_macros(alloc, macros)?;
+    ring(alloc, &cited, &[&style], &style)
+}
+
 #[test]
 fn macro_ring(rt: HostRuntime) -> Result<(), Fail> {
-    let alloc = rt.alloc();
-    let cited = entry(alloc, "a")?;
-    let two = numeric_with_macros(alloc, &[("p", "q"), ("q", "p")])?;
-    let own = numeric_with_macros(alloc, &[("p", "p")])?;
-    assert!(rt; ring(alloc, &cited, &[&two], &two)? == ring_at(RingPlace::Request(0)));
-    assert!(rt; ring(alloc, &cited, &[&own], &own)? == ring_at(RingPlace::Request(0)));
-    assert!(rt; ring(alloc, &cited, &[], &two)? == ring_at(RingPlace::Bibliography));
+    let first = ring_at(RingPlace::Request(0));
+    assert!(rt; own_ring(rt.alloc(), &[("p", "q"), ("q", "p")])? == first);
+    assert!(rt; own_ring(rt.alloc(), &[("p", "p")])? == first);
+    Ok(())
+}
+
+#[test]
+fn ring_of_the_bibliography(rt: HostRuntime) -> Result<(), Fail> {
+    let cited = entry(rt.alloc(), "a")?;
+    let two = numeric_with_macros(rt.alloc(), &[("p", "q"), ("q", "p")])?;
+    assert!(rt; ring(rt.alloc(), &cited, &[], &two)? == ring_at(RingPlace::Bibliography));
     Ok(())
 }
 
 #[test]
 fn first_macro_ring(rt: HostRuntime) -> Result<(), Fail> {
-    let alloc = rt.alloc();
-    let cited = entry(alloc, "a")?;
-    let sound = numeric_with_macros(alloc, &[("p", "q"), ("q", "z")])?;
-    let own = numeric_with_macros(alloc, &[("p", "p")])?;
-    assert!(rt; ring(alloc, &cited, &[&sound, &own], &own)? == ring_at(RingPlace::Request(1)));
-    assert!(rt; ring(alloc, &cited, &[&sound], &sound)? == Some(DriverError::NumberOverflow));
+    let cited = entry(rt.alloc(), "a")?;
+    let sound = numeric_with_macros(rt.alloc(), &[("p", "q"), ("q", "z")])?;
+    let own = numeric_with_macros(rt.alloc(), &[("p", "p")])?;
+    let second = ring_at(RingPlace::Request(1));
+    assert!(rt; ring(rt.alloc(), &cited, &[&sound, &own], &own)? == second);
     Ok(())
 }
 
-/// The answer to one request with the note number 7.
+#[test]
+fn no_ring(rt: HostRuntime) -> Result<(), Fail> {
+    let refused = own_ring(rt.alloc(), &[("p", "q"), ("q", "z")])?;
+    assert!(rt; refused == Some(DriverError::NumberOverflow));
+    Ok(())
+}
+
+/// A driver that has taken one request with the note number 7.
+fn noting<'a>(
+    alloc: Global,
+    style: &'a IndependentStyle,
+    cited: &'a PlainEntry,
+) -> Result<Driver<'a>, Fail> {
+    let items: Vec<Item<'a>> = vec![in alloc; CitationItem::with_entry(cited)]?;
+    let mut driver: Driver<'a> = BibliographyDriver::new(alloc);
+    take(
+        &mut driver,
+        CitationRequest::new(items, style, None, &[], Some(7)),
+    )?;
+    Ok(driver)
+}
+
+/// The answer to that.
 fn noted(alloc: Global, class: StyleClass, written: &str) -> Result<Rendered, Fail> {
     let style = value_style(alloc, class, written)?;
     let cited = entry(alloc, "a")?;
-    let mut items: Vec<Item> = Vec::new(alloc);
-    items.push(CitationItem::with_entry(&cited))?;
-    let mut driver: Driver = BibliographyDriver::new(alloc);
-    take(
-        &mut driver,
-        CitationRequest::new(items, &style, None, &[], Some(7)),
-    )?;
-    Ok(driver.finish(BibliographyRequest::new(&style, None, &[]))?)
+    let driver = noting(alloc, &style, &cited)?;
+    Ok(driver.finish(wanted(&style))?)
 }
 
 #[test]
 fn note_numbers_are_kept_in_notes_alone(rt: HostRuntime) -> Result<(), Fail> {
     for (class, number) in [(StyleClass::Note, Some(7)), (StyleClass::InText, None)] {
         let rendered = noted(rt.alloc(), class, "T")?;
-        assert!(rt; rendered.bibliography.is_none());
         let citation = rendered.citations.as_slice().first().ok_or("no citation")?;
-        assert_eq!(rt; citation.note_number, number);
-        assert!(rt; citation.citation.find_meta(&ElemMeta::Entry(0)).is_some());
+        assert!(rt; citation.note_number == number);
     }
     Ok(())
 }
 
 #[test]
-fn requests_are_equal_where_their_parts_are(rt: HostRuntime) -> Result<(), Fail> {
-    let alloc = rt.alloc();
-    let style = numeric(alloc)?;
-    let entries = entries_of(alloc, &["a", "b", "a"])?;
+fn cites_are_marked_with_their_places(rt: HostRuntime) -> Result<(), Fail> {
+    let rendered = noted(rt.alloc(), StyleClass::Note, "T")?;
+    assert!(rt; rendered.bibliography.is_none());
+    let citation = rendered.citations.as_slice().first().ok_or("no citation")?;
+    assert!(rt; citation.citation.find_meta(&ElemMeta::Entry(0)).is_some());
+    Ok(())
+}
+
+#[test]
+fn items_are_equal_where_their_parts_are(rt: HostRuntime) -> Result<(), Fail> {
+    let entries = entries_of(rt.alloc(), &["a", "b", "a"])?;
     let [a, b, same] = entries.as_slice() else {
         return Err(Fail::new("not three entries"));
     };
     let item: Item = CitationItem::with_entry(a);
     assert!(rt; item == CitationItem::with_entry(same));
-    assert!(rt; item.clone()? == item);
     assert!(rt; item != CitationItem::with_entry(b));
     assert!(rt; item != CitationItem::with_entry(a).kind(CitePurpose::Year));
-    let request = cite(alloc, &style, a, false)?;
-    assert!(rt; request == cite(alloc, &style, same, false)?);
-    assert!(rt; request != cite(alloc, &style, a, true)?);
+    Ok(())
+}
+
+#[test]
+fn items_are_copied(rt: HostRuntime) -> Result<(), Fail> {
+    let a = entry(rt.alloc(), "a")?;
+    let item: Item = CitationItem::with_entry(&a);
+    assert!(rt; item.clone()? == item);
+    Ok(())
+}
+
+#[test]
+fn requests_are_equal_where_their_parts_are(rt: HostRuntime) -> Result<(), Fail> {
+    let style = numeric(rt.alloc())?;
+    let a = entry(rt.alloc(), "a")?;
+    let same = entry(rt.alloc(), "a")?;
+    let request = cite(rt.alloc(), &style, &a, false)?;
+    for hidden in [false, true] {
+        let other = cite(rt.alloc(), &style, &same, hidden)?;
+        assert!(rt; (request == other) == !hidden);
+    }
     Ok(())
 }
 
@@ -214,22 +283,23 @@ fn orders_are_equal_where_their_entries_are(rt: HostRuntime) -> Result<(), Fail>
 
 #[test]
 fn requests_for_a_bibliography_are_compared(rt: HostRuntime) -> Result<(), Fail> {
-    let mut styles = Vec::new(rt.alloc());
-    styles.push(numeric(rt.alloc())?)?;
-    styles.push(value_style(rt.alloc(), StyleClass::Note, "T")?)?;
-    let [numbers, plain] = styles.as_slice() else {
-        return Err(Fail::new("not two styles"));
-    };
-    assert!(rt; wanted(numbers) == wanted(numbers));
-    assert!(rt; wanted(numbers) != wanted(plain));
+    let numbers = numeric(rt.alloc())?;
+    let plain = value_style(rt.alloc(), StyleClass::Note, "T")?;
+    assert!(rt; wanted(&numbers) == wanted(&numbers));
+    assert!(rt; wanted(&numbers) != wanted(&plain));
     Ok(())
 }
 
 #[test]
 fn answers_are_equal_where_their_parts_are(rt: HostRuntime) -> Result<(), Fail> {
     let answer = noted(rt.alloc(), StyleClass::Note, "T")?;
-    assert!(rt; answer == noted(rt.alloc(), StyleClass::Note, "T")?);
-    assert!(rt; answer != noted(rt.alloc(), StyleClass::InText, "T")?);
-    assert!(rt; answer != noted(rt.alloc(), StyleClass::Note, "U")?);
+    for (class, written, equal) in [
+        (StyleClass::Note, "T", true),
+        (StyleClass::InText, "T", false),
+        (StyleClass::Note, "U", false),
+    ] {
+        let other = noted(rt.alloc(), class, written)?;
+        assert!(rt; (answer == other) == equal);
+    }
     Ok(())
 }

@@ -53,50 +53,53 @@ fn entries_of(alloc: Global, rows: &[(&str, i32)]) -> Result<Vec<PlainEntry>, Al
     Ok(entries)
 }
 
+/// What the style makes of cites of these, the last one written for the purpose.
+fn cited(
+    alloc: Global,
+    style: &IndependentStyle,
+    rows: &[(&str, i32)],
+    purpose: Option<CitePurpose>,
+) -> Result<String, Fail> {
+    let entries = entries_of(alloc, rows)?;
+    shown(alloc, style, &entries, purpose)
+}
+
 #[test]
 fn hidden_cites_are_left_out(rt: HostRuntime) -> Result<(), Fail> {
-    let alloc = rt.alloc();
-    let style = author_date(alloc)?;
-    let entries = entries_of(alloc, &[("Doe", 1999), ("Roe", 2000), ("Poe", 2001)])?;
-    assert_eq!(rt;
-        shown(alloc, &style, &entries, None)?.as_str(),
-        "(Roe 2000; Poe 2001)"
-    );
-    assert_eq!(rt; shown(alloc, &style, &[], None)?.as_str(), "");
+    let style = author_date(rt.alloc())?;
+    let rows = [("Doe", 1999), ("Roe", 2000), ("Poe", 2001)];
+    assert!(rt; cited(rt.alloc(), &style, &rows, None)?.as_str() == "(Roe 2000; Poe 2001)");
+    assert!(rt; cited(rt.alloc(), &style, &[], None)?.as_str() == "");
     Ok(())
+}
+
+/// Cites of Doe, hidden, of Roe, of an entry without content, and of Poe's year.
+fn with_an_empty_cite(alloc: Global, style: &IndependentStyle) -> Result<String, Fail> {
+    let mut entries = entries_of(alloc, &[("Doe", 1999), ("Roe", 2000)])?;
+    entries.push(entry(alloc, "empty")?)?;
+    entries.push(dated(alloc, "Poe", 2001)?)?;
+    shown(alloc, style, &entries, Some(CitePurpose::Year))
 }
 
 #[test]
 fn cites_without_content_are_left_out(rt: HostRuntime) -> Result<(), Fail> {
-    let alloc = rt.alloc();
-    let mut style = author_date(alloc)?;
-    let mut entries = entries_of(alloc, &[("Doe", 1999), ("Roe", 2000)])?;
-    entries.push(entry(alloc, "empty")?)?;
-    entries.push(dated(alloc, "Poe", 2001)?)?;
-    let year = Some(CitePurpose::Year);
-    assert_eq!(rt;
-        shown(alloc, &style, &entries, year)?.as_str(),
-        "(Roe 2000; 2001)"
-    );
+    let mut style = author_date(rt.alloc())?;
+    assert!(rt; with_an_empty_cite(rt.alloc(), &style)?.as_str() == "(Roe 2000; 2001)");
     style.citation.layout.delimiter = None;
-    assert_eq!(rt;
-        shown(alloc, &style, &entries, year)?.as_str(),
-        "(Roe 2000, 2001)"
-    );
+    assert!(rt; with_an_empty_cite(rt.alloc(), &style)?.as_str() == "(Roe 2000, 2001)");
     Ok(())
 }
 
 #[test]
 fn a_ring_is_refused(rt: HostRuntime) -> Result<(), Fail> {
-    let alloc = rt.alloc();
-    let style = numeric_with_macros(alloc, &[("p", "p")])?;
-    let items: Vec<Item> = Vec::new(alloc);
-    match standalone_citation(alloc, CitationRequest::from_items(items, &style, &[])) {
-        Err(DriverError::MacroRing { place, macro_idx }) => {
-            assert!(rt; place == RingPlace::Request(0));
-            assert_eq!(rt; macro_idx, 0);
-            Ok(())
-        }
-        _ => Err(Fail::new("the ring was let through")),
-    }
+    let style = numeric_with_macros(rt.alloc(), &[("p", "p")])?;
+    let items: Vec<Item> = Vec::new(rt.alloc());
+    let refused = standalone_citation(rt.alloc(), CitationRequest::from_items(items, &style, &[]));
+    let place = RingPlace::Request(0);
+    let ring = DriverError::MacroRing {
+        place,
+        macro_idx: 0,
+    };
+    assert!(rt; refused.is_err_and(|error| error == ring));
+    Ok(())
 }
