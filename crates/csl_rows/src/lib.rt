@@ -2,6 +2,10 @@
 #![tactic(auto)]
 
 #[cfg(test)]
+mod account;
+#[cfg(test)]
+mod counting;
+#[cfg(test)]
 mod finish;
 pub mod paths;
 #[cfg(test)]

@@ -62,6 +62,7 @@ pub mod of_writing {
 
 /// Those of `csl_driver`.
 pub mod of_driver {
+    pub use csl_driver::account::Account;
     pub use csl_driver::brackets::Brackets;
     pub use csl_driver::counter::Renders;
     pub use csl_driver::driver::BibliographyDriver;

@@ -1,0 +1,180 @@
+//! The renderings as an entry sees them, which is asked for its title in each.
+ghost use Rattle.std.specs.Prelude.{IfOk};
+ghost use Rattle.csl_base.specs.Ring.{HasNoRing};
+ghost use Rattle.csl_writing.specs.ContextSource.{context_source};
+
+use crate::account::{taken, tells};
+use csl_base::element::{LayoutRenderingElement, TextTarget};
+use csl_base::entry::{Chunk, ChunkKind, ChunkedString, Date, EntryLike, Person, PlainEntry};
+use csl_base::seq::Seq;
+use csl_base::style::IndependentStyle;
+use csl_base::taxonomy::{DateVariable, NameVariable, NumberVariable, StandardVariable};
+use csl_base::text::Text;
+use csl_driver::request::BibliographyRequest;
+use csl_driver::state::DisambiguateState;
+use csl_writing::counter::Renders;
+use csl_writing::lookup::StyleContext;
+use csl_writing::properties::CiteProperties;
+use row_styles::styles::{author_date, entry, no_affixes, no_formatting, text_of};
+use std::alloc::{AllocError, Global};
+use std::cell::Cell;
+use std::hash::{Hash, Hasher};
+use std::test::Fail;
+
+/// An entry that counts how often it is asked for its title.
+#[derive(Drop)]
+struct Counting {
+    plain: PlainEntry,
+    titles: Cell<u64>,
+}
+
+impl PartialEq for Counting {
+    ghost use Rattle.std.specs.Cmp.Rules.{comparing};
+    ghost use Rattle.std.proofs.Common.{rules};
+
+    ghost eq = { λ a b. ⟦<PlainEntry as PartialEq>⟧.eq a.plain b.plain };
+
+    ghost laws = { Prim.search (comparing, rules) };
+
+    fn eq(&self, other: &Counting) -> bool {
+        self.plain == other.plain
+    }
+}
+
+impl Eq for Counting {
+    ghost use Rattle.std.proofs.Common.{rules};
+
+    ghost laws = { Prim.search rules };
+}
+
+impl Hash for Counting {
+    ghost use Rattle.std.specs.Cmp.Rules.{hashing};
+    ghost use Rattle.std.proofs.Common.{rules};
+
+    ghost hash_input = { λ a. ⟦<PlainEntry as Hash>⟧.hash_input a.plain };
+
+    ghost respects_eq = { Prim.search (hashing, rules) };
+
+    fn hash<H: Hasher>(&self, state: &mut H) {
+        self.plain.hash(state);
+    }
+}
+
+impl EntryLike for Counting {
+    ghost use Rattle.csl_base.specs.PlainEntry.{plain_answers};
+    ghost use Rattle.csl_base.specs.EqualEntries.{equal_entries_answer_equally};
+
+    ghost answers = { λ c. plain_answers c.plain };
+
+    ghost equal_answer_equally = { λ a b same. equal_entries_answer_equally a.plain b.plain same };
+
+    fn key(&self) -> &str {
+        self.plain.key()
+    }
+
+    fn resolve_name_variable(&self, variable: NameVariable) -> &[Person] {
+        self.plain.resolve_name_variable(variable)
+    }
+
+    fn resolve_date_variable(&self, variable: DateVariable) -> Option<&Date> {
+        self.plain.resolve_date_variable(variable)
+    }
+
+    fn resolve_standard_variable(&self, variable: StandardVariable) -> Option<&ChunkedString> {
+        if variable == StandardVariable::Title {
+            self.titles.set(self.titles.get().wrapping_add(1));
+        }
+        self.plain.resolve_standard_variable(variable)
+    }
+
+    fn resolve_number_variable(&self, variable: NumberVariable) -> Option<&str> {
+        self.plain.resolve_number_variable(variable)
+    }
+
+    fn citation_label(&self) -> Option<&str> {
+        self.plain.citation_label()
+    }
+}
+
+/// The text in one piece.
+fn one_piece(alloc: Global, text: &str) -> Result<ChunkedString, AllocError> {
+    let chunk = Chunk {
+        value: Text::new(String::from_str(alloc, text)?),
+        kind: ChunkKind::Normal,
+    };
+    Ok(ChunkedString(Seq::new(vec![in alloc; chunk]?)))
+}
+
+/// An entry with the title X, issued in 1999.
+fn titled(alloc: Global, key: &str) -> Result<Counting, AllocError> {
+    let mut plain = entry(alloc, key)?;
+    let title = one_piece(alloc, "X")?;
+    plain.texts = Seq::new(vec![in alloc; (StandardVariable::Title, title)]?);
+    plain.dates = Seq::new(vec![in alloc; (DateVariable::Issued, Date { year: 1999 })]?);
+    Ok(Counting {
+        plain,
+        titles: Cell::new(0),
+    })
+}
+
+/// A style of titles, years and their letters, without a bibliography.
+fn titles_and_years(alloc: Global) -> Result<IndependentStyle, AllocError> {
+    let mut style = author_date(alloc)?;
+    let year = LayoutRenderingElement::Date {
+        variable: DateVariable::Issued,
+        affixes: no_affixes(),
+        formatting: no_formatting(),
+        display: None,
+    };
+    let title = text_of(TextTarget::Standard(StandardVariable::Title));
+    style.citation.layout.elements = vec![in alloc; title, year]?;
+    style.citation.disambiguate_add_year_suffix = true;
+    Ok(style)
+}
+
+/// The style without locales.
+fn ringless<'a>(alloc: Global, style: &'a IndependentStyle) -> Result<StyleContext<'a>, Fail>
+    ensures { IfOk result (λ context. HasNoRing (context_source context).style.macros) }
+{
+    match style.ring(alloc)? {
+        Some(_) => Err(Fail::new("the style has a ring")),
+        None => Ok(StyleContext::new(style, None, &[])),
+    }
+}
+
+/// How often one cite asks for the title.
+fn asked_once(alloc: Global, style: &IndependentStyle) -> Result<u64, Fail> {
+    let cited = titled(alloc, "a")?;
+    let properties: CiteProperties<'_, u8> = CiteProperties::for_sorting(None, 0);
+    let context = ringless(alloc, style)?;
+    let mut renders = Renders::new();
+    let _cite = context.do_citation(
+        alloc,
+        &cited,
+        &properties,
+        None,
+        None,
+        None,
+        None,
+        &mut renders,
+    )?;
+    Ok(cited.titles.get())
+}
+
+#[test]
+fn renders_on_another_counter(rt: HostRuntime) -> Result<(), Fail> {
+    let style = titles_and_years(rt.alloc())?;
+    let asked = asked_once(rt.alloc(), &style)?;
+    let entries = [titled(rt.alloc(), "a")?, titled(rt.alloc(), "b")?];
+    let driver = taken(rt.alloc(), &style, &entries, &[0, 1, 0])?;
+    let (_answer, account) = driver.finish_counted(BibliographyRequest::new(&style, None, &[]))?;
+    let states = [
+        DisambiguateState::YearSuffix(0),
+        DisambiguateState::YearSuffix(1),
+    ];
+    assert!(rt; tells(&account, 9, 1, &states, &[0, 1]));
+    let [a, b] = &entries;
+    let all = a.titles.get().wrapping_add(b.titles.get());
+    assert!(rt; all == asked.wrapping_mul(9));
+    Ok(())
+}
