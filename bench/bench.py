@@ -3,8 +3,7 @@
 
     bench/bench.py [--program PATH] [--kinds NAME,..] [--most N] [--runs N]
 
-Makes documents of n = 1,000, 4,000, 16,000 and 64,000 (up to --most, or less where a kind's time grows faster than n) of each
-kind, runs the program on each, and prints
+Makes documents of n = 1,000, 4,000, 16,000 and 64,000 (up to --most) of each kind, runs the program on each, and prints
 a row for each: the document's size, the best processor time of --runs runs, the peak of memory, the growth of the time from the n
 before (from n to 4n; linear is 4), and the ratio of the time to that of reading alone. Reading alone is the same program
 on the same document with one more key at the top, which it reads as JSON whole and then refuses.
@@ -244,10 +243,6 @@ KINDS = {
     )
 }
 
-# The greatest n of a kind whose time isn't in proportion to n.
-AT_MOST = {"one_author": 4_000, "one_family": 4_000, "without_text": 4_000}
-
-
 def run(program, path):
     """Processor seconds, peak of memory in MiB, and status of one run."""
     with open(path, "rb") as source:
@@ -276,7 +271,7 @@ def make(folder, name, n):
 def measure(folder, chosen, name):
     """Prints the rows of a kind."""
     before = None
-    for n in (size for size in SIZES if size <= min(chosen.most, AT_MOST.get(name, chosen.most))):
+    for n in (size for size in SIZES if size <= chosen.most):
         subprocess.run([sys.executable, __file__, "--make", str(folder), name, str(n)], check=True)
         whole, refused = folder / "whole", folder / "refused"
         seconds, peak = best(chosen.program, whole, chosen.runs, 0)

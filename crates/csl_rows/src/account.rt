@@ -62,6 +62,19 @@ pub(crate) fn tells<T>(
         && account.numbers.as_slice() == numbers
 }
 
+/// A request for the bibliography of the style, in this order.
+fn ordered<'o, 'a>(
+    style: &'a IndependentStyle,
+    order: &'o [&'a PlainEntry],
+) -> BibliographyRequest<'o, 'a, PlainEntry> {
+    BibliographyRequest {
+        style,
+        locale: None,
+        locale_files: &[],
+        order: Some(Order(order)),
+    }
+}
+
 #[test]
 fn offset_and_order(rt: HostRuntime) -> Result<(), Fail> {
     let style = numeric(rt.alloc())?;
@@ -70,15 +83,9 @@ fn offset_and_order(rt: HostRuntime) -> Result<(), Fail> {
         return Err(Fail::new("not four entries"));
     };
     let driver = taken(rt.alloc(), &style, &entries, &[0, 1, 2, 1])?;
-    let wanted = BibliographyRequest {
-        style: &style,
-        locale: None,
-        locale_files: &[],
-        order: Some(Order(&[c, x, a, c])),
-    };
     let (_answer, account) = driver
         .with_citation_number_offset(2)
-        .finish_counted(wanted)?;
+        .finish_counted(ordered(&style, &[c, x, a, c]))?;
     let none = [
         DisambiguateState::None,
         DisambiguateState::None,

@@ -18,46 +18,15 @@ use csl_writing::properties::CiteProperties;
 use row_styles::styles::{author_date, entry, no_affixes, no_formatting, text_of};
 use std::alloc::{AllocError, Global};
 use std::cell::Cell;
-use std::hash::{Hash, Hasher};
 use std::test::Fail;
 
 /// An entry that counts how often it is asked for its title.
 #[derive(Drop)]
+#[derive_where(PartialEq, Eq, Hash)]
 struct Counting {
     plain: PlainEntry,
+    #[derive_where(skip)]
     titles: Cell<u64>,
-}
-
-impl PartialEq for Counting {
-    ghost use Rattle.std.specs.Cmp.Rules.{comparing};
-    ghost use Rattle.std.proofs.Common.{rules};
-
-    ghost eq = { λ a b. ⟦<PlainEntry as PartialEq>⟧.eq a.plain b.plain };
-
-    ghost laws = { Prim.search (comparing, rules) };
-
-    fn eq(&self, other: &Counting) -> bool {
-        self.plain == other.plain
-    }
-}
-
-impl Eq for Counting {
-    ghost use Rattle.std.proofs.Common.{rules};
-
-    ghost laws = { Prim.search rules };
-}
-
-impl Hash for Counting {
-    ghost use Rattle.std.specs.Cmp.Rules.{hashing};
-    ghost use Rattle.std.proofs.Common.{rules};
-
-    ghost hash_input = { λ a. ⟦<PlainEntry as Hash>⟧.hash_input a.plain };
-
-    ghost respects_eq = { Prim.search (hashing, rules) };
-
-    fn hash<H: Hasher>(&self, state: &mut H) {
-        self.plain.hash(state);
-    }
 }
 
 impl EntryLike for Counting {
