@@ -121,5 +121,5 @@ first-classes rule group cs e = record {
     zipped = ap (zip group) all ∙ zip-own (λ x. 0) group
 
     by : (a b : ℕ) (p q : NamedCite × ℕ) → ((u : NamedCite) × (slice_get group a ≡ Some u) × ((u, 0) ≡ p)) → ((v : NamedCite) × (slice_get group b ≡ Some v) × ((v, 0) ≡ q))
-        → nat_eq p.1 q.1 ≡ alike_by rule 0 p.0 q.0
+        → nat_eq p.1 q.1 ≡ alike_by rule (0) p.0 q.0
     by a b p q u v = λ j. nat_eq (sym u.2 j).1 (sym v.2 j).1
