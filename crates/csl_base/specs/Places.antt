@@ -1,14 +1,14 @@
 -- Places of a list that lead to places of it, and the rounds among them.
-use Rattle.std.specs.Prelude.{◌≡◌, ℕ, ◌<◌, List, [], ◌∷◌, ◌++◌, length, Bool, true, false, ◌||◌, ◌==◌}
+use Rattle.std.specs.Prelude.{◌≡◌, ℕ, ◌<◌, List, [], ◌∷◌, ◌++◌, length, Bool, true, false, ◌==◌}
 use Rattle.std.specs.Prelude.{get_or}
 use Rattle.std.specs.Bool.{if◌then◌else◌}
+use Rattle.std.specs.List.{list_any}
 
 abbrev pub Places : Type 0
 Places = List ℕ
 
 abbrev pub has_place : ℕ → Places → Bool
-has_place i [] = false
-has_place i (j ∷ js) = j == i || has_place i js
+has_place i = list_any (λ j. j == i)
 
 -- the places to which one place leads in a step
 abbrev pub steps_from : List Places → ℕ → Places

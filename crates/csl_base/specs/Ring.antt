@@ -1,14 +1,14 @@
 -- Which macros lie on a ring of calls.
-use Rattle.std.specs.Prelude.{◌≡◌, ℕ, suc, ◌<◌, List, [], ◌∷◌, map, take, slice_get, Bool, true, false, ◌||◌, bytes_eq, Option, Some, None, option_map}
+use Rattle.std.specs.Prelude.{◌≡◌, ℕ, suc, ◌<◌, List, [], ◌∷◌, map, take, slice_get, Bool, true, false, bytes_eq, Option, Some, None, option_map}
 use Rattle.std.specs.Bool.{if◌then◌else◌}
-use Rattle.std.specs.List.{filter_map}
+use Rattle.std.specs.List.{filter_map, list_any}
 use Rattle.csl_base.specs.Element.{Name, Elements, Macro}
 use Rattle.csl_base.specs.Calls.{Names, calls_of_all}
 use Rattle.csl_base.specs.Places.{Places}
 
+-- whether a name is among names
 abbrev pub has_name : Name → Names → Bool
-has_name a [] = false
-has_name a (b ∷ bs) = bytes_eq b a || has_name a bs
+has_name name = list_any (λ other. bytes_eq other name)
 
 -- the children of the first macro of a name
 abbrev pub body_of : Name → List Macro → Option Elements

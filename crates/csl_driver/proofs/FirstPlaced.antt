@@ -10,7 +10,7 @@ use Rattle.csl_entries.specs.Entries.{distinct, place}
 use Rattle.csl_entries.specs.PlacedItems.{IsPlaced}
 use Rattle.csl_entries.specs.Table.{Table, places_in, table_of}
 use Rattle.csl_passes.specs.Renders.{CiteRender}
-use Rattle.csl_passes.specs.Request.{Cite, Request, cited, entries_of}
+use Rattle.csl_passes.specs.Request.{RequestedCite, Request, cited, entries_of}
 use Rattle.csl_passes.specs.declared.first.FirstProperties.{FirstProperties}
 use Rattle.csl_positions.specs.FirstProperties.{cite_properties, first_properties, request_properties}
 use Rattle.csl_rounds.specs.FirstRenders.{HasShapeOf, first_render, first_renders, first_renders_of}
@@ -35,7 +35,7 @@ seam (y ∷ pre) x xs = seam pre x xs
 module _ {E P : Type 0} (eq : E → E → Bool) (payload_eq : P → P → Bool) (answers : E → Answers) (number_of : E → ℕ) (entries : List E) where
   module _ (before : List (Request E P)) (r : Request E P) where
     -- of the cites of a request
-    placed-from : (pre xs : List (Cite E P)) (n : ℕ) → n ≡ length pre → r.cites ≡ pre ++ xs
+    placed-from : (pre xs : List (RequestedCite E P)) (n : ℕ) → n ≡ length pre → r.cites ≡ pre ++ xs
         → All (IsPlaced eq entries (places_in eq entries r.cites)) (map (λ c. first_render answers r c.0 c.1) (zip xs (from (cite_properties eq payload_eq number_of before r) r.cites n xs)))
     placed-from pre [] n at whole = All-nil (IsPlaced eq entries (places_in eq entries r.cites))
     placed-from pre (x ∷ xs) n at whole =
@@ -80,7 +80,7 @@ module _ {E P : Type 0} (eq : E → E → Bool) (payload_eq : P → P → Bool) 
   first-shape requests = shape-from requests 0 requests
 
   -- where the entries of the first renders stand
-  row-entries : (r : Request E P) (cs : List (Cite E P)) (fs : List FirstProperties) → length fs ≡ length cs
+  row-entries : (r : Request E P) (cs : List (RequestedCite E P)) (fs : List FirstProperties) → length fs ≡ length cs
       → map (λ i. place eq i.entry entries) (map (λ c. first_render answers r c.0 c.1) (zip cs fs)) ≡ places_in eq entries cs
   row-entries r [] [] same = refl
   row-entries r [] (f ∷ fs) same = refl
@@ -113,7 +113,7 @@ module _ {E P : Type 0} (eq : E → E → Bool) (payload_eq : P → P → Bool) 
   first-requests requests = rows-requests requests 0 requests
 
   -- and which entries they cite
-  row-cited : (r : Request E P) (cs : List (Cite E P)) (fs : List FirstProperties) → length fs ≡ length cs
+  row-cited : (r : Request E P) (cs : List (RequestedCite E P)) (fs : List FirstProperties) → length fs ≡ length cs
       → map (λ i. i.entry) (map (λ c. first_render answers r c.0 c.1) (zip cs fs)) ≡ entries_of cs
   row-cited r [] [] same = refl
   row-cited r [] (f ∷ fs) same = refl

@@ -7,7 +7,7 @@ use Rattle.csl_base.specs.Tree.{has_content}
 use Rattle.csl_lookup.specs.Lookup.{Source}
 use Rattle.csl_assembly.specs.Assembly.{Shown, assembled}
 use Rattle.csl_driver.specs.CiteTree.{properties_of, cite_tree}
-use Rattle.csl_passes.specs.Request.{Cite, Request, source_of}
+use Rattle.csl_passes.specs.Request.{RequestedCite, Request, source_of}
 
 -- what stands between cites: the layout's delimiter, or else a comma and a space
 abbrev pub lone_delimiter : LayoutValue → List ℕ
@@ -19,11 +19,11 @@ behind delimiter tree = record { delimiter = Some delimiter; tree = tree }
 
 module _ {E P : Type 0} (answers : E → Answers) where
   -- the tree of a cite that has no number and no place of its own
-  abbrev pub lone_tree : Source → Cite E P → List Child
+  abbrev pub lone_tree : Source → RequestedCite E P → List Child
   lone_tree source c = cite_tree answers source (properties_of c.locator 0 0) c
 
   -- the trees of the cites that aren't hidden and have content
-  abbrev pub lone_trees : Source → List (Cite E P) → List (List Child)
+  abbrev pub lone_trees : Source → List (RequestedCite E P) → List (List Child)
   lone_trees source cites = filter has_content (map (lone_tree source) (filter (λ c. not c.hidden) cites))
 
   -- these trees between the layout's prefix and suffix, joined by its delimiter, or else by `, `

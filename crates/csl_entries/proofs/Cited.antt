@@ -10,7 +10,7 @@ use Rattle.csl_entries.specs.Gathering.{entries_in, entry_and_place, firsts_view
 use Rattle.csl_entries.specs.Laws.{NoTwoEqual}
 use Rattle.csl_entries.specs.Table.{Table, first_place, places_in, table_of}
 use Rattle.csl_entries.specs.TableView.{table_view}
-use Rattle.csl_passes.specs.Request.{Cite, Request, cited, cites_of, entries_of}
+use Rattle.csl_passes.specs.Request.{RequestedCite, Request, cited, cites_of, entries_of}
 use Rattle.csl_entries.specs.declared.table.EntryTable.{EntryTable}
 use Rattle.csl_entries.specs.declared.table.FirstCite.{FirstCite}
 use Rattle.csl_entries.proofs.Distinct.{all_new_is_distinct}
@@ -78,7 +78,7 @@ module _ {E P : Type 0} (eq : E → E → Bool) (laws : IsEquivalence eq) where
       (find-distinct eq laws e (map entry_and_place (cites_of rs)) ∙ find-view entry_and_place (λ p. eq e p.0) (cites_of rs))
       ∙ ap (λ o. unwrap_or o 0) (twice (find (λ c. eq e c.entry) (cites_of rs)))
     where
-      twice : (o : Option (Cite E P)) → option_map (λ p. p.1) (option_map entry_and_place o) ≡ option_map (λ c. c.place) o
+      twice : (o : Option (RequestedCite E P)) → option_map (λ p. p.1) (option_map entry_and_place o) ≡ option_map (λ c. c.place) o
       twice None = refl
       twice (Some c) = refl
 

@@ -9,7 +9,7 @@ use Rattle.csl_entries.specs.Entries.{is_in, place, with_all_new, with_new}
 use Rattle.csl_entries.specs.Gathering.{StandsAt, entry_and_place, same_entry}
 use Rattle.csl_entries.specs.Table.{places_in}
 use Rattle.csl_entries.proofs.Placed.{heads-all_new, map-map, own, stays}
-use Rattle.csl_passes.specs.Request.{Cite, Request, cited, cites_of, entries_of}
+use Rattle.csl_passes.specs.Request.{RequestedCite, Request, cited, cites_of, entries_of}
 
 pub both : (a b : Bool) → a ≡ true → b ≡ true → (a && b) ≡ true
 both true true p q = refl
@@ -73,7 +73,7 @@ module _ {E : Type 0} (eq : E → E → Bool) (laws : IsEquivalence eq) where
         placed-later es fs (entries_of r.cites) (all_in-front es (entries_of r.cites) (cited rs) h) in
         rw (one, rows-later es fs rs (all_in-behind es (entries_of r.cites) (cited rs) h)) refl
 
-    heads-of : (cites : List (Cite E P)) → map (λ p. p.0) (map entry_and_place cites) ≡ entries_of cites
+    heads-of : (cites : List (RequestedCite E P)) → map (λ p. p.0) (map entry_and_place cites) ≡ entries_of cites
     heads-of cites = map-map (λ p. p.0) entry_and_place cites
 
     cited-heads : (rs : List (Request E P)) → map (λ p. p.0) (map entry_and_place (cites_of rs)) ≡ cited rs
@@ -84,7 +84,7 @@ module _ {E : Type 0} (eq : E → E → Bool) (laws : IsEquivalence eq) where
 
     module _ {X : Type 0} (xs : List X) (k : ℕ) (x : X) (within : k < length xs) (here : x ≡ get_or xs k x) where
       -- one more cite is placed
-      pub items-more : (view : X → Cite E P) (ps : List (E × ℕ)) {qs rs : List (E × ℕ)} {places : List ℕ} {p : ℕ}
+      pub items-more : (view : X → RequestedCite E P) (ps : List (E × ℕ)) {qs rs : List (E × ℕ)} {places : List ℕ} {p : ℕ}
           → qs ≡ with_all_new (same_entry eq) ps (map entry_and_place (map view (take k xs)))
           → places ≡ places_in eq (map (λ q. q.0) qs) (map view (take k xs))
           → rs ≡ with_new (same_entry eq) qs (entry_and_place (view x))

@@ -2,10 +2,10 @@
 use Rattle.std.specs.Prelude.{◌≡◌, ℕ, Bool, true, List, map}
 use Rattle.csl_entries.specs.Entries.{is_in, place}
 use Rattle.csl_entries.specs.declared.table.FirstCite.{FirstCite}
-use Rattle.csl_passes.specs.Request.{Cite}
+use Rattle.csl_passes.specs.Request.{RequestedCite}
 
 -- a cite's entry, and its place in its request
-abbrev pub entry_and_place : {E P : Type 0} → Cite E P → E × ℕ
+abbrev pub entry_and_place : {E P : Type 0} → RequestedCite E P → E × ℕ
 entry_and_place c = (c.entry, c.place)
 
 abbrev pub same_entry : {E A : Type 0} → (E → E → Bool) → E × A → E × A → Bool

@@ -1,7 +1,7 @@
 -- The cited entries, each once, and where the entry of each cite stands among them.
 use Rattle.std.specs.Prelude.{ℕ, Bool, List, map, find, option_map, unwrap_or}
 use Rattle.csl_entries.specs.Entries.{distinct, place}
-use Rattle.csl_passes.specs.Request.{Cite, Request, cited, cites_of, entries_of}
+use Rattle.csl_passes.specs.Request.{RequestedCite, Request, cited, cites_of, entries_of}
 
 pub record Table (E : Type 0) : Type 0 where
   pub entries : List E
@@ -16,7 +16,7 @@ module _ {E P : Type 0} (eq : E → E → Bool) where
   first_place requests e = unwrap_or (option_map (λ c. c.place) (find (λ c. eq e c.entry) (cites_of requests))) 0
 
   -- where the entries of cites stand among these
-  abbrev pub places_in : List E → List (Cite E P) → List ℕ
+  abbrev pub places_in : List E → List (RequestedCite E P) → List ℕ
   places_in entries cites = map (λ e. place eq e entries) (entries_of cites)
 
   -- the table of all that is cited, in the order of the first cites

@@ -4,7 +4,7 @@ use Rattle.std.specs.Cmp.Lexicographic.{pointwise}
 use Rattle.csl_base.specs.contracts.taxonomy.LocatorPartialEq.TheImpl as locator_eq
 use Rattle.csl_lookup.specs.Properties.{LocatorValue, Payload, own_payload, text_payload}
 use Rattle.csl_lookup.specs.declared.state.IbidState.{IbidState}
-use Rattle.csl_passes.specs.Request.{Cite}
+use Rattle.csl_passes.specs.Request.{RequestedCite}
 
 module _ {P : Type 0} (eq : P → P → Bool) where
   -- the same text, or equal payloads
@@ -21,11 +21,11 @@ module _ {P : Type 0} (eq : P → P → Bool) where
 
 module _ {E P : Type 0} (entry_eq : E → E → Bool) (payload_eq : P → P → Bool) where
   -- a cite repeats the last one before it where that is shown and has an equal entry
-  abbrev pub repeats : Cite E P → Cite E P → Bool
+  abbrev pub repeats : RequestedCite E P → RequestedCite E P → Bool
   repeats this last = not last.hidden && entry_eq this.entry last.entry
 
   -- the position of a cite that repeats the last one, or doesn't
-  abbrev pub with_last : Cite E P → Option (Cite E P) → IbidState
+  abbrev pub with_last : RequestedCite E P → Option (RequestedCite E P) → IbidState
   with_last this None = IbidState.Different
   with_last this (Some last) =
       if not (repeats this last) then IbidState.Different

@@ -7,7 +7,7 @@ use Rattle.csl_lookup.specs.Properties.{LocatorValue}
 use Rattle.csl_lookup.specs.declared.purpose.CitePurpose.{CitePurpose}
 
 -- a cite: what is cited and how, and the place that it had in its request
-pub record Cite (E P : Type 0) : Type 0 where
+pub record RequestedCite (E P : Type 0) : Type 0 where
   pub entry : E
   pub locator : Option (LocatorValue P)
   pub locale : Option (List ℕ)
@@ -16,7 +16,7 @@ pub record Cite (E P : Type 0) : Type 0 where
   pub place : ℕ
 
 pub record Request (E P : Type 0) : Type 0 where
-  pub cites : List (Cite E P)
+  pub cites : List (RequestedCite E P)
   pub style : StyleValue
   pub locale : Option (List ℕ)
   pub locales : List LocaleValue
@@ -31,7 +31,7 @@ pub record Wanted (E : Type 0) : Type 0 where
 
 module _ {E P : Type 0} where
   -- the cites with the places k, k + 1 and on
-  abbrev pub placed_from : ℕ → List (Cite E P) → List (Cite E P)
+  abbrev pub placed_from : ℕ → List (RequestedCite E P) → List (RequestedCite E P)
   placed_from k [] = []
   placed_from k (c ∷ cs) = record c { place = k } ∷ placed_from (k + 1) cs
 
@@ -40,7 +40,7 @@ module _ {E P : Type 0} where
   with_places r = record r { cites = placed_from 0 r.cites }
 
   -- what is cited, in order
-  abbrev pub entries_of : List (Cite E P) → List E
+  abbrev pub entries_of : List (RequestedCite E P) → List E
   entries_of = map (λ c. c.entry)
 
   -- the cited entries of all requests, in order
@@ -48,7 +48,7 @@ module _ {E P : Type 0} where
   cited requests = flat_map (λ r. entries_of r.cites) requests
 
   -- the cites of all requests, in order
-  abbrev pub cites_of : List (Request E P) → List (Cite E P)
+  abbrev pub cites_of : List (Request E P) → List (RequestedCite E P)
   cites_of requests = flat_map (λ r. r.cites) requests
 
   -- the style that a request's cites are written in, with its locales

@@ -7,10 +7,10 @@ use Rattle.csl_passes.specs.declared.item.CitationItem.{CitationItem}
 use Rattle.csl_passes.specs.declared.request.BibliographyRequest.{BibliographyRequest}
 use Rattle.csl_passes.specs.declared.request.CitationRequest.{CitationRequest}
 use Rattle.csl_passes.specs.declared.request.Order.{Order}
-use Rattle.csl_passes.specs.Request.{Cite, Request, Wanted}
+use Rattle.csl_passes.specs.Request.{RequestedCite, Request, Wanted}
 
 module _ {T P : Type 0} where
-  abbrev pub cite_view : CitationItem T P → Cite T P
+  abbrev pub cite_view : CitationItem T P → RequestedCite T P
   cite_view i = record {
     entry = i.entry.now;
     locator = option_map locator_view i.locator;
@@ -20,7 +20,7 @@ module _ {T P : Type 0} where
     place = i.initial_idx;
   }
 
-  abbrev pub cites_view : List (CitationItem T P) → List (Cite T P)
+  abbrev pub cites_view : List (CitationItem T P) → List (RequestedCite T P)
   cites_view = map cite_view
 
   abbrev pub request_view : CitationRequest T P → Request T P

@@ -9,7 +9,7 @@ use Rattle.csl_picking.specs.declared.held.Opened.{Opened}
 use Rattle.csl_picking.specs.Notes.{joined}
 use Rattle.csl_picking.specs.Pieces.{NodeValue, Part, leaf_part, node_part, Token, opening, closing, part_tokens, tokens, node_of}
 use Rattle.csl_picking.specs.Picked.{Picked, Held, nothing, followed, added, grouped, in_macro}
-use Rattle.csl_picking.specs.Nodes.{inside, opened, cut_back, closed_as, macro_closed, group_closed}
+use Rattle.csl_picking.specs.Nodes.{inside, remembered, cut_back, closed_as, macro_closed, group_closed}
 
 pub tokens-append : (xs ys : List Part) → tokens (xs ++ ys) ≡ tokens xs ++ tokens ys
 tokens-append [] ys = refl
@@ -72,29 +72,29 @@ is_filled ts node p ps =
     grind (arith, nat_tests)
 
 -- nothing in a node
-emptied : (node : NodeValue) (c : Called) (n : Notes) (s : Held) → cut_back (opened s) (added (record { parts = []; called = c; noted = n }) (inside node s)) ≡ added (record { parts = []; called = c; noted = n }) s
+emptied : (node : NodeValue) (c : Called) (n : Notes) (s : Held) → cut_back (remembered s) (added (record { parts = []; called = c; noted = n }) (inside node s)) ≡ added (record { parts = []; called = c; noted = n }) s
 emptied node c n s = λ i. record { tokens = (cut s.tokens node [] ∙ sym (append-nil s.tokens)) i; called = joined s.called c; noted = n }
 
 -- the parts of a node, of which some are there
 filled : (node : NodeValue) (p : Part) (ps : List Part) (c d : Called) (n : Notes) (s : Held)
-    → closed_as c (opened s) (added (record { parts = p ∷ ps; called = d; noted = n }) (inside node s))
+    → closed_as c (remembered s) (added (record { parts = p ∷ ps; called = d; noted = n }) (inside node s))
     ≡ added (record { parts = node_of node (p ∷ ps); called = c; noted = n }) s
 filled node p ps c d n s = λ i. record { tokens = close s.tokens node p ps i; called = joined s.called c; noted = n }
 
-pub macro-closed : (node : NodeValue) (inner : Picked) (s : Held) → macro_closed (opened s) (added inner (inside node s)) ≡ added (in_macro node inner) s
+pub macro-closed : (node : NodeValue) (inner : Picked) (s : Held) → macro_closed (remembered s) (added inner (inside node s)) ≡ added (in_macro node inner) s
 macro-closed node inner s =
     let c = inner.called in
     let n = inner.noted in
-    let by : (ps : List Part) → macro_closed (opened s) (added (record { parts = ps; called = c; noted = n }) (inside node s)) ≡ added (in_macro node (record { parts = ps; called = c; noted = n })) s = λ ps.
-    elim ps as (λ ps. macro_closed (opened s) (added (record { parts = ps; called = c; noted = n }) (inside node s)) ≡ added (in_macro node (record { parts = ps; called = c; noted = n })) s) [
+    let by : (ps : List Part) → macro_closed (remembered s) (added (record { parts = ps; called = c; noted = n }) (inside node s)) ≡ added (in_macro node (record { parts = ps; called = c; noted = n })) s = λ ps.
+    elim ps as (λ ps. macro_closed (remembered s) (added (record { parts = ps; called = c; noted = n }) (inside node s)) ≡ added (in_macro node (record { parts = ps; called = c; noted = n })) s) [
       | [] ↦ let h = added (record { parts = []; called = c; noted = n }) (inside node s) in
-          ap (λ b. cond b (cut_back (opened s) h) (closed_as h.called (opened s) h)) (is_empty s.tokens node) ∙ emptied node c n s
+          ap (λ b. cond b (cut_back (remembered s) h) (closed_as h.called (remembered s) h)) (is_empty s.tokens node) ∙ emptied node c n s
       | p ∷ qs ↦ let h = added (record { parts = p ∷ qs; called = c; noted = n }) (inside node s) in
-          ap (λ b. cond b (cut_back (opened s) h) (closed_as h.called (opened s) h)) (is_filled s.tokens node p qs) ∙ filled node p qs c c n s
+          ap (λ b. cond b (cut_back (remembered s) h) (closed_as h.called (remembered s) h)) (is_filled s.tokens node p qs) ∙ filled node p qs c c n s
     ] in
     by inner.parts
 
-pub group-closed : (node : NodeValue) (inner : Picked) (s : Held) → group_closed (opened s) (added inner (inside node s)) ≡ added (grouped node inner) s
+pub group-closed : (node : NodeValue) (inner : Picked) (s : Held) → group_closed (remembered s) (added inner (inside node s)) ≡ added (grouped node inner) s
 group-closed node inner s =
     by inner.called inner.parts where
       n : Notes
@@ -106,9 +106,9 @@ group-closed node inner s =
       chosen : Called → List Part → Bool → Held
       chosen c ps b =
           let h = added (all c ps) (inside node s) in
-          cond b (cut_back (opened s) h) (closed_as Called.Filled (opened s) h)
+          cond b (cut_back (remembered s) h) (closed_as Called.Filled (remembered s) h)
 
-      by : (c : Called) (ps : List Part) → group_closed (opened s) (added (all c ps) (inside node s)) ≡ added (grouped node (all c ps)) s
+      by : (c : Called) (ps : List Part) → group_closed (remembered s) (added (all c ps) (inside node s)) ≡ added (grouped node (all c ps)) s
       by Called.Empty ps = λ i. record { tokens = (cut s.tokens node (tokens ps) ∙ sym (append-nil s.tokens)) i; called = joined s.called Called.Empty; noted = n }
       by Called.None [] = ap (chosen Called.None []) (is_empty s.tokens node) ∙ emptied node Called.None n s
       by Called.Filled [] = ap (chosen Called.Filled []) (is_empty s.tokens node) ∙ emptied node Called.Filled n s
@@ -117,15 +117,15 @@ group-closed node inner s =
 
 -- a node, and what is picked inside it, where `picks` says what that is
 pub group_step : (picks : Notes → Picked) (node seen : NodeValue) (s now then after : Held) (o : Opened)
-    → seen ≡ node → now ≡ inside seen s → o ≡ opened s → then ≡ added (picks now.noted) now → after ≡ group_closed o then
+    → seen ≡ node → now ≡ inside seen s → o ≡ remembered s → then ≡ added (picks now.noted) now → after ≡ group_closed o then
     → after ≡ added (grouped node (picks s.noted)) s
 group_step picks node seen s now then after o v a b c d =
     let at : now ≡ inside node s = a ∙ ap (λ n. inside n s) v in
-    d ∙ (λ i. group_closed (b i) (c i)) ∙ ap (λ h. group_closed (opened s) (added (picks h.noted) h)) at ∙ group-closed node (picks s.noted) s
+    d ∙ (λ i. group_closed (b i) (c i)) ∙ ap (λ h. group_closed (remembered s) (added (picks h.noted) h)) at ∙ group-closed node (picks s.noted) s
 
 pub macro_step : (picks : Notes → Picked) (node seen : NodeValue) (s now then after : Held) (o : Opened)
-    → seen ≡ node → now ≡ inside seen s → o ≡ opened s → then ≡ added (picks now.noted) now → after ≡ macro_closed o then
+    → seen ≡ node → now ≡ inside seen s → o ≡ remembered s → then ≡ added (picks now.noted) now → after ≡ macro_closed o then
     → after ≡ added (in_macro node (picks s.noted)) s
 macro_step picks node seen s now then after o v a b c d =
     let at : now ≡ inside node s = a ∙ ap (λ n. inside n s) v in
-    d ∙ (λ i. macro_closed (b i) (c i)) ∙ ap (λ h. macro_closed (opened s) (added (picks h.noted) h)) at ∙ macro-closed node (picks s.noted) s
+    d ∙ (λ i. macro_closed (b i) (c i)) ∙ ap (λ h. macro_closed (remembered s) (added (picks h.noted) h)) at ∙ macro-closed node (picks s.noted) s

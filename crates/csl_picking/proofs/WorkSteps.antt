@@ -16,7 +16,7 @@ use Rattle.csl_picking.specs.Env.{Env}
 use Rattle.csl_picking.specs.Conditions.{passes, tested}
 use Rattle.csl_picking.specs.Pieces.{NodeValue}
 use Rattle.csl_picking.specs.Picked.{Held, added, grouped}
-use Rattle.csl_picking.specs.Nodes.{inside, opened}
+use Rattle.csl_picking.specs.Nodes.{inside, remembered}
 use Rattle.csl_picking.specs.Pick.{Call, pick_all_with, pick_first_with, body_picked, called_macro, picks, picks_all}
 use Rattle.csl_picking.specs.Work.{StepValue, step_view, steps_view, done, all_done, plain_done, inside_done, body_weight, macro_weight, weight_all, step_work, work}
 use Rattle.csl_picking.proofs.Tokens.{group_step, macro_step, added-nothing, added-followed}
@@ -44,7 +44,7 @@ pushed-work ms old new x e =
 module _ (env : Env) (ms : List Macro) (depth : ℕ) where
   -- a group, which is opened
   pub group_pushed : (a b c : List Step) (slice : Bor (List LayoutRenderingElement)) (items : List LayoutRenderingElement) (o : Opened) (node seen : NodeValue) (s now : Held)
-      → b ≡ a ++ steps.CloseGroup o ∷ [] → c ≡ b ++ steps.Elements slice depth ∷ [] → slice.now ≡ items → seen ≡ node → now ≡ inside seen s → o ≡ opened s
+      → b ≡ a ++ steps.CloseGroup o ∷ [] → c ≡ b ++ steps.Elements slice depth ∷ [] → slice.now ≡ items → seen ≡ node → now ≡ inside seen s → o ≡ remembered s
       → all_done env ms (steps_view c) now ≡ all_done env ms (steps_view a) (added (grouped node (picks_all env ms depth (elements_view items) s.noted)) s)
   group_pushed a b c slice items o node seen s now e f v w x y =
       pushed env ms b c (steps.Elements slice depth) now f
@@ -54,7 +54,7 @@ module _ (env : Env) (ms : List Macro) (depth : ℕ) where
 
   -- a macro, which is opened
   pub macro_pushed : (a b c : List Step) (slice : Bor (List LayoutRenderingElement)) (items : List LayoutRenderingElement) (o : Opened) (name : Name) (node seen : NodeValue) (s now : Held)
-      → b ≡ a ++ steps.CloseMacro o ∷ [] → c ≡ b ++ steps.Elements slice (depth - 1) ∷ [] → slice.now ≡ items → seen ≡ node → now ≡ inside seen s → o ≡ opened s
+      → b ≡ a ++ steps.CloseMacro o ∷ [] → c ≡ b ++ steps.Elements slice (depth - 1) ∷ [] → slice.now ≡ items → seen ≡ node → now ≡ inside seen s → o ≡ remembered s
       → 0 < depth → Some (elements_view items) ≡ body_of name ms
       → all_done env ms (steps_view c) now ≡ all_done env ms (steps_view a) (added (called_macro env ms depth name node s.noted) s)
   macro_pushed a b c slice items o name node seen s now e f v w x y deep found =

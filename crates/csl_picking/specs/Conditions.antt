@@ -12,7 +12,7 @@ use Rattle.csl_picking.specs.declared.notes.Notes.{Notes}
 use Rattle.csl_lookup.specs.declared.state.DisambiguateState.{DisambiguateState}
 use Rattle.csl_lookup.specs.declared.state.DisambiguateState.TheVariants as state
 use Rattle.csl_lookup.specs.declared.state.IbidState.{IbidState}
-use Rattle.csl_picking.specs.Env.{Cite, Env}
+use Rattle.csl_picking.specs.Env.{ReadProperties, Env}
 use Rattle.csl_lookup.specs.States.{year_suffix}
 
 abbrev pub is_choose : DisambiguateState → Bool
@@ -43,7 +43,7 @@ abbrev pub is_repeated_elsewhere : IbidState → Bool
 is_repeated_elsewhere IbidState.IbidWithLocator = true
 is_repeated_elsewhere _ = false
 
-abbrev pub is_at : Cite → TestPosition → Bool
+abbrev pub is_at : ReadProperties → TestPosition → Bool
 is_at cite TestPosition.First = cite.is_first
 is_at cite TestPosition.Subsequent = not cite.is_first
 is_at cite TestPosition.Ibid = is_repeated cite.ibid

@@ -1,5 +1,5 @@
 -- What a picking only reads.
-use Rattle.std.specs.Prelude.{ℕ, List, Bool, Option}
+use Rattle.std.specs.Prelude.{ℕ, List, Bool, Option, option_map}
 use Rattle.csl_base.specs.declared.taxonomy.Term.{Term}
 use Rattle.csl_base.specs.declared.taxonomy.TermForm.{TermForm}
 use Rattle.csl_base.specs.declared.taxonomy.Locator.{Locator}
@@ -9,6 +9,8 @@ use Rattle.csl_picking.specs.declared.notes.Form.{Form}
 use Rattle.csl_lookup.specs.declared.state.DisambiguateState.{DisambiguateState}
 use Rattle.csl_lookup.specs.declared.state.IbidState.{IbidState}
 use Rattle.csl_lookup.specs.declared.state.IdentifierUsage.{IdentifierUsage}
+use Rattle.csl_lookup.specs.Lookup.{Lookup, term_of}
+use Rattle.csl_picking.specs.Options.{applied_options}
 
 -- what a locator counts, and its text; none where it is the caller's own
 pub record CiteLocator : Type 0 where
@@ -16,7 +18,7 @@ pub record CiteLocator : Type 0 where
   pub text : Option (List ℕ)
 
 -- what is read of a cite's properties
-pub record Cite : Type 0 where
+pub record ReadProperties : Type 0 where
   pub citation_number : ℕ
   pub first_note_number : Option ℕ
   pub is_first : Bool
@@ -30,7 +32,7 @@ pub record Cite : Type 0 where
 pub record Env : Type 0 where
   -- what the entry answers
   pub answers : Answers
-  pub cite : Cite
+  pub cite : ReadProperties
   -- which elements are written
   pub form : Form
   -- a term's words in a form, in the plural where the truth value says so
@@ -41,3 +43,16 @@ pub record Env : Type 0 where
   pub is_bibliography : Bool
   -- the name options that hold where a names element has none of its own
   pub options : NameOptions
+
+-- for an entry and what is read of a cite of it, where terms are looked up and these name options of a
+-- style and of a layout hold
+abbrev pub env_for : Answers → ReadProperties → Lookup → NameOptions → NameOptions → Form → Bool → Bool → Env
+env_for answers cite lookup of_style of_layout form explicit_suffix is_bibliography = record {
+  answers = answers;
+  cite = cite;
+  form = form;
+  term = term_of lookup (option_map (λ l. l.kind) cite.locator);
+  explicit_suffix = explicit_suffix;
+  is_bibliography = is_bibliography;
+  options = applied_options of_style of_layout;
+}

@@ -10,13 +10,12 @@ use Rattle.csl_picking.specs.declared.input.CiteFacts.{CiteFacts}
 use Rattle.csl_picking.specs.declared.input.Setting.{Setting}
 use Rattle.csl_lookup.specs.Lookup.{term_of}
 use Rattle.csl_lookup.specs.SourceView.{lookup_view}
-use Rattle.csl_picking.specs.Env.{CiteLocator, Cite, Env}
-use Rattle.csl_picking.specs.Options.{applied_options}
+use Rattle.csl_picking.specs.Env.{CiteLocator, ReadProperties, Env, env_for}
 
 abbrev pub locator_facts : LocatorFacts → CiteLocator
 locator_facts l = record { kind = l.kind; text = option_map (λ t. t.now) l.text }
 
-abbrev pub cite_facts : CiteFacts → Cite
+abbrev pub cite_facts : CiteFacts → ReadProperties
 cite_facts c = record {
   citation_number = c.citation_number;
   first_note_number = c.first_note_number;
@@ -34,15 +33,9 @@ abbrev pub term_for : Setting → Term → TermForm → Bool → Option (List �
 term_for s = term_of (lookup_view s.context) (option_map (λ l. l.kind) s.cite.locator)
 
 abbrev pub env_of : Answers → Setting → Env
-env_of answers s = record {
-  answers = answers;
-  cite = cite_facts s.cite;
-  form = s.form;
-  term = term_for s;
-  explicit_suffix = s.explicit_suffix;
-  is_bibliography = s.is_bibliography;
-  options = applied_options (options_view s.context.style.now.settings.options) (options_view s.layout_options.now);
-}
+env_of answers s =
+    env_for answers (cite_facts s.cite) (lookup_view s.context) (options_view s.context.style.now.settings.options) (options_view s.layout_options.now) s.form
+      s.explicit_suffix s.is_bibliography
 
 abbrev pub macros_of : Setting → List Macro
 macros_of s = macros_view s.context.style.now.macros.items

@@ -12,8 +12,8 @@ abbrev pub inside : NodeValue → Held → Held
 inside node h = record { tokens = h.tokens ++ opening node ∷ []; called = Called.None; noted = h.noted }
 
 -- what is remembered of the place before the node
-abbrev pub opened : Held → Opened
-opened h = record { before = length h.tokens; inside = length h.tokens + 1; called = h.called }
+abbrev pub remembered : Held → Opened
+remembered h = record { before = length h.tokens; inside = length h.tokens + 1; called = h.called }
 
 -- nothing stands in the node
 abbrev pub is_empty_node : Opened → Held → Bool

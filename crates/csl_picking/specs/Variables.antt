@@ -22,7 +22,7 @@ use Rattle.csl_base.specs.Element.{Look}
 use Rattle.csl_picking.specs.declared.notes.Form.{Form}
 use Rattle.csl_picking.specs.declared.notes.Notes.{Notes}
 use Rattle.csl_lookup.specs.declared.state.IdentifierUsage.{IdentifierUsage}
-use Rattle.csl_picking.specs.Env.{Cite, Env}
+use Rattle.csl_picking.specs.Env.{ReadProperties, Env}
 use Rattle.csl_lookup.specs.States.{with_label, with_number, year_suffix}
 use Rattle.csl_picking.specs.Suffix.{implicit_suffix}
 use Rattle.csl_picking.specs.Pieces.{LeafValue, text_leaf, number_leaf, suffix_leaf, year_leaf, chunked_leaf, link_leaf, mark_leaf, Part, node_of, leaves_of, plain_node}
@@ -70,7 +70,7 @@ abbrev pub marked_text : ℕ → Option (List ℕ) → Option LeafValue
 marked_text i None = Some (mark_leaf i)
 marked_text i (Some t) = text_leaves (Some t)
 
-abbrev pub locator_leaf : Cite → Option LeafValue
+abbrev pub locator_leaf : ReadProperties → Option LeafValue
 locator_leaf cite = option_and_then (λ l. marked_text cite.initial_idx l.text) cite.locator
 
 -- what a variable's text or number gives; the printed number of a cite is one more

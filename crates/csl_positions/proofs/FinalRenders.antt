@@ -9,14 +9,14 @@ use Rattle.csl_lookup.specs.declared.state.IbidState.{IbidState}
 use Rattle.csl_entries.specs.Entries.{place}
 use Rattle.csl_entries.specs.PlacedItems.{IsPlaced}
 use Rattle.csl_passes.specs.Renders.{CiteRender, ItemRender}
-use Rattle.csl_passes.specs.Request.{Cite}
+use Rattle.csl_passes.specs.Request.{RequestedCite}
 use Rattle.csl_positions.specs.FinalProperties.{as_cite, items_before, with_final, with_final_items}
 use Rattle.csl_positions.specs.FinalSteps.{all_set, first_position, items_at}
 use Rattle.csl_positions.proofs.FinalItems.{RowPlaced, all-final, first-kept, items-at, last-map, placed-at}
 use Rattle.csl_positions.proofs.Halves.{changed-kept, half, half-kept, half-next, half-stands}
 
 -- a request's cites as cites
-abbrev as_cites : {E P : Type 0} → CiteRender E P → List (Cite E P)
+abbrev as_cites : {E P : Type 0} → CiteRender E P → List (RequestedCite E P)
 as_cites r = map as_cite r.items
 
 cites-through : {E P : Type 0} (o : Option (CiteRender E P)) → map as_cite (option_map_or (λ before. before.items) o []) ≡ option_map_or (λ cs. cs) (option_map as_cites o) []

@@ -7,7 +7,7 @@ use Rattle.std.proofs.lemmas.List.{map-append}
 use Rattle.csl_entries.specs.Entries.{is_in, place}
 use Rattle.csl_entries.specs.Laws.{NoTwoEqual}
 use Rattle.csl_entries.proofs.Distinct.{is_in-append, or_true}
-use Rattle.csl_passes.specs.Request.{Cite, Request, cited, entries_of}
+use Rattle.csl_passes.specs.Request.{RequestedCite, Request, cited, entries_of}
 use Rattle.csl_positions.specs.FirstProperties.{certain_properties, cites_entry, first_note, notes_entry}
 use Rattle.csl_positions.specs.Seen.{certain_by, last_place, seen_of}
 use Rattle.csl_positions.specs.declared.first.Seen.{Seen}
@@ -28,7 +28,7 @@ seen_same p q r = rw (p, q, r) refl
 
 module _ {E P : Type 0} (eq : E → E → Bool) where
   -- what is certain, from what is known
-  pub certain-known : (before : List (Request E P)) (r : Request E P) (earlier : List (Cite E P)) (c : Cite E P)
+  pub certain-known : (before : List (Request E P)) (r : Request E P) (earlier : List (RequestedCite E P)) (c : RequestedCite E P)
       → certain_by r (length before) (seen_of eq (cited before ++ entries_of earlier) before c.entry) (length earlier) ≡ certain_properties eq before r earlier c
   certain-known before r earlier c =
       let near = is_within-last (notes_entry eq c.entry) r.style.citation.near_note_distance before in
@@ -73,17 +73,17 @@ module _ {E P : Type 0} (eq : E → E → Bool) where
             seen_same (sym one) refl refl
 
     -- the request r with the cites so far, which are noted
-    abbrev with_cites : Request E P → List (Cite E P) → Request E P
+    abbrev with_cites : Request E P → List (RequestedCite E P) → Request E P
     with_cites r js = record r { cites = js }
 
-    cites-more : (r : Request E P) (js : List (Cite E P)) (c : Cite E P) (e : E)
+    cites-more : (r : Request E P) (js : List (RequestedCite E P)) (c : RequestedCite E P) (e : E)
         → cites_entry eq e (with_cites r (js ++ c ∷ [])) ≡ (cites_entry eq e (with_cites r js) || eq e c.entry)
     cites-more r js c e =
         ap (λ l. is_in eq e l) (map-append (λ k. k.entry) js (c ∷ [])) ∙ is_in-append eq laws e (entries_of js) (c.entry ∷ [])
         ∙ ap (λ b. is_in eq e (entries_of js) || b) (or_false (eq e c.entry))
 
     -- one more cite of r, which is noted where r has a note number
-    pub noted-more : (cs : List E) (rs : List (Request E P)) (r : Request E P) (js : List (Cite E P)) (c : Cite E P) (es : List E) → NoTwoEqual eq es → is_in eq c.entry es ≡ true
+    pub noted-more : (cs : List E) (rs : List (Request E P)) (r : Request E P) (js : List (RequestedCite E P)) (c : RequestedCite E P) (es : List E) → NoTwoEqual eq es → is_in eq c.entry es ≡ true
         → (s : Seen) → s ≡ seen_of eq cs (rs ++ with_cites r js ∷ []) c.entry
         → set (map (seen_of eq cs (rs ++ with_cites r js ∷ [])) es) (place eq c.entry es)
         (record s { first_note = option_or s.first_note r.note_number; last_noted = option_or (option_and r.note_number (Some (length rs))) s.last_noted })

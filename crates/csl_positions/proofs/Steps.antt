@@ -6,7 +6,7 @@ use Rattle.std.proofs.lemmas.List.{get_or-map, length-map, take_at, take_more}
 use Rattle.std.proofs.lemmas.List.Folds.{list_any_at}
 use Rattle.csl_entries.specs.Entries.{is_in, place}
 use Rattle.csl_entries.specs.Table.{Table, places_in}
-use Rattle.csl_passes.specs.Request.{Cite, Request, entries_of}
+use Rattle.csl_passes.specs.Request.{RequestedCite, Request, entries_of}
 use Rattle.csl_positions.specs.Seen.{IsTableOf, seen_of}
 use Rattle.csl_positions.specs.declared.first.Seen.{Seen}
 use Rattle.csl_positions.specs.FirstProperties.{notes_entry}
@@ -30,7 +30,7 @@ module _ {E P : Type 0} (eq : E → E → Bool) (laws : IsEquivalence eq) (befor
   cite-count ps are = ap length are ∙ length-map (entries_of r.cites) (λ e. place eq e table.entries) ∙ length-map r.cites (λ d. d.entry)
 
   -- the cite c of r stands at k
-  module _ (k : ℕ) (c : Cite E P) (within : k < length r.cites) (here : c ≡ get_or r.cites k c) where
+  module _ (k : ℕ) (c : RequestedCite E P) (within : k < length r.cites) (here : c ≡ get_or r.cites k c) where
     pub cite-there : is_in eq c.entry table.entries ≡ true
     cite-there = table-lists eq laws before r table of c.entry listed
       where
@@ -99,7 +99,7 @@ moved xs ys k x same within here = (omega (arith, ap length same), here ∙ ap (
 
 -- the item x of the request stands at k, and shows the cite `view x`
 module _ {E P X : Type 0} (eq : E → E → Bool) (laws : IsEquivalence eq) (before : List (Request E P)) (r : Request E P) (table : Table E) (of : IsTableOf eq before r table)
-    (view : X → Cite E P) (xs : List X) (shown : r.cites ≡ map view xs) (k : ℕ) (x : X) (within : k < length xs) (here : x ≡ get_or xs k x) where
+    (view : X → RequestedCite E P) (xs : List X) (shown : r.cites ≡ map view xs) (k : ℕ) (x : X) (within : k < length xs) (here : x ≡ get_or xs k x) where
   pub shown-within : k < length r.cites
   shown-within = omega (arith, ap length shown, length-map xs view)
 

@@ -6,7 +6,7 @@ use Rattle.csl_lookup.specs.Properties.{Properties}
 use Rattle.csl_lookup.specs.declared.state.IbidState.{IbidState}
 use Rattle.csl_passes.specs.Positions.{with_last}
 use Rattle.csl_passes.specs.Renders.{CiteRender, ItemRender, Place}
-use Rattle.csl_passes.specs.Request.{Cite}
+use Rattle.csl_passes.specs.Request.{RequestedCite}
 
 -- properties with this position and this number
 abbrev pub placed_finally : {P : Type 0} → IbidState → ℕ → Properties P → Properties P
@@ -22,7 +22,7 @@ module _ {E P : Type 0} where
   cited_finally renders = flat_map (λ r. map (λ i. i.entry) r.items) renders
 
   -- a rendered cite as a cite, which counts as shown
-  abbrev pub as_cite : ItemRender E P → Cite E P
+  abbrev pub as_cite : ItemRender E P → RequestedCite E P
   as_cite i = record {
     entry = i.entry;
     locator = i.locator;

@@ -5,7 +5,7 @@ use Rattle.std.specs.Option.{option_and_then}
 use Rattle.csl_entries.specs.Entries.{is_in, place}
 use Rattle.csl_lookup.specs.declared.properties.CertainCiteProperties.{CertainCiteProperties}
 use Rattle.csl_passes.specs.Positions.{with_last}
-use Rattle.csl_passes.specs.Request.{Cite, Request, cited, cites_of, entries_of}
+use Rattle.csl_passes.specs.Request.{RequestedCite, Request, cited, cites_of, entries_of}
 use Rattle.csl_passes.specs.declared.first.FirstProperties.{FirstProperties}
 
 -- what f gives of each member and of those before it
@@ -42,11 +42,11 @@ module _ {E P : Type 0} (eq : E → E → Bool) where
   is_near_note before r e = is_some r.note_number && list_any (notes_entry e) (last_of r.style.citation.near_note_distance before)
 
   -- no cite before cites e: none of the requests `before`, and none of the cites `earlier` of the same request
-  abbrev pub is_first : List (Request E P) → List (Cite E P) → E → Bool
+  abbrev pub is_first : List (Request E P) → List (RequestedCite E P) → E → Bool
   is_first before earlier e = not (is_in eq e (cited before ++ entries_of earlier))
 
   -- what is certain of the cite c of the request r behind the cites `earlier` of r and the requests `before`
-  abbrev pub certain_properties : List (Request E P) → Request E P → List (Cite E P) → Cite E P → CertainCiteProperties
+  abbrev pub certain_properties : List (Request E P) → Request E P → List (RequestedCite E P) → RequestedCite E P → CertainCiteProperties
   certain_properties before r earlier c = record {
     note_number = r.note_number;
     first_note_number = first_note_number before r c.entry;
@@ -57,7 +57,7 @@ module _ {E P : Type 0} (eq : E → E → Bool) where
 
   module _ (payload_eq : P → P → Bool) (number_of : E → ℕ) where
     -- and what else is known of it: its number, and its position against the cite before it in the document
-    abbrev pub cite_properties : List (Request E P) → Request E P → List (Cite E P) → Cite E P → FirstProperties
+    abbrev pub cite_properties : List (Request E P) → Request E P → List (RequestedCite E P) → RequestedCite E P → FirstProperties
     cite_properties before r earlier c = record {
       certain = certain_properties before r earlier c;
       number = number_of c.entry;

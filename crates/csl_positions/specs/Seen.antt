@@ -3,7 +3,7 @@ use Rattle.std.specs.Prelude.{◌≡◌, ℕ, suc, ◌-◌, Bool, false, not, �
 use Rattle.csl_entries.specs.Entries.{is_in}
 use Rattle.csl_entries.specs.Table.{Table, table_of}
 use Rattle.csl_lookup.specs.declared.properties.CertainCiteProperties.{CertainCiteProperties}
-use Rattle.csl_passes.specs.Request.{Cite, Request}
+use Rattle.csl_passes.specs.Request.{RequestedCite, Request}
 use Rattle.csl_positions.specs.FirstProperties.{first_note, notes_entry}
 use Rattle.csl_positions.specs.declared.first.Seen.{Seen}
 

@@ -7,7 +7,7 @@ use Rattle.std.proofs.lemmas.Grind.{flat_map-append}
 use Rattle.csl_base.specs.Answers.{Answers}
 use Rattle.csl_base.specs.Ring.{HasNoRing}
 use Rattle.csl_passes.specs.Renders.{CiteRender, ItemRender}
-use Rattle.csl_passes.specs.Request.{Cite, Request, cites_of}
+use Rattle.csl_passes.specs.Request.{RequestedCite, Request, cites_of}
 use Rattle.csl_passes.specs.declared.first.FirstProperties.{FirstProperties}
 use Rattle.csl_rounds.specs.FirstRenders.{HasShapeOf, first_render, first_renders, first_renders_of}
 use Rattle.csl_writing.proofs.Counting.{counted_times-add, counted_times-more}
@@ -48,7 +48,7 @@ module _ {E P : Type 0} (requests : List (Request E P)) (k : ℕ) (request : Req
       let grown : take (k + 1) requests ≡ take k requests ++ request ∷ [] =
       take_more requests k request within ∙ ap (λ (r : Request E P). take k requests ++ r ∷ []) (sym here) in
       let joined : cites_of (take (k + 1) requests) ≡ cites_of (take k requests) ++ request.cites =
-      ap cites_of grown ∙ flat_map-append (λ (r : Request E P). r.cites) (take k requests) (request ∷ []) ∙ ap (λ (l : List (Cite E P)). cites_of (take k requests) ++ l) (append-nil request.cites) in
+      ap cites_of grown ∙ flat_map-append (λ (r : Request E P). r.cites) (take k requests) (request ∷ []) ∙ ap (λ (l : List (RequestedCite E P)). cites_of (take k requests) ++ l) (append-nil request.cites) in
       let sum : length (cites_of (take (k + 1) requests)) ≡ length (cites_of (take k requests)) + length request.cites =
       ap length joined ∙ length-append (cites_of (take k requests)) request.cites in
       omega (arith, sum)
@@ -73,7 +73,7 @@ module _ {E P : Type 0} (answers : E → Answers) where
     items-begun made empty same = record { items = empty; same = same; count_is = refl }
 
     -- one more is made
-    pub items-more : (k : ℕ) (c : Cite E P) (first : FirstProperties) (c_within : k < length request.cites) (first_within : k < length firsts)
+    pub items-more : (k : ℕ) (c : RequestedCite E P) (first : FirstProperties) (c_within : k < length request.cites) (first_within : k < length firsts)
         (c_here : c ≡ get_or request.cites k c) (first_here : first ≡ get_or firsts k first)
         (made more : CiteRender E P) (i : ItemRender E P) (before now : ℕ) → ItemsMade request firsts k old made before
         → more.items ≡ made.items ++ i ∷ [] → i ≡ first_render answers request c first → more.request ≡ made.request → now ≡ counted before

@@ -5,7 +5,7 @@ use Rattle.csl_lookup.specs.NoProperties.{speculated}
 use Rattle.csl_lookup.specs.Properties.{Properties}
 use Rattle.csl_lookup.specs.declared.state.IdentifierUsage.{IdentifierUsage}
 use Rattle.csl_passes.specs.Renders.{CiteRender, ItemRender}
-use Rattle.csl_passes.specs.Request.{Cite, Request, source_of}
+use Rattle.csl_passes.specs.Request.{RequestedCite, Request, source_of}
 use Rattle.csl_passes.specs.declared.first.FirstProperties.{FirstProperties}
 use Rattle.csl_writing.specs.CiteText.{cite}
 
@@ -23,7 +23,7 @@ noted properties usage = record properties { speculative = record properties.spe
 
 module _ {E P : Type 0} (answers : E → Answers) where
   -- a cite as it is rendered first, for its purpose; which identifiers it wrote is noted
-  abbrev pub first_render : Request E P → Cite E P → FirstProperties → ItemRender E P
+  abbrev pub first_render : Request E P → RequestedCite E P → FirstProperties → ItemRender E P
   first_render request c first =
       let properties : Properties P = first_written_by first in
       let made = cite (source_of request) (answers c.entry) properties c.purpose None in

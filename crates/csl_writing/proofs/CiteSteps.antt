@@ -43,7 +43,7 @@ cite_rendered s purpose verdict a b n tree children start done out arrangement =
     }
 
 -- what is rendered, from its parts
-pub subject_known : {P : Type 0} (source : Source) (answers : Answers) (props : Properties P) (c : env.Cite) (writes : Bool)
+pub subject_known : {P : Type 0} (source : Source) (answers : Answers) (props : Properties P) (c : env.ReadProperties) (writes : Bool)
     → c ≡ cite_of props → writes ≡ (is_some (year_suffix props.speculative.disambiguation) && explicit_suffix source.style)
     → (record { source = source; answers = answers; cite = c; explicit_suffix = writes }) ≡ subject source answers props
 subject_known source answers props c writes e f = λ i. record { source = source; answers = answers; cite = e i; explicit_suffix = f i }

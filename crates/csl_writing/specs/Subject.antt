@@ -4,10 +4,9 @@ use Rattle.csl_base.specs.Answers.{Answers}
 use Rattle.csl_base.specs.Element.{NameOptions}
 use Rattle.csl_picking.specs.declared.notes.Form.{Form}
 use Rattle.csl_lookup.specs.declared.state.IbidState.{IbidState}
-use Rattle.csl_lookup.specs.Lookup.{Source, lookup, term_of}
+use Rattle.csl_lookup.specs.Lookup.{Source, lookup}
 use Rattle.csl_lookup.specs.Properties.{Payload, text_payload, own_payload, LocatorValue, Properties}
-use Rattle.csl_picking.specs.Env.{CiteLocator, Cite, Env}
-use Rattle.csl_picking.specs.Options.{applied_options}
+use Rattle.csl_picking.specs.Env.{CiteLocator, ReadProperties, Env, env_for}
 use Rattle.csl_lookup.specs.States.{year_suffix}
 use Rattle.csl_picking.specs.SuffixText.{explicit_suffix}
 
@@ -15,7 +14,7 @@ pub record Subject : Type 0 where
   pub source : Source
   -- what the entry answers
   pub answers : Answers
-  pub cite : Cite
+  pub cite : ReadProperties
   -- the cite has a year suffix, and a text that writes it stands in a layout of the style
   pub explicit_suffix : Bool
 
@@ -29,7 +28,7 @@ module _ {P : Type 0} where
   locator_read l = record { kind = l.kind; text = payload_text l.payload }
 
   -- what of a cite's properties is read
-  abbrev pub cite_of : Properties P → Cite
+  abbrev pub cite_of : Properties P → ReadProperties
   cite_of p = record {
     citation_number = p.speculative.citation_number;
     first_note_number = p.certain.first_note_number;
@@ -53,15 +52,8 @@ module _ {P : Type 0} where
 -- what a picking reads, under these name options and in this form, and whether it is an item of the
 -- bibliography
 abbrev pub env : Subject → NameOptions → Form → Bool → Env
-env s options form is_bibliography = record {
-  answers = s.answers;
-  cite = s.cite;
-  form = form;
-  term = term_of (lookup s.source) (option_map (λ l. l.kind) s.cite.locator);
-  explicit_suffix = s.explicit_suffix;
-  is_bibliography = is_bibliography;
-  options = applied_options s.source.style.options options;
-}
+env s options form is_bibliography =
+    env_for s.answers s.cite (lookup s.source) s.source.style.options options form s.explicit_suffix is_bibliography
 
 -- the cite as if it repeated no other
 abbrev pub as_different : Subject → Subject

@@ -5,7 +5,7 @@ use Rattle.csl_base.specs.StyleView.{code_view, style_view}
 use Rattle.csl_base.specs.Style.{LocaleValue}
 use Rattle.csl_base.specs.declared.entry.PlainEntry.{PlainEntry}
 use Rattle.csl_passes.specs.Class.{is_note}
-use Rattle.csl_passes.specs.Request.{Cite, Request}
+use Rattle.csl_passes.specs.Request.{RequestedCite, Request}
 use Rattle.csl_lookup.specs.Properties.{text_payload, LocatorValue}
 use Rattle.document_reading.specs.declared.requests.AskedCite.{AskedCite}
 use Rattle.document_reading.specs.declared.requests.AskedLocator.{AskedLocator}
@@ -14,7 +14,7 @@ use Rattle.document_reading.specs.declared.requests.AskedRequest.{AskedRequest}
 abbrev pub asked_locator_view : AskedLocator → LocatorValue Infallible
 asked_locator_view l = record { kind = l.kind; payload = text_payload (string_bytes l.text) }
 
-abbrev pub asked_cite_view : AskedCite → Cite PlainEntry Infallible
+abbrev pub asked_cite_view : AskedCite → RequestedCite PlainEntry Infallible
 asked_cite_view c = record {
   entry = c.entry.now;
   locator = option_map asked_locator_view c.locator;
@@ -24,7 +24,7 @@ asked_cite_view c = record {
   place = 0;
 }
 
-abbrev pub asked_cites_view : List AskedCite → List (Cite PlainEntry Infallible)
+abbrev pub asked_cites_view : List AskedCite → List (RequestedCite PlainEntry Infallible)
 asked_cites_view = map asked_cite_view
 
 -- a request, with these locales; the note number is kept where the style's cites stand in notes

@@ -7,7 +7,7 @@ use Rattle.csl_base.specs.declared.entry.PlainEntry.{PlainEntry}
 use Rattle.csl_base.specs.Style.{LocaleValue, StyleValue}
 use Rattle.csl_passes.specs.Class.{is_note}
 use Rattle.csl_lookup.specs.Properties.{text_payload, LocatorValue}
-use Rattle.csl_passes.specs.Request.{Cite, Request}
+use Rattle.csl_passes.specs.Request.{RequestedCite, Request}
 use Rattle.document_words.specs.Words.{◌>>=◌, object_with, required, where_present, flag, list_of, items_at, whole, name_form}
 use Rattle.document_words.specs.Names.{one_of}
 use Rattle.document_words.specs.Tables.{locators, purposes}
@@ -24,7 +24,7 @@ abbrev pub locator_form : Data → Option (LocatorValue Infallible)
 locator_form d = option_and_then locator_of (as_array d)
 
 -- a cite of an entry
-unfoldable pub item_form : (List ℕ → Option PlainEntry) → Data → Option (Cite PlainEntry Infallible)
+unfoldable pub item_form : (List ℕ → Option PlainEntry) → Data → Option (RequestedCite PlainEntry Infallible)
 item_form entry d = do
   o ← object_with (codes "entry" ∷ codes "locator" ∷ codes "locale" ∷ codes "hidden" ∷ codes "purpose" ∷ []) d
   cited ← required (name_form entry) (codes "entry") o

@@ -241,7 +241,7 @@ fn entry_object(value: &Value) -> Result<&Value, ReadError>
 }
 
 #[tactic(auto, unfolding(crate::specs::Entries::entry_form))]
-fn entry_of(alloc: Global, value: &Value) -> Result<PlainEntry, ReadError>
+fn read_entry(alloc: Global, value: &Value) -> Result<PlainEntry, ReadError>
     ensures { Reads (λ e. e) result (entry_form (view value.now)) }
 {
     let object = entry_object(value)?;
@@ -266,7 +266,7 @@ fn all_entries(alloc: Global, items: &[Value]) -> Result<Vec<PlainEntry>, ReadEr
 {
     let mut entries = Vec::new(alloc);
     for item in items {
-        entries.push(entry_of(alloc, item)?)?;
+        entries.push(read_entry(alloc, item)?)?;
     }
     Ok(entries)
 }

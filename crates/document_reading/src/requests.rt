@@ -65,7 +65,7 @@ pub struct AskedRequest<'e> {
 // ---- cites
 
 /// The entry whose key the value is.
-fn entry_of<'e>(entries: &EntriesByKey<'e>, value: &Value) -> Result<&'e PlainEntry, ReadError>
+fn known_entry<'e>(entries: &EntriesByKey<'e>, value: &Value) -> Result<&'e PlainEntry, ReadError>
     ensures { Reads (λ e. e.now) result (name_form (entry_in entries.now) (view value.now)) }
 {
     let Some(key) = value.as_str() else {
@@ -84,7 +84,7 @@ fn required_entry<'e>(
     ensures { Reads (λ e. e.now) result (required (name_form (entry_in entries.now)) (codes "entry") (view value.now)) }
 {
     match value.get("entry") {
-        Some(member) => entry_of(entries, member),
+        Some(member) => known_entry(entries, member),
         None => Err(ReadError::Document),
     }
 }
@@ -299,7 +299,7 @@ fn all_keyed<'e>(
 {
     let mut found = Vec::new(alloc);
     for item in items {
-        found.push(entry_of(entries, item)?)?;
+        found.push(known_entry(entries, item)?)?;
     }
     Ok(found)
 }

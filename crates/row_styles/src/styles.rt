@@ -320,10 +320,10 @@ fn numeric_bibliography(alloc: Global) -> Result<Bibliography, AllocError> {
 
 /// An entry that has a key alone.
 pub fn entry(alloc: Global, key: &str) -> Result<PlainEntry, AllocError> {
-    entry_of(alloc, key, Vec::new(alloc), Vec::new(alloc))
+    new_entry(alloc, key, Vec::new(alloc), Vec::new(alloc))
 }
 
-fn entry_of(
+fn new_entry(
     alloc: Global,
     key: &str,
     names: Vec<(NameVariable, Seq<Person>)>,
@@ -364,11 +364,11 @@ fn names_of(
 
 /// An entry of these authors.
 pub fn written_by(alloc: Global, authors: &[&str]) -> Result<PlainEntry, AllocError> {
-    entry_of(alloc, "", names_of(alloc, authors)?, Vec::new(alloc))
+    new_entry(alloc, "", names_of(alloc, authors)?, Vec::new(alloc))
 }
 
 /// An entry of one author, issued in a year.
 pub fn dated(alloc: Global, author: &str, year: i32) -> Result<PlainEntry, AllocError> {
     let dates = vec![in alloc; (DateVariable::Issued, Date { year })]?;
-    entry_of(alloc, "", names_of(alloc, &[author])?, dates)
+    new_entry(alloc, "", names_of(alloc, &[author])?, dates)
 }

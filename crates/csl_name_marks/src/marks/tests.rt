@@ -92,13 +92,13 @@ fn written(alloc: Global, marks: &Marks) -> Result<String, AllocError> {
 }
 
 /// A cite: the rule of its style, its persons, and the letters of the forms that its names start in.
-type Cite<'c> = (
+type TestCite<'c> = (
     Option<DisambiguationRule>,
     &'c [(&'c str, &'c str)],
     &'c str,
 );
 
-fn marks_of(alloc: Global, cites: &[Cite<'_>], greatest: usize) -> Result<String, AllocError> {
+fn marks_of(alloc: Global, cites: &[TestCite<'_>], greatest: usize) -> Result<String, AllocError> {
     let mut group = Vec::new(alloc);
     for (k, cite) in cites.iter().enumerate() {
         group.push(member(alloc, k, cite.0, cite.1, cite.2)?)?;
@@ -183,7 +183,7 @@ fn primary_rules_keep_no_later_given_name(rt: HostRuntime) -> Result<(), Fail> {
 
 #[test]
 fn another_cite_of_the_same_entry_counts(rt: HostRuntime) -> Result<(), Fail> {
-    let cites: [Cite<'_>; 3] = [
+    let cites: [TestCite<'_>; 3] = [
         (BY_CITE, &[("Doe", "Jane")], "S"),
         (BY_CITE, &[("Doe", "Jane")], "S"),
         (BY_CITE, &[("Doe", "John")], "S"),
@@ -194,7 +194,7 @@ fn another_cite_of_the_same_entry_counts(rt: HostRuntime) -> Result<(), Fail> {
 
 #[test]
 fn persons_at_every_place_raise(rt: HostRuntime) -> Result<(), Fail> {
-    let cites: [Cite<'_>; 2] = [
+    let cites: [TestCite<'_>; 2] = [
         (BY_CITE, &[("Doe", "Jane")], "S"),
         (BY_CITE, &[("Roe", "Rex"), ("Doe", "Jim")], "SC"),
     ];
@@ -204,7 +204,7 @@ fn persons_at_every_place_raise(rt: HostRuntime) -> Result<(), Fail> {
 
 #[test]
 fn equal_initials_outweigh_others(rt: HostRuntime) -> Result<(), Fail> {
-    let cites: [Cite<'_>; 3] = [
+    let cites: [TestCite<'_>; 3] = [
         (BY_CITE, &[("Doe", "Anna")], "S"),
         (BY_CITE, &[("Doe", "Bert")], "S"),
         (BY_CITE, &[("Doe", "Alan")], "I"),
