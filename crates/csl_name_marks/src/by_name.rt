@@ -29,8 +29,8 @@ pub(crate) struct Holder {
     pub(crate) place: (usize, usize),
 }
 
-/// For each shared name as many of its holders as tell, for any person and place, whether another
-/// person of that name is held elsewhere: four of them at most.
+/// For each shared name holders enough to tell, for any person and place, whether another person of
+/// that name is held elsewhere.
 pub(crate) type ByName = HashMap<SharedName, Vec<Holder>>;
 
 /// Whether another person than this one is held elsewhere than at this place.

@@ -1,9 +1,9 @@
 //! What answers cost, and how their entries are numbered and told apart in the end.
-use csl_base::entry::{Date, EntryLike, PlainEntry};
+use csl_base::entry::{Date, EntryLike, Person, PlainEntry};
 use csl_base::names::{DisambiguatedNameForm, NameDisambiguationProperties};
 use csl_base::seq::Seq;
-use csl_base::style::IndependentStyle;
-use csl_base::taxonomy::DateVariable;
+use csl_base::style::{DisambiguationRule, IndependentStyle};
+use csl_base::taxonomy::{DateVariable, NameVariable};
 use csl_base::text::Text;
 use csl_driver::account::Account;
 use csl_driver::driver::BibliographyDriver;
@@ -206,5 +206,78 @@ fn added_names(rt: HostRuntime) -> Result<(), Fail> {
     let account = account_of(rt.alloc(), &style, &entries, &[0, 1])?;
     let states = [two_written(rt.alloc())?, two_written(rt.alloc())?];
     assert!(rt; tells(&account, 6, 1, &states, &[0, 1]));
+    Ok(())
+}
+
+/// An entry of one author with a given name, issued in 1999.
+fn signed(alloc: Global, key: &str, given_name: &str) -> Result<PlainEntry, AllocError> {
+    let author = Person {
+        name: Text::new(String::from_str(alloc, "Doe")?),
+        given_name: Some(Text::new(String::from_str(alloc, given_name)?)),
+    };
+    let authors = Seq::new(vec![in alloc; author]?);
+    let mut signed = issued(alloc, key, &[], 1999)?;
+    signed.names = Seq::new(vec![in alloc; (NameVariable::Author, authors)]?);
+    Ok(signed)
+}
+
+/// Two entries of which only the given names differ.
+fn namesakes(alloc: Global) -> Result<Vec<PlainEntry>, AllocError> {
+    let mut entries = Vec::new(alloc);
+    entries.push(signed(alloc, "a", "Jane")?)?;
+    entries.push(signed(alloc, "b", "John")?)?;
+    Ok(entries)
+}
+
+/// A style that writes family names alone, and asks for given names to tell cites apart.
+fn asking_for_given_names(alloc: Global) -> Result<IndependentStyle, AllocError> {
+    let mut style = author_date(alloc)?;
+    let citation = &mut style.citation;
+    citation.disambiguate_add_givenname = true;
+    citation.givenname_disambiguation_rule = DisambiguationRule::AllNames;
+    citation.disambiguate_add_year_suffix = true;
+    Ok(style)
+}
+
+/// The state of an entry of one author whose family name is written.
+fn family_name_written(alloc: Global) -> Result<DisambiguateState, AllocError> {
+    let forms = vec![in alloc; DisambiguatedNameForm::Short]?;
+    Ok(DisambiguateState::NameDisambiguation(NameDisambiguationProperties {
+        forms: Seq::new(forms),
+    }))
+}
+
+#[test]
+fn names_marked_again(rt: HostRuntime) -> Result<(), Fail> {
+    let style = asking_for_given_names(rt.alloc())?;
+    let entries = namesakes(rt.alloc())?;
+    let account = account_of(rt.alloc(), &style, &entries, &[0, 1])?;
+    let states = [
+        family_name_written(rt.alloc())?,
+        family_name_written(rt.alloc())?,
+    ];
+    assert!(rt; tells(&account, 10, 3, &states, &[0, 1]));
+    Ok(())
+}
+
+/// Two entries whose cites differ.
+fn two_years(alloc: Global) -> Result<Vec<PlainEntry>, AllocError> {
+    let mut entries = Vec::new(alloc);
+    entries.push(issued(alloc, "a", &["Doe"], 1999)?)?;
+    entries.push(issued(alloc, "b", &["Roe"], 2000)?)?;
+    Ok(entries)
+}
+
+#[test]
+fn order_without_bibliography(rt: HostRuntime) -> Result<(), Fail> {
+    let style = author_date(rt.alloc())?;
+    let entries = two_years(rt.alloc())?;
+    let [a, b] = entries.as_slice() else {
+        return Err(Fail::new("not two entries"));
+    };
+    let driver = taken(rt.alloc(), &style, &entries, &[0, 1])?;
+    let (_answer, account) = driver.finish_counted(ordered(&style, &[b, a]))?;
+    let none = [DisambiguateState::None, DisambiguateState::None];
+    assert!(rt; tells(&account, 4, 0, &none, &[0, 1]));
     Ok(())
 }
