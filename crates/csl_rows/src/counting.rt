@@ -15,7 +15,7 @@ use csl_driver::state::DisambiguateState;
 use csl_writing::counter::Renders;
 use csl_writing::lookup::StyleContext;
 use csl_writing::properties::CiteProperties;
-use row_styles::styles::{author_date, entry, no_affixes, no_formatting, text_of};
+use row_styles::styles::{author_date, entry, no_affixes, no_formatting, text_element};
 use std::alloc::{AllocError, Global};
 use std::cell::Cell;
 use std::test::Fail;
@@ -95,7 +95,7 @@ fn titles_and_years(alloc: Global) -> Result<IndependentStyle, AllocError> {
         formatting: no_formatting(),
         display: None,
     };
-    let title = text_of(TextTarget::Standard(StandardVariable::Title));
+    let title = text_element(TextTarget::Standard(StandardVariable::Title));
     style.citation.layout.elements = vec![in alloc; title, year]?;
     style.citation.disambiguate_add_year_suffix = true;
     Ok(style)

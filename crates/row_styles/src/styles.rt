@@ -45,7 +45,7 @@ fn text(alloc: Global, text: &str) -> Result<Option<String>, AllocError> {
 }
 
 /// A text element of this target and nothing else.
-pub fn text_of(target: TextTarget) -> LayoutRenderingElement {
+pub fn text_element(target: TextTarget) -> LayoutRenderingElement {
     LayoutRenderingElement::Text {
         target,
         quotes: false,
@@ -58,12 +58,12 @@ pub fn text_of(target: TextTarget) -> LayoutRenderingElement {
 
 /// A text element that writes the value.
 pub fn value(alloc: Global, value: &str) -> Result<LayoutRenderingElement, AllocError> {
-    Ok(text_of(TextTarget::Value(String::from_str(alloc, value)?)))
+    Ok(text_element(TextTarget::Value(String::from_str(alloc, value)?)))
 }
 
 /// A text element that calls the macro of this name.
 pub fn call(alloc: Global, name: &str) -> Result<LayoutRenderingElement, AllocError> {
-    Ok(text_of(TextTarget::Macro(String::from_str(alloc, name)?)))
+    Ok(text_element(TextTarget::Macro(String::from_str(alloc, name)?)))
 }
 
 /// The children, with this delimiter between them.

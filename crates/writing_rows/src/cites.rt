@@ -24,7 +24,7 @@ use csl_writing::purpose::CitePurpose;
 use csl_writing::state::{CollapseVerdict, DisambiguateState, IbidState, IdentifierUsage};
 use row_styles::styles::{
     author_date, authors, bibliography_of, dated, entry, layout_of, no_affixes, number, numeric,
-    text_of, value, writing, written_by,
+    text_element, value, writing, written_by,
 };
 use std::alloc::{AllocError, Global};
 use std::test::Fail;
@@ -145,7 +145,7 @@ fn shown_item(
 /// A style whose bibliography writes labels.
 fn labelling(alloc: Global) -> Result<IndependentStyle, AllocError> {
     let mut style = numeric(alloc)?;
-    let label = text_of(TextTarget::Standard(StandardVariable::CitationLabel));
+    let label = text_element(TextTarget::Standard(StandardVariable::CitationLabel));
     style.bibliography = Some(bibliography_of(layout_of(alloc, label)?));
     Ok(style)
 }
@@ -226,7 +226,7 @@ fn verdicts_cut_a_cite(rt: HostRuntime) -> Result<(), Fail> {
 /// Authors, years, and behind them the suffix.
 fn suffixing(alloc: Global) -> Result<IndependentStyle, AllocError> {
     let mut style = author_date(alloc)?;
-    let suffix = text_of(TextTarget::Standard(StandardVariable::YearSuffix));
+    let suffix = text_element(TextTarget::Standard(StandardVariable::YearSuffix));
     style.citation.layout.elements.push(suffix)?;
     Ok(style)
 }
@@ -437,7 +437,7 @@ fn pieces(alloc: Global) -> Result<ChunkedString, AllocError> {
 fn titled(alloc: Global) -> Result<Vec<ElemChild>, Fail> {
     let mut cited = entry(alloc, "a")?;
     cited.texts = Seq::new(vec![in alloc; (StandardVariable::Title, pieces(alloc)?)]?);
-    let title = text_of(TextTarget::Standard(StandardVariable::Title));
+    let title = text_element(TextTarget::Standard(StandardVariable::Title));
     children(alloc, title, &cited, &in_state(DisambiguateState::None))
 }
 
