@@ -1,14 +1,17 @@
 #!/usr/bin/env python3
 """How long cite_run takes, and how much memory, as documents grow.
 
-    bench/bench.py [--program PATH] [--kinds NAME,..] [--most N] [--runs N]
+    bench/bench.py [--program PATH] [--kinds NAME,..] [--most N] [--runs N] [--instructions]
 
 Makes documents of n = 1,000, 4,000, 16,000 and 64,000 (up to --most) of each kind, runs the program on each, and prints
 a row for each: the document's size, the best processor time of --runs runs, the peak of memory, the growth of the time from the n
 before (from n to 4n; linear is 4), and the ratio of the time to that of reading alone. Reading alone is the same program
 on the same document with one more key at the top, which it reads as JSON whole and then refuses.
 
-Only Python's standard library and the built program are used. Build it first: (cd crates/cite_run && rt run < stdin).
+With --instructions it counts those that the program executes (one run each, by valgrind's callgrind, some fifty times as
+slow), in millions, in place of the time: these don't depend on caches and on what else the machine does.
+
+Only Python's standard library and the built program are used, and valgrind with --instructions. Build it first: (cd crates/cite_run && rt run < stdin).
 Documents are made in a process of their own, since a child's peak of memory begins with that of its parent: peaks below
 some 12 MiB are this script's.
 """
@@ -16,6 +19,7 @@ import argparse
 import json
 import os
 import pathlib
+import re
 import subprocess
 import sys
 import tempfile
@@ -23,7 +27,7 @@ import tempfile
 ROOT = pathlib.Path(__file__).resolve().parent.parent
 SIZES = [1_000, 4_000, 16_000, 64_000]
 DOCUMENT_REFUSED = 2
-LINE = "{:<18} {:>7} {:>9} {:>9} {:>9} {:>7} {:>8}"
+LINE = "{:<20} {:>7} {:>9} {:>9} {:>9} {:>7} {:>8}"
 
 
 def numeric_style():
@@ -114,6 +118,57 @@ def citing(children, **ways):
 
 NAMES = {"kind": "names", "variables": ["author"], "options": {"and": "symbol", "name_form": "short"}}
 YEAR = {"kind": "date", "variable": "issued"}
+
+
+def called(requests, more=0, terms=1):
+    """Requests of two persons and a year, which macros of the style write, behind so many more macros of a dozen elements
+    that nothing calls; the word between the persons is the last of so many terms."""
+    made = author_date(requests)
+    named = {**NAMES, "options": {"and": "text", "name_form": "short"}}
+    unused = [{"name": f"unused{i}", "children": [{"kind": "text", "value": "text"}] * 12} for i in range(more)]
+    style = citing([{"kind": "text", "macro": "authors"}, {"kind": "text", "macro": "year"}])
+    style["macros"] = [*unused, {"name": "authors", "children": [named]}, {"name": "year", "children": [YEAR]}]
+    pages = [{"name": "page", "single": "p."}] * (terms - 1)
+    made["locales"] = [{"lang": "en-US", "terms": [*pages, {"name": "and", "single": "and"}]}]
+    made["styles"]["s"] = style
+    return made
+
+
+def few_macros(n):
+    """n requests in a style of three macros, with one term."""
+    return called(n, more=1)
+
+
+def many_macros(n):
+    """n requests in a style of 150 macros of a dozen elements, with 260 terms."""
+    return called(n, more=148, terms=260)
+
+
+def requests_and_macros(n):
+    """n requests in a style of n macros."""
+    return called(n, more=n - 2)
+
+
+def requests_and_terms(n):
+    """n requests with a locale of n terms."""
+    return called(n, terms=n)
+
+
+def macro_chain(n):
+    """One request in a style whose layout calls the first of n macros, and each of these the next."""
+    made = macros(n)
+    layout = made["styles"]["s"]["citation"]
+    layout["elements"] = [{"kind": "text", "macro": "macro0"}, *layout["elements"]]
+    return made
+
+
+def macro_calls(n):
+    """One request in a style whose layout calls n macros."""
+    made = macro_chain(n)
+    style = made["styles"]["s"]
+    style["macros"] = [{"name": f"macro{i}", "children": [{"kind": "text", "value": "text"}]} for i in range(n)]
+    style["citation"]["elements"] = [{"kind": "text", "macro": f"macro{i}"} for i in range(n)]
+    return made
 
 
 def ambiguous_pairs(n):
@@ -240,6 +295,7 @@ KINDS = {
         numeric, all_distinct, one_entry, one_request, handed_order, macros, author_date,
         ambiguous_pairs, one_author, one_family, without_text, interleaved, collapsing,
         one_text, last_person_differs, greatest_distance, whole_author_date, whole_numeric, whole_notes,
+        few_macros, many_macros, requests_and_macros, requests_and_terms, macro_chain, macro_calls,
     )
 }
 
@@ -253,12 +309,22 @@ def run(program, path):
 
 
 def best(program, path, runs, wanted):
-    """The best time and the peak of memory of some runs on a document."""
+    """The best time in milliseconds and the peak of memory of some runs on a document."""
     results = [run(program, path) for _ in range(runs)]
     for _, _, status in results:
         if status != wanted:
             sys.exit(f"bench: {path}: the program ended with status {status}, not {wanted}")
-    return min(seconds for seconds, _, _ in results), max(peak for _, peak, _ in results)
+    return min(seconds for seconds, _, _ in results) * 1000, max(peak for _, peak, _ in results)
+
+
+def count(program, path, wanted):
+    """Millions of instructions of one run on a document."""
+    command = ["valgrind", "--tool=callgrind", "--callgrind-out-file=/dev/null", program]
+    with open(path, "rb") as source:
+        child = subprocess.run(command, stdin=source, stdout=subprocess.DEVNULL, stderr=subprocess.PIPE, text=True)
+    if child.returncode != wanted:
+        sys.exit(f"bench: {path}: the program ended with status {child.returncode}, not {wanted}")
+    return int(re.search(r"Collected : (\d+)", child.stderr).group(1)) / 1e6
 
 
 def make(folder, name, n):
@@ -274,13 +340,16 @@ def measure(folder, chosen, name):
     for n in (size for size in SIZES if size <= chosen.most):
         subprocess.run([sys.executable, __file__, "--make", str(folder), name, str(n)], check=True)
         whole, refused = folder / "whole", folder / "refused"
-        seconds, peak = best(chosen.program, whole, chosen.runs, 0)
-        reading, _ = best(chosen.program, refused, chosen.runs, DOCUMENT_REFUSED)
-        growth = f"{seconds / before:.1f}" if before else ""
+        if chosen.instructions:
+            cost, peak = count(chosen.program, whole, 0), 0
+            reading = count(chosen.program, refused, DOCUMENT_REFUSED)
+        else:
+            cost, peak = best(chosen.program, whole, chosen.runs, 0)
+            reading, _ = best(chosen.program, refused, chosen.runs, DOCUMENT_REFUSED)
+        growth = f"{cost / before:.2f}" if before else ""
         size = whole.stat().st_size // 1024
-        times = f"{seconds * 1000:.1f}", f"{peak:.1f}", growth, f"{seconds / reading:.1f}"
-        print(LINE.format(name, n, size, *times), flush=True)
-        before = seconds
+        print(LINE.format(name, n, size, f"{cost:.1f}", f"{peak:.1f}", growth, f"{cost / reading:.1f}"), flush=True)
+        before = cost
 
 
 def main():
@@ -289,12 +358,14 @@ def main():
     parser.add_argument("--kinds", default=",".join(KINDS), help="which kinds, joined by commas")
     parser.add_argument("--most", type=int, default=SIZES[-1], help="the greatest n")
     parser.add_argument("--runs", type=int, default=3)
+    parser.add_argument("--instructions", action="store_true", help="count these in place of the time")
     parser.add_argument("--make", nargs=3, metavar=("FOLDER", "KIND", "N"), help=argparse.SUPPRESS)
     chosen = parser.parse_args()
     if chosen.make:
         folder, name, n = chosen.make
         return make(pathlib.Path(folder), name, int(n))
-    print(LINE.format("kind", "n", "KiB", "ms", "MiB", "growth", "reading"))
+    measure_name = "million" if chosen.instructions else "ms"
+    print(LINE.format("kind", "n", "KiB", measure_name, "MiB", "growth", "reading"))
     with tempfile.TemporaryDirectory() as folder:
         for name in chosen.kinds.split(","):
             measure(pathlib.Path(folder), chosen, name)
