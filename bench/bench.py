@@ -8,10 +8,11 @@ a row for each: the document's size, the best processor time of --runs runs, the
 before (from n to 4n; linear is 4), and the ratio of the time to that of reading alone. Reading alone is the same program
 on the same document with one more key at the top, which it reads as JSON whole and then refuses.
 
-With --instructions it counts those that the program executes (one run each, by valgrind's callgrind, some fifty times as
-slow), in millions, in place of the time: these don't depend on caches and on what else the machine does.
+With --instructions it counts the millions of instructions that the program executes (one run each, by valgrind's callgrind,
+much slower) in place of time and peak: these don't depend on caches and on what else the machine does.
 
-Only Python's standard library and the built program are used, and valgrind with --instructions. Build it first: (cd crates/cite_run && rt run < stdin).
+Only Python's standard library and the built program are used, and valgrind with --instructions. Build the program first:
+(cd crates/cite_run && rt run < stdin).
 Documents are made in a process of their own, since a child's peak of memory begins with that of its parent: peaks below
 some 12 MiB are this script's.
 """
@@ -164,11 +165,10 @@ def macro_chain(n):
 
 def macro_calls(n):
     """One request in a style whose layout calls n macros."""
-    made = macro_chain(n)
-    style = made["styles"]["s"]
+    style = numeric_style()
     style["macros"] = [{"name": f"macro{i}", "children": [{"kind": "text", "value": "text"}]} for i in range(n)]
     style["citation"]["elements"] = [{"kind": "text", "macro": f"macro{i}"} for i in range(n)]
-    return made
+    return document(style, [{"key": "entry"}], [["entry"]])
 
 
 def ambiguous_pairs(n):
@@ -341,14 +341,15 @@ def measure(folder, chosen, name):
         subprocess.run([sys.executable, __file__, "--make", str(folder), name, str(n)], check=True)
         whole, refused = folder / "whole", folder / "refused"
         if chosen.instructions:
-            cost, peak = count(chosen.program, whole, 0), 0
+            cost, peak = count(chosen.program, whole, 0), None
             reading = count(chosen.program, refused, DOCUMENT_REFUSED)
         else:
             cost, peak = best(chosen.program, whole, chosen.runs, 0)
             reading, _ = best(chosen.program, refused, chosen.runs, DOCUMENT_REFUSED)
         growth = f"{cost / before:.2f}" if before else ""
         size = whole.stat().st_size // 1024
-        print(LINE.format(name, n, size, f"{cost:.1f}", f"{peak:.1f}", growth, f"{cost / reading:.1f}"), flush=True)
+        memory = "" if peak is None else f"{peak:.1f}"
+        print(LINE.format(name, n, size, f"{cost:.1f}", memory, growth, f"{cost / reading:.1f}"), flush=True)
         before = cost
 
 
@@ -364,8 +365,8 @@ def main():
     if chosen.make:
         folder, name, n = chosen.make
         return make(pathlib.Path(folder), name, int(n))
-    measure_name = "million" if chosen.instructions else "ms"
-    print(LINE.format("kind", "n", "KiB", measure_name, "MiB", "growth", "reading"))
+    unit = "million" if chosen.instructions else "ms"
+    print(LINE.format("kind", "n", "KiB", unit, "MiB", "growth", "reading"))
     with tempfile.TemporaryDirectory() as folder:
         for name in chosen.kinds.split(","):
             measure(pathlib.Path(folder), chosen, name)
