@@ -27,8 +27,12 @@ pub fn body_of<'a>(macros: &'a Vec<CslMacro>, name: &str) -> Option<&'a Vec<Layo
     None
 }
 
-// The place of the first macro of each name.
-fn first_places<'a>(
+/// The place of the first macro of each name.
+///
+/// # Errors
+///
+/// Where memory is refused.
+pub fn first_places<'a>(
     alloc: Global,
     macros: &'a Vec<CslMacro>,
 ) -> Result<HashMap<&'a str, usize>, AllocError>

@@ -1,24 +1,37 @@
 //! Look-up of terms in the locales of a style (CSL 1.0.2, locale fallback).
-ghost use Rattle.std.specs.Prelude.{◌≡◌, map, option_map, option_to_list, bytes_eq};
+ghost use Rattle.std.specs.Prelude.{◌≡◌, IfOk, map, option_map, option_to_list, bytes_eq};
 ghost use Rattle.std.specs.Option.{option_eq};
+ghost use Rattle.csl_base.specs.ElementView.{elements_view};
+ghost use Rattle.csl_base.specs.Ring.{body_of, HasNoRing};
 ghost use Rattle.csl_base.specs.StyleView.{code_view, locale_view, style_view, term_view};
 ghost use Rattle.csl_lookup.specs.Lookup as found;
 ghost use Rattle.csl_lookup.specs.FirstAnswer.{Gives, FirstAnswer};
-ghost use Rattle.csl_lookup.specs.SourceView.{source_view, lookup_view};
+ghost use Rattle.csl_styles.specs.MadeOf.{IsOf, IsOf-prop};
+ghost use Rattle.csl_styles.specs.SoundView.{sound_view};
+ghost use Rattle.csl_styles.specs.SuffixText.{explicit_suffix};
 
+use csl_base::element::LayoutRenderingElement;
 use csl_base::locale::{Locale, LocaleCode, LocalizedTerm};
+use csl_base::ring::body_of;
 use csl_base::style::IndependentStyle;
 use csl_base::taxonomy::{Locator, NumberVariable, Term, TermForm};
+use csl_styles::sound::SoundStyle;
+use csl_styles::suffix_text::explicit_suffix;
+use std::alloc::{AllocError, Global};
 
 /// A style, with the locales that it is written in.
 #[derive(Clone, Copy)]
 pub struct StyleLocales<'a> {
     pub style: &'a IndependentStyle,
+    sound: Option<&'a SoundStyle<'a>>,
     locale: Option<&'a LocaleCode>,
     files: &'a [Locale],
+    ghost same: { IsOf sound style.now } by { IsOf-prop sound style.now },
 }
 
 impl<'a> StyleLocales<'a> {
+    ghost use Rattle.csl_lookup.specs.SourceView.{source_view, lookup_view};
+
     /// The style in this locale, or in its own where there is none; `files` are asked for what the
     /// style's locales don't have.
     pub fn new(
@@ -31,8 +44,52 @@ impl<'a> StyleLocales<'a> {
     {
         StyleLocales {
             style,
+            sound: None,
             locale,
             files,
+        }
+    }
+
+    /// As `new` makes it, of a prepared style: it is what the style is asked of.
+    pub fn of_sound(
+        sound: &'a SoundStyle<'a>,
+        locale: Option<&'a LocaleCode>,
+        files: &'a [Locale],
+    ) -> StyleLocales<'a>
+        ensures { source_view result
+            ≡ record { style = sound_view sound.now; locale = option_map (λ code. code_view code.now) locale.entry; files = map locale_view files.now } }
+    {
+        StyleLocales {
+            style: sound.style(),
+            sound: Some(sound),
+            locale,
+            files,
+        }
+    }
+
+    /// The children of the style's first macro of a name; none without such a macro.
+    pub fn body_of(&self, name: &str) -> Option<&'a Vec<LayoutRenderingElement>>
+        ensures { option_map (λ v. elements_view v.now.items) result ≡ body_of name.now (source_view self.now).style.macros }
+    {
+        match self.sound {
+            Some(sound) => sound.body_of(name),
+            None => body_of(&self.style.macros, name),
+        }
+    }
+
+    /// Whether a year-suffix text stands in either layout of the style, at any depth, through macros
+    /// too.
+    ///
+    /// # Errors
+    ///
+    /// Where memory is refused.
+    pub fn explicit_suffix(&self, alloc: Global) -> Result<bool, AllocError>
+        requires { HasNoRing (source_view self.now).style.macros }
+        ensures { IfOk result (λ b. b ≡ explicit_suffix (source_view self.now).style) }
+    {
+        match self.sound {
+            Some(sound) => Ok(sound.explicit_suffix()),
+            None => explicit_suffix(alloc, self.style),
         }
     }
 

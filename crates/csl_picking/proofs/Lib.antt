@@ -5,11 +5,7 @@ pub mod FormsLength
 pub mod NameBlocks
 pub mod Tokens
 pub mod MacroCalls
-pub mod NameLists
 pub mod Agree
-pub mod Settled
 pub mod Nesting
-pub mod Gathering
-pub mod Suffixes
 pub mod WorkSteps
 pub mod TextView

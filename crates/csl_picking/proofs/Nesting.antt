@@ -8,7 +8,7 @@ use Rattle.csl_picking.specs.Pieces.{NodeValue}
 use Rattle.csl_picking.specs.Picked.{Picked, nothing, in_macro}
 use Rattle.csl_picking.specs.Pick.{Call, body_picked, pick_all_with, called_macro, call_of, MacrosUnfold}
 use Rattle.csl_picking.proofs.Agree.{AgreeOn, agrees_all}
-use Rattle.csl_picking.proofs.Settled.{meaning, settled}
+use Rattle.csl_styles.proofs.Settled.{meaning, settled}
 
 module _ (env : Env) (ms : List Macro) where
   -- what a call gives, where `call` says it of the calls inside

@@ -18,5 +18,3 @@ pub mod Pick
 pub mod InputView
 pub mod Work
 pub mod HeldView
-pub mod SuffixText
-pub mod Gathered

@@ -12,5 +12,4 @@ pub mod names;
 pub mod notes;
 pub mod picking;
 pub mod pieces;
-pub mod suffix_text;
 mod variables;

@@ -21,7 +21,6 @@ use crate::variables::{meant, pick_date, pick_variable, pick_words};
 use csl_base::element::{Affixes, ChooseBranch, LayoutRenderingElement, TextTarget};
 use csl_base::entry::EntryLike;
 use csl_base::formatting::{Display, StyleFormatting};
-use csl_base::ring::body_of;
 use csl_base::taxonomy::Variable;
 use std::alloc::AllocError;
 
@@ -261,7 +260,7 @@ fn step_macro<'a, T: EntryLike>(
     if depth == 0 {
         return Ok(());
     }
-    match body_of(&input.setting.context.style.macros, name) {
+    match input.setting.context.body_of(name) {
         None => Ok(()),
         Some(elements) => {
             let opened = picking.open(shape.node(None))?;

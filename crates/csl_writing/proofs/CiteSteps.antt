@@ -15,7 +15,7 @@ use Rattle.csl_lookup.specs.Properties.{Properties}
 use Rattle.csl_writing.specs.StepsWritten.{steps_written, finished, tree_of, IsCarriedOut}
 use Rattle.csl_writing.specs.Subject.{Subject, subject, cite_of}
 use Rattle.csl_lookup.specs.States.{year_suffix}
-use Rattle.csl_picking.specs.SuffixText.{explicit_suffix}
+use Rattle.csl_styles.specs.SuffixText.{explicit_suffix}
 use Rattle.csl_context.specs.WritingState.{State, begun, flushed}
 
 -- a flushed tree is the finished one

@@ -8,7 +8,7 @@ use Rattle.csl_lookup.specs.Lookup.{Source, lookup}
 use Rattle.csl_lookup.specs.Properties.{Payload, text_payload, own_payload, LocatorValue, Properties}
 use Rattle.csl_picking.specs.Env.{CiteLocator, ReadProperties, Env, env_for}
 use Rattle.csl_lookup.specs.States.{year_suffix}
-use Rattle.csl_picking.specs.SuffixText.{explicit_suffix}
+use Rattle.csl_styles.specs.SuffixText.{explicit_suffix}
 
 pub record Subject : Type 0 where
   pub source : Source

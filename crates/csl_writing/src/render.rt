@@ -9,7 +9,7 @@ ghost use Rattle.csl_writing.specs.ContextSource.{context_source};
 ghost use Rattle.csl_writing.specs.Subject as plain;
 ghost use Rattle.csl_writing.specs.SubjectView.{subject_view};
 ghost use Rattle.csl_lookup.specs.States.{year_suffix};
-ghost use Rattle.csl_picking.specs.SuffixText as suffixes;
+ghost use Rattle.csl_styles.specs.SuffixText as suffixes;
 
 use crate::cite::Cite;
 use crate::counter::Renders;
@@ -29,7 +29,6 @@ use csl_lookup::properties::CiteProperties;
 use csl_lookup::purpose::CitePurpose;
 use csl_lookup::state::{CollapseVerdict, DisambiguateState};
 use csl_picking::notes::Form;
-use csl_picking::suffix_text::explicit_suffix;
 use std::alloc::{AllocError, Global};
 
 /// Whether the second fields of the bibliography are aligned.
@@ -114,7 +113,7 @@ impl<'a> StyleContext<'a> {
         ensures { IfOk result (λ b. b ≡ (is_some (year_suffix state.now) && suffixes.explicit_suffix (context_source self.now).style)) }
     {
         match state {
-            DisambiguateState::YearSuffix(_) => explicit_suffix(alloc, self.locales.style),
+            DisambiguateState::YearSuffix(_) => self.locales.explicit_suffix(alloc),
             DisambiguateState::None => Ok(false),
             DisambiguateState::NameDisambiguation(_) => Ok(false),
             DisambiguateState::Choose => Ok(false),

@@ -4,8 +4,8 @@ ghost use Rattle.csl_base.specs.ElementView.{element_view, elements_view, branch
 ghost use Rattle.csl_base.specs.StyleView.{style_view};
 ghost use Rattle.csl_base.specs.Calls.{calls_of_all};
 ghost use Rattle.csl_base.specs.Ring.{has_name, body_of, macro_calls, HasNoRing};
-ghost use Rattle.csl_picking.specs.Gathered.{add_new, add_each};
-ghost use Rattle.csl_picking.specs.SuffixText.{no_call, suffix_in_body, suffix_in, suffix_in_all, suffix_in_branches, suffix_stands, explicit_suffix, SuffixesUnfold};
+ghost use Rattle.csl_styles.specs.Gathered.{add_new, add_each};
+ghost use Rattle.csl_styles.specs.SuffixText.{no_call, suffix_in_body, suffix_in, suffix_in_all, suffix_in_branches, suffix_stands, explicit_suffix, SuffixesUnfold};
 
 use csl_base::calls::add_all_calls;
 use csl_base::element::{ChooseBranch, CslMacro, LayoutRenderingElement, TextTarget};

@@ -8,7 +8,7 @@ use Rattle.std.proofs.lemmas.Bool.{false≢true}
 use Rattle.csl_base.specs.Element.{Name, Elements, Macro}
 use Rattle.csl_base.specs.Calls.{Names}
 use Rattle.csl_base.specs.Ring.{has_name, body_of, Calls, IsWalk, HasNoRing}
-use Rattle.csl_picking.proofs.NameLists.{or-left, or-right, left, left-lt, left-empty}
+use Rattle.csl_styles.proofs.NameLists.{or-left, or-right, left, left-lt, left-empty}
 
 -- a walk, and one call more
 walk-more : (ms : List Macro) (a : Name) (between : Names) (b c : Name) → IsWalk ms a between b → Calls ms b c → IsWalk ms a (between ++ b ∷ []) c

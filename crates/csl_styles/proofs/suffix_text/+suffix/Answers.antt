@@ -1,6 +1,6 @@
 use Rattle.std.proofs.Common.{rules}
 use Rattle.csl_base.proofs.Weight.{lt-all, lt-branches, lt-last}
-use Rattle.csl_picking.proofs.suffix_text.+suffix.Goals as goal
+use Rattle.csl_styles.proofs.suffix_text.+suffix.Goals as goal
 
 pub have_suffix-has_suffix-requires : goal.have_suffix-has_suffix-requires
 have_suffix-has_suffix-requires t c =

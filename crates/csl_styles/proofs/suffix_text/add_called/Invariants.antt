@@ -1,7 +1,7 @@
 use Rattle.std.proofs.Common.{◌≡◌, map, drop}
 use Rattle.csl_base.specs.ElementView.{macros_view}
-use Rattle.csl_picking.specs.Gathered.{add_each}
-use Rattle.csl_picking.proofs.suffix_text.add_called.Given as goal
+use Rattle.csl_styles.specs.Gathered.{add_each}
+use Rattle.csl_styles.proofs.suffix_text.add_called.Given as goal
 
 abbrev pub invariant-loop-each : goal.invariant-loop-each
 invariant-loop-each l =

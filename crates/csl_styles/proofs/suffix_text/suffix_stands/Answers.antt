@@ -4,9 +4,9 @@ use Rattle.csl_base.specs.Element.{Name}
 use Rattle.csl_base.specs.Calls.{calls_of_all}
 use Rattle.csl_base.specs.Ring.{macro_calls}
 use Rattle.csl_base.specs.ElementView.{elements_view, macros_view}
-use Rattle.csl_picking.proofs.Gathering.{falls}
-use Rattle.csl_picking.proofs.Suffixes.{IsGathered, gathered-start, gathered-more, at_once, at_name, at_end}
-use Rattle.csl_picking.proofs.suffix_text.suffix_stands.Goals as goal
+use Rattle.csl_styles.proofs.Gathering.{falls}
+use Rattle.csl_styles.proofs.Suffixes.{IsGathered, gathered-start, gathered-more, at_once, at_name, at_end}
+use Rattle.csl_styles.proofs.suffix_text.suffix_stands.Goals as goal
 
 name_at : (xs : List (Bor Name)) (i : ℕ) (x : Bor Name) → i < length xs → x ≡ get_or xs i x → x.now ≡ get_or (map (λ s. s.now) xs) i x.now
 name_at xs i x h e = ap (λ s. s.now) e ∙ sym (get_or-map (λ (s : Bor Name). s.now) xs i x x.now h)

@@ -9,11 +9,11 @@ use Rattle.std.proofs.lemmas.List.{take_all, take_more, take-append-le}
 use Rattle.csl_base.specs.Element.{Name, Target, value_target, standard_target, macro_target, term_target, Element, text_element, number_element, date_element, names_element, group_element, choose_element, Elements, no_elements, element, Branches, otherwise, branch, Macro}
 use Rattle.csl_base.specs.Calls.{Names, target_calls, calls, calls_of_all, calls_of_branches}
 use Rattle.csl_base.specs.Ring.{has_name, body_of, body_calls, macro_calls, Calls, HasNoRing}
-use Rattle.csl_picking.specs.Gathered.{add_each}
-use Rattle.csl_picking.specs.SuffixText.{suffix_in_target, suffix_in, suffix_in_all, suffix_in_branches, no_call, suffix_in_body, suffix_in_macro, suffix_stands, suffix_called, SuffixesUnfold}
-use Rattle.csl_picking.proofs.NameLists.{or-left, or-right, or-either, has_name-either, has_name-same}
-use Rattle.csl_picking.proofs.Settled.{meaning, settled}
-use Rattle.csl_picking.proofs.Gathering.{is_added, grows, has_name-at}
+use Rattle.csl_styles.specs.Gathered.{add_each}
+use Rattle.csl_styles.specs.SuffixText.{suffix_in_target, suffix_in, suffix_in_all, suffix_in_branches, no_call, suffix_in_body, suffix_in_macro, suffix_stands, suffix_called, SuffixesUnfold}
+use Rattle.csl_styles.proofs.NameLists.{or-left, or-right, or-either, has_name-either, has_name-same}
+use Rattle.csl_styles.proofs.Settled.{meaning, settled}
+use Rattle.csl_styles.proofs.Gathering.{is_added, grows, has_name-at}
 
 or-false : (b : Bool) → b ≡ (b || false)
 or-false true = refl

@@ -1,9 +1,9 @@
 use Rattle.std.proofs.Common.{◌+◌, ◌-◌, map, length}
 use Rattle.csl_base.specs.Calls.{calls_of_all}
 use Rattle.csl_base.specs.ElementView.{elements_view, macros_view}
-use Rattle.csl_picking.proofs.NameLists.{left}
-use Rattle.csl_picking.proofs.Suffixes.{IsGathered}
-use Rattle.csl_picking.proofs.suffix_text.suffix_stands.Given as goal
+use Rattle.csl_styles.proofs.NameLists.{left}
+use Rattle.csl_styles.proofs.Suffixes.{IsGathered}
+use Rattle.csl_styles.proofs.suffix_text.suffix_stands.Given as goal
 
 abbrev pub invariant-loop-at : goal.invariant-loop-at
 invariant-loop-at l = IsGathered (macros_view l.macros.items) (calls_of_all (elements_view l.elements.items)) (map (λ s. s.now) l.names.items) l.at

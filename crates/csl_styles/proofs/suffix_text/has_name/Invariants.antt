@@ -1,6 +1,6 @@
 use Rattle.std.proofs.Common.{◌≡◌, map, drop}
 use Rattle.csl_base.specs.Ring.{has_name}
-use Rattle.csl_picking.proofs.suffix_text.has_name.Given as goal
+use Rattle.csl_styles.proofs.suffix_text.has_name.Given as goal
 
 abbrev pub invariant-loop-each : goal.invariant-loop-each
 invariant-loop-each l =

@@ -4,8 +4,8 @@ use Rattle.std.proofs.lemmas.List.{append-nil}
 use Rattle.csl_base.specs.Element.{Name, Macro}
 use Rattle.csl_base.specs.Calls.{Names}
 use Rattle.csl_base.specs.Ring.{has_name, body_of}
-use Rattle.csl_picking.specs.Gathered.{with_new, add_new, add_each}
-use Rattle.csl_picking.proofs.NameLists.{has_name-left, has_name-right, has_name-either, has_name-one, has_name-same, left, left-lt}
+use Rattle.csl_styles.specs.Gathered.{with_new, add_new, add_each}
+use Rattle.csl_styles.proofs.NameLists.{has_name-left, has_name-right, has_name-either, has_name-one, has_name-same, left, left-lt}
 
 -- what one more name changes
 pub record IsAdded (ms : List Macro) (bs os ns : Names) : Type 0 where

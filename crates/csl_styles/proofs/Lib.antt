@@ -1,0 +1,5 @@
+pub mod NameLists
+pub mod Settled
+pub mod Gathering
+pub mod Suffixes
+pub mod PlacedBodies

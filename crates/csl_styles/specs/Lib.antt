@@ -1,0 +1,4 @@
+pub mod SuffixText
+pub mod Gathered
+pub mod SoundView
+pub mod MadeOf

@@ -1,0 +1,81 @@
+//! Prepared styles.
+ghost use Rattle.std.specs.Prelude.{◌≡◌};
+ghost use Rattle.csl_base.specs.Element.{Name};
+ghost use Rattle.csl_base.specs.NamedPlaces.{place_named};
+ghost use Rattle.csl_base.specs.Ring.{body_of, place_of, HasNoRing};
+ghost use Rattle.csl_base.specs.StyleView.{style_view};
+ghost use Rattle.csl_styles.specs.SuffixText.{explicit_suffix};
+
+use crate::suffix_text::explicit_suffix;
+use csl_base::element::LayoutRenderingElement;
+use csl_base::ring::first_places;
+use csl_base::style::IndependentStyle;
+use std::alloc::{AllocError, Global};
+use std::collections::HashMap;
+
+/// A style that was looked at once: none of its macros call each other in a ring, the first macro of
+/// each name is found by a table, and it is known whether a year-suffix text stands in its layouts.
+#[derive(Drop)]
+pub struct SoundStyle<'a> {
+    style: &'a IndependentStyle,
+    places: HashMap<&'a str, usize>,
+    has_suffix: bool,
+    pub ghost no_ring: { HasNoRing (style_view style.now).macros },
+    ghost table: { (name : Name) → place_named places name ≡ place_of name (style_view style.now).macros },
+    ghost suffix: { has_suffix ≡ explicit_suffix (style_view style.now) },
+}
+
+impl<'a> SoundStyle<'a> {
+    ghost use Rattle.std.specs.Prelude.{◌≡◌, Some, IfOk, MatchResult, option_map};
+    ghost use Rattle.csl_base.specs.ElementView.{elements_view, macros_view};
+    ghost use Rattle.csl_base.specs.Ring.{IsFirstRing};
+    ghost use Rattle.csl_styles.specs.SoundView.{made_of, sound_view};
+
+    /// The style, prepared; where some of its macros call each other in a ring, what
+    /// `IndependentStyle::ring` answers: the place of the first macro that does.
+    ///
+    /// # Errors
+    ///
+    /// Where memory is refused.
+    pub fn new(
+        alloc: Global,
+        style: &'a IndependentStyle,
+    ) -> Result<Result<SoundStyle<'a>, usize>, AllocError>
+        ensures { IfOk result (λ made. MatchResult made
+            (λ sound. made_of sound ≡ style.now)
+            (λ place. IsFirstRing (style_view style.now).macros (Some place))) }
+    {
+        if let Some(place) = style.ring(alloc)? {
+            return Ok(Err(place));
+        }
+        Ok(Ok(SoundStyle {
+            style,
+            places: first_places(alloc, &style.macros)?,
+            has_suffix: explicit_suffix(alloc, style)?,
+        }))
+    }
+
+    /// The style that it was made of.
+    pub fn style(&self) -> &'a IndependentStyle
+        ensures { result.now ≡ made_of self.now }
+    {
+        self.style
+    }
+
+    /// The children of the first macro of a name; none without such a macro.
+    pub fn body_of(&self, name: &str) -> Option<&'a Vec<LayoutRenderingElement>>
+        ensures { option_map (λ v. elements_view v.now.items) result ≡ body_of name.now (sound_view self.now).macros }
+    {
+        match self.places.get(&name) {
+            Some(place) => Some(&self.style.macros[*place].children),
+            None => None,
+        }
+    }
+
+    /// Whether a year-suffix text stands in either of its layouts, at any depth, through macros too.
+    pub fn explicit_suffix(&self) -> bool
+        ensures { result ≡ explicit_suffix (sound_view self.now) }
+    {
+        self.has_suffix
+    }
+}
