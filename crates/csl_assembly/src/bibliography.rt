@@ -51,7 +51,7 @@ fn unlocated<'a, T, P: Drop>(
 fn wanted_context<'w, T>(wanted: &'w BibliographyRequest<'_, '_, T>) -> StyleContext<'w>
     ensures { context_source result ≡ wanted_source (wanted_view wanted.now) }
 {
-    StyleContext::new(wanted.style, wanted.locale.as_ref(), wanted.locale_files)
+    StyleContext::of_locales(wanted.source())
 }
 
 /// The entry of a cite as the bibliography writes it, and its key.

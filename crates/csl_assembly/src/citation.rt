@@ -39,11 +39,7 @@ pub fn has_no_purpose<T, P>(items: &[SpeculativeItemRender<'_, T, P>]) -> bool
 pub fn request_context<'r, T, P>(request: &'r CitationRequest<'_, T, P>) -> StyleContext<'r>
     ensures { context_source result ≡ source_of (request_view request.now) }
 {
-    StyleContext::new(
-        request.style(),
-        request.locale.as_ref(),
-        request.locale_files,
-    )
+    StyleContext::of_locales(request.source())
 }
 
 /// What stands before a cite that isn't the first that shows: its override, else the layout's delimiter.

@@ -335,7 +335,7 @@ fn answer<'a, T: EntryLike, P: Eq + Drop>(
     ensures states { IfOk result (λ r. r.1.states.items ≡ map (final_state T.eq P.eq T.answers (wanted_view wanted.now) (requests_view requests.now) offset) (distinct T.eq (cited (requests_view requests.now)))) }
     ensures numbers { IfOk result (λ r. r.1.numbers.items ≡ map (final_number T.eq P.eq T.answers (wanted_view wanted.now) (requests_view requests.now) offset) (distinct T.eq (cited (requests_view requests.now)))) }
 {
-    refuse_rings(alloc, requests, wanted.style)?;
+    refuse_rings(alloc, requests, wanted)?;
     let cited = cited_by(alloc, requests, wanted, offset)?;
     let answer = answer_of(alloc, requests, wanted, &cited)?;
     Ok(answer)

@@ -1,26 +1,24 @@
 //! Styles whose macros call each other in a ring are refused before anything is rendered.
 ghost use Rattle.std.specs.Prelude.{◌≡◌, IfOk, IfErr, IfSome, OnOk, None};
-ghost use Rattle.csl_base.specs.StyleView.{style_view};
-ghost use Rattle.csl_passes.specs.RequestView.{requests_view};
+ghost use Rattle.csl_passes.specs.RequestView.{requests_view, wanted_view};
 ghost use Rattle.csl_driver.specs.Rings.{IsFirstRingOf, NoRingAtAll, NoRingIn, RefusesRing};
 ghost use Rattle.csl_driver.specs.declared.error.RingPlace.{RingPlace};
 
 use crate::error::{DriverError, RingPlace};
-use csl_base::style::IndependentStyle;
-use csl_passes::request::CitationRequest;
+use csl_passes::request::{BibliographyRequest, CitationRequest};
 use std::alloc::{AllocError, Global};
 
 /// The place of the first request whose style has a ring, and that of its first macro on one.
 fn request_ring<T, P>(
     alloc: Global,
     requests: &[CitationRequest<'_, T, P>],
-    style: &IndependentStyle,
+    wanted: &BibliographyRequest<'_, '_, T>,
 ) -> Result<Option<(usize, usize)>, AllocError>
-    ensures found { IfOk result (λ r. IfSome r (λ p. IsFirstRingOf (requests_view requests.now) (style_view style.now) (RingPlace.Request p.0) p.1)) }
+    ensures found { IfOk result (λ r. IfSome r (λ p. IsFirstRingOf (requests_view requests.now) (wanted_view wanted.now).style (RingPlace.Request p.0) p.1)) }
     ensures none { IfOk result (λ r. r ≡ None → NoRingIn (requests_view requests.now)) }
 {
     for (k, request) in requests.iter().enumerate() {
-        if let Some(macro_idx) = request.style().ring(alloc)? {
+        if let Some(macro_idx) = request.source().ring(alloc)? {
             return Ok(Some((k, macro_idx)));
         }
     }
@@ -28,20 +26,20 @@ fn request_ring<T, P>(
 }
 
 /// Refuses the first style that has a ring: those of the requests in their order, and then that of
-/// the bibliography.
+/// the bibliography. Prepared styles have none, and aren't looked at.
 pub(crate) fn refuse_rings<T, P>(
     alloc: Global,
     requests: &[CitationRequest<'_, T, P>],
-    style: &IndependentStyle,
+    wanted: &BibliographyRequest<'_, '_, T>,
 ) -> Result<(), DriverError>
-    ensures none { OnOk result (NoRingAtAll (requests_view requests.now) (style_view style.now)) }
-    ensures refused { IfErr result (RefusesRing (requests_view requests.now) (style_view style.now)) }
+    ensures none { OnOk result (NoRingAtAll (requests_view requests.now) (wanted_view wanted.now).style) }
+    ensures refused { IfErr result (RefusesRing (requests_view requests.now) (wanted_view wanted.now).style) }
 {
-    if let Some((k, macro_idx)) = request_ring(alloc, requests, style)? {
+    if let Some((k, macro_idx)) = request_ring(alloc, requests, wanted)? {
         let place = RingPlace::Request(k);
         return Err(DriverError::MacroRing { place, macro_idx });
     }
-    if let Some(macro_idx) = style.ring(alloc)? {
+    if let Some(macro_idx) = wanted.source().ring(alloc)? {
         let place = RingPlace::Bibliography;
         return Err(DriverError::MacroRing { place, macro_idx });
     }

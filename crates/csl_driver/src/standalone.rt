@@ -95,7 +95,7 @@ pub fn standalone_citation<T: EntryLike, P: Drop>(
     ensures ringless { OnOk result (HasNoRing (request_view request.entry).style.macros) }
     ensures refused { IfErr result (RefusesAlone (request_view request.entry).style) }
 {
-    if let Some(macro_idx) = request.style().ring(alloc)? {
+    if let Some(macro_idx) = request.source().ring(alloc)? {
         let place = RingPlace::Request(0);
         return Err(DriverError::MacroRing { place, macro_idx });
     }

@@ -1,8 +1,8 @@
 //! Look-up of terms in the locales of a style (CSL 1.0.2, locale fallback).
-ghost use Rattle.std.specs.Prelude.{◌≡◌, IfOk, map, option_map, option_to_list, bytes_eq};
+ghost use Rattle.std.specs.Prelude.{◌≡◌, IfOk, None, map, option_map, option_to_list, bytes_eq};
 ghost use Rattle.std.specs.Option.{option_eq};
 ghost use Rattle.csl_base.specs.ElementView.{elements_view};
-ghost use Rattle.csl_base.specs.Ring.{body_of, HasNoRing};
+ghost use Rattle.csl_base.specs.Ring.{body_of, IsFirstRing, HasNoRing};
 ghost use Rattle.csl_base.specs.StyleView.{code_view, locale_view, style_view, term_view};
 ghost use Rattle.csl_lookup.specs.Lookup as found;
 ghost use Rattle.csl_lookup.specs.FirstAnswer.{Gives, FirstAnswer};
@@ -51,8 +51,8 @@ impl<'a> StyleLocales<'a> {
     }
 
     /// As `new` makes it, of a prepared style: it is what the style is asked of.
-    pub fn of_sound(
-        sound: &'a SoundStyle<'a>,
+    pub fn of_sound<'s: 'a>(
+        sound: &'a SoundStyle<'s>,
         locale: Option<&'a LocaleCode>,
         files: &'a [Locale],
     ) -> StyleLocales<'a>
@@ -90,6 +90,22 @@ impl<'a> StyleLocales<'a> {
         match self.sound {
             Some(sound) => Ok(sound.explicit_suffix()),
             None => explicit_suffix(alloc, self.style),
+        }
+    }
+
+    /// What `IndependentStyle::ring` answers of the style: the place of its first macro that calls
+    /// itself, through others or alone. A prepared style has none, and isn't looked at again.
+    ///
+    /// # Errors
+    ///
+    /// Where memory is refused.
+    pub fn ring(&self, alloc: Global) -> Result<Option<usize>, AllocError>
+        ensures first { IfOk result (IsFirstRing (source_view self.now).style.macros) }
+        ensures none { IfOk result (λ r. r ≡ None → HasNoRing (source_view self.now).style.macros) }
+    {
+        match self.sound {
+            Some(_) => Ok(None),
+            None => self.style.ring(alloc),
         }
     }
 

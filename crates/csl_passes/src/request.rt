@@ -1,27 +1,49 @@
 //! What a caller asks for: citations, and a bibliography.
 ghost use Rattle.std.specs.Prelude.{◌≡◌, None, if◌then◌else◌, map, option_map};
 ghost use Rattle.csl_base.specs.StyleView.{code_view, locale_view, style_view};
+ghost use Rattle.csl_lookup.specs.SourceView.{source_view};
 ghost use Rattle.csl_passes.specs.Class.{is_note};
-ghost use Rattle.csl_passes.specs.RequestView.{cites_view, request_view};
+ghost use Rattle.csl_styles.specs.MadeOf.{IsOf, IsOf-prop};
+ghost use Rattle.csl_styles.specs.SoundView.{made_of, sound_view};
 
 use crate::item::CitationItem;
 use csl_base::locale::{Locale, LocaleCode};
 use csl_base::style::{IndependentStyle, StyleClass};
+use csl_lookup::lookup::StyleLocales;
+use csl_styles::sound::SoundStyle;
 
-/// A citation: the entries that one place in a text cites.
-#[derive(PartialEq, Eq, Drop)]
+/// A citation: the entries that one place in a text cites. Requests that differ in nothing else are
+/// equal, whether made of a style or of that style prepared.
+#[derive(Drop)]
+#[derive_where(PartialEq, Eq; T, P)]
 pub struct CitationRequest<'a, T, P> {
     /// The cites, in the order in which they are asked for.
     pub items: Vec<CitationItem<'a, T, P>>,
     pub(crate) style: &'a IndependentStyle,
+    #[derive_where(skip)]
+    sound: Option<&'a SoundStyle<'a>>,
     /// The locale of the style's terms; the style's own where there is none.
     pub locale: Option<LocaleCode>,
     /// The locales that are asked for terms that the style doesn't have.
     pub locale_files: &'a [Locale],
     pub(crate) note_number: Option<usize>,
+    ghost same: { IsOf sound style.now } by { IsOf-prop sound style.now },
+}
+
+/// The number of a note, where the style's cites stand in notes.
+fn noted(style: &IndependentStyle, note_number: Option<usize>) -> Option<usize>
+    ensures { result ≡ (if is_note style.now.settings.class then note_number else None) }
+{
+    match style.settings.class {
+        StyleClass::Note => note_number,
+        StyleClass::InText => None,
+    }
 }
 
 impl<'a, T, P> CitationRequest<'a, T, P> {
+    ghost use Rattle.csl_passes.specs.Request.{source_of};
+    ghost use Rattle.csl_passes.specs.RequestView.{cites_view, request_view};
+
     /// A request for a citation. The note number is kept only where the style's cites stand in notes.
     pub fn new(
         items: Vec<CitationItem<'a, T, P>>,
@@ -36,12 +58,31 @@ impl<'a, T, P> CitationRequest<'a, T, P> {
         CitationRequest {
             items,
             style,
+            sound: None,
             locale,
             locale_files,
-            note_number: match style.settings.class {
-                StyleClass::Note => note_number,
-                StyleClass::InText => None,
-            },
+            note_number: noted(style, note_number),
+        }
+    }
+
+    /// The request that `new` makes of the same style, which was prepared.
+    pub fn of_sound<'s: 'a>(
+        items: Vec<CitationItem<'a, T, P>>,
+        sound: &'a SoundStyle<'s>,
+        locale: Option<LocaleCode>,
+        locale_files: &'a [Locale],
+        note_number: Option<usize>,
+    ) -> CitationRequest<'a, T, P>
+        ensures { request_view result
+            ≡ record { cites = cites_view items.entry.items; style = sound_view sound.now; locale = option_map code_view locale; locales = map locale_view locale_files.now; note_number = (if is_note (made_of sound.now).settings.class then note_number else None) } }
+    {
+        CitationRequest {
+            items,
+            style: sound.style(),
+            sound: Some(sound),
+            locale,
+            locale_files,
+            note_number: noted(sound.style(), note_number),
         }
     }
 
@@ -50,6 +91,16 @@ impl<'a, T, P> CitationRequest<'a, T, P> {
         ensures { style_view result.now ≡ (request_view self.now).style }
     {
         self.style
+    }
+
+    /// The style that its cites are written in, with its locales.
+    pub fn source(&self) -> StyleLocales<'_>
+        ensures { source_view result ≡ source_of (request_view self.now) }
+    {
+        match self.sound {
+            Some(sound) => StyleLocales::of_sound(sound, self.locale.as_ref(), self.locale_files),
+            None => StyleLocales::new(self.style, self.locale.as_ref(), self.locale_files),
+        }
     }
 
     /// The number of the note in which the citation stands; none outside of notes.
@@ -76,33 +127,75 @@ impl<'a, T, P> CitationRequest<'a, T, P> {
 #[derive(PartialEq, Eq, Drop)]
 pub struct Order<'o, 'a, T>(pub &'o [&'a T]);
 
-/// A request for a bibliography.
-#[derive(PartialEq, Eq, Drop)]
+/// A request for a bibliography. Requests that differ in nothing else are equal, whether made of a
+/// style or of that style prepared.
+#[derive(Drop)]
+#[derive_where(PartialEq, Eq; T)]
 pub struct BibliographyRequest<'o, 'a, T> {
     /// The style of the bibliography. Some styles have none; then none is answered.
     pub style: &'o IndependentStyle,
+    #[derive_where(skip)]
+    sound: Option<&'o SoundStyle<'o>>,
     /// The locale of the style's terms; the style's own where there is none.
     pub locale: Option<LocaleCode>,
     /// The locales that are asked for terms that the style doesn't have.
     pub locale_files: &'o [Locale],
     /// The order of the entries; that of their first cites where there is none.
     pub order: Option<Order<'o, 'a, T>>,
+    ghost same: { IsOf sound style.now } by { IsOf-prop sound style.now },
 }
 
 impl<'o, 'a, T> BibliographyRequest<'o, 'a, T> {
+    ghost use Rattle.csl_passes.specs.Request.{wanted_source};
+    ghost use Rattle.csl_passes.specs.RequestView.{wanted_view};
+
     /// A request for a bibliography in the order of the first cites.
     pub fn new(
         style: &'o IndependentStyle,
         locale: Option<LocaleCode>,
         locale_files: &'o [Locale],
     ) -> BibliographyRequest<'o, 'a, T>
-        ensures { result ≡ record { style = style.entry; locale = locale; locale_files = locale_files.entry; order = None } }
+        ensures style { result.style ≡ style.entry }
+        ensures locale { result.locale ≡ locale }
+        ensures files { result.locale_files ≡ locale_files.entry }
+        ensures order { result.order ≡ None }
     {
         BibliographyRequest {
             style,
+            sound: None,
             locale,
             locale_files,
             order: None,
+        }
+    }
+
+    /// The request that `new` makes of the same style, which was prepared.
+    pub fn of_sound<'s: 'o>(
+        sound: &'o SoundStyle<'s>,
+        locale: Option<LocaleCode>,
+        locale_files: &'o [Locale],
+    ) -> BibliographyRequest<'o, 'a, T>
+        ensures style { result.style.now ≡ made_of sound.now }
+        ensures locale { result.locale ≡ locale }
+        ensures files { result.locale_files ≡ locale_files.entry }
+        ensures order { result.order ≡ None }
+    {
+        BibliographyRequest {
+            style: sound.style(),
+            sound: Some(sound),
+            locale,
+            locale_files,
+            order: None,
+        }
+    }
+
+    /// The style of the bibliography, with its locales.
+    pub fn source(&self) -> StyleLocales<'_>
+        ensures { source_view result ≡ wanted_source (wanted_view self.now) }
+    {
+        match self.sound {
+            Some(sound) => StyleLocales::of_sound(sound, self.locale.as_ref(), self.locale_files),
+            None => StyleLocales::new(self.style, self.locale.as_ref(), self.locale_files),
         }
     }
 }

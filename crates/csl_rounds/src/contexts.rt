@@ -11,9 +11,5 @@ use csl_writing::lookup::StyleContext;
 pub fn request_context<'r, T, P>(request: &'r CitationRequest<'_, T, P>) -> StyleContext<'r>
     ensures { context_source result ≡ source_of (request_view request.now) }
 {
-    StyleContext::new(
-        request.style(),
-        request.locale.as_ref(),
-        request.locale_files,
-    )
+    StyleContext::of_locales(request.source())
 }

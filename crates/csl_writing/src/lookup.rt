@@ -4,6 +4,8 @@ ghost use Rattle.csl_base.specs.ElementView.{options_view};
 ghost use Rattle.csl_base.specs.StyleView.{code_view, locale_view, style_view};
 ghost use Rattle.csl_lookup.specs.FirstAnswer.{Gives, FirstAnswer};
 ghost use Rattle.csl_lookup.specs.Lookup as found;
+ghost use Rattle.csl_lookup.specs.SourceView.{source_view};
+ghost use Rattle.csl_styles.specs.SoundView.{sound_view};
 ghost use Rattle.csl_context.specs.WritingState.{state, begun};
 ghost use Rattle.csl_writing.specs.ContextSource.{context_source};
 
@@ -13,6 +15,7 @@ use csl_base::style::IndependentStyle;
 use csl_context::context::{Context, begin_cite};
 use csl_lookup::lookup::StyleLocales;
 use csl_lookup::properties::CiteProperties;
+use csl_styles::sound::SoundStyle;
 use std::alloc::{AllocError, Global};
 
 /// A style, with the locales that it is written in.
@@ -35,6 +38,27 @@ impl<'a> StyleContext<'a> {
         StyleContext {
             locales: StyleLocales::new(style, locale, files),
         }
+    }
+
+    /// The context that `new` makes of the same style, which was prepared.
+    pub fn of_sound<'s: 'a>(
+        sound: &'a SoundStyle<'s>,
+        locale: Option<&'a LocaleCode>,
+        files: &'a [Locale],
+    ) -> StyleContext<'a>
+        ensures { context_source result
+            ≡ record { style = sound_view sound.now; locale = option_map (λ code. code_view code.now) locale.entry; files = map locale_view files.now } }
+    {
+        StyleContext {
+            locales: StyleLocales::of_sound(sound, locale, files),
+        }
+    }
+
+    /// The style of these locales.
+    pub fn of_locales(locales: StyleLocales<'a>) -> StyleContext<'a>
+        ensures { context_source result ≡ source_view locales.entry }
+    {
+        StyleContext { locales }
     }
 
     /// The code of the locale in use: the one that was asked for, else the style's own, else

@@ -1,24 +1,22 @@
 use Rattle.std.proofs.Common.{Some, subst}
 use Rattle.std.proofs.Math.ListN.{length-map}
-use Rattle.csl_base.specs.ElementView.{macros_view}
 use Rattle.csl_base.specs.Ring.{HasNoRing, IsFirstRing}
-use Rattle.csl_base.specs.Style.{StyleValue}
-use Rattle.csl_base.specs.StyleView.{style_view}
-use Rattle.csl_passes.specs.RequestView.{request_view, requests_view}
+use Rattle.csl_lookup.specs.Lookup.{Source}
+use Rattle.csl_passes.specs.RequestView.{request_view, requests_view, wanted_view}
 use Rattle.csl_driver.proofs.RingLemmas.{no_ring-more, first_ring, no_ring-all}
 use Rattle.csl_driver.proofs.rings.request_ring.Goals as goal
 
 pub loop-k-preserved : goal.loop-k-preserved
 loop-k-preserved g c =
     no_ring-more request_view c.args.requests.now c.loop-k.k c.index-requests-k.result c.loop-k-test.true c.index-requests-k.is
-    (subst (λ (s : StyleValue). HasNoRing s.macros) c.style.ensures (c.in_ok-macro_idx.ensures.none c.in_default.is)) c.loop-k.invariant
+    (subst (λ (s : Source). HasNoRing s.style.macros) c.source.ensures (c.in_ok-macro_idx.ensures.none c.in_default.is)) c.loop-k.invariant
 
 pub returns-in-Some-clause-found : goal.returns-in-Some-clause-found
 returns-in-Some-clause-found g c =
     let request = c.index-requests-k.result in
-    first_ring request_view c.args.requests.now c.loop-k.k request c.loop-k-test.true c.index-requests-k.is (style_view c.args.style.now) c.in-Some.macro_idx
-    (subst (λ (s : StyleValue). IsFirstRing s.macros (Some c.in-Some.macro_idx)) c.style.ensures
-    (subst (IsFirstRing (macros_view c.style.result.now.macros.items)) c.in-Some.is c.in_ok-macro_idx.ensures.first)) c.loop-k.invariant
+    first_ring request_view c.args.requests.now c.loop-k.k request c.loop-k-test.true c.index-requests-k.is (wanted_view c.args.wanted.now).style c.in-Some.macro_idx
+    (subst (λ (s : Source). IsFirstRing s.style.macros (Some c.in-Some.macro_idx)) c.source.ensures
+    (subst (IsFirstRing _) c.in-Some.is c.in_ok-macro_idx.ensures.first)) c.loop-k.invariant
 
 pub returns-clause-none : goal.returns-clause-none
 returns-clause-none g c = λ _.
