@@ -4,7 +4,7 @@ ghost use Rattle.std.specs.Io.KnownBytes.{Appends, Keeps};
 ghost use Rattle.serde_json.specs.View.{view};
 ghost use Rattle.csl_base.specs.StyleView.{locale_view};
 ghost use Rattle.csl_driver.specs.DriverView.{driver_view};
-ghost use Rattle.csl_passes.specs.RequestView.{entries_view, order_view};
+ghost use Rattle.csl_passes.specs.RequestView.{entries_view, order_view, wanted_view};
 ghost use Rattle.csl_driver.specs.declared.error.RingPlace.{RingPlace};
 ghost use Rattle.document_reading.specs.AskedView.{asked_requests_view};
 ghost use Rattle.document_reading.specs.DocumentView.{document_view};
@@ -13,7 +13,7 @@ ghost use Rattle.document_reading.specs.Entries.{entry_named};
 ghost use Rattle.document_styles.specs.NamedStyleView.{named_styles_view};
 ghost use Rattle.cite_document.specs.Print.{print};
 ghost use Rattle.document_styles.specs.Styles.{style_named};
-ghost use Rattle.cite_document.specs.Run.{accepted, answer, HasAnswer, HasFirstRing, HasTooLargeNumbers, IsDocumentThat, Prints};
+ghost use Rattle.cite_document.specs.Run.{accepted, answer, wanted_of, HasAnswer, HasFirstRing, HasTooLargeNumbers, IsDocumentThat, Prints};
 
 use crate::error::RunError;
 use crate::printing::print_rendered;
@@ -24,11 +24,12 @@ use csl_driver::error::DriverError;
 use csl_driver::request::{BibliographyRequest, Order};
 use document_reading::document::{Asked, asked_in, top_of, utf8_text, value_of};
 use document_reading::entries::entries_of;
+use document_reading::finders::found_styles;
 use document_reading::requests::{AskedRequest, copied_code, driver_request};
 use document_styles::locales::locales_at;
 use document_styles::styles::{NamedStyle, styles_of};
 use serde_json::Value;
-use std::alloc::Global;
+use std::alloc::{AllocError, Global};
 use std::convert::Infallible;
 use std::io::Write;
 
@@ -77,17 +78,29 @@ fn order_of<'o, 'e>(entries: &'o Option<Vec<&'e PlainEntry>>) -> Option<Order<'o
     }
 }
 
+/// What the driver is asked of the bibliography.
+fn bibliography_request<'o, 'e>(
+    alloc: Global,
+    asked: &'o Asked<'e>,
+) -> Result<BibliographyRequest<'o, 'e, PlainEntry>, AllocError>
+    ensures { IfOk result (λ request. wanted_view request ≡ wanted_of (document_view asked.now)) }
+{
+    let locale = copied_code(alloc, &asked.wanted.locale)?;
+    let style = asked.wanted.style;
+    let mut request = match style.sound() {
+        Some(sound) => BibliographyRequest::of_sound(sound, locale, asked.locales),
+        None => BibliographyRequest::new(style.style, locale, asked.locales),
+    };
+    request.order = order_of(&asked.wanted.order);
+    Ok(request)
+}
+
 /// The text that is printed for what a document asks for.
 fn print_asked<'r>(alloc: Global, asked: &'r Asked<'_>) -> Result<String, RunError>
     ensures { Prints result (Some (document_view asked.now)) }
 {
     let driver = filled_driver(alloc, &asked.requests, asked.locales, asked.offset)?;
-    let request = BibliographyRequest {
-        style: asked.wanted.style,
-        locale: copied_code(alloc, &asked.wanted.locale)?,
-        locale_files: asked.locales,
-        order: order_of(&asked.wanted.order),
-    };
+    let request = bibliography_request(alloc, asked)?;
     match driver.finish(request) {
         Ok(rendered) => Ok(print_rendered(alloc, &rendered)?),
         Err(DriverError::MacroRing { place, macro_idx }) => {
@@ -109,7 +122,8 @@ fn print_of<'e>(
 ) -> Result<String, RunError>
     ensures { Prints result (asked_form (style_named (named_styles_view styles.now)) (entry_named entries.now) (map locale_view locales.now) (view value)) }
 {
-    let asked = asked_in(alloc, styles, entries, locales, &value)?;
+    let found = found_styles(alloc, styles, &value)?;
+    let asked = asked_in(alloc, &found, entries, locales, &value)?;
     drop(value);
     print_asked(alloc, &asked)
 }

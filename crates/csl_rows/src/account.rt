@@ -67,12 +67,9 @@ fn ordered<'o, 'a>(
     style: &'a IndependentStyle,
     order: &'o [&'a PlainEntry],
 ) -> BibliographyRequest<'o, 'a, PlainEntry> {
-    BibliographyRequest {
-        style,
-        locale: None,
-        locale_files: &[],
-        order: Some(Order(order)),
-    }
+    let mut request = BibliographyRequest::new(style, None, &[]);
+    request.order = Some(Order(order));
+    request
 }
 
 #[test]

@@ -31,10 +31,10 @@ asked_cites_view = map asked_cite_view
 abbrev pub asked_request_view : List LocaleValue → AskedRequest → Request PlainEntry Infallible
 asked_request_view locales r = record {
   cites = asked_cites_view r.items.items;
-  style = style_view r.style.now;
+  style = style_view r.style.now.style.now;
   locale = option_map code_view r.locale;
   locales = locales;
-  note_number = (if is_note r.style.now.settings.class then r.note_number else None);
+  note_number = (if is_note r.style.now.style.now.settings.class then r.note_number else None);
 }
 
 abbrev pub asked_requests_view : List LocaleValue → List AskedRequest → List (Request PlainEntry Infallible)

@@ -4,9 +4,9 @@ use Rattle.std.specs.Borrow.{Bor}
 use Rattle.std.specs.HashMap.{HashMap, get_by}
 use Rattle.std.specs.Str.{bytes_eq}
 use Rattle.csl_base.specs.declared.entry.PlainEntry.{PlainEntry}
-use Rattle.csl_base.specs.declared.style.IndependentStyle.{IndependentStyle}
 use Rattle.csl_base.specs.Style.{StyleValue}
 use Rattle.csl_base.specs.StyleView.{style_view}
+use Rattle.document_reading.specs.declared.found.FoundStyle.{FoundStyle}
 
 module _ {S : Type 0} where
   -- what a map has at a text
@@ -18,5 +18,5 @@ module _ {S : Type 0} where
   entry_in m key = option_map (λ e. e.now) (text_in m key)
 
   -- the style that a map has at a name
-  abbrev pub style_in : HashMap (Bor (List ℕ)) (Bor IndependentStyle) S → List ℕ → Option StyleValue
-  style_in m name = option_map (λ s. style_view s.now) (text_in m name)
+  abbrev pub style_in : HashMap (Bor (List ℕ)) (Bor FoundStyle) S → List ℕ → Option StyleValue
+  style_in m name = option_map (λ s. style_view s.now.style.now) (text_in m name)

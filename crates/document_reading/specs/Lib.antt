@@ -1,3 +1,5 @@
+pub mod Prepared
+pub mod FoundView
 pub mod Entries
 pub mod Requests
 pub mod Finders

@@ -4,7 +4,7 @@ ghost use Rattle.serde_json.specs.Read.{read};
 ghost use Rattle.serde_json.specs.View.{view};
 ghost use Rattle.csl_base.specs.StyleView.{locale_view};
 ghost use Rattle.document_reading.specs.Finders.{entry_in, style_in};
-ghost use Rattle.document_styles.specs.NamedStyleView.{named_styles_view};
+ghost use Rattle.document_reading.specs.FoundView.{found_views};
 ghost use Rattle.document_styles.specs.Styles.{style_named};
 ghost use Rattle.document_reading.specs.Entries.{entry_named};
 ghost use Rattle.document_reading.specs.Form.{asked_form, top_form, utf8_text};
@@ -12,10 +12,10 @@ ghost use Rattle.document_reading.specs.DocumentView.{document_view};
 ghost use Rattle.document_words.specs.Reads.{Reads};
 
 use crate::finders::{EntriesByKey, StylesByName, entries_by_key, styles_by_name};
+use crate::found::FoundStyle;
 use crate::requests::{AskedRequest, Wanted, requests_of, wanted_of};
 use csl_base::entry::PlainEntry;
 use csl_base::locale::Locale;
-use document_styles::styles::NamedStyle;
 use document_words::error::ReadError;
 use document_words::words::{number_or, object_with, required};
 use serde_json::Value;
@@ -100,14 +100,14 @@ fn asked_of<'e>(
 
 /// What the document asks for. A name finds the style of that name, and a key the first entry that
 /// has it.
-pub fn asked_in<'e>(
+pub fn asked_in<'e, 's: 'e>(
     alloc: Global,
-    styles: &'e [NamedStyle],
+    styles: &'e [FoundStyle<'s>],
     entries: &'e [PlainEntry],
     locales: &'e [Locale],
     object: &Value,
 ) -> Result<Asked<'e>, ReadError>
-    ensures { Reads document_view result (asked_form (style_named (named_styles_view styles.now)) (entry_named entries.now) (map locale_view locales.now) (view object.now)) }
+    ensures { Reads document_view result (asked_form (style_named (found_views styles.now)) (entry_named entries.now) (map locale_view locales.now) (view object.now)) }
 {
     let by_name = styles_by_name(alloc, styles)?;
     let by_key = entries_by_key(alloc, entries)?;

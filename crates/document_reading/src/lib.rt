@@ -4,4 +4,5 @@
 pub mod document;
 pub mod entries;
 pub mod finders;
+pub mod found;
 pub mod requests;

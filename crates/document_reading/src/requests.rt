@@ -12,9 +12,9 @@ ghost use Rattle.document_reading.specs.WantedView.{asked_bibliography_view};
 ghost use Rattle.document_words.specs.Reads.{Reads};
 
 use crate::finders::{EntriesByKey, StylesByName};
+use crate::found::FoundStyle;
 use csl_base::entry::PlainEntry;
 use csl_base::locale::{Locale, LocaleCode};
-use csl_base::style::IndependentStyle;
 use csl_base::taxonomy::Locator;
 use csl_lookup::locator::{LocatorPayload, SpecificLocator};
 use csl_lookup::purpose::CitePurpose;
@@ -57,7 +57,7 @@ pub struct AskedCite<'e> {
 #[derive(Drop)]
 pub struct AskedRequest<'e> {
     pub items: Vec<AskedCite<'e>>,
-    pub style: &'e IndependentStyle,
+    pub style: &'e FoundStyle<'e>,
     pub locale: Option<LocaleCode>,
     pub note_number: Option<usize>,
 }
@@ -152,8 +152,8 @@ fn all_cites<'e>(
 fn required_style<'e>(
     styles: &StylesByName<'e>,
     value: &Value,
-) -> Result<&'e IndependentStyle, ReadError>
-    ensures { Reads (λ s. style_view s.now) result (required (name_form (style_in styles.now)) (codes "style") (view value.now)) }
+) -> Result<&'e FoundStyle<'e>, ReadError>
+    ensures { Reads (λ s. style_view s.now.style.now) result (required (name_form (style_in styles.now)) (codes "style") (view value.now)) }
 {
     let name = required_text(value, "style")?;
     match styles.get(&name) {
@@ -272,9 +272,11 @@ pub fn driver_request<'r>(
 {
     let items = driver_items(alloc, &request.items)?;
     let locale = copied_code(alloc, &request.locale)?;
-    let style: &'r IndependentStyle = request.style;
     let note = request.note_number;
-    Ok(CitationRequest::new(items, style, locale, locales, note))
+    match request.style.sound() {
+        Some(sound) => Ok(CitationRequest::of_sound(items, sound, locale, locales, note)),
+        None => Ok(CitationRequest::new(items, request.style.style, locale, locales, note)),
+    }
 }
 
 // ---- the bibliography
@@ -283,7 +285,7 @@ pub fn driver_request<'r>(
 #[derive(Drop)]
 pub struct Wanted<'e> {
     /// Its style.
-    pub style: &'e IndependentStyle,
+    pub style: &'e FoundStyle<'e>,
     /// The locale of its terms, if the document names one.
     pub locale: Option<LocaleCode>,
     /// The order of its entries, if the document has one.

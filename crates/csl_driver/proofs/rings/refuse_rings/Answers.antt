@@ -4,10 +4,11 @@ use Rattle.csl_lookup.specs.Lookup.{Source}
 use Rattle.csl_driver.proofs.rings.refuse_rings.Goals as goal
 
 pub returns-in-Some-2-clause-refused : goal.returns-in-Some-2-clause-refused
-returns-in-Some-2-clause-refused g c =
-    (c.in_ok-k.ensures.none c.in_default.is,
-      subst (λ (s : Source). IsFirstRing s.style.macros (Some c.in-Some-2.macro_idx)) c.source.ensures
-      (subst (IsFirstRing _) c.in-Some-2.is c.in_ok-macro_idx.ensures.first))
+returns-in-Some-2-clause-refused g c = (
+  c.in_ok-k.ensures.none c.in_default.is,
+  subst (λ (s : Source). IsFirstRing s.style.macros (Some c.in-Some-2.macro_idx)) c.source.ensures
+      (subst (IsFirstRing _) c.in-Some-2.is c.in_ok-macro_idx.ensures.first),
+)
 
 pub returns-clause-none : goal.returns-clause-none
 returns-clause-none g c =

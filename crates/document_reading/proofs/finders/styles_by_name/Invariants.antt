@@ -1,5 +1,5 @@
 -- The styles are put in one after another, where their names aren't there yet.
-use Rattle.std.proofs.Common.{◌≡◌, ℕ, List, take, string_bytes}
+use Rattle.std.proofs.Common.{◌≡◌, ℕ, List, take}
 use Rattle.csl_base.specs.StyleView.{style_view}
 use Rattle.document_reading.specs.Finders.{style_in}
 use Rattle.document_reading.proofs.FirstKeyed.{found}
@@ -7,4 +7,4 @@ use Rattle.document_reading.proofs.finders.styles_by_name.Given as goal
 
 abbrev pub invariant-loop-named : goal.invariant-loop-named
 invariant-loop-named l =
-    (name : List ℕ) → style_in l.by_name name ≡ found (λ s. string_bytes s.name) (λ s. style_view s.style) (take l.named-index l.styles) name
+    (name : List ℕ) → style_in l.by_name name ≡ found (λ s. s.name.now) (λ s. style_view s.style.now) (take l.named-index l.styles) name
