@@ -9,4 +9,6 @@ mod counting;
 mod finish;
 pub mod paths;
 #[cfg(test)]
+mod prepared;
+#[cfg(test)]
 mod standalone;

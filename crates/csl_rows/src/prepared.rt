@@ -1,0 +1,90 @@
+//! Requests of prepared styles: they are equal to those of the styles, and have the same answers.
+use csl_base::entry::PlainEntry;
+use csl_base::style::IndependentStyle;
+use csl_driver::driver::BibliographyDriver;
+use csl_driver::item::CitationItem;
+use csl_driver::rendered::Rendered;
+use csl_driver::request::{BibliographyRequest, CitationRequest};
+use csl_driver::sound::SoundStyle;
+use row_styles::styles::{entry, numeric, numeric_with_macros};
+use std::alloc::{AllocError, Global};
+use std::convert::Infallible;
+use std::test::Fail;
+
+type Request<'a> = CitationRequest<'a, PlainEntry, Infallible>;
+
+fn cite<'a>(
+    alloc: Global,
+    style: &'a IndependentStyle,
+    cited: &'a PlainEntry,
+) -> Result<Request<'a>, AllocError> {
+    let items = vec![in alloc; CitationItem::with_entry(cited)]?;
+    Ok(CitationRequest::new(items, style, None, &[], None))
+}
+
+fn cite_prepared<'a, 's: 'a>(
+    alloc: Global,
+    sound: &'a SoundStyle<'s>,
+    cited: &'a PlainEntry,
+) -> Result<Request<'a>, AllocError> {
+    let items = vec![in alloc; CitationItem::with_entry(cited)]?;
+    Ok(CitationRequest::of_sound(items, sound, None, &[], None))
+}
+
+fn prepared<'a>(alloc: Global, style: &'a IndependentStyle) -> Result<SoundStyle<'a>, Fail> {
+    match SoundStyle::new(alloc, style)? {
+        Ok(sound) => Ok(sound),
+        Err(_) => Err(Fail::new("the style has a ring")),
+    }
+}
+
+/// The answer to one request.
+fn answer<'a>(
+    alloc: Global,
+    request: Request<'a>,
+    wanted: BibliographyRequest<'a, 'a, PlainEntry>,
+) -> Result<Rendered, Fail> {
+    let mut driver = BibliographyDriver::new(alloc);
+    match driver.citation(request) {
+        Ok(()) => Ok(driver.finish(wanted)?),
+        Err(_refused) => Err(Fail::new("the request was refused")),
+    }
+}
+
+#[test]
+fn prepared_answers_alike(rt: HostRuntime) -> Result<(), Fail> {
+    let style = numeric(rt.alloc())?;
+    let cited = entry(rt.alloc(), "a")?;
+    let sound = prepared(rt.alloc(), &style)?;
+    let wanted = BibliographyRequest::of_sound(&sound, None, &[]);
+    let answered = answer(
+        rt.alloc(),
+        cite_prepared(rt.alloc(), &sound, &cited)?,
+        wanted,
+    )?;
+    let wanted = BibliographyRequest::new(&style, None, &[]);
+    assert!(rt; answered == answer(rt.alloc(), cite(rt.alloc(), &style, &cited)?, wanted)?);
+    Ok(())
+}
+
+#[test]
+fn prepared_requests_are_equal(rt: HostRuntime) -> Result<(), Fail> {
+    let style = numeric(rt.alloc())?;
+    let cited = entry(rt.alloc(), "a")?;
+    let sound = prepared(rt.alloc(), &style)?;
+    let request = cite_prepared(rt.alloc(), &sound, &cited)?;
+    assert!(rt; request == cite(rt.alloc(), &style, &cited)?);
+    Ok(())
+}
+
+#[test]
+fn a_ring_is_not_prepared(rt: HostRuntime) -> Result<(), Fail> {
+    let style = numeric_with_macros(rt.alloc(), &[("a", "p"), ("p", "q"), ("q", "p")])?;
+    match SoundStyle::new(rt.alloc(), &style)? {
+        Ok(_) => Err(Fail::new("the style has a ring")),
+        Err(place) => {
+            assert!(rt; place == 1);
+            Ok(())
+        }
+    }
+}
