@@ -55,12 +55,8 @@ pub fn found_styles<'e>(
     let mut asked_for = asked_styles(alloc, object)?;
     let mut found = Vec::with_capacity(alloc, styles.len())?;
     for named in styles {
-        let name = named.name.as_str();
-        if asked_for.remove(&name) {
-            found.push(FoundStyle::prepared(alloc, named)?)?;
-        } else {
-            found.push(FoundStyle::plain(named))?;
-        }
+        let is_named = asked_for.remove(named.name.as_str());
+        found.push(FoundStyle::new(alloc, named, is_named)?)?;
     }
     Ok(found)
 }

@@ -24,31 +24,31 @@ impl<'e> FoundStyle<'e> {
     ghost use Rattle.document_reading.specs.FoundView.{found_view};
     ghost use Rattle.document_styles.specs.NamedStyleView.{named_style_view};
 
-    /// The style as it is.
-    pub(crate) fn plain(named: &'e NamedStyle) -> FoundStyle<'e>
-        ensures { found_view result ≡ named_style_view named.now }
-    {
-        FoundStyle {
-            name: named.name.as_str(),
-            style: &named.style,
-            sound: None,
-        }
-    }
-
-    /// The style, prepared if it has no ring.
-    pub(crate) fn prepared(
+    /// The style, prepared if something names it and it has no ring.
+    pub(crate) fn new(
         alloc: Global,
         named: &'e NamedStyle,
+        is_named: bool,
     ) -> Result<FoundStyle<'e>, AllocError>
         ensures { IfOk result (λ found. found_view found ≡ named_style_view named.now) }
     {
-        match SoundStyle::new(alloc, &named.style)? {
+        let name = named.name.as_str();
+        let style = &named.style;
+        let plain = FoundStyle {
+            name,
+            style,
+            sound: None,
+        };
+        if !is_named {
+            return Ok(plain);
+        }
+        match SoundStyle::new(alloc, style)? {
             Ok(sound) => Ok(FoundStyle {
-                name: named.name.as_str(),
-                style: &named.style,
+                name,
+                style,
                 sound: Some(sound),
             }),
-            Err(_) => Ok(FoundStyle::plain(named)),
+            Err(_) => Ok(plain),
         }
     }
 
@@ -56,6 +56,9 @@ impl<'e> FoundStyle<'e> {
     pub fn sound(&self) -> Option<&SoundStyle<'e>>
         ensures { IfSome result (λ sound. made_of sound.now ≡ self.now.style.now) }
     {
-        self.sound.as_ref()
+        match &self.sound {
+            Some(sound) => Some(sound),
+            None => None,
+        }
     }
 }
