@@ -1,11 +1,14 @@
 -- Lists of names, and the macros that a list leaves.
-use Rattle.std.proofs.Common.{◌≡◌, ℕ, ◌+◌, ◌≤◌, List, [], ◌∷◌, ◌++◌, length, Bool, true, false, ◌||◌, cond, Some, is_some, ◌⊎◌, inl, inr, sym, ap, ◌∙◌, refl, arith}
+use Rattle.std.proofs.Common.{◌≡◌, ℕ, ◌+◌, ◌≤◌, List, [], ◌∷◌, ◌++◌, length, Bool, true, false, ◌||◌, cond, Some, is_some, ◌⊎◌, inl, inr, map, sym, ap, ◌∙◌, refl, arith}
 use Rattle.std.specs.Prelude.{bytes_eq}
+use Rattle.std.specs.Borrow.{Bor}
+use Rattle.std.specs.List.{list_any}
 use Rattle.std.specs.Cmp.Lexicographic.{same_text}
 use Rattle.std.proofs.lemmas.Cmp.{nat_list_eq_equiv}
 use Rattle.csl_base.specs.Element.{Name, Macro}
 use Rattle.csl_base.specs.Calls.{Names}
 use Rattle.csl_base.specs.Ring.{has_name, body_of}
+use Rattle.csl_styles.specs.Gathered.{with_new}
 
 pub or-left : (b c : Bool) → b ≡ true → (b || c) ≡ true
 or-left true c e = refl
@@ -82,3 +85,23 @@ left-lt a xs ys (m ∷ ms) e out h in_ys =
 pub left-empty : (ms : List Macro) → left [] ms ≡ length ms
 left-empty [] = refl
 left-empty (m ∷ ms) = omega (arith, left-empty ms)
+
+-- what a set of borrowed names holds
+any-named : (x : Bor Name) (keys : List (Bor Name)) → list_any (λ (k : Bor Name). bytes_eq x.now k.now) keys ≡ has_name x.now (map (λ s. s.now) keys)
+any-named x [] = refl
+any-named x (k ∷ ks) = λ i. nat_list_eq_equiv.symm x.now k.now i || any-named x ks i
+
+map-last : (keys : List (Bor Name)) (x : Bor Name) → map (λ (s : Bor Name). s.now) (keys ++ x ∷ []) ≡ map (λ (s : Bor Name). s.now) keys ++ x.now ∷ []
+map-last [] x = refl
+map-last (k ∷ ks) x = ap (λ ns. k.now ∷ ns) (map-last ks x)
+
+-- and with one more
+pub with_named : (x : Bor Name) (keys : List (Bor Name)) → map (λ (s : Bor Name). s.now) (cond (list_any (λ (k : Bor Name). bytes_eq x.now k.now) keys) keys (keys ++ x ∷ []))
+    ≡ with_new true (has_name x.now (map (λ s. s.now) keys)) x.now (map (λ s. s.now) keys)
+with_named x keys =
+    let by : (b : Bool) → map (λ (s : Bor Name). s.now) (cond b keys (keys ++ x ∷ [])) ≡ with_new true b x.now (map (λ (s : Bor Name). s.now) keys) = λ b.
+    elim b as (λ b. map (λ (s : Bor Name). s.now) (cond b keys (keys ++ x ∷ [])) ≡ with_new true b x.now (map (λ (s : Bor Name). s.now) keys)) [
+      | true ↦ refl
+      | false ↦ map-last keys x
+    ] in
+    by _ ∙ ap (λ b. with_new true b x.now (map (λ (s : Bor Name). s.now) keys)) (any-named x keys)

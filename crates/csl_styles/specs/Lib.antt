@@ -1,3 +1,4 @@
+pub mod MacrosOf
 pub mod SuffixText
 pub mod Gathered
 pub mod SoundView

@@ -5,7 +5,7 @@ use Rattle.csl_base.specs.StyleView.{style_view}
 use Rattle.csl_styles.specs.declared.sound.SoundStyle.{SoundStyle}
 
 abbrev pub made_of : SoundStyle → IndependentStyle
-made_of s = s.style.now
+made_of s = s.macros.style.now
 
 abbrev pub sound_view : SoundStyle → StyleValue
 sound_view s = style_view (made_of s)

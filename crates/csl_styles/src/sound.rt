@@ -1,28 +1,24 @@
 //! Prepared styles.
 ghost use Rattle.std.specs.Prelude.{◌≡◌};
-ghost use Rattle.csl_base.specs.Element.{Name};
-ghost use Rattle.csl_base.specs.NamedPlaces.{place_named};
-ghost use Rattle.csl_base.specs.Ring.{body_of, place_of, HasNoRing};
+ghost use Rattle.csl_base.specs.Ring.{body_of, HasNoRing};
 ghost use Rattle.csl_base.specs.StyleView.{style_view};
+ghost use Rattle.csl_styles.specs.MacrosOf.{macros_of};
 ghost use Rattle.csl_styles.specs.SuffixText.{explicit_suffix};
 
-use crate::suffix_text::explicit_suffix;
+use crate::macros::MacroTable;
+use crate::suffix_text::suffix_by_table;
 use csl_base::element::LayoutRenderingElement;
-use csl_base::ring::first_places;
 use csl_base::style::IndependentStyle;
 use std::alloc::{AllocError, Global};
-use std::collections::HashMap;
 
 /// A style that was looked at once: none of its macros call each other in a ring, the first macro of
 /// each name is found by a table, and it is known whether a year-suffix text stands in its layouts.
 #[derive(Drop)]
 pub struct SoundStyle<'a> {
-    style: &'a IndependentStyle,
-    places: HashMap<&'a str, usize>,
+    macros: MacroTable<'a>,
     has_suffix: bool,
-    pub ghost no_ring: { HasNoRing (style_view style.now).macros },
-    ghost table: { (name : Name) → place_named places name ≡ place_of name (style_view style.now).macros },
-    ghost suffix: { has_suffix ≡ explicit_suffix (style_view style.now) },
+    pub ghost no_ring: { HasNoRing (macros_of macros) },
+    ghost suffix: { has_suffix ≡ explicit_suffix (style_view macros.style.now) },
 }
 
 impl<'a> SoundStyle<'a> {
@@ -48,28 +44,23 @@ impl<'a> SoundStyle<'a> {
         if let Some(place) = style.ring(alloc)? {
             return Ok(Err(place));
         }
-        Ok(Ok(SoundStyle {
-            style,
-            places: first_places(alloc, &style.macros)?,
-            has_suffix: explicit_suffix(alloc, style)?,
-        }))
+        let macros = MacroTable::new(alloc, style)?;
+        let has_suffix = suffix_by_table(alloc, &macros)?;
+        Ok(Ok(SoundStyle { macros, has_suffix }))
     }
 
     /// The style that it was made of.
     pub fn style(&self) -> &'a IndependentStyle
         ensures { result.now ≡ made_of self.now }
     {
-        self.style
+        self.macros.style
     }
 
     /// The children of the first macro of a name; none without such a macro.
     pub fn body_of(&self, name: &str) -> Option<&'a Vec<LayoutRenderingElement>>
         ensures { option_map (λ v. elements_view v.now.items) result ≡ body_of name.now (sound_view self.now).macros }
     {
-        match self.places.get(&name) {
-            Some(place) => Some(&self.style.macros[*place].children),
-            None => None,
-        }
+        self.macros.body_of(name)
     }
 
     /// Whether a year-suffix text stands in either of its layouts, at any depth, through macros too.

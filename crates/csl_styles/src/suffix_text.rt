@@ -1,17 +1,19 @@
 //! Whether a year-suffix text stands in the layouts of a style.
 ghost use Rattle.std.specs.Prelude.{◌≡◌, OnOk, IfOk, map, false};
-ghost use Rattle.csl_base.specs.ElementView.{element_view, elements_view, branches_view, macros_view};
+ghost use Rattle.csl_base.specs.ElementView.{element_view, elements_view, branches_view};
 ghost use Rattle.csl_base.specs.StyleView.{style_view};
 ghost use Rattle.csl_base.specs.Calls.{calls_of_all};
-ghost use Rattle.csl_base.specs.Ring.{has_name, body_of, macro_calls, HasNoRing};
+ghost use Rattle.csl_base.specs.Ring.{body_of, macro_calls, HasNoRing};
 ghost use Rattle.csl_styles.specs.Gathered.{add_new, add_each};
+ghost use Rattle.csl_styles.specs.MacrosOf.{macros_of};
 ghost use Rattle.csl_styles.specs.SuffixText.{no_call, suffix_in_body, suffix_in, suffix_in_all, suffix_in_branches, suffix_stands, explicit_suffix, SuffixesUnfold};
 
+use crate::macros::MacroTable;
 use csl_base::calls::add_all_calls;
-use csl_base::element::{ChooseBranch, CslMacro, LayoutRenderingElement, TextTarget};
-use csl_base::ring::body_of;
+use csl_base::element::{ChooseBranch, LayoutRenderingElement, TextTarget};
 use csl_base::style::IndependentStyle;
 use csl_base::taxonomy::StandardVariable;
+use indexmap::IndexSet;
 use std::alloc::{AllocError, Global};
 
 // Whether the suffix is written by an element itself, and not by a macro that it calls.
@@ -62,41 +64,31 @@ fn branches_have_suffix(
     have_suffix(otherwise)
 }
 
-fn has_name(names: &Vec<&str>, name: &str) -> bool
-    ensures { result ≡ has_name name.now (map (λ s. s.now) names.now.items) }
-{
-    for each in names {
-        if *each == name {
-            return true;
-        }
-    }
-    false
-}
-
 // One more name, where it has a macro and is not there.
 fn add_new<'a>(
-    macros: &'a Vec<CslMacro>,
+    macros: &MacroTable<'a>,
     name: &'a str,
-    names: &mut Vec<&'a str>,
+    names: &mut IndexSet<&'a str>,
 ) -> Result<(), AllocError>
-    ensures { OnOk result (map (λ s. s.now) names.new.items ≡ add_new (macros_view macros.now.items) name.now (map (λ s. s.now) names.old.items)) }
+    ensures { OnOk result (map (λ s. s.now) names.new.keys ≡ add_new (macros_of macros.now) name.now (map (λ s. s.now) names.old.keys)) }
 {
-    if body_of(macros, name).is_some() && !has_name(names, name) {
-        names.push(name)?;
+    if macros.body_of(name).is_some() {
+        names.insert(name)?;
     }
     Ok(())
 }
 
 // The names that these elements call.
 fn add_called<'a>(
-    macros: &'a Vec<CslMacro>,
+    alloc: Global,
+    macros: &MacroTable<'a>,
     elements: &'a Vec<LayoutRenderingElement>,
-    names: &mut Vec<&'a str>,
+    names: &mut IndexSet<&'a str>,
 ) -> Result<(), AllocError>
-    ensures { OnOk result (map (λ s. s.now) names.new.items
-        ≡ add_each (macros_view macros.now.items) (calls_of_all (elements_view elements.now.items)) (map (λ s. s.now) names.old.items)) }
+    ensures { OnOk result (map (λ s. s.now) names.new.keys
+        ≡ add_each (macros_of macros.now) (calls_of_all (elements_view elements.now.items)) (map (λ s. s.now) names.old.keys)) }
 {
-    let mut called = Vec::new(*names.allocator());
+    let mut called = Vec::new(alloc);
     add_all_calls(&mut called, elements)?;
     for each in &called {
         add_new(macros, *each, names)?;
@@ -107,20 +99,21 @@ fn add_called<'a>(
 // Whether the suffix is written by a macro itself; where it isn't, the names that it calls are
 // added.
 fn look_at<'a>(
-    macros: &'a Vec<CslMacro>,
+    alloc: Global,
+    macros: &MacroTable<'a>,
     name: &str,
-    names: &mut Vec<&'a str>,
+    names: &mut IndexSet<&'a str>,
 ) -> Result<bool, AllocError>
-    ensures found { IfOk result (λ b. b ≡ suffix_in_body no_call (body_of name.now (macros_view macros.now.items))) }
-    ensures gathered { IfOk result (λ b. b ≡ false → map (λ s. s.now) names.new.items
-        ≡ add_each (macros_view macros.now.items) (macro_calls (macros_view macros.now.items) name.now) (map (λ s. s.now) names.old.items)) }
+    ensures found { IfOk result (λ b. b ≡ suffix_in_body no_call (body_of name.now (macros_of macros.now))) }
+    ensures gathered { IfOk result (λ b. b ≡ false → map (λ s. s.now) names.new.keys
+        ≡ add_each (macros_of macros.now) (macro_calls (macros_of macros.now) name.now) (map (λ s. s.now) names.old.keys)) }
 {
-    match body_of(macros, name) {
+    match macros.body_of(name) {
         Some(body) => {
             if have_suffix(body) {
                 return Ok(true);
             }
-            add_called(macros, body, names)?;
+            add_called(alloc, macros, body, names)?;
             Ok(false)
         }
         None => Ok(false),
@@ -131,21 +124,21 @@ fn look_at<'a>(
 // each once.
 fn suffix_stands<'a>(
     alloc: Global,
-    macros: &'a Vec<CslMacro>,
+    macros: &MacroTable<'a>,
     elements: &'a Vec<LayoutRenderingElement>,
 ) -> Result<bool, AllocError>
-    requires { HasNoRing (macros_view macros.now.items) }
-    ensures { IfOk result (λ b. b ≡ suffix_stands (macros_view macros.now.items) (elements_view elements.now.items)) }
+    requires { HasNoRing (macros_of macros.now) }
+    ensures { IfOk result (λ b. b ≡ suffix_stands (macros_of macros.now) (elements_view elements.now.items)) }
 {
     if have_suffix(elements) {
         return Ok(true);
     }
-    let mut names = Vec::new(alloc);
-    add_called(macros, elements, &mut names)?;
+    let mut names = IndexSet::new(alloc);
+    add_called(alloc, macros, elements, &mut names)?;
     let mut at = 0;
     while at < names.len() {
-        let next = names[at];
-        let found = look_at(macros, next, &mut names)?;
+        let next = *names.get_index(at).unwrap();
+        let found = look_at(alloc, macros, next, &mut names)?;
         if found {
             return Ok(true);
         }
@@ -161,6 +154,20 @@ pub fn suffixes_unfold()
     ensures { SuffixesUnfold }
 {}
 
+/// What `explicit_suffix` gives of the style of these macros.
+pub(crate) fn suffix_by_table(alloc: Global, macros: &MacroTable<'_>) -> Result<bool, AllocError>
+    requires { HasNoRing (macros_of macros.now) }
+    ensures { IfOk result (λ b. b ≡ explicit_suffix (style_view macros.now.style.now)) }
+{
+    if suffix_stands(alloc, macros, &macros.style.citation.layout.elements)? {
+        return Ok(true);
+    }
+    match &macros.style.bibliography {
+        Some(bibliography) => suffix_stands(alloc, macros, &bibliography.layout.elements),
+        None => Ok(false),
+    }
+}
+
 /// Whether a year-suffix text stands in either layout of a style, at any depth, through macros
 /// too. Each macro is looked at once for a layout.
 ///
@@ -171,11 +178,6 @@ pub fn explicit_suffix(alloc: Global, style: &IndependentStyle) -> Result<bool, 
     requires { HasNoRing (style_view style.now).macros }
     ensures { IfOk result (λ b. b ≡ explicit_suffix (style_view style.now)) }
 {
-    if suffix_stands(alloc, &style.macros, &style.citation.layout.elements)? {
-        return Ok(true);
-    }
-    match &style.bibliography {
-        Some(bibliography) => suffix_stands(alloc, &style.macros, &bibliography.layout.elements),
-        None => Ok(false),
-    }
+    let macros = MacroTable::new(alloc, style)?;
+    suffix_by_table(alloc, &macros)
 }

@@ -1,15 +1,19 @@
-use Rattle.std.proofs.Common.{◌≡◌, ℕ, suc, ◌<◌, ◌+◌, ◌∙◌, subst, List, [], ◌∷◌, length, refl, sym, ap, map, get_or, Bor, arith}
+use Rattle.std.proofs.Common.{◌≡◌, ℕ, suc, ◌+◌, ◌∙◌, subst, List, [], ◌∷◌, length, refl, sym, ap, map, get_or, Bor, Some, option_map, arith}
+use Rattle.std.specs.Prelude.{slice_get}
 use Rattle.std.proofs.lemmas.List.{get_or-map}
+use Rattle.std.proofs.lemmas.Option.{get_or_from_slice_get, slice_get_within}
 use Rattle.csl_base.specs.Element.{Name}
 use Rattle.csl_base.specs.Calls.{calls_of_all}
 use Rattle.csl_base.specs.Ring.{macro_calls}
-use Rattle.csl_base.specs.ElementView.{elements_view, macros_view}
+use Rattle.csl_base.specs.ElementView.{elements_view}
+use Rattle.csl_styles.specs.MacrosOf.{macros_of}
 use Rattle.csl_styles.proofs.Gathering.{falls}
 use Rattle.csl_styles.proofs.Suffixes.{IsGathered, gathered-start, gathered-more, at_once, at_name, at_end}
 use Rattle.csl_styles.proofs.suffix_text.suffix_stands.Goals as goal
 
-name_at : (xs : List (Bor Name)) (i : ℕ) (x : Bor Name) → i < length xs → x ≡ get_or xs i x → x.now ≡ get_or (map (λ s. s.now) xs) i x.now
-name_at xs i x h e = ap (λ s. s.now) e ∙ sym (get_or-map (λ (s : Bor Name). s.now) xs i x x.now h)
+name_at : (xs : List (Bor Name)) (i : ℕ) (x : Bor Name) → slice_get xs i ≡ Some x → x.now ≡ get_or (map (λ s. s.now) xs) i x.now
+name_at xs i x e =
+    ap (λ (s : Bor Name). s.now) (sym (get_or_from_slice_get xs i x x e)) ∙ sym (get_or-map (λ (s : Bor Name). s.now) xs i x x.now (slice_get_within xs i x e))
 
 names_len : (xs : List (Bor Name)) → length (map (λ s. s.now) xs) ≡ length xs
 names_len [] = refl
@@ -17,44 +21,47 @@ names_len (x ∷ xs) = ap (λ n. suc n) (names_len xs)
 
 pub returns-then-have_suffix : goal.returns-then-have_suffix
 returns-then-have_suffix c =
-    at_once (macros_view c.args.macros.now.items) c.requires (elements_view c.args.elements.now.items) (sym c.have_suffix.ensures ∙ c.if-have_suffix.true)
+    at_once (macros_of c.args.macros.now) c.requires (elements_view c.args.elements.now.items) (sym c.have_suffix.ensures ∙ c.if-have_suffix.true)
 
 pub loop-at-init : goal.loop-at-init
 loop-at-init c =
-    rw (c.in_ok-add_called.ensures, c.new-names.ensures.items) (gathered-start (macros_view c.args.macros.now.items) c.requires (calls_of_all (elements_view c.args.elements.now.items)))
+    rw (c.in_ok-add_called.ensures, c.new-names.ensures.empty) (gathered-start (macros_of c.args.macros.now) c.requires (calls_of_all (elements_view c.args.elements.now.items)))
 
 pub loop-at-smaller : goal.loop-at-smaller
 loop-at-smaller c =
     let l = c.loop-at in
-    let ms = macros_view c.args.macros.now.items in
-    let names = map (λ (s : Bor Name). s.now) l.names.items in
-    let n = names_len l.names.items in
-    let h = falls ms (macro_calls ms c.index-next.result.now.now) names l.at (omega (arith, n, l.names.ok.0, c.len.ensures)) in
+    let ms = macros_of c.args.macros.now in
+    let names = map (λ (s : Bor Name). s.now) l.names.keys in
+    let n = names_len l.names.keys in
+    let h = falls ms (macro_calls ms c.unwrap-next.result.now.now) names l.at (omega (arith, n, c.loop-at-test.true, c.len.ensures.len)) in
     rw (c.in_ok-found.ensures.gathered c.if-found.false) h
 
 pub loop-at-preserved : goal.loop-at-preserved
 loop-at-preserved c =
     let l = c.loop-at in
-    let ms = macros_view c.args.macros.now.items in
+    let ms = macros_of c.args.macros.now in
     let first = calls_of_all (elements_view c.args.elements.now.items) in
-    let names = map (λ (s : Bor Name). s.now) l.names.items in
-    let n = names_len l.names.items in
-    let next = c.index-next.result.now in
-    let more = gathered-more ms c.requires first names l.at next.now l.invariant (omega (arith, n, l.names.ok.0, c.len.ensures))
-    (name_at l.names.items l.at next (omega (arith, l.names.ok.0, c.len.ensures)) c.index-next.ensures) (sym c.in_ok-found.ensures.found ∙ c.if-found.false) in
+    let names = map (λ (s : Bor Name). s.now) l.names.keys in
+    let n = names_len l.names.keys in
+    let next = c.unwrap-next.result.now in
+    let there = sym (ap (option_map (λ (s : Bor (Bor Name)). s.now)) (sym c.unwrap-next.ensures) ∙ c.get_index.ensures.key) in
+    let more = gathered-more ms c.requires first names l.at next.now l.invariant (omega (arith, n, c.loop-at-test.true, c.len.ensures.len))
+    (name_at l.names.keys l.at next there) (sym c.in_ok-found.ensures.found ∙ c.if-found.false) in
     subst (λ ns. IsGathered ms first ns (l.at + 1)) (sym (c.in_ok-found.ensures.gathered c.if-found.false)) more
 
 pub returns-then-found : goal.returns-then-found
 returns-then-found c =
     let l = c.loop-at in
-    let names = map (λ (s : Bor Name). s.now) l.names.items in
-    let n = names_len l.names.items in
-    let next = c.index-next.result.now in
-    at_name (macros_view c.args.macros.now.items) c.requires (elements_view c.args.elements.now.items) names l.at next.now l.invariant (omega (arith, n, l.names.ok.0, c.len.ensures))
-    (name_at l.names.items l.at next (omega (arith, l.names.ok.0, c.len.ensures)) c.index-next.ensures) (sym c.in_ok-found.ensures.found ∙ c.if-found.true)
+    let names = map (λ (s : Bor Name). s.now) l.names.keys in
+    let n = names_len l.names.keys in
+    let next = c.unwrap-next.result.now in
+    let there = sym (ap (option_map (λ (s : Bor (Bor Name)). s.now)) (sym c.unwrap-next.ensures) ∙ c.get_index.ensures.key) in
+    at_name (macros_of c.args.macros.now) c.requires (elements_view c.args.elements.now.items) names l.at next.now l.invariant (omega (arith, n, c.loop-at-test.true, c.len.ensures.len))
+    (name_at l.names.keys l.at next there) (sym c.in_ok-found.ensures.found ∙ c.if-found.true)
 
 pub returns : goal.returns
 returns c =
     let l = c.loop-at in
-    let n = names_len l.names.items in
-    at_end (macros_view c.args.macros.now.items) c.requires (elements_view c.args.elements.now.items) (map (λ (s : Bor Name). s.now) l.names.items) l.at l.invariant (omega (arith, n, l.names.ok.0, c.len.ensures)) (sym c.have_suffix.ensures ∙ c.if-have_suffix.false)
+    let n = names_len l.names.keys in
+    at_end (macros_of c.args.macros.now) c.requires (elements_view c.args.elements.now.items) (map (λ (s : Bor Name). s.now) l.names.keys) l.at l.invariant (omega (arith, n, c.loop-at-test.false, c.len.ensures.len))
+    (sym c.have_suffix.ensures ∙ c.if-have_suffix.false)

@@ -1,14 +1,15 @@
 use Rattle.std.proofs.Common.{◌+◌, ◌-◌, map, length}
 use Rattle.csl_base.specs.Calls.{calls_of_all}
-use Rattle.csl_base.specs.ElementView.{elements_view, macros_view}
+use Rattle.csl_base.specs.ElementView.{elements_view}
+use Rattle.csl_styles.specs.MacrosOf.{macros_of}
 use Rattle.csl_styles.proofs.NameLists.{left}
 use Rattle.csl_styles.proofs.Suffixes.{IsGathered}
 use Rattle.csl_styles.proofs.suffix_text.suffix_stands.Given as goal
 
 abbrev pub invariant-loop-at : goal.invariant-loop-at
-invariant-loop-at l = IsGathered (macros_view l.macros.items) (calls_of_all (elements_view l.elements.items)) (map (λ s. s.now) l.names.items) l.at
+invariant-loop-at l = IsGathered (macros_of l.macros) (calls_of_all (elements_view l.elements.items)) (map (λ s. s.now) l.names.keys) l.at
 
 abbrev pub decreases-loop-at : goal.decreases-loop-at
 decreases-loop-at l =
-    let names = map (λ s. s.now) l.names.items in
-    left names (macros_view l.macros.items) + (length names - l.at)
+    let names = map (λ s. s.now) l.names.keys in
+    left names (macros_of l.macros) + (length names - l.at)

@@ -5,7 +5,7 @@ use Rattle.std.proofs.lemmas.Option.{slice_get-map, slice_get_read}
 use Rattle.csl_base.specs.Element.{Macro}
 use Rattle.csl_base.specs.ElementView.{macro_view, macros_view}
 use Rattle.csl_styles.proofs.PlacedBodies.{body_at, body_of-place, place_within}
-use Rattle.csl_styles.proofs.sound.SoundStyle.body_of.Goals as goal
+use Rattle.csl_styles.proofs.macros.MacroTable.body_of.Goals as goal
 
 pub index-requires : goal.index-requires
 index-requires c =

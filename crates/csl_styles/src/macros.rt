@@ -1,0 +1,49 @@
+//! The macros of a style, by name.
+ghost use Rattle.std.specs.Prelude.{◌≡◌, IfOk};
+ghost use Rattle.csl_base.specs.Element.{Name};
+ghost use Rattle.csl_base.specs.NamedPlaces.{place_named};
+ghost use Rattle.csl_base.specs.Ring.{place_of};
+ghost use Rattle.csl_base.specs.StyleView.{style_view};
+
+use csl_base::element::LayoutRenderingElement;
+use csl_base::ring::first_places;
+use csl_base::style::IndependentStyle;
+use std::alloc::{AllocError, Global};
+use std::collections::HashMap;
+
+/// A style, with the place of its first macro of each name.
+#[derive(Drop)]
+pub(crate) struct MacroTable<'a> {
+    pub(crate) style: &'a IndependentStyle,
+    places: HashMap<&'a str, usize>,
+    ghost table: { (name : Name) → place_named places name ≡ place_of name (style_view style.now).macros },
+}
+
+impl<'a> MacroTable<'a> {
+    ghost use Rattle.std.specs.Prelude.{option_map};
+    ghost use Rattle.csl_base.specs.ElementView.{elements_view};
+    ghost use Rattle.csl_base.specs.Ring.{body_of};
+    ghost use Rattle.csl_styles.specs.MacrosOf.{macros_of};
+
+    pub(crate) fn new(
+        alloc: Global,
+        style: &'a IndependentStyle,
+    ) -> Result<MacroTable<'a>, AllocError>
+        ensures { IfOk result (λ table. table.style ≡ style.entry) }
+    {
+        Ok(MacroTable {
+            style,
+            places: first_places(alloc, &style.macros)?,
+        })
+    }
+
+    /// The children of the first macro of a name; none without such a macro.
+    pub(crate) fn body_of(&self, name: &str) -> Option<&'a Vec<LayoutRenderingElement>>
+        ensures { option_map (λ v. elements_view v.now.items) result ≡ body_of name.now (macros_of self.now) }
+    {
+        match self.places.get(&name) {
+            Some(place) => Some(&self.style.macros[*place].children),
+            None => None,
+        }
+    }
+}
