@@ -14,13 +14,13 @@ pub loop-named-preserved : goal.loop-named-preserved
 loop-named-preserved c =
     elim c.if-not-contains_key.branch [
       | then-not-contains_key+in_ok-insert w ↦
-          added_at (λ s. s.name.now) (λ s. style_view s.style.now) text_in (λ r. style_view r.now.style.now) c.args.styles.now c.loop-named.named-index c.named-item.result c.name.now
+          added_at (λ s. s.name.now) (λ s. style_view s.style.now) text_in (λ r. style_view r.now.style.now) c.args.styles.now c.loop-named.named-index c.named-item.result c.named-item.result.name.now
           c.loop-named.by_name c.if-not-contains_key.by_name w.insert.new.self _
           c.loop-named-test.true c.named-item.is refl refl w.by_name-is c.loop-named.invariant
           (sym c.contains_key.ensures ∙ w.if-not-contains_key.true)
-          (hash_map_updates_str c.name.now c.loop-named.by_name w.insert.new.self _ w.in_ok-insert.ensures.updates)
+          (hash_map_updates_str c.named-item.result.name.now c.loop-named.by_name w.insert.new.self _ w.in_ok-insert.ensures.updates)
       | else-not-contains_key w ↦
-          kept_at (λ s. s.name.now) (λ s. style_view s.style.now) text_in (λ r. style_view r.now.style.now) c.args.styles.now c.loop-named.named-index c.named-item.result c.name.now
+          kept_at (λ s. s.name.now) (λ s. style_view s.style.now) text_in (λ r. style_view r.now.style.now) c.args.styles.now c.loop-named.named-index c.named-item.result c.named-item.result.name.now
           c.loop-named.by_name c.if-not-contains_key.by_name
           c.loop-named-test.true c.named-item.is refl w.by_name-is c.loop-named.invariant
           (sym c.contains_key.ensures ∙ w.if-not-contains_key.false)
