@@ -18,14 +18,13 @@ ghost use Rattle.cite_document.specs.Run.{accepted, answer, wanted_of, HasAnswer
 use crate::error::RunError;
 use crate::printing::print_rendered;
 use csl_base::entry::PlainEntry;
-use csl_base::locale::{Locale, LocaleCode};
+use csl_base::locale::Locale;
 use csl_driver::driver::BibliographyDriver;
 use csl_driver::error::DriverError;
 use csl_driver::request::{BibliographyRequest, Order};
 use document_reading::document::{Asked, asked_in, top_of, utf8_text, value_of};
 use document_reading::entries::entries_of;
 use document_reading::finders::found_styles;
-use document_reading::found::FoundStyle;
 use document_reading::requests::{AskedRequest, copied_code, driver_request};
 use document_styles::locales::locales_at;
 use document_styles::styles::{NamedStyle, styles_of};
@@ -79,22 +78,6 @@ fn order_of<'o, 'e>(entries: &'o Option<Vec<&'e PlainEntry>>) -> Option<Order<'o
     }
 }
 
-/// A request for a bibliography in the style, prepared if it is.
-fn request_in<'o, 'e>(
-    style: &'o FoundStyle<'_>,
-    locale: Option<LocaleCode>,
-    locales: &'o [Locale],
-) -> BibliographyRequest<'o, 'e, PlainEntry>
-    ensures style { result.style.now ≡ style.now.style.now }
-    ensures locale { result.locale ≡ locale }
-    ensures files { result.locale_files ≡ locales.entry }
-{
-    match style.sound() {
-        Some(sound) => BibliographyRequest::of_sound(sound, locale, locales),
-        None => BibliographyRequest::new(style.style, locale, locales),
-    }
-}
-
 /// What the driver is asked of the bibliography.
 fn bibliography_request<'o, 'e>(
     alloc: Global,
@@ -103,9 +86,13 @@ fn bibliography_request<'o, 'e>(
     ensures { IfOk result (λ request. wanted_view request ≡ wanted_of (document_view asked.now)) }
 {
     let locale = copied_code(alloc, &asked.wanted.locale)?;
-    let mut request = request_in(asked.wanted.style, locale, asked.locales);
-    request.order = order_of(&asked.wanted.order);
-    Ok(request)
+    let order = order_of(&asked.wanted.order);
+    let locales = asked.locales;
+    let found = asked.wanted.style;
+    match found.sound() {
+        Some(sound) => Ok(BibliographyRequest::of_sound(sound, locale, locales, order)),
+        None => Ok(BibliographyRequest::ordered(found.style, locale, locales, order)),
+    }
 }
 
 /// The text that is printed for what a document asks for.

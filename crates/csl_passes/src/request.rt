@@ -169,23 +169,45 @@ impl<'o, 'a, T> BibliographyRequest<'o, 'a, T> {
         }
     }
 
-    /// The request that `new` makes of the same style, which was prepared.
+    /// A request for a bibliography in this order; in that of the first cites where there is none.
+    pub fn ordered(
+        style: &'o IndependentStyle,
+        locale: Option<LocaleCode>,
+        locale_files: &'o [Locale],
+        order: Option<Order<'o, 'a, T>>,
+    ) -> BibliographyRequest<'o, 'a, T>
+        ensures style { result.style ≡ style.entry }
+        ensures locale { result.locale ≡ locale }
+        ensures files { result.locale_files ≡ locale_files.entry }
+        ensures order { result.order ≡ order.entry }
+    {
+        BibliographyRequest {
+            style,
+            sound: None,
+            locale,
+            locale_files,
+            order,
+        }
+    }
+
+    /// The request that `ordered` makes of the same style, which was prepared.
     pub fn of_sound<'s: 'o>(
         sound: &'o SoundStyle<'s>,
         locale: Option<LocaleCode>,
         locale_files: &'o [Locale],
+        order: Option<Order<'o, 'a, T>>,
     ) -> BibliographyRequest<'o, 'a, T>
         ensures style { result.style.now ≡ made_of sound.now }
         ensures locale { result.locale ≡ locale }
         ensures files { result.locale_files ≡ locale_files.entry }
-        ensures order { result.order ≡ None }
+        ensures order { result.order ≡ order.entry }
     {
         BibliographyRequest {
             style: sound.style(),
             sound: Some(sound),
             locale,
             locale_files,
-            order: None,
+            order,
         }
     }
 

@@ -67,9 +67,7 @@ fn ordered<'o, 'a>(
     style: &'a IndependentStyle,
     order: &'o [&'a PlainEntry],
 ) -> BibliographyRequest<'o, 'a, PlainEntry> {
-    let mut request = BibliographyRequest::new(style, None, &[]);
-    request.order = Some(Order(order));
-    request
+    BibliographyRequest::ordered(style, None, &[], Some(Order(order)))
 }
 
 #[test]

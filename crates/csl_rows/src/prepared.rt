@@ -56,7 +56,7 @@ fn prepared_answers_alike(rt: HostRuntime) -> Result<(), Fail> {
     let style = numeric(rt.alloc())?;
     let cited = entry(rt.alloc(), "a")?;
     let sound = prepared(rt.alloc(), &style)?;
-    let wanted = BibliographyRequest::of_sound(&sound, None, &[]);
+    let wanted = BibliographyRequest::of_sound(&sound, None, &[], None);
     let answered = answer(
         rt.alloc(),
         cite_prepared(rt.alloc(), &sound, &cited)?,
