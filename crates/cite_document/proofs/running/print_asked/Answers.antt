@@ -1,11 +1,12 @@
 -- What the driver answers, or why it refuses, is of the document.
-use Rattle.std.proofs.Common.{◌≡◌, ap, map, refl, string_bytes, ◌∙◌}
+use Rattle.std.proofs.Common.{◌≡◌, ap, map, refl, string_bytes, subst, ◌∙◌}
 use Rattle.csl_base.specs.StyleView.{locale_view}
 use Rattle.csl_driver.specs.DriverView.{driver_view}
 use Rattle.csl_passes.specs.RequestView.{wanted_view}
 use Rattle.document_reading.specs.AskedView.{asked_requests_view}
 use Rattle.document_reading.specs.DocumentView.{document_view}
-use Rattle.cite_document.specs.Run.{accepted}
+use Rattle.csl_driver.specs.Rings.{Refuses}
+use Rattle.cite_document.specs.Run.{accepted, same_entry}
 use Rattle.cite_document.proofs.Refusals.{has_answer, is_answer, first_ring, too_large}
 use Rattle.cite_document.proofs.running.print_asked.Goals as goal
 
@@ -32,7 +33,8 @@ returns-in-Err-MacroRing c =
     c.in_ok-driver.ensures.filled
     ∙ ap (λ rs. record { requests = accepted (asked_requests_view (map locale_view asked.locales.now) rs); offset = asked.offset }) c.deref.ensures.value in
     let e = c.in-Err-MacroRing in
-    (d, refl, first_ring v w d made c.in_ok-request.ensures e.place e.macro_idx e.ensures.refused)
+    (d, refl, first_ring v w d made c.in_ok-request.ensures e.place e.macro_idx
+    (subst (Refuses same_entry v.requests w.style v.offset) e.field-0-is e.ensures.refused))
 
 pub returns-in-Err-NumberOverflow : goal.returns-in-Err-NumberOverflow
 returns-in-Err-NumberOverflow c =
