@@ -32,9 +32,12 @@ returns-in-Err-MacroRing c =
     let made : v ≡ record { requests = accepted d.requests; offset = d.offset } =
     c.in_ok-driver.ensures.filled
     ∙ ap (λ rs. record { requests = accepted (asked_requests_view (map locale_view asked.locales.now) rs); offset = asked.offset }) c.deref.ensures.value in
-    let e = c.in-Err-MacroRing in
-    (d, refl, rw (e.field-0-is) (first_ring v w d made c.in_ok-request.ensures e.place e.macro_idx
-    (subst (Refuses same_entry v.requests w.style v.offset) e.field-0-is e.ensures.refused)))
+    let e = c.in-Err-MacroRing in (
+      d,
+      refl,
+      rw (e.field-0-is) (first_ring v w d made c.in_ok-request.ensures e.place e.macro_idx
+          (subst (Refuses same_entry v.requests w.style v.offset) e.field-0-is e.ensures.refused)),
+    )
 
 pub returns-in-Err-NumberOverflow : goal.returns-in-Err-NumberOverflow
 returns-in-Err-NumberOverflow c =
