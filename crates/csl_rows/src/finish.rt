@@ -288,12 +288,17 @@ fn orders_are_equal_where_their_entries_are(rt: HostRuntime) -> Result<(), Fail>
     Ok(())
 }
 
+/// Whether requests for the bibliographies of two styles are equal.
+fn is_wanted_alike<'a>(style: &'a IndependentStyle, other: &'a IndependentStyle) -> bool {
+    wanted(style) == wanted(other)
+}
+
 #[test]
 fn requests_for_a_bibliography_are_compared(rt: HostRuntime) -> Result<(), Fail> {
     let numbers = numeric(rt.alloc())?;
     let plain = value_style(rt.alloc(), StyleClass::Note, "T")?;
-    assert!(rt; wanted(&numbers) == wanted(&numbers));
-    assert!(rt; wanted(&numbers) != wanted(&plain));
+    assert!(rt; is_wanted_alike(&numbers, &numbers));
+    assert!(rt; !is_wanted_alike(&numbers, &plain));
     Ok(())
 }
 

@@ -51,19 +51,33 @@ fn answer<'a>(
     }
 }
 
+/// The answer to a cite and for a bibliography in a style.
+fn answer_unprepared<'a>(
+    alloc: Global,
+    style: &'a IndependentStyle,
+    cited: &'a PlainEntry,
+) -> Result<Rendered, Fail> {
+    let wanted = BibliographyRequest::new(style, None, &[]);
+    answer(alloc, cite(alloc, style, cited)?, wanted)
+}
+
+/// The same in a prepared style.
+fn answer_prepared<'a, 's: 'a>(
+    alloc: Global,
+    sound: &'a SoundStyle<'s>,
+    cited: &'a PlainEntry,
+) -> Result<Rendered, Fail> {
+    let wanted = BibliographyRequest::of_sound(sound, None, &[], None);
+    answer(alloc, cite_prepared(alloc, sound, cited)?, wanted)
+}
+
 #[test]
 fn prepared_answers_alike(rt: HostRuntime) -> Result<(), Fail> {
     let style = numeric(rt.alloc())?;
     let cited = entry(rt.alloc(), "a")?;
     let sound = prepared(rt.alloc(), &style)?;
-    let wanted = BibliographyRequest::of_sound(&sound, None, &[], None);
-    let answered = answer(
-        rt.alloc(),
-        cite_prepared(rt.alloc(), &sound, &cited)?,
-        wanted,
-    )?;
-    let wanted = BibliographyRequest::new(&style, None, &[]);
-    assert!(rt; answered == answer(rt.alloc(), cite(rt.alloc(), &style, &cited)?, wanted)?);
+    let answered = answer_prepared(rt.alloc(), &sound, &cited)?;
+    assert!(rt; answered == answer_unprepared(rt.alloc(), &style, &cited)?);
     Ok(())
 }
 
