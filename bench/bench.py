@@ -129,8 +129,8 @@ def called(requests, more=0, terms=1):
     unused = [{"name": f"unused{i}", "children": [{"kind": "text", "value": "text"}] * 12} for i in range(more)]
     style = citing([{"kind": "text", "macro": "authors"}, {"kind": "text", "macro": "year"}])
     style["macros"] = [*unused, {"name": "authors", "children": [named]}, {"name": "year", "children": [YEAR]}]
-    pages = [{"name": "page", "single": "p."}] * (terms - 1)
-    made["locales"] = [{"lang": "en-US", "terms": [*pages, {"name": "and", "single": "and"}]}]
+    dated = [{"name": "no-date", "single": "n.d."}] * (terms - 1)
+    made["locales"] = [{"lang": "en-US", "terms": [*dated, {"name": "and", "single": "and"}]}]
     made["styles"]["s"] = style
     return made
 
