@@ -1,5 +1,5 @@
 //! A text that contracts see as its bytes.
-ghost use Rattle.std.specs.Prelude.{◌≡◌, ◌≤◌, ℕ, List, length, take, string_bytes, bytes_eq, ◌++◌, IfOk, OnOk};
+ghost use Rattle.std.specs.Prelude.{◌≡◌, ◌≤◌, ℕ, List, length, take, string_bytes, bytes_eq, ◌++◌, IsOk, IfOk, OnOk};
 ghost use Rattle.std.specs.Str.{IsCharBoundary};
 ghost use Rattle.std.proofs.Common.{rules};
 ghost use Rattle.std.specs.Cmp.Rules.{comparing, hashing};
@@ -9,6 +9,7 @@ ghost use Rattle.csl_base.specs.HeldText.{held_bytes};
 
 use arrayvec::ArrayString;
 use std::alloc::{AllocError, Global};
+use std::fmt;
 use std::hash::{Hash, Hasher};
 use std::marker::Model;
 
@@ -137,6 +138,22 @@ impl Clone for Text {
 
     fn clone(&self) -> Result<Text, AllocError> {
         Text::copied(self.allocator(), self.as_str())
+    }
+}
+
+impl fmt::Write for Text {
+    ghost use Rattle.std.specs.Prelude.{◌≡◌, ◌++◌};
+
+    ghost write_str_gives = { λ text s more. more ≡ text ++ s };
+
+    /// Appends `s`. Fails where memory is refused.
+    fn write_str(&mut self, s: &str) -> fmt::Result
+        ensures { IsOk result → self.new ≡ self.old ++ s.now }
+    {
+        match self.push_str(s) {
+            Ok(()) => Ok(()),
+            Err(_) => Err(fmt::Error),
+        }
     }
 }
 
