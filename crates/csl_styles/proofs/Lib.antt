@@ -3,3 +3,4 @@ pub mod Settled
 pub mod Gathering
 pub mod Suffixes
 pub mod PlacedBodies
+pub mod TermPlaces

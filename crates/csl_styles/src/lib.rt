@@ -4,3 +4,4 @@
 mod macros;
 pub mod sound;
 pub mod suffix_text;
+pub mod terms;
