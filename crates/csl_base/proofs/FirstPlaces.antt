@@ -1,5 +1,5 @@
 -- The places of first elements by a key, as elements are added at the end.
-use Rattle.std.proofs.Common.{◌≡◌, ℕ, suc, List, [], ◌∷◌, ◌++◌, length, cond, Bool, true, false, Option, Some, None, is_some, option_map, refl, sym, ap, ◌∙◌}
+use Rattle.std.proofs.Common.{◌≡◌, ℕ, suc, List, [], ◌∷◌, ◌++◌, length, cond, Bool, true, false, Option, Some, None, option_map, unwrap_or, refl, sym, ap, ◌∙◌}
 use Rattle.std.specs.Option.{option_or}
 use Rattle.csl_base.specs.Found.{first_at}
 
@@ -17,28 +17,19 @@ at-more test [] x = refl
 at-more test (y ∷ ys) x =
     ap (λ o. cond (test y) (Some 0) (option_map (λ i. suc i) o)) (at-more test ys x) ∙ one_further (test y) (first_at test ys) (test x) (length ys)
 
-kept : (o : Option ℕ) (b : Bool) (n : ℕ) → (true ≡ b → is_some o ≡ true) → o ≡ option_or o (cond b (Some n) None)
-kept (Some i) b n h = refl
-kept None true n h = let e = h refl in cc
-kept None false n h = refl
+-- with x at the end, where p is the place that is kept for what its key finds
+kept-or-added : (o p : Option ℕ) (b : Bool) (n : ℕ) → (true ≡ b → p ≡ o) → cond b (Some (unwrap_or p n)) o ≡ option_or o (cond b (Some n) None)
+kept-or-added (Some i) p true n h = ap (λ q. Some (unwrap_or q n)) (h refl)
+kept-or-added None p true n h = ap (λ q. Some (unwrap_or q n)) (h refl)
+kept-or-added (Some i) p false n h = refl
+kept-or-added None p false n h = refl
 
-added : (o : Option ℕ) (b : Bool) (n : ℕ) → (true ≡ b → is_some o ≡ false) → cond b (Some n) o ≡ option_or o (cond b (Some n) None)
-added (Some i) true n h = let e = h refl in cc
-added (Some i) false n h = refl
-added None true n h = refl
-added None false n h = refl
-
--- `key` is the key of x: each key for which the test passes at x tests as it does
-module _ {A K : Type 0} (test : K → A → Bool) (x : A) (key : K) (alike : (k : K) → true ≡ test k x → test key ≡ test k)
-    (placed : K → Option ℕ) (xs : List A) (have : (k : K) → placed k ≡ first_at (test k) xs) where
-  there_as : (b : Bool) → is_some (placed key) ≡ b → (k : K) → true ≡ test k x → is_some (first_at (test k) xs) ≡ b
-  there_as b e k same = ap (λ t. is_some (first_at t xs)) (sym (alike k same)) ∙ ap is_some (sym (have key)) ∙ e
-
-  -- an element whose key is there already changes nothing
-  pub old_key : is_some (placed key) ≡ true → (k : K) → placed k ≡ first_at (test k) (xs ++ x ∷ [])
-  old_key there k = have k ∙ kept (first_at (test k) xs) (test k x) (length xs) (there_as true there k) ∙ sym (at-more (test k) xs x)
-
-  -- a new key has the place of its element
-  pub new_key : (more : K → Option ℕ) → is_some (placed key) ≡ false → ((k : K) → more k ≡ cond (test k x) (Some (length xs)) (placed k)) → (k : K) → more k ≡ first_at (test k) (xs ++ x ∷ [])
-  new_key more new adds k =
-      adds k ∙ ap (cond (test k x) (Some (length xs))) (have k) ∙ added (first_at (test k) xs) (test k x) (length xs) (there_as false new k) ∙ sym (at-more (test k) xs x)
+-- a map has the first place of each key among xs, and then x is put under its key, at the place that is there
+-- already or else at its own: the map has the first places among xs and x. Each key for which the test passes at x
+-- tests as x's own.
+pub next_place : {A K : Type 0} (test : K → A → Bool) (x : A) (key : K) → ((k : K) → true ≡ test k x → test key ≡ test k) → (placed more : K → Option ℕ) (xs : List A) → ((k : K) → placed k ≡ first_at (test k) xs) → ((k : K) → more k ≡ cond (test k x) (Some (unwrap_or (placed key) (length xs))) (placed k)) → (k : K) → more k ≡ first_at (test k) (xs ++ x ∷ [])
+next_place test x key alike placed more xs have adds k =
+    adds k
+    ∙ ap (cond (test k x) (Some (unwrap_or (placed key) (length xs)))) (have k)
+    ∙ kept-or-added (first_at (test k) xs) (placed key) (test k x) (length xs) (λ same. have key ∙ ap (λ t. first_at t xs) (alike k same))
+    ∙ sym (at-more (test k) xs x)

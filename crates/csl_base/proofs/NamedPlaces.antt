@@ -1,5 +1,5 @@
 -- The places of first macros by name, as macros are added at the end.
-use Rattle.std.proofs.Common.{◌≡◌, ℕ, ◌+◌, ◌<◌, List, [], ◌∷◌, ◌++◌, length, take, get_or, Bool, cond, true, false, Option, Some, is_some, ap, sym, ◌∙◌, arith}
+use Rattle.std.proofs.Common.{◌≡◌, ℕ, ◌+◌, ◌<◌, List, [], ◌∷◌, ◌++◌, length, take, get_or, Bool, cond, Option, Some, unwrap_or, ap, sym, ◌∙◌, arith}
 use Rattle.std.specs.Prelude.{bytes_eq}
 use Rattle.std.proofs.lemmas.List.{map-append, take_more, length-map, length-take-le}
 use Rattle.std.specs.Cmp.Lexicographic.{same_text}
@@ -7,19 +7,14 @@ use Rattle.csl_base.specs.Element.{Name, Macro}
 use Rattle.csl_base.specs.ElementView.{macro_view, macros_view}
 use Rattle.csl_base.specs.declared.element.CslMacro.{CslMacro}
 use Rattle.csl_base.specs.Ring.{place_of}
-use Rattle.csl_base.proofs.FirstPlaces.{old_key, new_key}
+use Rattle.csl_base.proofs.FirstPlaces.{next_place}
 
 abbrev by_name : Name → Macro → Bool
 by_name name m = bytes_eq m.name name
 
-module _ (named : Name → Option ℕ) (ms : List Macro) (m : Macro) (have : (name : Name) → named name ≡ place_of name ms) where
-  -- a macro whose name is there already changes nothing
-  pub old_name : is_some (named m.name) ≡ true → (name : Name) → named name ≡ place_of name (ms ++ m ∷ [])
-  old_name = old_key by_name m m.name (λ name e. ap by_name (same_text m.name name e)) named ms have
-
-  -- a new name has the place of its macro
-  pub new_name : (more : Name → Option ℕ) → is_some (named m.name) ≡ false → ((name : Name) → more name ≡ cond (bytes_eq m.name name) (Some (length ms)) (named name)) → (name : Name) → more name ≡ place_of name (ms ++ m ∷ [])
-  new_name = new_key by_name m m.name (λ name e. ap by_name (same_text m.name name e)) named ms have
+-- a macro put under its name, at the place that is there already or else at its own
+pub next_name : (named more : Name → Option ℕ) (ms : List Macro) (m : Macro) → ((name : Name) → named name ≡ place_of name ms) → ((name : Name) → more name ≡ cond (bytes_eq m.name name) (Some (unwrap_or (named m.name) (length ms))) (named name)) → (name : Name) → more name ≡ place_of name (ms ++ m ∷ [])
+next_name named more ms m = next_place by_name m m.name (λ name e. ap by_name (same_text m.name name e)) named more ms
 
 -- the macros up to the next one
 pub macros-next : (xs : List CslMacro) (i : ℕ) (x : CslMacro) → i < length xs → x ≡ get_or xs i x → macros_view (take (i + 1) xs) ≡ macros_view (take i xs) ++ macro_view x ∷ []

@@ -1,5 +1,5 @@
 -- Which macros lie on a ring of calls.
-use Rattle.std.specs.Prelude.{◌≡◌, ℕ, suc, ◌<◌, List, [], ◌∷◌, map, take, slice_get, Bool, true, false, bytes_eq, Option, Some, None, option_map}
+use Rattle.std.specs.Prelude.{◌≡◌, ℕ, ◌<◌, List, [], ◌∷◌, map, take, slice_get, Bool, true, false, bytes_eq, Option, Some, None}
 use Rattle.std.specs.Bool.{if◌then◌else◌}
 use Rattle.std.specs.List.{filter_map, list_any}
 use Rattle.csl_base.specs.Element.{Name, Elements, Macro}
