@@ -1,12 +1,13 @@
 -- Names and forms of terms, as keys.
-use Rattle.std.proofs.Common.{◌≡◌, ℕ, ◌+◌, ◌<◌, Bool, true, ◌&&◌, List, [], ◌∷◌, ◌++◌, map, length, take, get_or, sym, ap, ◌∙◌, rules, arith}
+use Rattle.std.proofs.Common.{◌≡◌, ℕ, ◌+◌, ◌<◌, Bool, true, ◌&&◌, List, [], ◌∷◌, ◌++◌, map, length, take, get_or, sym, ap, ◌∙◌, arith}
 use Rattle.std.proofs.lemmas.List.{map-append, take_more, length-map, length-take-le}
 use Rattle.std.specs.Cmp.{IsEquivalence}
-use Rattle.std.specs.Cmp.Rules.{comparing}
 use Rattle.csl_base.specs.declared.taxonomy.Term.{Term}
 use Rattle.csl_base.specs.declared.taxonomy.TermForm.{TermForm}
 use Rattle.csl_base.specs.contracts.taxonomy.TermPartialEq.TheImpl as term_eq
 use Rattle.csl_base.specs.contracts.taxonomy.TermFormPartialEq.TheImpl as form_eq
+use Rattle.csl_base.specs.contracts.taxonomy.TermEq.TheImpl.Laws as names
+use Rattle.csl_base.specs.contracts.taxonomy.TermFormEq.TheImpl.Laws as forms
 use Rattle.csl_base.specs.Finds.{both}
 use Rattle.csl_base.specs.declared.locale.LocalizedTerm.{LocalizedTerm}
 use Rattle.csl_base.specs.Style.{TermValue}
@@ -14,10 +15,10 @@ use Rattle.csl_base.specs.StyleView.{term_view}
 use Rattle.csl_styles.specs.Terms.{is_term}
 
 name_laws : IsEquivalence (term_eq.ghosts).eq
-name_laws = search (comparing, rules)
+name_laws = names.laws-law
 
 form_laws : IsEquivalence (form_eq.ghosts).eq
-form_laws = search (comparing, rules)
+form_laws = forms.laws-law
 
 same_for : {K : Type 0} {E : K → K → Bool} (laws : IsEquivalence E) (a b y : K) → E a b ≡ true → E y a ≡ E y b
 same_for laws a b y h = laws.symm y a ∙ laws.congr a b y h ∙ laws.symm b y

@@ -5,3 +5,4 @@ pub mod SoundView
 pub mod MadeOf
 pub mod Terms
 pub mod TermsPlaced
+pub mod TablesView
