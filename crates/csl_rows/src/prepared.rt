@@ -67,11 +67,11 @@ fn answer_unprepared<'a>(
 fn answer_prepared<'a, 's: 'a>(
     alloc: Global,
     sound: &'a SoundStyle<'s>,
+    files: &'a TermTables<'s>,
     cited: &'a PlainEntry,
 ) -> Result<Rendered, Fail> {
-    let files = TermTables::new(alloc, &[])?;
-    let wanted = BibliographyRequest::of_sound(sound, None, &files, None);
-    answer(alloc, cite_prepared(alloc, sound, &files, cited)?, wanted)
+    let wanted = BibliographyRequest::of_sound(sound, None, files, None);
+    answer(alloc, cite_prepared(alloc, sound, files, cited)?, wanted)
 }
 
 #[test]
@@ -79,7 +79,8 @@ fn prepared_answers_alike(rt: HostRuntime) -> Result<(), Fail> {
     let style = numeric(rt.alloc())?;
     let cited = entry(rt.alloc(), "a")?;
     let sound = prepared(rt.alloc(), &style)?;
-    let answered = answer_prepared(rt.alloc(), &sound, &cited)?;
+    let files = TermTables::new(rt.alloc(), &[])?;
+    let answered = answer_prepared(rt.alloc(), &sound, &files, &cited)?;
     assert!(rt; answered == answer_unprepared(rt.alloc(), &style, &cited)?);
     Ok(())
 }

@@ -1,5 +1,5 @@
 -- What the driver answers, or why it refuses, is of the document.
-use Rattle.std.proofs.Common.{◌≡◌, ap, map, refl, string_bytes, subst, ◌∙◌}
+use Rattle.std.proofs.Common.{◌≡◌, map, refl, string_bytes, subst, ◌∙◌}
 use Rattle.csl_base.specs.StyleView.{locale_view}
 use Rattle.csl_driver.specs.DriverView.{driver_view}
 use Rattle.csl_passes.specs.RequestView.{wanted_view}
@@ -10,8 +10,8 @@ use Rattle.cite_document.specs.Run.{accepted, same_entry, wanted_of}
 use Rattle.cite_document.proofs.Refusals.{has_answer, is_answer, first_ring, too_large}
 use Rattle.cite_document.proofs.running.print_asked.Goals as goal
 
-pub returns-in_ok-print_rendered-in-Ok : goal.returns-in_ok-print_rendered-in-Ok
-returns-in_ok-print_rendered-in-Ok c =
+pub returns-in-Ok : goal.returns-in-Ok
+returns-in-Ok c =
     let v = driver_view c.in_ok-driver.driver in
     let w = wanted_view c.in_ok-request.request in
     let asked = c.args.asked.now in
