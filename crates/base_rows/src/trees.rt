@@ -323,7 +323,7 @@ fn coffee(alloc: Global) -> Result<Text, AllocError> {
 fn copies_texts(rt: HostRuntime) -> Result<(), Fail> {
     let word = coffee(rt.alloc())?;
     assert!(rt; word.as_str() == "caf\u{E9}");
-    assert!(rt; word.clone()?.into_string().as_str() == "caf\u{E9}");
+    assert!(rt; word.clone()?.into_string()?.as_str() == "caf\u{E9}");
     Ok(())
 }
 

@@ -6,6 +6,7 @@ ghost use Rattle.csl_base.specs.StyleView.{locale_view};
 ghost use Rattle.csl_driver.specs.DriverView.{driver_view};
 ghost use Rattle.csl_passes.specs.RequestView.{entries_view, order_view, wanted_view};
 ghost use Rattle.csl_driver.specs.declared.error.RingPlace.{RingPlace};
+ghost use Rattle.csl_styles.specs.TablesView.{locales_of};
 ghost use Rattle.document_reading.specs.AskedView.{asked_requests_view};
 ghost use Rattle.document_reading.specs.DocumentView.{document_view};
 ghost use Rattle.document_reading.specs.Form.{asked_form, form, document_form};
@@ -22,6 +23,7 @@ use csl_base::locale::Locale;
 use csl_driver::driver::BibliographyDriver;
 use csl_driver::error::DriverError;
 use csl_driver::request::{BibliographyRequest, Order};
+use csl_driver::terms::TermTables;
 use document_reading::document::{Asked, asked_in, top_of, utf8_text, value_of};
 use document_reading::entries::entries_of;
 use document_reading::finders::found_styles;
@@ -33,19 +35,19 @@ use std::alloc::{AllocError, Global};
 use std::convert::Infallible;
 use std::io::Write;
 
-fn add_all<'e>(
+fn add_all<'e, 'f: 'e>(
     alloc: Global,
     driver: &mut BibliographyDriver<'e, PlainEntry, Infallible>,
-    requests: &'e [AskedRequest<'_>],
-    locales: &'e [Locale],
+    requests: &'e [AskedRequest<'f>],
+    files: &'e TermTables<'f>,
 ) -> Result<(), RunError>
     ensures added { OnOk result
-        (driver_view driver.new ≡ record (driver_view driver.old) { requests = (driver_view driver.old).requests ++ accepted (asked_requests_view (map locale_view locales.now) requests.now) }) }
+        (driver_view driver.new ≡ record (driver_view driver.old) { requests = (driver_view driver.old).requests ++ accepted (asked_requests_view (map locale_view (locales_of files.now)) requests.now) }) }
     ensures memory { IfErr result (λ e. e ≡ RunError.OutOfMemory) }
 {
     for request in requests {
         if driver
-            .citation(driver_request(alloc, request, locales)?)
+            .citation(driver_request(alloc, request, files)?)
             .is_err()
         {
             return Err(RunError::OutOfMemory);
@@ -55,17 +57,17 @@ fn add_all<'e>(
 }
 
 /// A driver that has taken these requests, in their order.
-fn filled_driver<'e>(
+fn filled_driver<'e, 'f: 'e>(
     alloc: Global,
-    requests: &'e [AskedRequest<'_>],
-    locales: &'e [Locale],
+    requests: &'e [AskedRequest<'f>],
+    files: &'e TermTables<'f>,
     offset: usize,
 ) -> Result<BibliographyDriver<'e, PlainEntry, Infallible>, RunError>
-    ensures filled { IfOk result (λ d. driver_view d ≡ record { requests = accepted (asked_requests_view (map locale_view locales.now) requests.now); offset = offset }) }
+    ensures filled { IfOk result (λ d. driver_view d ≡ record { requests = accepted (asked_requests_view (map locale_view (locales_of files.now)) requests.now); offset = offset }) }
     ensures memory { IfErr result (λ e. e ≡ RunError.OutOfMemory) }
 {
     let mut driver = BibliographyDriver::new(alloc).with_citation_number_offset(offset);
-    add_all(alloc, &mut driver, requests, locales)?;
+    add_all(alloc, &mut driver, requests, files)?;
     Ok(driver)
 }
 
@@ -78,19 +80,21 @@ fn order_of<'o, 'e>(entries: &'o Option<Vec<&'e PlainEntry>>) -> Option<Order<'o
     }
 }
 
-/// What the driver is asked of the bibliography.
+/// What the driver is asked of the bibliography, with the locales of these tables.
 fn bibliography_request<'o, 'e>(
     alloc: Global,
     asked: &'o Asked<'e>,
+    files: &'o TermTables<'e>,
 ) -> Result<BibliographyRequest<'o, 'e, PlainEntry>, AllocError>
-    ensures { IfOk result (λ request. wanted_view request ≡ wanted_of (document_view asked.now)) }
+    ensures { IfOk result (λ request. wanted_view request
+        ≡ record (wanted_of (document_view asked.now)) { locales = map locale_view (locales_of files.now) }) }
 {
     let locale = copied_code(alloc, &asked.wanted.locale)?;
     let order = order_of(&asked.wanted.order);
-    let locales = asked.locales;
+    let locales = files.locales();
     let found = asked.wanted.style;
     match found.sound() {
-        Some(sound) => Ok(BibliographyRequest::of_sound(sound, locale, locales, order)),
+        Some(sound) => Ok(BibliographyRequest::of_sound(sound, locale, files, order)),
         None => Ok(BibliographyRequest::ordered(found.style, locale, locales, order)),
     }
 }
@@ -99,8 +103,9 @@ fn bibliography_request<'o, 'e>(
 fn print_asked<'r>(alloc: Global, asked: &'r Asked<'_>) -> Result<String, RunError>
     ensures { Prints result (Some (document_view asked.now)) }
 {
-    let driver = filled_driver(alloc, &asked.requests, asked.locales, asked.offset)?;
-    let request = bibliography_request(alloc, asked)?;
+    let files = TermTables::new(alloc, asked.locales)?;
+    let driver = filled_driver(alloc, &asked.requests, &files, asked.offset)?;
+    let request = bibliography_request(alloc, asked, &files)?;
     match driver.finish(request) {
         Ok(rendered) => Ok(print_rendered(alloc, &rendered)?),
         Err(DriverError::MacroRing { place, macro_idx }) => {

@@ -16,6 +16,7 @@ pub mod FirstNamesLaws
 pub mod Lent
 pub mod Reached
 pub mod Rows
+pub mod FirstPlaces
 pub mod NamedPlaces
 pub mod Rings
 pub mod Tops

@@ -1,5 +1,6 @@
 pub mod Formatting
 pub mod Content
+pub mod HeldText
 pub mod Answers
 pub mod Found
 pub mod PlainEntry

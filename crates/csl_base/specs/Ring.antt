@@ -1,9 +1,10 @@
 -- Which macros lie on a ring of calls.
-use Rattle.std.specs.Prelude.{◌≡◌, ℕ, suc, ◌<◌, List, [], ◌∷◌, map, take, slice_get, Bool, true, false, bytes_eq, Option, Some, None, option_map}
+use Rattle.std.specs.Prelude.{◌≡◌, ℕ, ◌<◌, List, [], ◌∷◌, map, take, slice_get, Bool, true, false, bytes_eq, Option, Some, None}
 use Rattle.std.specs.Bool.{if◌then◌else◌}
 use Rattle.std.specs.List.{filter_map, list_any}
 use Rattle.csl_base.specs.Element.{Name, Elements, Macro}
 use Rattle.csl_base.specs.Calls.{Names, calls_of_all}
+use Rattle.csl_base.specs.Found.{first_at}
 use Rattle.csl_base.specs.Places.{Places}
 
 -- whether a name is among names
@@ -50,8 +51,7 @@ IsFirstRing macros (Some i) = IsRingAt macros i × ((k : ℕ) → k < i → IsRi
 
 -- the place of the first macro of a name
 abbrev pub place_of : Name → List Macro → Option ℕ
-place_of name [] = None
-place_of name (m ∷ ms) = if bytes_eq m.name name then Some 0 else option_map (λ i. suc i) (place_of name ms)
+place_of name = first_at (λ m. bytes_eq m.name name)
 
 -- the places of the macros of these names, without the names that have none
 abbrev pub places_of : List Macro → Names → Places

@@ -41,9 +41,9 @@ pub fn first_places<'a>(
     let mut places = HashMap::new(alloc);
     for i in 0..macros.len() {
         let name = macros[i].name.as_str();
-        if !places.contains_key(&name) {
-            places.insert(name, i)?;
-        }
+        // a name keeps its first place
+        let first = places.get(&name).copied().unwrap_or(i);
+        places.insert(name, first)?;
     }
     Ok(places)
 }

@@ -34,7 +34,7 @@ impl<T> NonEmptyStack<T> {
         T: Drop,
         ensures { IfOk result (λ stack. stack ≡ first ∷ []) }
     {
-        let mut items = Vec::new(alloc);
+        let mut items = Vec::with_capacity(alloc, 8)?;
         items.push(first)?;
         Ok(NonEmptyStack { items })
     }

@@ -57,7 +57,7 @@ pub enum NumberVariable {
 }
 
 /// What a locator counts (CSL 1.0.2, appendix IV, locators).
-#[derive(Clone, Copy, PartialEq, Eq)]
+#[derive(Clone, Copy, PartialEq, Eq, Hash)]
 pub enum Locator {
     Book,
     Chapter,
@@ -75,7 +75,7 @@ pub enum Locator {
 }
 
 /// A term that a locale puts into words (CSL 1.0.2, appendix II).
-#[derive(Clone, Copy, PartialEq, Eq)]
+#[derive(Clone, Copy, PartialEq, Eq, Hash)]
 pub enum Term {
     Other(OtherTerm),
     Locator(Locator),
@@ -83,7 +83,7 @@ pub enum Term {
 }
 
 /// A term that is named after no variable and no locator.
-#[derive(Clone, Copy, PartialEq, Eq)]
+#[derive(Clone, Copy, PartialEq, Eq, Hash)]
 pub enum OtherTerm {
     Ad,
     Bc,
@@ -98,7 +98,7 @@ pub enum OtherTerm {
 }
 
 /// A form of a term.
-#[derive(Clone, Copy, PartialEq, Eq)]
+#[derive(Clone, Copy, PartialEq, Eq, Hash)]
 pub enum TermForm {
     Long,
     Short,

@@ -8,17 +8,20 @@ use Rattle.std.proofs.Common.{eqb, drop, get_or, append_assoc, ap, ◌≡◌, �
 use Rattle.std.specs.Bool.{MatchBool, OnTrue}
 use Rattle.std.specs.Str.Pattern.{HasSuffixMatch, FindsTextSuffix}
 use Rattle.std.specs.Str.{IsUtf8, IsTrimEnd, IsCharBoundary}
-use Rattle.std.specs.String.Boundary.{IsSplitPoint}
 use Rattle.std.proofs.lemmas.Str.{IsCharBoundary-from_take, IsCharBoundary-after_ascii}
 
+-- a trimmed text is a beginning of the text
+pub take_of_trim : (bs r : List ℕ) → IsTrimEnd bs r → r ≡ take (length r) bs
+take_of_trim bs r t =
+    let n = t.0 in
+    rw t.4 t.1
+
 -- a text may be cut where its trimmed part ends
-pub split_at_trim : (bs r : List ℕ) → IsUtf8 bs → IsUtf8 r → IsTrimEnd bs r → IsSplitPoint bs (length r)
-split_at_trim bs r u v t =
+pub boundary_at_trim : (bs r : List ℕ) → IsUtf8 bs → IsUtf8 r → IsTrimEnd bs r → IsCharBoundary bs (length r)
+boundary_at_trim bs r u v t =
     let n = t.0 in
     let bound : length r ≤ length bs = omega arith in
-    let is_take : r ≡ take (length r) bs = rw t.4 t.1 in
-    let b = IsCharBoundary-from_take bs (length r) u bound (rw (← is_take) v) in
-    (b.0, λ _ l h. b.1 l h)
+    IsCharBoundary-from_take bs (length r) u bound (rw (← take_of_trim bs r t) v)
 
 -- nor does the cut of an ending that a text has
 pub split_at_ending : (r : Bool) (e bs : List ℕ) → MatchBool r (HasSuffixMatch (FindsTextSuffix e) bs) (FindsTextSuffix e bs None) → OnTrue r (IsCharBoundary bs (length bs - length e))

@@ -1,6 +1,8 @@
 //! Changes of the open frames of a writing context.
-ghost use Rattle.std.specs.Prelude.{◌≡◌, ◌++◌, ◌+◌, ◌<◌, ◌∷◌, [], string_bytes, length, option_map, IfOk, OnOk, OnErr, false};
+ghost use Rattle.std.specs.Prelude.{◌≡◌, ◌++◌, ◌+◌, ◌<◌, ◌∷◌, [], string_bytes, length, take, option_map, IfOk, OnOk, OnErr, false};
 ghost use Rattle.std.specs.Option.{option_map_or, option_and_then};
+ghost use Rattle.std.specs.Str.{IsCharBoundary};
+ghost use Rattle.csl_base.specs.declared.elem.ElemChild.TheVariants as child;
 ghost use Rattle.csl_base.specs.Child.{kids_of};
 ghost use Rattle.csl_base.specs.ChildView.{child_view};
 ghost use Rattle.csl_base.specs.Simplify.{join_last};
@@ -11,7 +13,7 @@ ghost use Rattle.csl_context.specs.Quotes.{quotes_view};
 ghost use Rattle.csl_context.specs.OpenFrames.{on_last_text, sole_text, kids_sole_text, on_sole_text, kids_on_sole_text, end_sole_text, on_end_sole_text, filled, on_filled, on_top, closed, committed, child_shows, shows};
 ghost use Rattle.csl_context.specs.Edits.{edited};
 
-use crate::text::{ClosingQuotes, add_space, is_visible_from, pull, take_ending, trim_end};
+use crate::text::{ClosingQuotes, ends_in_space, is_visible_from, len_before, pull, trimmed_len};
 use csl_base::elem::{Elem, ElemChild, ElemChildren, ElemMeta};
 use csl_base::formatting::Display;
 use csl_base::simplify::append;
@@ -19,6 +21,9 @@ use csl_base::stack::NonEmptyStack;
 use csl_base::text::Text;
 use std::alloc::{AllocError, Global};
 use std::mem::replace;
+
+// For how many children a closed frame makes room.
+const FEW: usize = 3;
 
 /// What is done to the text before.
 #[derive(Clone, Copy)]
@@ -30,76 +35,74 @@ pub(crate) enum Edit<'s> {
 }
 
 impl Edit<'_> {
+    // How many bytes of the text stay.
+    fn kept(&self, text: &str) -> usize
+        ensures kept { take result text.now ≡ edited self.now text.now }
+        ensures cut { IsCharBoundary text.now result }
+    {
+        match self {
+            Edit::TrimEnd => trimmed_len(text),
+            Edit::TakeEnding(ending) => len_before(text, ending),
+        }
+    }
+
     pub(crate) fn apply(&self, text: &mut String)
         ensures { string_bytes text.new ≡ edited self.now (string_bytes text.old) }
     {
-        match self {
-            Edit::TrimEnd => trim_end(text),
-            Edit::TakeEnding(ending) => take_ending(text, ending),
-        }
+        let kept = self.kept(text.as_str());
+        text.truncate(kept);
     }
 }
 
-// The text as a string; it is empty until the string is put back.
-fn take(alloc: Global, text: &mut Text) -> String
-    ensures { string_bytes result ≡ text.old }
-{
-    replace(text, Text::new(String::new(alloc))).into_string()
-}
-
-fn edit_text(alloc: Global, text: &mut Text, edit: &Edit<'_>)
+fn edit_text(text: &mut Text, edit: &Edit<'_>)
     ensures { text.new ≡ edited edit.now text.old }
 {
-    let mut string = take(alloc, text);
-    edit.apply(&mut string);
-    *text = Text::new(string);
+    let kept = edit.kept(text.as_str());
+    text.truncate(kept);
 }
 
-fn edit_last_text(alloc: Global, tree: &mut ElemChildren, edit: &Edit<'_>)
+fn edit_last_text(tree: &mut ElemChildren, edit: &Edit<'_>)
     ensures { tree.new ≡ on_last_text (edited edit.now) tree.old }
 {
     if let Some(last) = tree.last_text_mut() {
-        edit_text(alloc, &mut last.text, edit);
+        edit_text(&mut last.text, edit);
     }
 }
 
 /// Edits the last text of the topmost frame that has children.
-pub(crate) fn edit_filled(alloc: Global, frames: &mut NonEmptyStack<ElemChildren>, edit: &Edit<'_>)
+pub(crate) fn edit_filled(frames: &mut NonEmptyStack<ElemChildren>, edit: &Edit<'_>)
     ensures done { frames.new ≡ on_filled (on_last_text (edited edit.now)) frames.old }
     ensures height { length frames.new ≡ length frames.old }
 {
     if let Some(frame) = frames.last_mut_predicate(|frame| !frame.is_empty()) {
-        edit_last_text(alloc, frame, edit);
+        edit_last_text(frame, edit);
     }
 }
 
 /// Adds a space to the last text of the top frame, unless it ends with one.
-pub(crate) fn space_last_text(
-    alloc: Global,
-    frames: &mut NonEmptyStack<ElemChildren>,
-) -> Result<(), AllocError>
+pub(crate) fn space_last_text(frames: &mut NonEmptyStack<ElemChildren>) -> Result<(), AllocError>
     ensures done { OnOk result (frames.new ≡ on_top (on_last_text spaced) frames.old) }
     ensures height { length frames.new ≡ length frames.old }
 {
-    add_space_to_tree(alloc, frames.last_mut())
+    add_space_to_tree(frames.last_mut())
 }
 
-fn add_space_to_tree(alloc: Global, tree: &mut ElemChildren) -> Result<(), AllocError>
+fn add_space_to_tree(tree: &mut ElemChildren) -> Result<(), AllocError>
     ensures { OnOk result (tree.new ≡ on_last_text spaced tree.old) }
 {
     match tree.last_text_mut() {
-        Some(last) => add_space_to_text(alloc, &mut last.text),
+        Some(last) => add_space_to_text(&mut last.text),
         None => Ok(()),
     }
 }
 
-fn add_space_to_text(alloc: Global, text: &mut Text) -> Result<(), AllocError>
+fn add_space_to_text(text: &mut Text) -> Result<(), AllocError>
     ensures { OnOk result (text.new ≡ spaced text.old) }
 {
-    let mut string = take(alloc, text);
-    add_space(&mut string)?;
-    *text = Text::new(string);
-    Ok(())
+    if ends_in_space(text.as_str()) {
+        return Ok(());
+    }
+    text.push_str(" ")
 }
 
 fn pull_in_text(
@@ -111,7 +114,7 @@ fn pull_in_text(
     ensures moved { IfOk result (λ moved. moved ≡ ends_quoted (quotes_view quotes.entry) text.old) }
     ensures text { OnOk result (text.new ≡ pulled (quotes_view quotes.entry) mark.now text.old) }
 {
-    let mut string = take(alloc, text);
+    let mut string = String::from_str(alloc, text.as_str())?;
     let moved = pull(&mut string, quotes, mark)?;
     *text = Text::new(string);
     Ok(moved)
@@ -208,8 +211,13 @@ pub(crate) fn join_child(
     append(frames.last_mut(), child)
 }
 
-// Adds children to a tree, which takes them over as they are where it is empty.
-fn push_all(tree: &mut ElemChildren, children: ElemChildren) -> Result<(), AllocError>
+// Adds children to a tree, which takes them over as they are where it is empty. Else their room is
+// to spare.
+fn push_all(
+    tree: &mut ElemChildren,
+    children: ElemChildren,
+    spare: &mut Vec<ElemChild>,
+) -> Result<(), AllocError>
     ensures { OnOk result (tree.new ≡ tree.old ++ children) }
 {
     if tree.is_empty() {
@@ -217,37 +225,67 @@ fn push_all(tree: &mut ElemChildren, children: ElemChildren) -> Result<(), Alloc
         return Ok(());
     }
     let mut children = children;
-    tree.0.append(&mut children.0)
+    tree.0.append(&mut children.0)?;
+    *spare = children.into_vec();
+    Ok(())
+}
+
+// A tree without children that has room for some: the spare room, if there is any.
+fn roomy_tree(alloc: Global, spare: &mut Vec<ElemChild>) -> Result<ElemChildren, AllocError>
+    ensures { IfOk result (λ tree. tree ≡ []) }
+{
+    let mut room = replace(spare, Vec::new(alloc));
+    room.clear();
+    room.reserve_exact(FEW)?;
+    Ok(ElemChildren(room))
+}
+
+// Adds an element to a tree.
+fn push_elem(
+    alloc: Global,
+    tree: &mut ElemChildren,
+    elem: Elem,
+    spare: &mut Vec<ElemChild>,
+) -> Result<(), AllocError>
+    ensures { OnOk result (tree.new ≡ tree.old ++ child_view (child.Elem elem) ∷ []) }
+{
+    if tree.is_empty() {
+        *tree = roomy_tree(alloc, spare)?;
+    }
+    tree.push(ElemChild::Elem(elem))
 }
 
 // Adds to a tree what a closed frame gives.
 fn push_closed(
+    alloc: Global,
     tree: &mut ElemChildren,
     children: ElemChildren,
     display: Option<Display>,
     meta: Option<ElemMeta>,
+    spare: &mut Vec<ElemChild>,
 ) -> Result<(), AllocError>
     ensures { OnOk result (tree.new ≡ tree.old ++ closed display meta children) }
 {
     if display.is_none() && meta.is_none() {
-        push_all(tree, children)
-    } else {
-        tree.push(ElemChild::Elem(Elem {
-            children,
-            display,
-            meta,
-        }))
+        return push_all(tree, children, spare);
     }
+    let elem = Elem {
+        children,
+        display,
+        meta,
+    };
+    push_elem(alloc, tree, elem, spare)
 }
 
 /// Closes the top frame into the one below. The frame goes only once its children are there, so that
-/// a refusal leaves the height.
+/// a refusal leaves the height. Room that it leaves is to spare for the next ones.
 pub(crate) fn commit(
     alloc: Global,
     frames: &mut NonEmptyStack<ElemChildren>,
     height: usize,
     display: Option<Display>,
     meta: Option<ElemMeta>,
+    spare: &mut Vec<ElemChild>,
 ) -> Result<(), AllocError>
     requires below { 0 < height }
     requires top { height + 1 ≡ length frames.old }
@@ -255,7 +293,8 @@ pub(crate) fn commit(
     ensures refused { OnErr result (length frames.new ≡ length frames.old) }
 {
     let children = replace(frames.last_mut(), ElemChildren::new(alloc));
-    push_closed(frames.item_mut(height - 1), children, display, meta)?;
+    let below = frames.item_mut(height - 1);
+    push_closed(alloc, below, children, display, meta, spare)?;
     frames.pop();
     Ok(())
 }

@@ -3,6 +3,7 @@
 
 pub mod context;
 mod frames;
+mod pile;
 mod text;
 pub mod token;
 pub mod wording;

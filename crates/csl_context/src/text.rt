@@ -1,5 +1,5 @@
 //! What is done to a text, and to the text before a piece that is written.
-ghost use Rattle.std.specs.Prelude.{◌≡◌, ◌++◌, ◌-◌, ◌&&◌, length, string_bytes, nat_eq, option_map, IfOk, OnOk, OnErr, IsTrue};
+ghost use Rattle.std.specs.Prelude.{◌≡◌, ◌++◌, ◌-◌, ◌&&◌, length, take, string_bytes, nat_eq, option_map, IfOk, OnOk, OnErr, IsTrue};
 ghost use Rattle.std.specs.Bool.{OnTrue};
 ghost use Rattle.std.specs.List.{ends_with};
 ghost use Rattle.std.specs.Str.{IsCharBoundary, trim_end, chars};
@@ -88,27 +88,29 @@ pub(crate) fn ends_with(text: &str, ending: &str) -> bool
 }
 
 /// Whether the text ends with a space or a no-break space.
-fn ends_in_space(text: &str) -> bool
+pub(crate) fn ends_in_space(text: &str) -> bool
     ensures { result ≡ ends_in_space text.now }
 {
     ends_with(text, " ") || ends_with(text, "\u{a0}")
 }
 
-/// Takes the white space at the text's end away.
-pub(crate) fn trim_end(text: &mut String)
-    ensures { string_bytes text.new ≡ trim_end (string_bytes text.old) }
+/// How many bytes stand before the white space at the text's end.
+pub(crate) fn trimmed_len(text: &str) -> usize
+    ensures kept { take result text.now ≡ trim_end text.now }
+    ensures cut { IsCharBoundary text.now result }
 {
-    let kept = text.as_str().trim_end().len();
-    text.truncate(kept);
+    text.trim_end().len()
 }
 
-/// Takes an ending away, where the text has it.
-pub(crate) fn take_ending(text: &mut String, ending: &str)
-    ensures { string_bytes text.new ≡ without_ending ending.now (string_bytes text.old) }
+/// How many bytes stand before an ending, where the text has it; else all of them.
+pub(crate) fn len_before(text: &str, ending: &str) -> usize
+    ensures kept { take result text.now ≡ without_ending ending.now text.now }
+    ensures cut { IsCharBoundary text.now result }
 {
-    if ends_with(text.as_str(), ending) {
-        let kept = text.len() - ending.len();
-        text.truncate(kept);
+    if ends_with(text, ending) {
+        text.len() - ending.len()
+    } else {
+        text.len()
     }
 }
 

@@ -13,6 +13,7 @@ ghost use Rattle.csl_context.specs.WritingState.{state, heights, begun, is_saved
 use crate::frames::{
     Edit, commit, edit_filled, join_child, pull_in_filled, push_child, shows, space_last_text,
 };
+use crate::pile::Pile;
 use crate::text::{
     ClosingQuotes, add_space, ends_with, has_letter, opens_tight, opens_with_mark, pull,
     push_without_periods,
@@ -20,10 +21,10 @@ use crate::text::{
 use crate::token::{DelimiterIdx, DisplayLoc, FormatIdx};
 use csl_base::elem::{ElemChild, ElemChildren, ElemMeta};
 use csl_base::element::{Affixes, InheritableNameOptions};
-use csl_base::formatting::{Display, Formatting, StyleFormatting};
+use csl_base::formatting::{Display, Formatted, Formatting, StyleFormatting};
 use csl_base::stack::NonEmptyStack;
+use csl_base::text::Text;
 use std::alloc::{AllocError, Global};
-use std::mem::replace;
 
 /// Texts that are written one after another, into trees that are still open. A refusal for memory
 /// leaves its stacks as high as they were; it may then only be dropped.
@@ -34,9 +35,11 @@ pub struct WritingContext<'a> {
     buf: String,
     // The trees that are open, the innermost on top.
     frames: NonEmptyStack<ElemChildren>,
-    formats: NonEmptyStack<Formatting>,
-    delimiters: NonEmptyStack<Option<&'a str>>,
-    name_options: NonEmptyStack<&'a InheritableNameOptions>,
+    formats: Pile<Formatting>,
+    delimiters: Pile<Option<&'a str>>,
+    name_options: Pile<&'a InheritableNameOptions>,
+    // Room that closed frames left; what stands in it means nothing.
+    spare: Vec<ElemChild>,
     // Whether closing quotes may pull punctuation in.
     pulling: bool,
     // Whether periods are left out.
@@ -44,6 +47,9 @@ pub struct WritingContext<'a> {
     // How many quotes are open.
     quote_depth: usize,
 }
+
+// How long a text may be before the buffer grows.
+const ROOM: usize = 64;
 
 const NOTHING_ASKED: StyleFormatting = StyleFormatting {
     font_style: None,
@@ -64,11 +70,12 @@ impl<'a> WritingContext<'a> {
     {
         Ok(WritingContext {
             alloc,
-            buf: String::new(alloc),
+            buf: String::with_capacity(alloc, ROOM)?,
             frames: NonEmptyStack::new(alloc, ElemChildren::new(alloc))?,
-            formats: NonEmptyStack::new(alloc, Formatting::default())?,
-            delimiters: NonEmptyStack::new(alloc, None)?,
-            name_options: NonEmptyStack::new(alloc, options)?,
+            formats: Pile::new(alloc, Formatting::default()),
+            delimiters: Pile::new(alloc, None),
+            name_options: Pile::new(alloc, options),
+            spare: Vec::new(alloc),
             pulling: false,
             stripping: false,
             quote_depth: 0,
@@ -91,9 +98,13 @@ impl<'a> WritingContext<'a> {
         if self.is_saved() {
             return Ok(());
         }
-        let text = replace(&mut self.buf, String::new(self.alloc));
-        let formatted = self.formats.last().add_text(text);
-        join_child(&mut self.frames, ElemChild::Text(formatted))
+        let text = Text::copied(self.alloc, self.buf.as_str())?;
+        let formatting = self.formatting();
+        self.buf.clear();
+        join_child(
+            &mut self.frames,
+            ElemChild::Text(Formatted { text, formatting }),
+        )
     }
 
     fn edit_before(&mut self, edit: &Edit<'_>)
@@ -101,7 +112,7 @@ impl<'a> WritingContext<'a> {
         ensures heights { heights (state self.new) ≡ heights (state self.old) }
     {
         if self.is_saved() {
-            edit_filled(self.alloc, &mut self.frames, edit);
+            edit_filled(&mut self.frames, edit);
         } else {
             edit.apply(&mut self.buf);
         }
@@ -239,7 +250,7 @@ impl<'a> WritingContext<'a> {
     pub(crate) fn formatting(&self) -> Formatting
         ensures { result ≡ formatting (state self.now) }
     {
-        *self.formats.last()
+        self.formats.top()
     }
 
     /// Makes sure that a space or a no-break space ends what was written: the buffer, or where that is
@@ -254,7 +265,7 @@ impl<'a> WritingContext<'a> {
         ensures heights { heights (state self.new) ≡ heights (state self.old) }
     {
         if self.is_saved() {
-            space_last_text(self.alloc, &mut self.frames)
+            space_last_text(&mut self.frames)
         } else {
             add_space(&mut self.buf)
         }
@@ -344,7 +355,14 @@ impl<'a> WritingContext<'a> {
         ensures refused { OnErr result (heights (state self.new) ≡ heights (state self.old)) }
     {
         self.save()?;
-        commit(self.alloc, &mut self.frames, loc.frames, display, meta)?;
+        commit(
+            self.alloc,
+            &mut self.frames,
+            loc.frames,
+            display,
+            meta,
+            &mut self.spare,
+        )?;
         self.formats.cut(loc.formats);
         Ok(())
     }

@@ -10,8 +10,8 @@ pub use csl_base::{
 };
 pub use csl_passes::{item, request};
 pub use csl_writing::{
-    brackets, cite, context, counter, locator, lookup, properties, purpose, sound, state, token,
-    writing, year,
+    brackets, cite, context, counter, locator, lookup, properties, purpose, sound, state, terms,
+    token, writing, year,
 };
 
 pub mod account;

@@ -1,12 +1,13 @@
 -- First answers along lists that are joined, and where what is answered is known.
-use Rattle.std.proofs.Common.{◌≡◌, ℕ, inl, inr, List, [], ◌∷◌, ◌++◌, Option, None, Some, option_map, option_to_list, map, subst, ap, sym, true≢false, ◌∙◌, refl}
+use Rattle.std.proofs.Common.{◌≡◌, ℕ, inl, inr, List, [], ◌∷◌, ◌++◌, Option, None, Some, option_map, option_and_then, option_to_list, map, subst, ap, sym, true≢false, ◌∙◌, refl}
 use Rattle.std.specs.Option.{option_or}
 use Rattle.std.specs.Fn.{Shared}
 use Rattle.std.specs.Borrow.{Bor}
 use Rattle.csl_base.specs.Style.{LocaleValue}
 use Rattle.csl_base.specs.StyleView.{locale_view}
 use Rattle.csl_base.specs.declared.locale.Locale.{Locale}
-use Rattle.csl_lookup.specs.Lookup.{first_answer, locale_of}
+use Rattle.csl_lookup.specs.Lookup.{first_answer}
+use Rattle.csl_styles.specs.Terms.{locale_of}
 use Rattle.csl_lookup.specs.FirstAnswer.{Gives, FirstAnswer}
 
 module _ {R : Type 0} (gives : LocaleValue → Option R → Type 0) where
@@ -52,3 +53,28 @@ module _ {F R : Type 0} (g : Shared F (Bor Locale × Unit {0}) (Option R)) (f : 
 
   pub gives_plainly : (p : LocaleValue → Option R) → ((x : Bor Locale) (r : Option R) → g.post f (x, tt) r → r ≡ p (locale_view x.now)) → (ls : List LocaleValue) (r : Option R) → FirstAnswer (Gives g f) ls r → r ≡ first_answer p ls
   gives_plainly p known = known_plainly (Gives g f) p (λ l r k. known k.2.shown r k.2.says.met ∙ ap p (ap locale_view k.2.shows ∙ k.1))
+
+module _ {A R : Type 0} (f : A → Option R) where
+  or_none : (o : Option R) → option_or o None ≡ o
+  or_none None = refl
+  or_none (Some x) = refl
+
+  or-or : (a b c : Option R) → option_or a (option_or b c) ≡ option_or (option_or a b) c
+  or-or None b c = refl
+  or-or (Some x) b c = refl
+
+  -- along lists that are joined, and of at most one
+  pub answer-append : (xs ys : List A) → first_answer f (xs ++ ys) ≡ option_or (first_answer f xs) (first_answer f ys)
+  answer-append [] ys = refl
+  answer-append (x ∷ xs) ys = ap (option_or (f x)) (answer-append xs ys) ∙ or-or (f x) (first_answer f xs) (first_answer f ys)
+
+  answer_one : (o : Option A) → first_answer f (option_to_list o) ≡ option_and_then f o
+  answer_one None = refl
+  answer_one (Some x) = or_none (f x)
+
+  -- of at most three
+  pub answer_three : (a b c : Option A) → first_answer f (option_to_list a ++ option_to_list b ++ option_to_list c) ≡ option_or (option_or (option_and_then f a) (option_and_then f b)) (option_and_then f c)
+  answer_three a b c =
+      answer-append (option_to_list a ++ option_to_list b) (option_to_list c)
+      ∙ (λ i. option_or (answer-append (option_to_list a) (option_to_list b) i) (answer_one c i))
+      ∙ (λ i. option_or (option_or (answer_one a i) (answer_one b i)) (option_and_then f c))

@@ -9,3 +9,4 @@ pub mod SuffixLetters
 pub mod Lookup
 pub mod FirstAnswer
 pub mod SourceView
+pub mod PreparedLookup

@@ -1,15 +1,14 @@
 -- Look-up in locales: which are asked, in which order, and what they answer.
-use Rattle.std.specs.Prelude.{ℕ, List, [], ◌∷◌, ◌++◌, Bool, false, ◌&&◌, ◌==◌, Option, None, Some, find, option_and_then, option_to_list, unwrap_or, bytes_eq, codes, if◌then◌else◌}
+use Rattle.std.specs.Prelude.{ℕ, List, [], ◌∷◌, ◌++◌, Bool, false, ◌==◌, Option, None, Some, option_and_then, option_to_list, unwrap_or, bytes_eq, codes, if◌then◌else◌}
 use Rattle.std.specs.List.{before_first}
-use Rattle.std.specs.Option.{option_or, option_eq}
+use Rattle.std.specs.Option.{option_or}
 use Rattle.csl_base.specs.declared.taxonomy.Locator.{Locator}
 use Rattle.csl_base.specs.declared.taxonomy.NumberVariable.{NumberVariable}
 use Rattle.csl_base.specs.declared.taxonomy.Term.{Term}
 use Rattle.csl_base.specs.declared.taxonomy.TermForm.{TermForm}
-use Rattle.csl_base.specs.contracts.taxonomy.TermPartialEq.TheImpl as term_eq
-use Rattle.csl_base.specs.contracts.taxonomy.TermFormPartialEq.TheImpl as form_eq
 use Rattle.csl_base.specs.Found.{first_value}
 use Rattle.csl_base.specs.Style.{TermValue, LocaleValue, StyleValue}
+use Rattle.csl_styles.specs.Terms.{locale_of, term_in}
 
 -- what is looked up in: the style's own locales, the locale files, and the code of the locale in use
 pub record Lookup : Type 0 where
@@ -50,10 +49,6 @@ primary_dialects =
 abbrev pub primary_dialect : List ℕ → Option (List ℕ)
 primary_dialect code = first_value bytes_eq code primary_dialects
 
--- the first locale of a language, where none is the language of a locale that names none
-abbrev pub locale_of : Option (List ℕ) → List LocaleValue → Option LocaleValue
-locale_of language = find (λ l. option_eq bytes_eq l.lang language)
-
 -- of the style's own locales those of the code, of its base language, and of no language are asked
 abbrev pub asked_own : Lookup → List LocaleValue
 asked_own k =
@@ -84,14 +79,6 @@ forms_from TermForm.Short = TermForm.Short ∷ TermForm.Long ∷ []
 forms_from TermForm.Verb = TermForm.Verb ∷ TermForm.Long ∷ []
 forms_from TermForm.VerbShort = TermForm.VerbShort ∷ TermForm.Verb ∷ TermForm.Long ∷ []
 forms_from TermForm.Symbol = TermForm.Symbol ∷ TermForm.Short ∷ TermForm.Long ∷ []
-
--- the term has this name and form
-abbrev pub is_term : Term → TermForm → TermValue → Bool
-is_term name form t = (term_eq.ghosts).eq t.name name && (form_eq.ghosts).eq t.form form
-
--- the first such term of a locale
-abbrev pub term_in : Term → TermForm → LocaleValue → Option TermValue
-term_in name form l = find (is_term name form) l.terms
 
 -- the first of some forms for which the look-up finds the term decides
 abbrev pub found_along : Lookup → Term → List TermForm → Option TermValue

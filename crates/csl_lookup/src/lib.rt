@@ -5,6 +5,7 @@ pub mod brackets;
 pub mod laws;
 pub mod locator;
 pub mod lookup;
+mod prepared;
 pub mod properties;
 pub mod purpose;
 pub mod state;

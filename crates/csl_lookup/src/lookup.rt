@@ -1,6 +1,5 @@
 //! Look-up of terms in the locales of a style (CSL 1.0.2, locale fallback).
-ghost use Rattle.std.specs.Prelude.{◌≡◌, IfOk, None, map, option_map, option_to_list, bytes_eq};
-ghost use Rattle.std.specs.Option.{option_eq};
+ghost use Rattle.std.specs.Prelude.{◌≡◌, IfOk, None, map, option_map, option_to_list};
 ghost use Rattle.csl_base.specs.ElementView.{elements_view};
 ghost use Rattle.csl_base.specs.Ring.{body_of, IsFirstRing, HasNoRing};
 ghost use Rattle.csl_base.specs.StyleView.{code_view, locale_view, style_view, term_view};
@@ -9,24 +8,29 @@ ghost use Rattle.csl_lookup.specs.FirstAnswer.{Gives, FirstAnswer};
 ghost use Rattle.csl_styles.specs.MadeOf.{IsOf, IsOf-prop};
 ghost use Rattle.csl_styles.specs.SoundView.{sound_view};
 ghost use Rattle.csl_styles.specs.SuffixText.{explicit_suffix};
+ghost use Rattle.csl_styles.specs.TablesView.{locales_of};
+ghost use Rattle.csl_styles.specs.Terms.{locale_of, term_in};
 
+use crate::prepared::term_by_tables;
 use csl_base::element::LayoutRenderingElement;
 use csl_base::locale::{Locale, LocaleCode, LocalizedTerm};
 use csl_base::ring::body_of;
 use csl_base::style::IndependentStyle;
 use csl_base::taxonomy::{Locator, NumberVariable, Term, TermForm};
-use csl_styles::sound::SoundStyle;
+use csl_styles::locales::locale_of;
+use csl_styles::sound::{Prepared, SoundStyle};
 use csl_styles::suffix_text::explicit_suffix;
+use csl_styles::terms::TermTables;
 use std::alloc::{AllocError, Global};
 
 /// A style, with the locales that it is written in.
 #[derive(Clone, Copy)]
 pub struct StyleLocales<'a> {
     pub style: &'a IndependentStyle,
-    sound: Option<&'a SoundStyle<'a>>,
+    prepared: Option<Prepared<'a>>,
     locale: Option<&'a LocaleCode>,
     files: &'a [Locale],
-    ghost same: { IsOf sound style.now } by { IsOf-prop sound style.now },
+    ghost same: { IsOf prepared style.now files.now } by { IsOf-prop prepared style.now files.now },
 }
 
 impl<'a> StyleLocales<'a> {
@@ -44,26 +48,29 @@ impl<'a> StyleLocales<'a> {
     {
         StyleLocales {
             style,
-            sound: None,
+            prepared: None,
             locale,
             files,
         }
     }
 
-    /// As `new` makes it, of a prepared style: it is what the style is asked of.
+    /// As `new` makes it, of a prepared style and the tables of the files: they are what is asked.
     pub fn of_sound<'s: 'a>(
         sound: &'a SoundStyle<'s>,
         locale: Option<&'a LocaleCode>,
-        files: &'a [Locale],
+        files: &'a TermTables<'s>,
     ) -> StyleLocales<'a>
         ensures { source_view result
-            ≡ record { style = sound_view sound.now; locale = option_map (λ code. code_view code.now) locale.entry; files = map locale_view files.now } }
+            ≡ record { style = sound_view sound.now; locale = option_map (λ code. code_view code.now) locale.entry; files = map locale_view (locales_of files.now) } }
     {
         StyleLocales {
             style: sound.style(),
-            sound: Some(sound),
+            prepared: Some(Prepared {
+                style: sound,
+                files,
+            }),
             locale,
-            files,
+            files: files.locales(),
         }
     }
 
@@ -71,8 +78,8 @@ impl<'a> StyleLocales<'a> {
     pub fn body_of(&self, name: &str) -> Option<&'a Vec<LayoutRenderingElement>>
         ensures { option_map (λ v. elements_view v.now.items) result ≡ body_of name.now (source_view self.now).style.macros }
     {
-        match self.sound {
-            Some(sound) => sound.body_of(name),
+        match self.prepared {
+            Some(prepared) => prepared.style.body_of(name),
             None => body_of(&self.style.macros, name),
         }
     }
@@ -87,8 +94,8 @@ impl<'a> StyleLocales<'a> {
         requires { HasNoRing (source_view self.now).style.macros }
         ensures { IfOk result (λ b. b ≡ explicit_suffix (source_view self.now).style) }
     {
-        match self.sound {
-            Some(sound) => Ok(sound.explicit_suffix()),
+        match self.prepared {
+            Some(prepared) => Ok(prepared.style.explicit_suffix()),
             None => explicit_suffix(alloc, self.style),
         }
     }
@@ -103,7 +110,7 @@ impl<'a> StyleLocales<'a> {
         ensures first { IfOk result (IsFirstRing (source_view self.now).style.macros) }
         ensures none { IfOk result (λ r. r ≡ None → HasNoRing (source_view self.now).style.macros) }
     {
-        match self.sound {
+        match self.prepared {
             Some(_) => Ok(None),
             None => self.style.ring(alloc),
         }
@@ -188,11 +195,14 @@ impl<'a> StyleLocales<'a> {
         None
     }
 
-    // The term that the first locale has in this form.
+    // The term that the first locale has in this form; by tables, where they are prepared.
     fn term_of_form(&self, name: Term, form: TermForm) -> Option<&'a LocalizedTerm>
-        ensures { option_map (λ t. term_view t.now) result ≡ found.first_answer (found.term_in name form) (found.asked (lookup_view self.now)) }
+        ensures { option_map (λ t. term_view t.now) result ≡ found.first_answer (term_in name form) (found.asked (lookup_view self.now)) }
     {
-        self.lookup_locale(|locale| term_in(locale, name, form))
+        match self.prepared {
+            Some(prepared) => term_by_tables(prepared, self.locale(), name, form),
+            None => self.lookup_locale(|locale| term_in(locale, name, form)),
+        }
     }
 
     /// The term in words, for a cite whose locator counts `locator`: the first of the form, and the
@@ -223,7 +233,7 @@ fn answer_of<'a, F: Fn(&'a Locale) -> Option<R>, R>(
     f: &F,
 ) -> Option<R>
     requires { F.IsAlwaysCallable f.now }
-    ensures { FirstAnswer (Gives F.Fn f.now) (option_to_list (found.locale_of (option_map (λ t. t.now) language.entry) (map locale_view locales.now))) result }
+    ensures { FirstAnswer (Gives F.Fn f.now) (option_to_list (locale_of (option_map (λ t. t.now) language.entry) (map locale_view locales.now))) result }
 {
     match locale_of(locales, language) {
         Some(locale) => f(locale),
@@ -231,30 +241,8 @@ fn answer_of<'a, F: Fn(&'a Locale) -> Option<R>, R>(
     }
 }
 
-// The first locale of a language, or of none.
-fn locale_of<'a>(locales: &'a [Locale], language: Option<&str>) -> Option<&'a Locale>
-    ensures { option_map (λ l. locale_view l.now) result ≡ found.locale_of (option_map (λ t. t.now) language.entry) (map locale_view locales.now) }
-{
-    for locale in locales {
-        if is_language(locale, language) {
-            return Some(locale);
-        }
-    }
-    None
-}
-
-fn is_language(locale: &Locale, language: Option<&str>) -> bool
-    ensures { result ≡ option_eq bytes_eq (locale_view locale.now).lang (option_map (λ t. t.now) language.entry) }
-{
-    match (&locale.lang, language) {
-        (Some(code), Some(language)) => code.0.as_str() == language,
-        (None, None) => true,
-        _ => false,
-    }
-}
-
 // The text before the first `-`, or the whole code where there is none.
-fn base_language(code: &str) -> &str
+pub(crate) fn base_language(code: &str) -> &str
     ensures { result.now ≡ found.base_language code.now }
 {
     match code.split_once('-') {
@@ -264,7 +252,7 @@ fn base_language(code: &str) -> &str
 }
 
 // The dialect in which a dialect's words are looked up next.
-fn primary_dialect(code: &str) -> Option<&'static str>
+pub(crate) fn primary_dialect(code: &str) -> Option<&'static str>
     ensures { option_map (λ t. t.now) result ≡ found.primary_dialect code.now }
 {
     match code {
@@ -292,7 +280,7 @@ fn forms_from(form: TermForm) -> &'static [TermForm]
 
 // The first term of a locale that has this name and form.
 fn term_in(locale: &Locale, name: Term, form: TermForm) -> Option<&LocalizedTerm>
-    ensures { option_map (λ t. term_view t.now) result ≡ found.term_in name form (locale_view locale.now) }
+    ensures { option_map (λ t. term_view t.now) result ≡ term_in name form (locale_view locale.now) }
 {
     for term in &locale.terms {
         if term.name == name && term.form == form {

@@ -5,6 +5,7 @@ ghost use Rattle.std.specs.Fmt.{WritesInCalls};
 ghost use Rattle.csl_lookup.specs.Years.{year_text};
 ghost use Rattle.csl_lookup.specs.SuffixLetters.{suffix_letters};
 
+use csl_base::text::Text;
 use std::alloc::{AllocError, Global};
 use std::fmt;
 
@@ -43,10 +44,10 @@ pub fn year_in_words(
     short: bool,
     ad: &str,
     bc: &str,
-) -> Result<String, AllocError>
-    ensures { IfOk result (λ text. string_bytes text ≡ year_text year short ad.now bc.now) }
+) -> Result<Text, AllocError>
+    ensures { IfOk result (λ text. text ≡ year_text year short ad.now bc.now) }
 {
-    let mut text = String::new(alloc);
+    let mut text = Text::copied(alloc, "")?;
     match write_year(year, short, &mut text, ad, bc) {
         Ok(()) => Ok(text),
         Err(_) => Err(AllocError),

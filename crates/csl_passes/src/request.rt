@@ -5,12 +5,14 @@ ghost use Rattle.csl_lookup.specs.SourceView.{source_view};
 ghost use Rattle.csl_passes.specs.Class.{is_note};
 ghost use Rattle.csl_styles.specs.MadeOf.{IsOf, IsOf-prop};
 ghost use Rattle.csl_styles.specs.SoundView.{made_of, sound_view};
+ghost use Rattle.csl_styles.specs.TablesView.{locales_of};
 
 use crate::item::CitationItem;
 use csl_base::locale::{Locale, LocaleCode};
 use csl_base::style::{IndependentStyle, StyleClass};
 use csl_lookup::lookup::StyleLocales;
-use csl_styles::sound::SoundStyle;
+use csl_styles::sound::{Prepared, SoundStyle};
+use csl_styles::terms::TermTables;
 
 /// A citation: the entries that one place in a text cites. Requests that differ in nothing else are
 /// equal, whether made of a style or of that style prepared.
@@ -21,13 +23,13 @@ pub struct CitationRequest<'a, T, P> {
     pub items: Vec<CitationItem<'a, T, P>>,
     pub(crate) style: &'a IndependentStyle,
     #[derive_where(skip)]
-    sound: Option<&'a SoundStyle<'a>>,
+    prepared: Option<Prepared<'a>>,
     /// The locale of the style's terms; the style's own where there is none.
     pub locale: Option<LocaleCode>,
     /// The locales that are asked for terms that the style doesn't have.
     pub locale_files: &'a [Locale],
     pub(crate) note_number: Option<usize>,
-    ghost same: { IsOf sound style.now } by { IsOf-prop sound style.now },
+    ghost same: { IsOf prepared style.now locale_files.now } by { IsOf-prop prepared style.now locale_files.now },
 }
 
 /// The number of a note, where the style's cites stand in notes.
@@ -58,30 +60,33 @@ impl<'a, T, P> CitationRequest<'a, T, P> {
         CitationRequest {
             items,
             style,
-            sound: None,
+            prepared: None,
             locale,
             locale_files,
             note_number: noted(style, note_number),
         }
     }
 
-    /// The request that `new` makes of the same style, which was prepared.
+    /// The request that `new` makes of the same style and files, which were prepared.
     pub fn of_sound<'s: 'a>(
         items: Vec<CitationItem<'a, T, P>>,
         sound: &'a SoundStyle<'s>,
         locale: Option<LocaleCode>,
-        locale_files: &'a [Locale],
+        files: &'a TermTables<'s>,
         note_number: Option<usize>,
     ) -> CitationRequest<'a, T, P>
         ensures { request_view result
-            ≡ record { cites = cites_view items.entry.items; style = sound_view sound.now; locale = option_map code_view locale; locales = map locale_view locale_files.now; note_number = (if is_note (made_of sound.now).settings.class then note_number else None) } }
+            ≡ record { cites = cites_view items.entry.items; style = sound_view sound.now; locale = option_map code_view locale; locales = map locale_view (locales_of files.now); note_number = (if is_note (made_of sound.now).settings.class then note_number else None) } }
     {
         CitationRequest {
             items,
             style: sound.style(),
-            sound: Some(sound),
+            prepared: Some(Prepared {
+                style: sound,
+                files,
+            }),
             locale,
-            locale_files,
+            locale_files: files.locales(),
             note_number: noted(sound.style(), note_number),
         }
     }
@@ -97,8 +102,10 @@ impl<'a, T, P> CitationRequest<'a, T, P> {
     pub fn source(&self) -> StyleLocales<'_>
         ensures { source_view result ≡ source_of (request_view self.now) }
     {
-        match self.sound {
-            Some(sound) => StyleLocales::of_sound(sound, self.locale.as_ref(), self.locale_files),
+        match self.prepared {
+            Some(prepared) => {
+                StyleLocales::of_sound(prepared.style, self.locale.as_ref(), prepared.files)
+            }
             None => StyleLocales::new(self.style, self.locale.as_ref(), self.locale_files),
         }
     }
@@ -135,14 +142,14 @@ pub struct BibliographyRequest<'o, 'a, T> {
     /// The style of the bibliography. Some styles have none; then none is answered.
     pub style: &'o IndependentStyle,
     #[derive_where(skip)]
-    sound: Option<&'o SoundStyle<'o>>,
+    prepared: Option<Prepared<'o>>,
     /// The locale of the style's terms; the style's own where there is none.
     pub locale: Option<LocaleCode>,
     /// The locales that are asked for terms that the style doesn't have.
     pub locale_files: &'o [Locale],
     /// The order of the entries; that of their first cites where there is none.
     pub order: Option<Order<'o, 'a, T>>,
-    ghost same: { IsOf sound style.now } by { IsOf-prop sound style.now },
+    ghost same: { IsOf prepared style.now locale_files.now } by { IsOf-prop prepared style.now locale_files.now },
 }
 
 impl<'o, 'a, T> BibliographyRequest<'o, 'a, T> {
@@ -162,7 +169,7 @@ impl<'o, 'a, T> BibliographyRequest<'o, 'a, T> {
     {
         BibliographyRequest {
             style,
-            sound: None,
+            prepared: None,
             locale,
             locale_files,
             order: None,
@@ -183,30 +190,33 @@ impl<'o, 'a, T> BibliographyRequest<'o, 'a, T> {
     {
         BibliographyRequest {
             style,
-            sound: None,
+            prepared: None,
             locale,
             locale_files,
             order,
         }
     }
 
-    /// The request that `ordered` makes of the same style, which was prepared.
+    /// The request that `ordered` makes of the same style and files, which were prepared.
     pub fn of_sound<'s: 'o>(
         sound: &'o SoundStyle<'s>,
         locale: Option<LocaleCode>,
-        locale_files: &'o [Locale],
+        files: &'o TermTables<'s>,
         order: Option<Order<'o, 'a, T>>,
     ) -> BibliographyRequest<'o, 'a, T>
         ensures style { result.style.now ≡ made_of sound.now }
         ensures locale { result.locale ≡ locale }
-        ensures files { result.locale_files ≡ locale_files.entry }
+        ensures files { result.locale_files.now ≡ locales_of files.now }
         ensures order { result.order ≡ order.entry }
     {
         BibliographyRequest {
             style: sound.style(),
-            sound: Some(sound),
+            prepared: Some(Prepared {
+                style: sound,
+                files,
+            }),
             locale,
-            locale_files,
+            locale_files: files.locales(),
             order,
         }
     }
@@ -215,8 +225,10 @@ impl<'o, 'a, T> BibliographyRequest<'o, 'a, T> {
     pub fn source(&self) -> StyleLocales<'_>
         ensures { source_view result ≡ wanted_source (wanted_view self.now) }
     {
-        match self.sound {
-            Some(sound) => StyleLocales::of_sound(sound, self.locale.as_ref(), self.locale_files),
+        match self.prepared {
+            Some(prepared) => {
+                StyleLocales::of_sound(prepared.style, self.locale.as_ref(), prepared.files)
+            }
             None => StyleLocales::new(self.style, self.locale.as_ref(), self.locale_files),
         }
     }

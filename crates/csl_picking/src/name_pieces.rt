@@ -80,11 +80,10 @@ fn last_joint<'a>(
     } else {
         rules.name_delimiter
     };
-    let mut joint = String::new(alloc);
-    joint.push_str(before)?;
+    let mut joint = Text::copied(alloc, before)?;
     joint.push_str(and_words(setting, and))?;
     joint.push_str(" ")?;
-    Ok(Leaf::Owned(Text::new(joint)))
+    Ok(Leaf::Owned(joint))
 }
 
 // Adds a leaf.
@@ -242,7 +241,7 @@ fn push_et_al<'a>(
     if !is_cut {
         return Ok(());
     }
-    let mut words = String::from_str(*pieces.allocator(), " ")?;
+    let mut words = Text::copied(*pieces.allocator(), " ")?;
     words.push_str(et_al_words(setting))?;
-    push_leaf(Leaf::Owned(Text::new(words)), pieces)
+    push_leaf(Leaf::Owned(words), pieces)
 }

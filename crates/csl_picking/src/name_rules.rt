@@ -116,7 +116,7 @@ impl<'a> NameRules<'a> {
     ) -> Result<Seq<DisambiguatedNameForm>, AllocError>
         ensures { IfOk result (λ forms. forms ≡ forms_by (rules_view self.now) count) }
     {
-        let mut forms = Vec::new(alloc);
+        let mut forms = Vec::with_capacity(alloc, count)?;
         forms.resize(self.written_count(count), self.form)?;
         forms.resize(count, DisambiguatedNameForm::Count)?;
         Ok(Seq::new(forms))

@@ -49,10 +49,9 @@ fn whole_leaf<'a>(
     if given.is_empty() {
         return Ok(text_leaf(Some(family)));
     }
-    let mut name = String::from_str(alloc, given)?;
+    let mut name = Text::copied(alloc, given)?;
     name.push_str(" ")?;
     name.push_str(family)?;
-    let name = Text::new(name);
     if name.has_content() {
         Ok(Some(Leaf::Owned(name)))
     } else {

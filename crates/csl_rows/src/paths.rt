@@ -56,6 +56,7 @@ pub mod of_writing {
     pub use csl_writing::purpose::CitePurpose;
     pub use csl_writing::sound::SoundStyle;
     pub use csl_writing::state::{CollapseVerdict, DisambiguateState, IbidState, IdentifierUsage};
+    pub use csl_writing::terms::TermTables;
     pub use csl_writing::token::{DelimiterIdx, DisplayLoc, FormatIdx};
     pub use csl_writing::writing::WritingContext;
     pub use csl_writing::year::{letters_of_suffix, write_year};
@@ -165,6 +166,7 @@ pub mod of_driver {
     pub use csl_driver::taxonomy::Term;
     pub use csl_driver::taxonomy::TermForm;
     pub use csl_driver::taxonomy::Variable;
+    pub use csl_driver::terms::TermTables;
     pub use csl_driver::text::Text;
     pub use csl_driver::text::has_content;
     pub use csl_driver::year::letters_of_suffix;

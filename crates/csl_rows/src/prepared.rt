@@ -6,6 +6,7 @@ use csl_driver::item::CitationItem;
 use csl_driver::rendered::Rendered;
 use csl_driver::request::{BibliographyRequest, CitationRequest};
 use csl_driver::sound::SoundStyle;
+use csl_driver::terms::TermTables;
 use row_styles::styles::{entry, numeric, numeric_with_macros};
 use std::alloc::{AllocError, Global};
 use std::convert::Infallible;
@@ -25,10 +26,11 @@ fn cite<'a>(
 fn cite_prepared<'a, 's: 'a>(
     alloc: Global,
     sound: &'a SoundStyle<'s>,
+    files: &'a TermTables<'s>,
     cited: &'a PlainEntry,
 ) -> Result<Request<'a>, AllocError> {
     let items = vec![in alloc; CitationItem::with_entry(cited)]?;
-    Ok(CitationRequest::of_sound(items, sound, None, &[], None))
+    Ok(CitationRequest::of_sound(items, sound, None, files, None))
 }
 
 fn prepared<'a>(alloc: Global, style: &'a IndependentStyle) -> Result<SoundStyle<'a>, Fail> {
@@ -65,10 +67,11 @@ fn answer_unprepared<'a>(
 fn answer_prepared<'a, 's: 'a>(
     alloc: Global,
     sound: &'a SoundStyle<'s>,
+    files: &'a TermTables<'s>,
     cited: &'a PlainEntry,
 ) -> Result<Rendered, Fail> {
-    let wanted = BibliographyRequest::of_sound(sound, None, &[], None);
-    answer(alloc, cite_prepared(alloc, sound, cited)?, wanted)
+    let wanted = BibliographyRequest::of_sound(sound, None, files, None);
+    answer(alloc, cite_prepared(alloc, sound, files, cited)?, wanted)
 }
 
 #[test]
@@ -76,7 +79,8 @@ fn prepared_answers_alike(rt: HostRuntime) -> Result<(), Fail> {
     let style = numeric(rt.alloc())?;
     let cited = entry(rt.alloc(), "a")?;
     let sound = prepared(rt.alloc(), &style)?;
-    let answered = answer_prepared(rt.alloc(), &sound, &cited)?;
+    let files = TermTables::new(rt.alloc(), &[])?;
+    let answered = answer_prepared(rt.alloc(), &sound, &files, &cited)?;
     assert!(rt; answered == answer_unprepared(rt.alloc(), &style, &cited)?);
     Ok(())
 }
@@ -86,7 +90,8 @@ fn prepared_requests_are_equal(rt: HostRuntime) -> Result<(), Fail> {
     let style = numeric(rt.alloc())?;
     let cited = entry(rt.alloc(), "a")?;
     let sound = prepared(rt.alloc(), &style)?;
-    let request = cite_prepared(rt.alloc(), &sound, &cited)?;
+    let files = TermTables::new(rt.alloc(), &[])?;
+    let request = cite_prepared(rt.alloc(), &sound, &files, &cited)?;
     assert!(rt; request == cite(rt.alloc(), &style, &cited)?);
     Ok(())
 }

@@ -1,5 +1,5 @@
 -- The children of the first macro of a name, by its place.
-use Rattle.std.proofs.Common.{◌≡◌, ℕ, suc, ◌<◌, List, [], ◌∷◌, length, cond, Bool, true, false, Option, Some, None, option_map, refl, ap, ◌∙◌, arith}
+use Rattle.std.proofs.Common.{◌≡◌, ℕ, suc, List, [], ◌∷◌, cond, Bool, true, false, Option, Some, None, option_map, refl, ◌∙◌}
 use Rattle.std.specs.Prelude.{bytes_eq, slice_get}
 use Rattle.csl_base.specs.Element.{Name, Elements, Macro}
 use Rattle.csl_base.specs.Ring.{body_of, place_of}
@@ -21,22 +21,3 @@ body_of-place name (m ∷ ms) =
       | false ↦ body_of-place name ms ∙ body_at-next m ms (place_of name ms)
     ] in
     by (bytes_eq m.name name)
-
-abbrev or_zero : Option ℕ → ℕ
-or_zero None = 0
-or_zero (Some n) = n
-
-next_within : (i n : ℕ) (o : Option ℕ) → ((k : ℕ) → o ≡ Some k → k < n) → option_map (λ i. suc i) o ≡ Some i → i < suc n
-next_within i n None h q = cc
-next_within i n (Some k) h q = omega (arith, h k refl, ap or_zero q)
-
--- and each such place is one of the list
-pub place_within : (name : Name) (ms : List Macro) (i : ℕ) → place_of name ms ≡ Some i → i < length ms
-place_within name [] i e = cc
-place_within name (m ∷ ms) i e =
-    let by : (b : Bool) → cond b (Some 0) (option_map (λ i. suc i) (place_of name ms)) ≡ Some i → i < suc (length ms) = λ b.
-    elim b as (λ b. cond b (Some 0) (option_map (λ i. suc i) (place_of name ms)) ≡ Some i → i < suc (length ms)) [
-      | true ↦ λ q. omega (arith, ap or_zero q)
-      | false ↦ λ q. next_within i (length ms) (place_of name ms) (place_within name ms) q
-    ] in
-    by (bytes_eq m.name name) e

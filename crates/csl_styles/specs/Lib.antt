@@ -3,3 +3,6 @@ pub mod SuffixText
 pub mod Gathered
 pub mod SoundView
 pub mod MadeOf
+pub mod Terms
+pub mod TermsPlaced
+pub mod TablesView

@@ -1,17 +1,22 @@
--- A style beside what was prepared of it, if anything was.
-use Rattle.std.specs.Prelude.{◌≡◌, Option}
-use Rattle.std.specs.Borrow.{Bor}
-use Rattle.std.specs.Coded.{Coded-set}
+-- A style and locale files beside what was prepared of them, if anything was.
+use Rattle.std.specs.Prelude.{◌≡◌, List, Option}
+use Rattle.std.specs.Coded.{Coded-set, coded_list}
 use Rattle.std.specs.Option.{ForSome}
+use Rattle.csl_base.specs.contracts.locale.Locale as locale_
 use Rattle.csl_base.specs.contracts.style.IndependentStyle as style_
+use Rattle.csl_base.specs.declared.locale.Locale.{Locale}
 use Rattle.csl_base.specs.declared.style.IndependentStyle.{IndependentStyle}
-use Rattle.csl_styles.specs.declared.sound.SoundStyle.{SoundStyle}
+use Rattle.csl_styles.specs.declared.sound.Prepared.{Prepared}
 use Rattle.csl_styles.specs.SoundView.{made_of}
+use Rattle.csl_styles.specs.TablesView.{locales_of}
 
--- the prepared style, where there is one, was made of this style
-abbrev pub IsOf : Option (Bor SoundStyle) → IndependentStyle → Type 0
-IsOf sound style = ForSome sound (λ s. made_of s.now ≡ style)
+-- what was prepared, where there is any, was made of this style and these files
+abbrev pub IsOf : Option Prepared → IndependentStyle → List Locale → Type 0
+IsOf prepared style files = ForSome prepared (λ p. (made_of p.style.now ≡ style) × (locales_of p.files.now ≡ files))
 
 -- for ghost fields: there are no two proofs of that
-pub IsOf-prop : (sound : Option (Bor SoundStyle)) (style : IndependentStyle) → IsProp (IsOf sound style)
-IsOf-prop sound style x y = λ i s e. Coded-set style_.the_row.coded (made_of s.now) style (x s e) (y s e) i
+pub IsOf-prop : (prepared : Option Prepared) (style : IndependentStyle) (files : List Locale) → IsProp (IsOf prepared style files)
+IsOf-prop prepared style files x y = λ i p e. (
+  Coded-set style_.the_row.coded (made_of p.style.now) style (x p e).0 (y p e).0 i,
+  Coded-set (coded_list locale_.the_row.coded) (locales_of p.files.now) files (x p e).1 (y p e).1 i,
+)

@@ -1,6 +1,10 @@
-//! What a style is asked at each cite: whether it writes year suffixes itself, and a style that was looked at once.
+//! What a style is asked at each cite: whether it writes year suffixes itself, a style that was looked at once, and
+//! the terms of locales.
 #![tactic(auto)]
 
+pub mod locales;
 mod macros;
 pub mod sound;
 pub mod suffix_text;
+pub mod term_table;
+pub mod terms;

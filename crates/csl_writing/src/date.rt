@@ -1,12 +1,13 @@
 //! The date text: the year of an entry alone.
-ghost use Rattle.std.specs.Prelude.{◌≡◌, IfOk, option_map, string_bytes};
+ghost use Rattle.std.specs.Prelude.{◌≡◌, IfOk, option_map};
 ghost use Rattle.csl_writing.specs.DateText as text;
 ghost use Rattle.csl_lookup.specs.SourceView.{source_view};
 
 use csl_base::elem::{ElemChild, ElemChildren};
 use csl_base::entry::{Date, EntryLike};
-use csl_base::formatting::Formatting;
+use csl_base::formatting::{Formatted, Formatting};
 use csl_base::taxonomy::{DateVariable, OtherTerm, Term, TermForm};
+use csl_base::text::Text;
 use csl_lookup::lookup::StyleLocales;
 use csl_lookup::year::year_in_words;
 use std::alloc::{AllocError, Global};
@@ -42,8 +43,8 @@ fn date_words<'a>(
     style: &StyleLocales<'a>,
     alloc: Global,
     date: Option<&Date>,
-) -> Result<String, AllocError>
-    ensures { IfOk result (λ t. string_bytes t ≡ text.date_words (source_view style.now) (option_map (λ d. d.now) date.entry)) }
+) -> Result<Text, AllocError>
+    ensures { IfOk result (λ t. t ≡ text.date_words (source_view style.now) (option_map (λ d. d.now) date.entry)) }
 {
     match date {
         Some(date) => {
@@ -55,7 +56,7 @@ fn date_words<'a>(
         None => {
             let undated = "n.d.";
             let words: &'a str = long_term(style, OtherTerm::NoDate, undated);
-            String::from_str(alloc, words)
+            Text::copied(alloc, words)
         }
     }
 }
@@ -71,8 +72,9 @@ pub(crate) fn date_text<T: EntryLike>(
 ) -> Result<ElemChildren, AllocError>
     ensures { IfOk result (λ tree. tree ≡ text.date_text (source_view style.now) (T.answers entry.now)) }
 {
-    let words = date_words(style, alloc, date_of_entry(entry))?;
+    let text = date_words(style, alloc, date_of_entry(entry))?;
+    let formatting = Formatting::default();
     let mut tree = ElemChildren::new(alloc);
-    tree.push(ElemChild::Text(Formatting::default().add_text(words)))?;
+    tree.push(ElemChild::Text(Formatted { text, formatting }))?;
     Ok(tree)
 }

@@ -6,6 +6,7 @@ ghost use Rattle.csl_lookup.specs.FirstAnswer.{Gives, FirstAnswer};
 ghost use Rattle.csl_lookup.specs.Lookup as found;
 ghost use Rattle.csl_lookup.specs.SourceView.{source_view};
 ghost use Rattle.csl_styles.specs.SoundView.{sound_view};
+ghost use Rattle.csl_styles.specs.TablesView.{locales_of};
 ghost use Rattle.csl_context.specs.WritingState.{state, begun};
 ghost use Rattle.csl_writing.specs.ContextSource.{context_source};
 
@@ -16,6 +17,7 @@ use csl_context::context::{Context, begin_cite};
 use csl_lookup::lookup::StyleLocales;
 use csl_lookup::properties::CiteProperties;
 use csl_styles::sound::SoundStyle;
+use csl_styles::terms::TermTables;
 use std::alloc::{AllocError, Global};
 
 /// A style, with the locales that it is written in.
@@ -40,14 +42,14 @@ impl<'a> StyleContext<'a> {
         }
     }
 
-    /// The context that `new` makes of the same style, which was prepared.
+    /// The context that `new` makes of the same style and files, which were prepared.
     pub fn of_sound<'s: 'a>(
         sound: &'a SoundStyle<'s>,
         locale: Option<&'a LocaleCode>,
-        files: &'a [Locale],
+        files: &'a TermTables<'s>,
     ) -> StyleContext<'a>
         ensures { context_source result
-            ≡ record { style = sound_view sound.now; locale = option_map (λ code. code_view code.now) locale.entry; files = map locale_view files.now } }
+            ≡ record { style = sound_view sound.now; locale = option_map (λ code. code_view code.now) locale.entry; files = map locale_view (locales_of files.now) } }
     {
         StyleContext {
             locales: StyleLocales::of_sound(sound, locale, files),

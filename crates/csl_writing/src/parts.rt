@@ -23,6 +23,9 @@ use csl_lookup::year::{letters_of_suffix, year_in_words};
 use csl_picking::pieces::{Leaf, Node, Piece};
 use std::alloc::{AllocError, Global};
 
+// How deep nodes nest before their stack grows.
+const DEPTH: usize = 8;
+
 fn prefix_of<'a>(node: &Node<'a>) -> Option<&'a str>
     ensures { option_map (λ s. s.now) result ≡ (node_view node.now).look.affixes.prefix }
 {
@@ -310,7 +313,7 @@ pub(crate) fn write_pieces<'a>(
 ) -> Result<(), AllocError>
     ensures { (parts : List Part) → tokens_of pieces.entry.items ≡ tokens parts → OnOk result (state writing.new ≡ parts_written (lookup_view style.now) parts (state writing.old)) }
 {
-    let mut nodes = Vec::new(allocator(writing));
+    let mut nodes = Vec::with_capacity(allocator(writing), DEPTH)?;
     write_all(style, writing, &mut nodes, pieces)?;
     Ok(())
 }

@@ -23,6 +23,9 @@ use csl_picking::notes::{Called, Form, Notes, Suppressed};
 use csl_picking::picking::pick_layout;
 use std::alloc::{AllocError, Global};
 
+// For how many pieces there is room at first: those of two names and a year in a group.
+const ROOM: usize = 16;
+
 /// What is picked, and the formatting in which it is written.
 #[derive(Drop)]
 pub(crate) struct Section<'a> {
@@ -78,7 +81,7 @@ fn pick_section<'a, T: EntryLike>(
         (sections.picked_section formatting (env_of (T.answers input.now.entry.now) input.now.setting) (macros_of input.now.setting) (elements_view elements.now.items) notes)) }
 {
     let mut picking = Picking {
-        pieces: Vec::new(alloc),
+        pieces: Vec::with_capacity(alloc, ROOM)?,
         called: Called::None,
         notes,
     };

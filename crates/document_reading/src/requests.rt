@@ -4,6 +4,7 @@ ghost use Rattle.serde_json.specs.View.{view, items_view};
 ghost use Rattle.csl_base.specs.StyleView.{code_view, locale_view, style_view};
 ghost use Rattle.csl_lookup.specs.PropertiesView.{locator_view};
 ghost use Rattle.csl_passes.specs.RequestView.{cite_view, cites_view, entries_view, request_view};
+ghost use Rattle.csl_styles.specs.TablesView.{locales_of};
 ghost use Rattle.document_reading.specs.AskedView.{asked_cite_view, asked_cites_view, asked_locator_view, asked_request_view, asked_requests_view};
 ghost use Rattle.document_words.specs.Words.{all_items, items_at, list_of, name_form, required, where_present};
 ghost use Rattle.document_reading.specs.Finders.{entry_in, style_in};
@@ -20,6 +21,7 @@ use csl_lookup::locator::{LocatorPayload, SpecificLocator};
 use csl_lookup::purpose::CitePurpose;
 use csl_passes::item::CitationItem;
 use csl_passes::request::CitationRequest;
+use csl_styles::terms::TermTables;
 use document_words::error::ReadError;
 use document_words::tables::{LOCATORS, PURPOSES};
 use document_words::words::{
@@ -262,19 +264,20 @@ fn driver_items<'r>(alloc: Global, cites: &'r [AskedCite<'r>]) -> Result<Vec<Ite
     Ok(items)
 }
 
-/// The request that the driver takes, with these locales.
-pub fn driver_request<'r>(
+/// The request that the driver takes, with the locales of these tables.
+pub fn driver_request<'r, 'f: 'r>(
     alloc: Global,
-    request: &'r AskedRequest<'_>,
-    locales: &'r [Locale],
+    request: &'r AskedRequest<'f>,
+    files: &'r TermTables<'f>,
 ) -> Result<Request<'r>, AllocError>
-    ensures { IfOk result (λ r. request_view r ≡ asked_request_view (map locale_view locales.now) request.now) }
+    ensures { IfOk result (λ r. request_view r ≡ asked_request_view (map locale_view (locales_of files.now)) request.now) }
 {
     let items = driver_items(alloc, &request.items)?;
     let locale = copied_code(alloc, &request.locale)?;
     let note = request.note_number;
+    let locales = files.locales();
     match request.style.sound() {
-        Some(sound) => Ok(CitationRequest::of_sound(items, sound, locale, locales, note)),
+        Some(sound) => Ok(CitationRequest::of_sound(items, sound, locale, files, note)),
         None => Ok(CitationRequest::new(items, request.style.style, locale, locales, note)),
     }
 }

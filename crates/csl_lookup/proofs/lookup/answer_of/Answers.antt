@@ -2,7 +2,7 @@ use Rattle.std.proofs.Common.{◌≡◌, Some, List, option_map, option_to_list,
 use Rattle.csl_base.specs.Style.{LocaleValue}
 use Rattle.csl_base.specs.StyleView.{locale_view}
 use Rattle.csl_lookup.specs.FirstAnswer.{Gives, FirstAnswer}
-use Rattle.csl_lookup.specs.Lookup.{locale_of}
+use Rattle.csl_styles.specs.Terms.{locale_of}
 use Rattle.csl_lookup.proofs.FirstAnswers.{one_asked}
 use Rattle.csl_lookup.proofs.lookup.answer_of.Goals as goal
 

@@ -1,6 +1,6 @@
 use Rattle.std.proofs.Common.{◌≡◌, drop, map, find}
 use Rattle.csl_base.specs.StyleView.{term_view}
-use Rattle.csl_lookup.specs.Lookup.{is_term}
+use Rattle.csl_styles.specs.Terms.{is_term}
 use Rattle.csl_lookup.proofs.lookup.term_in.Given as goal
 
 abbrev pub invariant-loop-term : goal.invariant-loop-term

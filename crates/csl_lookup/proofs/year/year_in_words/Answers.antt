@@ -1,4 +1,4 @@
-use Rattle.std.proofs.Common.{ℤ, List, ℕ, ◌++◌, ◌∙◌, refl, true, string_bytes, w32}
+use Rattle.std.proofs.Common.{ℤ, List, ℕ, ◌++◌, ◌∙◌, refl, true, w32}
 use Rattle.std.proofs.lemmas.Fmt.{contents_after_writes}
 use Rattle.std.proofs.lemmas.Int.{to_z-of_z}
 use Rattle.csl_lookup.specs.Years.{year_text}
@@ -9,4 +9,4 @@ returns-in-Ok c =
     let a = c.args in
     let words : ℤ → List ℕ = λ year. year_text year a.short a.ad.now a.bc.now in
     let passed = to_z-of_z w32 a.year c.ranges.year in
-    contents_after_writes _ string_bytes (λ w bs v h. h) _ _ _ (c.in-Ok.ensures (refl {a = true})) ∙ (λ i. c.new-text.ensures.bytes i ++ words (passed i))
+    contents_after_writes _ (λ text. text) (λ w bs v h. h) _ _ _ (c.in-Ok.ensures (refl {a = true})) ∙ (λ i. c.in_ok-text.ensures i ++ words (passed i))

@@ -12,6 +12,6 @@ pub returns : goal.returns
 returns c = λ parts e.
     let k = lookup_view c.args.style.now in
     let w = c.args.writing.now in
-    ap (λ (r : Run). r.written) (c.in_ok-write_all.ensures ∙ ap (λ ns. after_tokens k (tokens_of c.args.pieces.items) (run_of ns false w)) c.new-nodes.ensures.items)
+    ap (λ (r : Run). r.written) (c.in_ok-write_all.ensures ∙ ap (λ ns. after_tokens k (tokens_of c.args.pieces.items) (run_of ns false w)) c.in_ok-nodes.ensures.items)
     ∙ ap (λ ts. (after_tokens k ts (run [] false (state w))).written) e
     ∙ parts_run k parts (state w)

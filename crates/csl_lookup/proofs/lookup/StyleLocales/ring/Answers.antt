@@ -6,12 +6,12 @@ use Rattle.csl_lookup.proofs.lookup.StyleLocales.ring.Goals as goal
 
 pub returns-in-Some-clause-first : goal.returns-in-Some-clause-first
 returns-in-Some-clause-first c =
-    let sound = c.in-Some.field-0 in
-    let no_ring = subst (λ style. HasNoRing (style_view style).macros) (c.args.self.now.same sound c.in-Some.is) sound.now.no_ring in
+    let prepared = c.in-Some.field-0 in
+    let no_ring = subst (λ style. HasNoRing (style_view style).macros) (c.args.self.now.same prepared c.in-Some.is).0 prepared.style.now.no_ring in
     λ i r. no_ring r.0.name r.3
 
 pub returns-in-Some-clause-none : goal.returns-in-Some-clause-none
 returns-in-Some-clause-none c =
-    let sound = c.in-Some.field-0 in
-    let no_ring = subst (λ style. HasNoRing (style_view style).macros) (c.args.self.now.same sound c.in-Some.is) sound.now.no_ring in
+    let prepared = c.in-Some.field-0 in
+    let no_ring = subst (λ style. HasNoRing (style_view style).macros) (c.args.self.now.same prepared c.in-Some.is).0 prepared.style.now.no_ring in
     λ _. no_ring

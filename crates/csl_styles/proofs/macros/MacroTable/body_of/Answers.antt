@@ -2,9 +2,11 @@
 use Rattle.std.proofs.Common.{◌<◌, ◌∙◌, length, option_map, sym, ap, refl, arith}
 use Rattle.std.proofs.lemmas.List.{length-map}
 use Rattle.std.proofs.lemmas.Option.{slice_get-map, slice_get_read}
+use Rattle.std.specs.Prelude.{bytes_eq}
 use Rattle.csl_base.specs.Element.{Macro}
 use Rattle.csl_base.specs.ElementView.{macro_view, macros_view}
-use Rattle.csl_styles.proofs.PlacedBodies.{body_at, body_of-place, place_within}
+use Rattle.csl_styles.proofs.FoundPlaces.{place_within}
+use Rattle.csl_styles.proofs.PlacedBodies.{body_at, body_of-place}
 use Rattle.csl_styles.proofs.macros.MacroTable.body_of.Goals as goal
 
 pub index-requires : goal.index-requires
@@ -12,7 +14,7 @@ index-requires c =
     let s = c.args.self.now in
     let macros = s.style.now.macros in
     let there = sym (s.table c.args.name.now) ∙ sym c.in-Some.ensures.value in
-    omega (arith, place_within c.args.name.now (macros_view macros.items) c.in-Some.place.now there, length-map macros.items macro_view, macros.ok.0)
+    omega (arith, place_within (λ (m : Macro). bytes_eq m.name c.args.name.now) (macros_view macros.items) c.in-Some.place.now there, length-map macros.items macro_view, macros.ok.0)
 
 pub returns-in-Some : goal.returns-in-Some
 returns-in-Some c =
@@ -21,7 +23,7 @@ returns-in-Some c =
     let xs = s.style.now.macros.items in
     let i = c.in-Some.place.now in
     let there = sym (s.table name) ∙ sym c.in-Some.ensures.value in
-    let lt : i < length xs = omega (arith, place_within name (macros_view xs) i there, length-map xs macro_view) in
+    let lt : i < length xs = omega (arith, place_within (λ (m : Macro). bytes_eq m.name name) (macros_view xs) i there, length-map xs macro_view) in
     let read = slice_get-map macro_view xs i ∙ ap (option_map macro_view) (slice_get_read xs (length xs) i c.index.result.now refl lt c.index.ensures) in
     sym (body_of-place name (macros_view xs) ∙ ap (body_at (macros_view xs)) there ∙ ap (option_map (λ (m : Macro). m.children)) read)
 

@@ -1,7 +1,7 @@
 use Rattle.std.proofs.Common.{◌≡◌, drop, map, option_map}
 use Rattle.csl_base.specs.StyleView.{locale_view}
-use Rattle.csl_lookup.specs.Lookup.{locale_of}
-use Rattle.csl_lookup.proofs.lookup.locale_of.Given as goal
+use Rattle.csl_styles.specs.Terms.{locale_of}
+use Rattle.csl_styles.proofs.locales.locale_of.Given as goal
 
 abbrev pub invariant-loop-locale : goal.invariant-loop-locale
 invariant-loop-locale l =

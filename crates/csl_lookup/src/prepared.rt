@@ -1,0 +1,66 @@
+//! Look-up of terms by tables.
+ghost use Rattle.std.specs.Prelude.{◌≡◌, option_map};
+ghost use Rattle.csl_base.specs.StyleView.{term_view};
+ghost use Rattle.csl_lookup.specs.Lookup as found;
+ghost use Rattle.csl_lookup.specs.PreparedLookup.{prepared_lookup};
+ghost use Rattle.csl_styles.specs.Terms.{term_in};
+
+use crate::lookup::{base_language, primary_dialect};
+use csl_base::locale::LocalizedTerm;
+use csl_base::taxonomy::{Term, TermForm};
+use csl_styles::sound::Prepared;
+
+// The first term of this name and form, of the locales that are asked where a code is in use.
+pub(crate) fn term_by_tables<'a>(
+    prepared: Prepared<'a>,
+    code: &str,
+    name: Term,
+    form: TermForm,
+) -> Option<&'a LocalizedTerm>
+    ensures { option_map (λ t. term_view t.now) result ≡ found.first_answer (term_in name form) (found.asked (prepared_lookup prepared.entry code.now)) }
+{
+    match own_term(prepared, code, name, form) {
+        Some(term) => Some(term),
+        None => file_term(prepared, code, name, form),
+    }
+}
+
+// The first of the style's own locales.
+fn own_term<'a>(
+    prepared: Prepared<'a>,
+    code: &str,
+    name: Term,
+    form: TermForm,
+) -> Option<&'a LocalizedTerm>
+    ensures { option_map (λ t. term_view t.now) result ≡ found.first_answer (term_in name form) (found.asked_own (prepared_lookup prepared.entry code.now)) }
+{
+    let own = prepared.style;
+    if let Some(term) = own.term_of(Some(code), name, form) {
+        return Some(term);
+    }
+    if let Some(term) = own.term_of(Some(base_language(code)), name, form) {
+        return Some(term);
+    }
+    own.term_of(None, name, form)
+}
+
+// The first of the files.
+fn file_term<'a>(
+    prepared: Prepared<'a>,
+    code: &str,
+    name: Term,
+    form: TermForm,
+) -> Option<&'a LocalizedTerm>
+    ensures { option_map (λ t. term_view t.now) result ≡ found.first_answer (term_in name form) (found.asked_files (prepared_lookup prepared.entry code.now)) }
+{
+    let files = prepared.files;
+    if let Some(term) = files.term_of(Some(code), name, form) {
+        return Some(term);
+    }
+    if let Some(dialect) = primary_dialect(code) {
+        if let Some(term) = files.term_of(Some(dialect), name, form) {
+            return Some(term);
+        }
+    }
+    files.term_of(Some("en-US"), name, form)
+}
