@@ -1,6 +1,7 @@
 -- The steps of the calls that simplify.
-use Rattle.std.proofs.Common.{◌≡◌, ℕ, suc, ◌<◌, true, false, List, [], ◌∷◌, ◌++◌, map, length, get_or, take, ◌+◌, subst, refl, sym, ap, ap₂, ◌∙◌, arith}
+use Rattle.std.proofs.Common.{◌≡◌, ℕ, suc, ◌<◌, ◌-◌, slice_get, unwrap_or, true, false, List, [], ◌∷◌, ◌++◌, map, length, get_or, take, ◌+◌, subst, refl, sym, ap, ap₂, ◌∙◌, arith}
 use Rattle.std.proofs.Common.{OnOk, Result, Option, None, Some, Bor}
+use Rattle.std.proofs.lemmas.Option.{none-some}
 use Rattle.std.proofs.lemmas.Result.{on_ok_weaker}
 use Rattle.std.proofs.lemmas.List.{map-append}
 use Rattle.std.proofs.Math.Seq.{take-suc}
@@ -16,11 +17,14 @@ put_joined xs d e c cs v p j =
     ap (λ x. map child_view xs ++ x ∷ []) j ∙ sym (join_last-joins (map child_view xs) (child_view d) e p)
     ∙ ap (λ ds. join_last ds e) (sym (map-append child_view xs (d ∷ [])) ∙ v)
 
--- and one whose last child was put back as it was, before the next one
-pub put_apart : (xs : List ElemChild) (d : ElemChild) (e : Child) (cs : List Child) → map child_view (xs ++ d ∷ []) ≡ cs → joins (child_view d) e ≡ false → (map child_view xs ++ child_view d ∷ []) ++ e ∷ [] ≡ join_last cs e
-put_apart xs d e cs v p =
-    sym (join_last-apart (map child_view xs) (child_view d) e p)
-    ∙ ap (λ ds. join_last ds e) (sym (map-append child_view xs (d ∷ [])) ∙ v)
+-- a level whose last child stays apart from the next one
+pub last_apart : (xs : List ElemChild) (d : ElemChild) (e : Child) → slice_get xs (length xs - 1) ≡ Some d → joins (child_view d) e ≡ false → join_last (map child_view xs) e ≡ map child_view xs ++ e ∷ []
+last_apart [] d e h p = absurd (none-some d h)
+last_apart (x ∷ []) d e h p = join_last-apart [] (child_view x) e (ap (λ y. joins (child_view y) e) (ap (λ o. unwrap_or o x) h) ∙ p)
+last_apart (x ∷ y ∷ ys) d e h p =
+    let one : suc (length ys) - 1 ≡ length ys = omega arith in
+    let two : suc (length ys) ≡ suc (suc (length ys)) - 1 = omega arith in
+    ap (λ cs. child_view x ∷ cs) (last_apart (y ∷ ys) d e (ap (slice_get (y ∷ ys)) one ∙ ap (slice_get (x ∷ y ∷ ys)) two ∙ h) p)
 
 -- the last of some items, where there is one
 abbrev pub EndsIn : {A : Type 0} → Option (Bor A) → List A → Type 0

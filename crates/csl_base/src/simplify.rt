@@ -1,7 +1,8 @@
 //! Adjacent texts of equal formatting become one.
-ghost use Rattle.std.specs.Prelude.{◌≡◌, List, OnOk, IfOk, false, map};
+ghost use Rattle.std.specs.Prelude.{◌≡◌, ◌++◌, ◌∷◌, [], List, OnOk, IfOk, true, false, map};
 ghost use Rattle.csl_base.specs.Child.{Child, kids_of};
 ghost use Rattle.csl_base.specs.ChildView.{child_view};
+ghost use Rattle.csl_base.specs.declared.elem.ElemChild.{ElemChild};
 ghost use Rattle.csl_base.specs.Tree.{plain};
 ghost use Rattle.csl_base.specs.Simplify.{simplified, child_simple, level_joined, join_last, joins, joined, Apart};
 
@@ -94,21 +95,28 @@ fn join_adjacent(children: &mut ElemChildren) -> Result<(), AllocError>
     Ok(())
 }
 
+/// Whether the last of these children stays apart from this one.
+fn stays_apart(children: &[ElemChild], child: &ElemChild) -> bool
+    ensures apart { result ≡ true → join_last (map child_view children.now) (child_view child.now) ≡ map child_view children.now ++ child_view child.now ∷ [] }
+    ensures joint { result ≡ false → (ds : List ElemChild) (d : ElemChild) → children.now ≡ ds ++ d ∷ [] → joins (child_view d) (child_view child.now) ≡ true }
+{
+    match children.last() {
+        Some(last) => !last.joins(child),
+        None => true,
+    }
+}
+
 /// Adds a child at the end, joined to the last where both are texts of equal formatting.
 ///
 /// Fails where memory is refused; the last child may be lost then.
 pub fn append(children: &mut ElemChildren, child: ElemChild) -> Result<(), AllocError>
     ensures { OnOk result (children.new ≡ join_last children.old (child_view child)) }
 {
+    if stays_apart(&children.0, &child) {
+        return children.push(child);
+    }
     match children.0.pop() {
-        Some(last) => {
-            if last.joins(&child) {
-                children.push(last.join(child)?)
-            } else {
-                children.push(last)?;
-                children.push(child)
-            }
-        }
+        Some(last) => children.push(last.join(child)?),
         None => children.push(child),
     }
 }
