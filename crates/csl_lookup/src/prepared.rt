@@ -25,7 +25,7 @@ pub(crate) fn term_by_tables<'a>(
     }
 }
 
-// The first of the style's own locales.
+// The first of the style's own locales, of which most styles have none.
 fn own_term<'a>(
     prepared: Prepared<'a>,
     code: &str,
@@ -35,6 +35,9 @@ fn own_term<'a>(
     ensures { option_map (λ t. term_view t.now) result ≡ found.first_answer (term_in name form) (found.asked_own (prepared_lookup prepared.entry code.now)) }
 {
     let own = prepared.style;
+    if own.style().locale.is_empty() {
+        return None;
+    }
     if let Some(term) = own.term_of(Some(code), name, form) {
         return Some(term);
     }
@@ -54,8 +57,15 @@ fn file_term<'a>(
     ensures { option_map (λ t. term_view t.now) result ≡ found.first_answer (term_in name form) (found.asked_files (prepared_lookup prepared.entry code.now)) }
 {
     let files = prepared.files;
+    if files.locales().is_empty() {
+        return None;
+    }
     if let Some(term) = files.term_of(Some(code), name, form) {
         return Some(term);
+    }
+    // then the dialect and the last look-up add nothing
+    if code == "en-US" {
+        return None;
     }
     if let Some(dialect) = primary_dialect(code) {
         if let Some(term) = files.term_of(Some(dialect), name, form) {
