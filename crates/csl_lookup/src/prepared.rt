@@ -1,5 +1,5 @@
 //! Look-up of terms by tables.
-ghost use Rattle.std.specs.Prelude.{◌≡◌, option_map};
+ghost use Rattle.std.specs.Prelude.{◌≡◌, bytes_eq, option_map};
 ghost use Rattle.csl_base.specs.StyleView.{term_view};
 ghost use Rattle.csl_lookup.specs.Lookup as found;
 ghost use Rattle.csl_lookup.specs.PreparedLookup.{prepared_lookup};
@@ -64,7 +64,7 @@ fn file_term<'a>(
         return Some(term);
     }
     // then the dialect and the last look-up add nothing
-    if code == "en-US" {
+    if is_american(code) {
         return None;
     }
     if let Some(dialect) = primary_dialect(code) {
@@ -73,4 +73,11 @@ fn file_term<'a>(
         }
     }
     files.term_of(Some("en-US"), name, form)
+}
+
+// Whether the code is that of American English. A pattern costs less than a comparison of texts.
+fn is_american(code: &str) -> bool
+    ensures { result ≡ bytes_eq code.now found.en_us }
+{
+    matches!(code.as_bytes(), [b'e', b'n', b'-', b'U', b'S'])
 }
