@@ -1,6 +1,7 @@
 //! Look-up of terms in the locales of a style (CSL 1.0.2, locale fallback).
-ghost use Rattle.std.specs.Prelude.{◌≡◌, IfOk, None, map, option_map, option_to_list};
+ghost use Rattle.std.specs.Prelude.{◌≡◌, [], ◌∷◌, IfOk, None, bytes_eq, map, option_map, option_to_list};
 ghost use Rattle.csl_base.specs.ElementView.{elements_view};
+ghost use Rattle.csl_base.specs.Found.{first_value};
 ghost use Rattle.csl_base.specs.Ring.{body_of, IsFirstRing, HasNoRing};
 ghost use Rattle.csl_base.specs.StyleView.{code_view, locale_view, style_view, term_view};
 ghost use Rattle.csl_lookup.specs.Lookup as found;
@@ -251,18 +252,26 @@ pub(crate) fn base_language(code: &str) -> &str
     }
 }
 
-// The dialect in which a dialect's words are looked up next.
+// The dialect in which a dialect's words are looked up next. The codes that have one end in bytes
+// of their own, so at most one of them is compared.
 pub(crate) fn primary_dialect(code: &str) -> Option<&'static str>
     ensures { option_map (λ t. t.now) result ≡ found.primary_dialect code.now }
 {
-    match code {
-        "de-AT" => Some("de-DE"),
-        "de-CH" => Some("de-DE"),
-        "en-GB" => Some("en-US"),
-        "pt-BR" => Some("pt-PT"),
-        "zh-TW" => Some("zh-CN"),
+    match *code.as_bytes().last()? {
+        b'T' => if_is(code, "de-AT", "de-DE"),
+        b'H' => if_is(code, "de-CH", "de-DE"),
+        b'B' => if_is(code, "en-GB", "en-US"),
+        b'R' => if_is(code, "pt-BR", "pt-PT"),
+        b'W' => if_is(code, "zh-TW", "zh-CN"),
         _ => None,
     }
+}
+
+// The primary dialect, where the code is this dialect's.
+fn if_is(code: &str, dialect: &str, primary: &'static str) -> Option<&'static str>
+    ensures { option_map (λ t. t.now) result ≡ first_value bytes_eq code.now ((dialect.now, primary.now) ∷ []) }
+{
+    if code == dialect { Some(primary) } else { None }
 }
 
 // A form, and then those that stand in for it (CSL 1.0.2, terms).

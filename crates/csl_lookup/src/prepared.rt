@@ -1,5 +1,5 @@
 //! Look-up of terms by tables.
-ghost use Rattle.std.specs.Prelude.{◌≡◌, option_map};
+ghost use Rattle.std.specs.Prelude.{◌≡◌, bytes_eq, option_map};
 ghost use Rattle.csl_base.specs.StyleView.{term_view};
 ghost use Rattle.csl_lookup.specs.Lookup as found;
 ghost use Rattle.csl_lookup.specs.PreparedLookup.{prepared_lookup};
@@ -25,7 +25,7 @@ pub(crate) fn term_by_tables<'a>(
     }
 }
 
-// The first of the style's own locales.
+// The first of the style's own locales, of which most styles have none.
 fn own_term<'a>(
     prepared: Prepared<'a>,
     code: &str,
@@ -35,6 +35,9 @@ fn own_term<'a>(
     ensures { option_map (λ t. term_view t.now) result ≡ found.first_answer (term_in name form) (found.asked_own (prepared_lookup prepared.entry code.now)) }
 {
     let own = prepared.style;
+    if own.style().locale.is_empty() {
+        return None;
+    }
     if let Some(term) = own.term_of(Some(code), name, form) {
         return Some(term);
     }
@@ -54,8 +57,15 @@ fn file_term<'a>(
     ensures { option_map (λ t. term_view t.now) result ≡ found.first_answer (term_in name form) (found.asked_files (prepared_lookup prepared.entry code.now)) }
 {
     let files = prepared.files;
+    if files.locales().is_empty() {
+        return None;
+    }
     if let Some(term) = files.term_of(Some(code), name, form) {
         return Some(term);
+    }
+    // then the dialect and the last look-up add nothing
+    if is_american(code) {
+        return None;
     }
     if let Some(dialect) = primary_dialect(code) {
         if let Some(term) = files.term_of(Some(dialect), name, form) {
@@ -63,4 +73,11 @@ fn file_term<'a>(
         }
     }
     files.term_of(Some("en-US"), name, form)
+}
+
+// Whether the code is that of American English. A pattern costs less than a comparison of texts.
+fn is_american(code: &str) -> bool
+    ensures { result ≡ bytes_eq code.now found.en_us }
+{
+    matches!(code.as_bytes(), [b'e', b'n', b'-', b'U', b'S'])
 }
