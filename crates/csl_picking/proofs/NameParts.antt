@@ -1,10 +1,9 @@
--- The pieces of names, one name further, and of blocks, one block further.
-use Rattle.std.proofs.Common.{◌≡◌, ℕ, suc, List, [], ◌∷◌, ◌++◌, map, length, append_assoc, ◌==◌, Bool, true, false, Option, Some, None, cond, sym, ap, ◌∙◌, refl}
-use Rattle.std.proofs.Math.Dec.{eqb-suc-zero}
-use Rattle.std.proofs.lemmas.List.{append-nil}
-use Rattle.csl_picking.specs.Pieces.{Part, part_tokens, tokens, Token, leaf_token, LeafValue, text_leaf}
+-- The pieces of a block, and what stands before them.
+use Rattle.std.proofs.Common.{◌≡◌, ℕ, suc, List, [], ◌∷◌, ◌++◌, map, length, take, append_assoc, ◌||◌, Bool, true, false, Option, Some, None, sym, ap, ◌∙◌, refl}
+use Rattle.std.proofs.lemmas.List.{append-nil, take_at}
+use Rattle.csl_picking.specs.Pieces.{Part, tokens, Token}
 use Rattle.csl_picking.specs.NameRules.{Rules}
-use Rattle.csl_picking.specs.Names.{Terms, joined_behind, joined_parts, last_words, et_al_parts, joined_names}
+use Rattle.csl_picking.specs.Names.{Terms, joined_parts, last_words, et_al_parts, joined_names}
 use Rattle.csl_picking.specs.BlockRun.{before_parts, preceded}
 use Rattle.csl_picking.specs.Picked.{gives}
 use Rattle.csl_picking.proofs.Tokens.{tokens-append}
@@ -13,41 +12,6 @@ pub length-mapped : {X Y : Type 0} (f : X → Y) (xs : List X) → length (map f
 length-mapped f [] = refl
 length-mapped f (x ∷ xs) = ap (λ n. suc n) (length-mapped f xs)
 
-module _ {X Y : Type 0} (f : X → Part) (g : Y → X) where
-  last_if_none : (ys : List Y) (words last : List ℕ) → cond (length ys == 0) last words ≡ cond (gives (map f (map g ys))) words last
-  last_if_none [] words last = refl
-  last_if_none (y ∷ ys) words last = ap (λ t. cond t last words) (eqb-suc-zero (length ys))
-
-  -- a joint and a name further
-  pub name_further : (old : List Y) (y : Y) (ys : List Y) (words last : List ℕ) (left : ℕ) (joint : LeafValue) (before between after : List Token)
-      → old ≡ y ∷ ys → left ≡ length ys → joint ≡ text_leaf (cond (left == 0) last words)
-      → between ≡ before ++ leaf_token joint ∷ [] → after ≡ between ++ part_tokens (f (g y))
-      → after ++ tokens (joined_behind words last (map f (map g ys))) ≡ before ++ tokens (joined_behind words last (map f (map g old)))
-  name_further old y ys words last left joint before between after e l j a b =
-      let rest = tokens (joined_behind words last (map f (map g ys))) in
-      let says : joint ≡ text_leaf (cond (gives (map f (map g ys))) words last)
-      = j ∙ ap (λ n. text_leaf (cond (n == 0) last words)) l ∙ ap text_leaf (last_if_none ys words last) in
-      ap (λ ts. ts ++ rest) (b ∙ ap (λ ts. ts ++ part_tokens (f (g y))) a)
-      ∙ append_assoc (before ++ leaf_token joint ∷ []) (part_tokens (f (g y))) rest
-      ∙ append_assoc before (leaf_token joint ∷ []) (part_tokens (f (g y)) ++ rest)
-      ∙ ap (λ w. before ++ (leaf_token w ∷ (part_tokens (f (g y)) ++ rest))) says
-      ∙ ap (λ zs. before ++ tokens (joined_behind words last (map f (map g zs)))) (sym e)
-
-  -- behind the last name
-  pub names_ended : (all : List Y) (y : Y) (ys none : List Y) (words : List ℕ) (last : ℕ → List ℕ) (count : ℕ) (before first after : List Token)
-      → all ≡ y ∷ ys → none ≡ [] → count ≡ length all → first ≡ before ++ part_tokens (f (g y))
-      → after ++ tokens (joined_behind words (last count) (map f (map g none))) ≡ first ++ tokens (joined_behind words (last count) (map f (map g ys)))
-      → after ≡ before ++ tokens (joined_parts words (last (length (map g all))) (map f (map g all)))
-  names_ended all y ys none words last count before first after e n k a inv =
-      let rest = tokens (joined_behind words (last count) (map f (map g ys))) in
-      sym (append-nil after)
-      ∙ ap (λ zs. after ++ tokens (joined_behind words (last count) (map f (map g zs)))) (sym n)
-      ∙ inv
-      ∙ ap (λ ts. ts ++ rest) a
-      ∙ append_assoc before (part_tokens (f (g y))) rest
-      ∙ ap (λ zs. before ++ tokens (joined_parts words (last count) (map f (map g zs)))) (sym e)
-      ∙ ap (λ m. before ++ tokens (joined_parts words (last m) (map f (map g all)))) (k ∙ sym (length-mapped g all))
-
 preceded_tokens : (before : Option (List ℕ)) (ps : List Part) → gives ps ≡ true → tokens (preceded before ps) ≡ tokens (before_parts before) ++ tokens ps
 preceded_tokens before [] some = cc
 preceded_tokens None (p ∷ ps) some = refl
@@ -55,10 +19,11 @@ preceded_tokens (Some words) (p ∷ ps) some = refl
 
 -- a block gives something where some names are cut or some are written
 module _ {X : Type 0} (f : X → Part) (terms : Terms) (r : Rules) where
-  pub block_gives : (cut : Bool) (xs : List X) → (cut ≡ false → (length xs == 0) ≡ false) → gives (joined_names terms r cut (map f xs)) ≡ true
-  block_gives true [] some = refl
-  block_gives false [] some = absurd (cc (some refl))
-  block_gives cut (x ∷ xs) some = refl
+  pub block_gives : (cut : Bool) (xs : List X) → gives (joined_names terms r cut (map f xs)) ≡ (cut || gives (map f xs))
+  block_gives true [] = refl
+  block_gives false [] = refl
+  block_gives true (x ∷ xs) = refl
+  block_gives false (x ∷ xs) = refl
 
 -- a block that gives something, of whose names some may be cut
 module _ {X : Type 0} (f : X → Part) (terms : Terms) (r : Rules) (cut : Bool) (before : Option (List ℕ)) (old first between after : List Token) where
@@ -78,3 +43,18 @@ module _ {X : Type 0} (f : X → Part) (terms : Terms) (r : Rules) (cut : Bool) 
       ∙ ap (λ ts. old ++ (tokens (before_parts before) ++ ts)) (sym (tokens-append (joined (length xs)) end))
       ∙ ap (λ n. old ++ (tokens (before_parts before) ++ tokens (joined n ++ end))) (sym (length-mapped f xs))
       ∙ ap (λ ts. old ++ ts) (sym (preceded_tokens before (joined_names terms r cut (map f xs)) some))
+
+-- a block that gives nothing is taken back
+no_parts_before : (before : Option (List ℕ)) (ps : List Part) → gives ps ≡ false → tokens (preceded before ps) ≡ []
+no_parts_before before [] none = refl
+no_parts_before before (p ∷ ps) none = cc
+
+pub block_unwritten : (before : Option (List ℕ)) (ps : List Part) (start : ℕ) (old first : List Token) (names : List Token) (now after : List Token)
+    → gives ps ≡ false → length old ≡ start → first ≡ old ++ tokens (before_parts before) → now ≡ first ++ names → after ≡ take start now
+    → after ≡ old ++ tokens (preceded before ps)
+block_unwritten before ps start old first names now after none s a b e =
+    e
+    ∙ ap (take start) (b ∙ ap (λ ts. ts ++ names) a ∙ append_assoc old (tokens (before_parts before)) names)
+    ∙ take_at old (tokens (before_parts before) ++ names) start s
+    ∙ sym (append-nil old)
+    ∙ ap (λ ts. old ++ ts) (sym (no_parts_before before ps none))

@@ -1,6 +1,6 @@
 -- What a layout picks: leaves, and nodes with parts inside. A part is written as an opening, what
 -- stands inside, and a closing.
-use Rattle.std.specs.Prelude.{ℕ, ℤ, List, [], ◌∷◌, ◌++◌, Bool, Option, Some, None}
+use Rattle.std.specs.Prelude.{ℕ, List, [], ◌∷◌, ◌++◌, Bool, Option, Some, None}
 use Rattle.csl_base.specs.declared.entry.ChunkedString.{ChunkedString}
 use Rattle.csl_base.specs.declared.elem.ElemMeta.{ElemMeta}
 use Rattle.csl_base.specs.Element.{Look}
@@ -11,8 +11,6 @@ pub data LeafValue : Type 0 where
   number_leaf : ℕ → LeafValue
   -- the letters of a year suffix
   suffix_leaf : ℕ → LeafValue
-  -- a year, and what is written behind it after Christ and before
-  year_leaf : ℤ → List ℕ → List ℕ → LeafValue
   chunked_leaf : ChunkedString → LeafValue
   -- a link of a text to itself
   link_leaf : ChunkedString → LeafValue

@@ -1,22 +1,23 @@
 -- The plain data that pieces stand for.
-use Rattle.std.specs.Prelude.{List, map, None, option_map}
+use Rattle.std.specs.Prelude.{List, map, false, None, option_map}
 use Rattle.std.specs.Option.{option_map_or}
 use Rattle.csl_base.specs.Element.{Affix, Look}
 use Rattle.csl_base.specs.ElementView.{affixes_view, look}
+use Rattle.csl_lookup.specs.Years.{year_text}
 use Rattle.csl_picking.specs.declared.pieces.Leaf.{Leaf}
 use Rattle.csl_picking.specs.declared.pieces.Leaf.TheVariants as leaves
 use Rattle.csl_picking.specs.declared.pieces.Node.{Node}
 use Rattle.csl_picking.specs.declared.pieces.Piece.{Piece}
 use Rattle.csl_picking.specs.declared.pieces.Piece.TheVariants as pieces
 use Rattle.csl_picking.specs.declared.pieces.Shape.{Shape}
-use Rattle.csl_picking.specs.Pieces.{LeafValue, text_leaf, number_leaf, suffix_leaf, year_leaf, chunked_leaf, link_leaf, mark_leaf, NodeValue, Token, opening, leaf_token, closing}
+use Rattle.csl_picking.specs.Pieces.{LeafValue, text_leaf, number_leaf, suffix_leaf, chunked_leaf, link_leaf, mark_leaf, NodeValue, Token, opening, leaf_token, closing}
 
 abbrev pub leaf_view : Leaf → LeafValue
 leaf_view (leaves.Text t) = text_leaf t.now
 leaf_view (leaves.Owned t) = text_leaf t
 leaf_view (leaves.Number n) = number_leaf n
 leaf_view (leaves.Suffix n) = suffix_leaf n
-leaf_view (leaves.Year year ad bc) = year_leaf year ad.now bc.now
+leaf_view (leaves.Year year era) = text_leaf (year_text year false era.now era.now)
 leaf_view (leaves.Chunked t) = chunked_leaf t.now
 leaf_view (leaves.Link t) = link_leaf t.now
 leaf_view (leaves.Mark i) = mark_leaf i

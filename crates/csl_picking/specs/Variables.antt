@@ -1,5 +1,5 @@
 -- What texts, numbers and dates give (CSL 1.0.2, text, number, date).
-use Rattle.std.specs.Prelude.{ℕ, ◌+◌, List, [], Bool, true, false, Option, Some, None, option_map, option_and_then, unwrap_or, is_some, codes}
+use Rattle.std.specs.Prelude.{ℕ, ℤ, ◌+◌, List, [], Bool, true, false, Option, Some, None, option_map, option_and_then, unwrap_or, is_some, codes}
 use Rattle.std.specs.Bool.{if◌then◌else◌}
 use Rattle.std.specs.List.{list_any}
 use Rattle.csl_base.specs.declared.taxonomy.Variable.{Variable}
@@ -23,9 +23,10 @@ use Rattle.csl_picking.specs.declared.notes.Form.{Form}
 use Rattle.csl_picking.specs.declared.notes.Notes.{Notes}
 use Rattle.csl_lookup.specs.declared.state.IdentifierUsage.{IdentifierUsage}
 use Rattle.csl_picking.specs.Env.{ReadProperties, Env}
+use Rattle.csl_lookup.specs.Years.{year_text}
 use Rattle.csl_lookup.specs.States.{with_label, with_number, year_suffix}
 use Rattle.csl_picking.specs.Suffix.{implicit_suffix}
-use Rattle.csl_picking.specs.Pieces.{LeafValue, text_leaf, number_leaf, suffix_leaf, year_leaf, chunked_leaf, link_leaf, mark_leaf, Part, node_of, leaves_of, plain_node}
+use Rattle.csl_picking.specs.Pieces.{LeafValue, text_leaf, number_leaf, suffix_leaf, chunked_leaf, link_leaf, mark_leaf, Part, node_of, leaves_of, plain_node}
 use Rattle.csl_picking.specs.Picked.{Picked, nothing, without_content, gives, called_with}
 
 -- whether two variables are equal, by their derived test
@@ -137,11 +138,10 @@ pick_words form words look quotes strip n =
 abbrev pub words_for : (Term → TermForm → Bool → Option (List ℕ)) → OtherTerm → List ℕ → List ℕ
 words_for found t words = unwrap_or (found (term.Other t) TermForm.Long false) words
 
-abbrev pub ad_words : Env → List ℕ
-ad_words env = words_for env.term OtherTerm.Ad (codes " AD")
-
-abbrev pub bc_words : Env → List ℕ
-bc_words env = words_for env.term OtherTerm.Bc (codes " BC")
+-- a year, with the words for after Christ or before where it has them
+abbrev pub year_leaf : (Term → TermForm → Bool → Option (List ℕ)) → ℤ → LeafValue
+year_leaf found year =
+    text_leaf (year_text year false (words_for found OtherTerm.Ad (codes " AD")) (words_for found OtherTerm.Bc (codes " BC")))
 
 -- whether the year of a date is written
 abbrev pub writes_year : Form → DateVariable → Notes → Bool
@@ -159,7 +159,7 @@ writes_suffix_alone _ = false
 abbrev pub date_leaves : Env → DateVariable → Option Date → Notes → List Part
 date_leaves env v None n = []
 date_leaves env v (Some d) n =
-    if writes_year env.form v n then leaves_of (Some (year_leaf d.year (ad_words env) (bc_words env))) (implicit_suffix env.explicit_suffix env.cite.state n)
+    if writes_year env.form v n then leaves_of (Some (year_leaf env.term d.year)) (implicit_suffix env.explicit_suffix env.cite.state n)
     else (if writes_suffix_alone env.form then leaves_of None (implicit_suffix env.explicit_suffix env.cite.state n) else [])
 
 abbrev pub pick_date : Env → DateVariable → Look → Bool → Bool → Notes → Picked

@@ -1,10 +1,10 @@
 //! The names of one variable, and what stands between and behind them (CSL 1.0.2, name, et-al).
-ghost use Rattle.std.specs.Prelude.{◌≡◌, ◌==◌, [], ◌∷◌, ◌++◌, IfOk, OnOk, false, Some, None, ◌||◌, map, length, codes, option_map, if◌then◌else◌};
+ghost use Rattle.std.specs.Prelude.{◌≡◌, ◌+◌, ◌<◌, ◌^◌, [], ◌∷◌, ◌++◌, IfOk, OnOk, false, Some, None, ◌||◌, map, length, codes, option_map, option_to_list};
 ghost use Rattle.std.specs.List.{list_any};
 ghost use Rattle.csl_base.specs.declared.taxonomy.OtherTerm.{OtherTerm};
 ghost use Rattle.csl_base.specs.declared.elem.ElemMeta.TheVariants as meta;
 ghost use Rattle.csl_picking.specs.Names.{written_names, name_part, and_words, last_joint, is_count, joined_parts, last_words, et_al_parts, block_parts};
-ghost use Rattle.csl_picking.specs.BlockRun.{before_parts, preceded};
+ghost use Rattle.csl_picking.specs.BlockRun.{before_parts, preceded, name_behind, waiting_parts};
 ghost use Rattle.csl_picking.specs.NamesView.{name_view};
 ghost use Rattle.csl_picking.specs.NameRulesView.{rules_view};
 ghost use Rattle.csl_picking.specs.Pieces.{leaf_token, text_leaf, part_tokens, tokens};
@@ -25,25 +25,6 @@ use csl_base::names::DisambiguatedNameForm;
 use csl_base::taxonomy::{NameVariable, OtherTerm};
 use csl_base::text::Text;
 use std::alloc::{AllocError, Global};
-
-// The names that are written, each with its place, where `end` follows each initial.
-fn written_names<'a>(
-    alloc: Global,
-    end: &str,
-    forms: &[DisambiguatedNameForm],
-    persons: &'a [Person],
-) -> Result<Vec<(usize, Leaf<'a>)>, AllocError>
-    requires { length forms.now ≡ length persons.now }
-    ensures { IfOk result (λ names. map name_view names.items ≡ written_names end.now forms.now persons.now) }
-{
-    let mut names = Vec::new(alloc);
-    for (place, person) in persons.iter().enumerate() {
-        if let Some(leaf) = name_leaf(alloc, end, forms[place], person)? {
-            names.push((place, leaf))?;
-        }
-    }
-    Ok(names)
-}
 
 // The word before the last name.
 fn and_words<'a>(setting: &Setting<'a>, and: NameAnd) -> &'a str
@@ -120,61 +101,129 @@ fn push_name<'a>(
     Ok(())
 }
 
-// What stands before the next name, behind which so many are left.
-fn next_joint<'a>(
-    alloc: Global,
-    setting: &Setting<'a>,
-    rules: &NameRules<'a>,
-    is_cut: bool,
-    count: usize,
-    left: usize,
-) -> Result<Leaf<'a>, AllocError>
-    ensures { IfOk result (λ leaf. leaf_view leaf
-        ≡ text_leaf (if left == 0 then last_words (term_for setting.now) (rules_view rules.now) is_cut count else (rules_view rules.now).name_delimiter)) }
-{
-    if left > 0 || is_cut {
-        return Ok(Leaf::Text(rules.name_delimiter));
-    }
-    last_joint(alloc, setting, rules, count)
-}
-
-// Adds names, with what stands between them.
-fn push_names<'a>(
-    setting: &Setting<'a>,
-    rules: &NameRules<'a>,
-    is_cut: bool,
-    variable: NameVariable,
-    names: Vec<(usize, Leaf<'a>)>,
-    pieces: &mut Vec<Piece<'a>>,
-) -> Result<(), AllocError>
-    ensures { let names = map name_view names.entry.items in let r = rules_view rules.now in
-        OnOk result (tokens_of pieces.new.items
-        ≡ tokens_of pieces.old.items ++ tokens (joined_parts r.name_delimiter (last_words (term_for setting.now) r is_cut (length names)) (map (name_part variable) names))) }
-{
-    let alloc = *pieces.allocator();
-    let count = names.len();
-    let mut names = names.into_iter();
-    let (place, leaf) = match names.next() {
-        Some(name) => name,
-        None => return Ok(()),
-    };
-    push_name(variable, place, leaf, pieces)?;
-    let mut left = count - 1;
-    for (place, leaf) in names {
-        left -= 1;
-        let joint = next_joint(alloc, setting, rules, is_cut, count, left)?;
-        push_leaf(joint, pieces)?;
-        push_name(variable, place, leaf, pieces)?;
-    }
-    Ok(())
-}
-
 // The names of one variable, in these forms.
 #[derive(Clone, Copy)]
 pub(crate) struct Block<'a, 'b> {
     pub(crate) variable: NameVariable,
     pub(crate) persons: &'a [Person],
     pub(crate) forms: &'b [DisambiguatedNameForm],
+}
+
+// What stands before the last of so many names.
+fn last_words<'a>(
+    alloc: Global,
+    setting: &Setting<'a>,
+    rules: &NameRules<'a>,
+    is_cut: bool,
+    count: usize,
+) -> Result<Leaf<'a>, AllocError>
+    ensures { IfOk result (λ leaf. leaf_view leaf ≡ text_leaf (last_words (term_for setting.now) (rules_view rules.now) is_cut count)) }
+{
+    if is_cut {
+        return Ok(Leaf::Text(rules.name_delimiter));
+    }
+    last_joint(alloc, setting, rules, count)
+}
+
+// Adds the last name, behind so many others.
+fn push_last_name<'a>(
+    setting: &Setting<'a>,
+    rules: &NameRules<'a>,
+    is_cut: bool,
+    block: Block<'a, '_>,
+    count: usize,
+    name: (usize, Leaf<'a>),
+    pieces: &mut Vec<Piece<'a>>,
+) -> Result<(), AllocError>
+    requires fits { count + 1 < 2 ^ 64 }
+    ensures { let r = rules_view rules.now in
+        OnOk result (tokens_of pieces.new.items
+        ≡ tokens_of pieces.old.items
+        ++ tokens (name_behind (text_leaf (last_words (term_for setting.now) r is_cut (count + 1))) count (name_part block.entry.variable (name_view name.entry)))) }
+{
+    let (place, leaf) = name;
+    if count == 0 {
+        return push_name(block.variable, place, leaf, pieces);
+    }
+    let joint = last_words(*pieces.allocator(), setting, rules, is_cut, count + 1)?;
+    push_leaf(joint, pieces)?;
+    push_name(block.variable, place, leaf, pieces)
+}
+
+// Adds a name that others follow, behind so many others.
+fn push_inner_name<'a>(
+    rules: &NameRules<'a>,
+    block: Block<'a, '_>,
+    count: usize,
+    name: (usize, Leaf<'a>),
+    pieces: &mut Vec<Piece<'a>>,
+) -> Result<(), AllocError>
+    ensures { OnOk result (tokens_of pieces.new.items
+        ≡ tokens_of pieces.old.items
+        ++ tokens (name_behind (text_leaf (rules_view rules.now).name_delimiter) count (name_part block.entry.variable (name_view name.entry)))) }
+{
+    let (place, leaf) = name;
+    if count == 0 {
+        return push_name(block.variable, place, leaf, pieces);
+    }
+    push_leaf(Leaf::Text(rules.name_delimiter), pieces)?;
+    push_name(block.variable, place, leaf, pieces)
+}
+
+// Adds the name that waits for one behind it, if one does, and tells how many are added then.
+fn push_waiting<'a>(
+    rules: &NameRules<'a>,
+    block: Block<'a, '_>,
+    count: usize,
+    waiting: Option<(usize, Leaf<'a>)>,
+    pieces: &mut Vec<Piece<'a>>,
+) -> Result<usize, AllocError>
+    requires fits { count + length (option_to_list waiting) < 2 ^ 64 }
+    ensures pieces { OnOk result (tokens_of pieces.new.items
+        ≡ tokens_of pieces.old.items
+        ++ tokens (waiting_parts (text_leaf (rules_view rules.now).name_delimiter) count (option_map (λ name. name_part block.entry.variable (name_view name)) waiting.entry))) }
+    ensures count { IfOk result (λ added. added ≡ count + length (option_to_list waiting.entry)) }
+{
+    match waiting {
+        Some(name) => {
+            push_inner_name(rules, block, count, name, pieces)?;
+            Ok(count + 1)
+        }
+        None => Ok(count),
+    }
+}
+
+// Adds the names that are written, with what stands between them, and tells whether there are any.
+// Each waits for the next one, since what stands before the last one is not what stands before others.
+fn push_names<'a>(
+    setting: &Setting<'a>,
+    rules: &NameRules<'a>,
+    is_cut: bool,
+    block: Block<'a, '_>,
+    pieces: &mut Vec<Piece<'a>>,
+) -> Result<bool, AllocError>
+    requires { length block.forms.now ≡ length block.persons.now }
+    ensures pieces { let r = rules_view rules.now in
+        let names = written_names r.initial_end block.entry.forms.now block.entry.persons.now in
+        OnOk result (tokens_of pieces.new.items
+        ≡ tokens_of pieces.old.items ++ tokens (joined_parts r.name_delimiter (last_words (term_for setting.now) r is_cut (length names)) (map (name_part block.entry.variable) names))) }
+    ensures given { IfOk result (λ b. b ≡ gives (map (name_part block.entry.variable) (written_names (rules_view rules.now).initial_end block.entry.forms.now block.entry.persons.now))) }
+{
+    let alloc = *pieces.allocator();
+    let (mut count, mut waiting) = (0, None);
+    for (place, person) in block.persons.iter().enumerate() {
+        if let Some(leaf) = name_leaf(alloc, rules.initial_end, block.forms[place], person)? {
+            let earlier = waiting.replace((place, leaf));
+            count = push_waiting(rules, block, count, earlier, pieces)?;
+        }
+    }
+    match waiting {
+        Some(last) => {
+            push_last_name(setting, rules, is_cut, block, count, last, pieces)?;
+            Ok(true)
+        }
+        None => Ok(false),
+    }
 }
 
 // Adds a block, with a text before it, and tells whether it gives anything.
@@ -191,16 +240,16 @@ pub(crate) fn push_block<'a>(
         ++ tokens (preceded (option_map (λ t. t.now) before.entry) (block_parts (term_for setting.now) (rules_view rules.now) block.entry.variable block.entry.forms.now block.entry.persons.now))) }
     ensures given { IfOk result (λ b. b ≡ gives (block_parts (term_for setting.now) (rules_view rules.now) block.entry.variable block.entry.forms.now block.entry.persons.now)) }
 {
-    let alloc = *pieces.allocator();
-    let names = written_names(alloc, rules.initial_end, block.forms, block.persons)?;
+    let start = pieces.len();
     let is_cut = are_cut(block.forms);
-    if !is_cut && names.is_empty() {
-        return Ok(false);
-    }
     push_before(before, pieces)?;
-    push_names(setting, rules, is_cut, block.variable, names, pieces)?;
-    push_et_al(setting, is_cut, pieces)?;
-    Ok(true)
+    let some_names = push_names(setting, rules, is_cut, block, pieces)?;
+    if is_cut | some_names {
+        push_et_al(setting, is_cut, pieces)?;
+        return Ok(true);
+    }
+    pieces.truncate(start);
+    Ok(false)
 }
 
 // Whether a name only counts.

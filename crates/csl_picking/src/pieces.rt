@@ -22,8 +22,8 @@ pub enum Leaf<'a> {
     Number(u128),
     /// The letters of a year suffix; 0 is `a`.
     Suffix(usize),
-    /// A year, and what is written behind it after Christ and before.
-    Year { year: i32, ad: &'a str, bc: &'a str },
+    /// A year, and the words behind it for after Christ or before, where it has them.
+    Year { year: i32, era: &'a str },
     Chunked(&'a ChunkedString),
     /// A link of a text to itself.
     Link(&'a ChunkedString),

@@ -3,7 +3,7 @@ ghost use Rattle.std.specs.Prelude.{◌≡◌, OnOk, option_map};
 ghost use Rattle.std.specs.List.{list_any};
 ghost use Rattle.csl_base.specs.Content.{text_has_content};
 ghost use Rattle.csl_picking.specs.Pieces.{leaves_of};
-ghost use Rattle.csl_picking.specs.Variables.{is_plain, is_kept, writes, chunk_has_content, text_leaves, chunked_leaves, locator_leaf, variable_leaf, suffix_behind, variable_meta, dated, noted_use, noted_behind, meant, pick_variable, pick_words, words_for, ad_words, bc_words, writes_year, writes_suffix_alone, date_leaves, pick_date};
+ghost use Rattle.csl_picking.specs.Variables.{is_plain, is_kept, writes, chunk_has_content, text_leaves, chunked_leaves, locator_leaf, variable_leaf, suffix_behind, variable_meta, dated, noted_use, noted_behind, meant, pick_variable, pick_words, words_for, year_leaf, writes_year, writes_suffix_alone, date_leaves, pick_date};
 ghost use Rattle.csl_picking.specs.Suffix.{implicit_suffix};
 ghost use Rattle.csl_picking.specs.Picked.{added, called_with};
 ghost use Rattle.csl_picking.specs.PiecesView.{leaf_view, shape_look};
@@ -347,6 +347,20 @@ pub fn pick_words<'a>(
     Ok(())
 }
 
+// A year. Only the words that it has are looked up.
+fn year_leaf<'a>(setting: &Setting<'a>, year: i32) -> Leaf<'a>
+    ensures { leaf_view result ≡ year_leaf (term_for setting.now) year }
+{
+    let era = if year >= 1000 {
+        ""
+    } else if year > 0 {
+        setting.words_for(OtherTerm::Ad, " AD")
+    } else {
+        setting.words_for(OtherTerm::Bc, " BC")
+    };
+    Leaf::Year { year, era }
+}
+
 // What a date gives: its year and the suffix behind it, or the suffix alone.
 fn date_leaves<'a, T: EntryLike>(
     input: &Input<'a, T>,
@@ -363,12 +377,7 @@ fn date_leaves<'a, T: EntryLike>(
     };
     let suffix = setting.implicit_suffix(notes);
     if setting.form.writes_year(variable, notes) {
-        let year = Leaf::Year {
-            year: date.year,
-            ad: setting.words_for(OtherTerm::Ad, " AD"),
-            bc: setting.words_for(OtherTerm::Bc, " BC"),
-        };
-        (Some(year), suffix)
+        (Some(year_leaf(setting, date.year)), suffix)
     } else if setting.form.writes_suffix_alone() {
         (None, suffix)
     } else {

@@ -16,7 +16,7 @@ use Rattle.csl_base.specs.declared.taxonomy.OtherTerm.{OtherTerm}
 use Rattle.csl_lookup.specs.Lookup.{Lookup, punctuation_in_quotes}
 use Rattle.csl_context.specs.OpenFrames.{Frames, is_filled, filled, on_filled, on_top, below, closed, committed}
 use Rattle.csl_writing.specs.PartsWritten.{leaf_written, node_begun, node_ended, delimiter_pushed, part_written, joined_written, rest_written, parts_written}
-use Rattle.csl_picking.specs.Pieces.{LeafValue, text_leaf, number_leaf, suffix_leaf, year_leaf, chunked_leaf, link_leaf, mark_leaf, NodeValue, Part, leaf_part, node_part, Parts, no_parts, part, parts_of}
+use Rattle.csl_picking.specs.Pieces.{LeafValue, text_leaf, number_leaf, suffix_leaf, chunked_leaf, link_leaf, mark_leaf, NodeValue, Part, leaf_part, node_part, Parts, no_parts, part, parts_of}
 use Rattle.csl_context.specs.Steps.{ClosingQuotes, term_text, opens_tight, has_letter, without_ending, pulled}
 use Rattle.csl_context.specs.Wording.{plain_term, closing_quotes, pushed, term_pushed, opening_quote, closing_quote, quotes_opened, quotes_closed, pulling_if_asked, chunk_of_kind, chunks_pushed, linked, marked, with_suffix, suffixed}
 use Rattle.csl_context.specs.WritingState.{State, is_saved, saved, with_child, on_text_before, trimmed_for, unrepeated_for, may_pull, on_quoted_text, after_pull, left_by_pull, written, after_push_str, verbatim, formatted, opened, closed_elem, discarded, nothing_asked, prefixed, has_content_since, ends_so, stripping, not_stripping, less_deep}
@@ -109,7 +109,6 @@ unfolding leaf_written linked marked
 leaf_keeps k (text_leaf s) a = pushed_keeps k s a
 leaf_keeps k (number_leaf n) a = pushed_keeps k _ a
 leaf_keeps k (suffix_leaf n) a = pushed_keeps k _ a
-leaf_keeps k (year_leaf year ad bc) a = pushed_keeps k _ a
 leaf_keeps k (chunked_leaf t) a = chunks_keep k t.0 a
 leaf_keeps k (link_leaf t) a = saved_child_keeps _ a
 leaf_keeps k (mark_leaf cite) a = saved_child_keeps _ a

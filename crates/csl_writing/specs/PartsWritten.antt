@@ -1,11 +1,10 @@
 -- What writing makes of the parts that a layout picks.
-use Rattle.std.specs.Prelude.{ℕ, false, if◌then◌else◌, List, length, Option, None, Some}
+use Rattle.std.specs.Prelude.{ℕ, if◌then◌else◌, List, length, Option, None, Some}
 use Rattle.std.specs.Fmt.{decimal}
 use Rattle.csl_lookup.specs.Lookup.{Lookup}
 use Rattle.csl_lookup.specs.SuffixLetters.{suffix_letters}
-use Rattle.csl_lookup.specs.Years.{year_text}
 use Rattle.csl_context.specs.Steps.{term_text}
-use Rattle.csl_picking.specs.Pieces.{LeafValue, text_leaf, number_leaf, suffix_leaf, year_leaf, chunked_leaf, link_leaf, mark_leaf, NodeValue, Part, leaf_part, node_part, Parts, no_parts, part, parts_of}
+use Rattle.csl_picking.specs.Pieces.{LeafValue, text_leaf, number_leaf, suffix_leaf, chunked_leaf, link_leaf, mark_leaf, NodeValue, Part, leaf_part, node_part, Parts, no_parts, part, parts_of}
 use Rattle.csl_context.specs.WritingState.{State, prefixed, opened, closed_elem, stripping, not_stripping}
 use Rattle.csl_context.specs.Wording.{pushed, chunks_pushed, joined_values, linked, marked, quotes_opened, quotes_closed, pulling_if_asked, suffixed}
 
@@ -13,7 +12,6 @@ unfoldable pub leaf_written : Lookup → LeafValue → State → State
 leaf_written k (text_leaf s) a = pushed k s a
 leaf_written k (number_leaf n) a = pushed k (decimal n) a
 leaf_written k (suffix_leaf n) a = pushed k (suffix_letters n) a
-leaf_written k (year_leaf year ad bc) a = pushed k (year_text year false ad bc) a
 leaf_written k (chunked_leaf t) a = chunks_pushed k t.0 a
 leaf_written k (link_leaf t) a = linked t.0 (joined_values t.0) a
 leaf_written k (mark_leaf cite) a = marked cite a

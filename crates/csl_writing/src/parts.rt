@@ -152,8 +152,8 @@ fn push_leaf(
             let text = letters_of_suffix(alloc, *suffix)?;
             push_str(style, writing, text.as_str())
         }
-        Leaf::Year { year, ad, bc } => {
-            let text = year_in_words(alloc, *year, false, ad, bc)?;
+        Leaf::Year { year, era } => {
+            let text = year_in_words(alloc, *year, false, era, era)?;
             push_str(style, writing, text.as_str())
         }
         Leaf::Chunked(text) => push_chunked(style, writing, text),
