@@ -10,9 +10,8 @@ ghost use Rattle.std.specs.Option.{option_map_or};
 ghost use Rattle.csl_context.specs.Steps.{ends_quoted, pulled, term_text};
 ghost use Rattle.csl_context.specs.WritingState.{state, heights, begun, is_saved, saved, on_text_before, trimmed_for, unrepeated_for, appended, quoted_text, on_quoted_text, may_pull, after_pull, left_by_pull, written, with_child, formatting, after_push_str, verbatim, with_space, asks_nothing, formatted, cut_formats, unformatted, opened, closed_elem, discarded, prefixed, has_content_since, ends_so, pulling, stripping, not_stripping, deeper, less_deep, delimited, undelimited, with_options, without_options, flushed};
 
-use crate::frames::{
-    Edit, commit, edit_filled, join_child, pull_in_filled, push_child, shows, space_last_text,
-};
+use crate::flat::FlatFrames;
+use crate::frames::Edit;
 use crate::pile::Pile;
 use crate::text::{
     ClosingQuotes, add_space, ends_with, has_letter, opens_tight, opens_with_mark, pull,
@@ -21,9 +20,7 @@ use crate::text::{
 use crate::token::{DelimiterIdx, DisplayLoc, FormatIdx};
 use csl_base::elem::{ElemChild, ElemChildren, ElemMeta};
 use csl_base::element::{Affixes, InheritableNameOptions};
-use csl_base::formatting::{Display, Formatted, Formatting, StyleFormatting};
-use csl_base::stack::NonEmptyStack;
-use csl_base::text::Text;
+use csl_base::formatting::{Display, Formatting, StyleFormatting};
 use std::alloc::{AllocError, Global};
 
 /// Texts that are written one after another, into trees that are still open. A refusal for memory
@@ -34,12 +31,10 @@ pub struct WritingContext<'a> {
     // The text that is not yet in a frame.
     buf: String,
     // The trees that are open, the innermost on top.
-    frames: NonEmptyStack<ElemChildren>,
+    frames: FlatFrames,
     formats: Pile<Formatting>,
     delimiters: Pile<Option<&'a str>>,
     name_options: Pile<&'a InheritableNameOptions>,
-    // Room that closed frames left; what stands in it means nothing.
-    spare: Vec<ElemChild>,
     // Whether closing quotes may pull punctuation in.
     pulling: bool,
     // Whether periods are left out.
@@ -71,11 +66,10 @@ impl<'a> WritingContext<'a> {
         Ok(WritingContext {
             alloc,
             buf: String::with_capacity(alloc, ROOM)?,
-            frames: NonEmptyStack::new(alloc, ElemChildren::new(alloc))?,
+            frames: FlatFrames::new(alloc)?,
             formats: Pile::new(alloc, Formatting::default()),
             delimiters: Pile::new(alloc, None),
             name_options: Pile::new(alloc, options),
-            spare: Vec::new(alloc),
             pulling: false,
             stripping: false,
             quote_depth: 0,
@@ -98,13 +92,11 @@ impl<'a> WritingContext<'a> {
         if self.is_saved() {
             return Ok(());
         }
-        let text = Text::copied(self.alloc, self.buf.as_str())?;
         let formatting = self.formatting();
+        self.frames
+            .join_text(self.alloc, self.buf.as_str(), formatting)?;
         self.buf.clear();
-        join_child(
-            &mut self.frames,
-            ElemChild::Text(Formatted { text, formatting }),
-        )
+        Ok(())
     }
 
     fn edit_before(&mut self, edit: &Edit<'_>)
@@ -112,7 +104,7 @@ impl<'a> WritingContext<'a> {
         ensures heights { heights (state self.new) ≡ heights (state self.old) }
     {
         if self.is_saved() {
-            edit_filled(&mut self.frames, edit);
+            self.frames.edit_filled(edit);
         } else {
             edit.apply(&mut self.buf);
         }
@@ -154,7 +146,7 @@ impl<'a> WritingContext<'a> {
         ensures heights { heights (state self.new) ≡ heights (state self.old) }
     {
         if self.is_saved() {
-            pull_in_filled(self.alloc, &mut self.frames, quotes, mark)
+            self.frames.pull_in_filled(self.alloc, quotes, mark)
         } else {
             pull(&mut self.buf, quotes, mark)
         }
@@ -243,7 +235,7 @@ impl<'a> WritingContext<'a> {
         ensures heights { heights (state self.new) ≡ heights (state self.old) }
     {
         self.save()?;
-        push_child(&mut self.frames, child)
+        self.frames.push_child(child)
     }
 
     /// The formatting in which texts are written now.
@@ -265,7 +257,7 @@ impl<'a> WritingContext<'a> {
         ensures heights { heights (state self.new) ≡ heights (state self.old) }
     {
         if self.is_saved() {
-            space_last_text(&mut self.frames)
+            self.frames.space_last_text()
         } else {
             add_space(&mut self.buf)
         }
@@ -328,7 +320,7 @@ impl<'a> WritingContext<'a> {
         self.save()?;
         let frames = self.frames.len();
         let formats = self.push_format(format)?.height;
-        if self.frames.push(ElemChildren::new(self.alloc)).is_err() {
+        if self.frames.open().is_err() {
             self.formats.cut(formats);
             return Err(AllocError);
         }
@@ -355,14 +347,7 @@ impl<'a> WritingContext<'a> {
         ensures refused { OnErr result (heights (state self.new) ≡ heights (state self.old)) }
     {
         self.save()?;
-        commit(
-            self.alloc,
-            &mut self.frames,
-            loc.frames,
-            display,
-            meta,
-            &mut self.spare,
-        )?;
+        self.frames.close(display, meta)?;
         self.formats.cut(loc.formats);
         Ok(())
     }
@@ -381,7 +366,7 @@ impl<'a> WritingContext<'a> {
         ensures refused { OnErr result (heights (state self.new) ≡ heights (state self.old)) }
     {
         self.save()?;
-        self.frames.cut(loc.frames);
+        self.frames.discard();
         self.formats.cut(loc.formats);
         Ok(())
     }
@@ -425,7 +410,7 @@ impl<'a> WritingContext<'a> {
         let loc = self.push_elem(NOTHING_ASKED)?;
         let prefix = prefix.unwrap_or("");
         if self.buf.push_str(prefix).is_err() {
-            self.frames.cut(loc.frames);
+            self.frames.discard();
             return Err(AllocError);
         }
         Ok((loc, prefix.len()))
@@ -446,7 +431,7 @@ impl<'a> WritingContext<'a> {
         ensures heights { heights (state self.new) ≡ heights (state self.old) }
     {
         self.save()?;
-        Ok(shows(self.frames.last(), prefix.1))
+        Ok(self.frames.top_shows(prefix.1))
     }
 
     /// Whether the last text of the top frame ends so.
@@ -454,7 +439,7 @@ impl<'a> WritingContext<'a> {
     pub(crate) fn ends_so(&self, ending: &str) -> bool
         ensures { result ≡ ends_so ending.now (state self.now) }
     {
-        match self.frames.last().last_text() {
+        match self.frames.last_text() {
             Some(last) => ends_with(last.text.as_str(), ending),
             None => false,
         }
