@@ -140,8 +140,8 @@ some_filled [] [] h = absurd (omega (arith, h))
 some_filled [] (x ∷ xs) h = (0, refl)
 some_filled (n ∷ ns) xs h =
     elim (cases_lt n (length xs)) [
-      inl l ↦ (let t = some_filled ns (drop n xs) (omega (arith, length-drop n xs)) in (suc t.0, rw t.1 refl))
-    | inr l ↦ (0, rw (take_all n xs l, drop_all n xs l) (filled_here xs (cut ns []) h (no_child_filled ns)))
+      | inl l ↦ (let t = some_filled ns (drop n xs) (omega (arith, length-drop n xs)) in (suc t.0, rw t.1 refl))
+      | inr l ↦ (0, rw (take_all n xs l, drop_all n xs l) (filled_here xs (cut ns []) h (no_child_filled ns)))
     ]
 
 frame_before : (F : List Child) (Fs : Frames) (g : List Child → Frames) (o : Option (List Child)) → option_map_or (λ d. F ∷ g d) o (F ∷ Fs) ≡ F ∷ option_map_or g o Fs
@@ -161,17 +161,17 @@ module _ (f : List Child → List Child) (k : ChangesEnd f) where
   filled_cut [] xs = sym (none_above xs [] refl)
   filled_cut (n ∷ ns) xs =
       elim (cases_lt n (length xs)) [
-        inl l ↦ (
-          let t = some_filled ns (drop n xs) (omega (arith, length-drop n xs)) in
-          ap (λ z. z ∷ cut ns (drop n (f xs))) (end-take f k n xs l)
-          ∙ ap (λ z. take n xs ∷ cut ns z) (end-drop f k n xs l)
-          ∙ ap (λ z. take n xs ∷ z) (filled_cut ns (drop n xs))
-          ∙ sym (above_filled (take n xs) (cut ns (drop n xs)) t.0 t.1))
-      | inr l ↦ (
-          let less : length (f xs) ≤ n = omega (arith, end-length f k xs, l) in
-          ap (λ z. z ∷ cut ns (drop n (f xs))) (take_all n (f xs) less)
-          ∙ ap (λ z. f xs ∷ cut ns z) (drop_all n (f xs) less)
-          ∙ sym (
+        | inl l ↦ (
+            let t = some_filled ns (drop n xs) (omega (arith, length-drop n xs)) in
+            ap (λ z. z ∷ cut ns (drop n (f xs))) (end-take f k n xs l)
+            ∙ ap (λ z. take n xs ∷ cut ns z) (end-drop f k n xs l)
+            ∙ ap (λ z. take n xs ∷ z) (filled_cut ns (drop n xs))
+            ∙ sym (above_filled (take n xs) (cut ns (drop n xs)) t.0 t.1))
+        | inr l ↦ (
+            let less : length (f xs) ≤ n = omega (arith, end-length f k xs, l) in
+            ap (λ z. z ∷ cut ns (drop n (f xs))) (take_all n (f xs) less)
+            ∙ ap (λ z. f xs ∷ cut ns z) (drop_all n (f xs) less)
+            ∙ sym (
             ap (λ z. on_filled f (z ∷ cut ns (drop n xs))) (take_all n xs l)
             ∙ ap (λ z. on_filled f (xs ∷ cut ns z)) (drop_all n xs l)
             ∙ none_above xs (cut ns []) (no_child_filled ns)))
@@ -199,15 +199,15 @@ module _ {Y : Type 0} (g : List Child → Option Y) (k : SeesEnd g) where
   seen_filled [] xs = seen_alone xs [] refl
   seen_filled (n ∷ ns) xs =
       elim (cases_lt n (length xs)) [
-        inl l ↦ (
-          let t = some_filled ns (drop n xs) (omega (arith, length-drop n xs)) in
-          ap (option_and_then g) (seen_above (take n xs) (cut ns (drop n xs)) t.0 t.1)
-          ∙ seen_filled ns (drop n xs)
-          ∙ seen_behind g k n xs l)
-      | inr l ↦ (
-          ap (λ z. option_and_then g (filled (z ∷ cut ns (drop n xs)))) (take_all n xs l)
-          ∙ ap (λ z. option_and_then g (filled (xs ∷ cut ns z))) (drop_all n xs l)
-          ∙ seen_alone xs (cut ns []) (no_child_filled ns))
+        | inl l ↦ (
+            let t = some_filled ns (drop n xs) (omega (arith, length-drop n xs)) in
+            ap (option_and_then g) (seen_above (take n xs) (cut ns (drop n xs)) t.0 t.1)
+            ∙ seen_filled ns (drop n xs)
+            ∙ seen_behind g k n xs l)
+        | inr l ↦ (
+            ap (λ z. option_and_then g (filled (z ∷ cut ns (drop n xs)))) (take_all n xs l)
+            ∙ ap (λ z. option_and_then g (filled (xs ∷ cut ns z))) (drop_all n xs l)
+            ∙ seen_alone xs (cut ns []) (no_child_filled ns))
       ]
 
   -- or in the top frame
@@ -253,8 +253,8 @@ joined_text_cut ns xs g h =
     let f = on_last_child (extended g.text) in
     let k = on_last_child-end (extended g.text) in
     elim (cases_lt (sum ns) (length xs)) [
-      inl l ↦ on_top_cut (λ cs. join_last cs (text g)) ns xs (f xs) (end-take f k (sum ns) xs l) (end-drop f k (sum ns) xs l ∙ joined_at_end (drop (sum ns) xs) g h)
-    | inr l ↦ absurd (none_ends_in g.formatting (sum ns) xs l h)
+      | inl l ↦ on_top_cut (λ cs. join_last cs (text g)) ns xs (f xs) (end-take f k (sum ns) xs l) (end-drop f k (sum ns) xs l ∙ joined_at_end (drop (sum ns) xs) g h)
+      | inr l ↦ absurd (none_ends_in g.formatting (sum ns) xs l h)
     ]
 
 pub apart_text_cut : (ns : List ℕ) (xs : List Child) (g : Formatted) → sum ns ≤ length xs → ends_in g.formatting (drop (sum ns) xs) ≡ false → cut ns (xs ++ text g ∷ []) ≡ on_top (λ cs. join_last cs (text g)) (cut ns xs)
@@ -284,13 +284,13 @@ committed_top d m P t =
 committed_in_two : (d : Option Display) (m : Option ElemMeta) (f : List Child → List Child) (F : Frames) → ((t : List Child) → f t ≡ closed d m t) → committed None None (on_top f F) ≡ committed d m F
 committed_in_two d m f F h =
     elim (ends F) [
-      inl e ↦ rw e refl
-    | inr p ↦ (
-        ap (λ G. committed None None (on_top f G)) p.2
-        ∙ ap (committed None None) (on_top_of f p.0 p.1)
-        ∙ committed_top None None p.0 (f p.1)
-        ∙ ap (λ z. on_top (λ cs. cs ++ z) p.0) (h p.1)
-        ∙ sym (ap (committed d m) p.2 ∙ committed_top d m p.0 p.1))
+      | inl e ↦ rw e refl
+      | inr p ↦ (
+          ap (λ G. committed None None (on_top f G)) p.2
+          ∙ ap (committed None None) (on_top_of f p.0 p.1)
+          ∙ committed_top None None p.0 (f p.1)
+          ∙ ap (λ z. on_top (λ cs. cs ++ z) p.0) (h p.1)
+          ∙ sym (ap (committed d m) p.2 ∙ committed_top d m p.0 p.1))
     ]
 
 pub closed_in_two : (d : Option Display) (m : Option ElemMeta) (F : Frames) → is_none d && is_none m ≡ false → committed None None (on_top (λ cs. elem (kids_of cs) d m ∷ []) F) ≡ committed d m F

@@ -11,8 +11,8 @@ ghost use Rattle.csl_context.specs.Quotes.{quotes_view};
 ghost use Rattle.csl_context.specs.Steps.{ends_quoted, pulled, spaced};
 
 use crate::frames::{
-    Edit, add_space_to_tree, children_from, count, edit_last_text, ends_in, extend_last, pull_in_tree,
-    push_child, shows, truncate, wrap,
+    Edit, add_space_to_tree, children_from, count, edit_last_text, ends_in, extend_last,
+    pull_in_tree, push_child, shows, truncate, wrap,
 };
 use crate::text::ClosingQuotes;
 use csl_base::elem::{ElemChild, ElemChildren, ElemMeta};

@@ -8,7 +8,7 @@ ghost use Rattle.csl_context.specs.Quotes.{quotes_view};
 ghost use Rattle.std.specs.Bool.{OnTrue};
 ghost use Rattle.std.specs.Option.{option_map_or};
 ghost use Rattle.csl_context.specs.Steps.{ends_quoted, pulled, term_text};
-ghost use Rattle.csl_context.specs.WritingState.{state, heights, begun, is_saved, saved, on_text_before, trimmed_for, unrepeated_for, appended, quoted_text, on_quoted_text, may_pull, after_pull, left_by_pull, written, with_child, formatting, after_push_str, verbatim, with_space, asks_nothing, formatted, cut_formats, unformatted, opened, closed_elem, discarded, prefixed, has_content_since, ends_so, pulling, stripping, not_stripping, deeper, less_deep, delimited, undelimited, with_options, without_options, flushed};
+ghost use Rattle.csl_context.specs.WritingState.{state, heights, begun, is_saved, saved, on_text_before, trimmed_for, unrepeated_for, appended, quoted_text, on_quoted_text, may_pull, after_pull, left_by_pull, written, with_child, formatting, after_push_str, verbatim, with_space, asks_nothing, nothing_asked, formatted, cut_formats, unformatted, opened, closed_elem, discarded, prefixed, has_content_since, ends_so, pulling, stripping, not_stripping, deeper, less_deep, delimited, undelimited, with_options, without_options, flushed};
 
 use crate::flat::FlatFrames;
 use crate::frames::Edit;
@@ -45,11 +45,6 @@ pub struct WritingContext<'a> {
 
 // How long a text may be before the buffer grows.
 const ROOM: usize = 64;
-
-const NOTHING_ASKED: StyleFormatting = StyleFormatting {
-    font_style: None,
-    font_weight: None,
-};
 
 impl<'a> WritingContext<'a> {
     /// A context in which nothing is written, under these name options.
@@ -92,6 +87,16 @@ impl<'a> WritingContext<'a> {
         if self.is_saved() {
             return Ok(());
         }
+        self.save_text()
+    }
+
+    // The same of a buffer that isn't empty.
+    #[tactic(auto, unfolding(crate::specs::WritingState::saved))]
+    fn save_text(&mut self) -> Result<(), AllocError>
+        requires { is_saved (state self.old) ≡ false }
+        ensures done { OnOk result (state self.new ≡ saved (state self.old)) }
+        ensures heights { heights (state self.new) ≡ heights (state self.old) }
+    {
         let formatting = self.formatting();
         self.frames
             .join_text(self.alloc, self.buf.as_str(), formatting)?;
@@ -280,10 +285,22 @@ impl<'a> WritingContext<'a> {
         if asks_nothing(format) {
             return Ok(FormatIdx { height });
         }
+        self.push_asked(format)?;
+        Ok(FormatIdx { height })
+    }
+
+    // The same of a format that asks for something.
+    #[tactic(auto, unfolding(crate::specs::WritingState::formatted))]
+    fn push_asked(&mut self, format: StyleFormatting) -> Result<(), AllocError>
+        requires { asks_nothing format ≡ false }
+        ensures done { OnOk result (state self.new ≡ formatted format (state self.old)) }
+        ensures refused { OnErr result (heights (state self.new) ≡ heights (state self.old)) }
+        ensures cut_back { heights (cut_formats (length (state self.old).formats) (state self.new)) ≡ heights (state self.old) }
+    {
         self.save()?;
         let formatting = self.formatting().apply(format);
         self.formats.push(formatting)?;
-        Ok(FormatIdx { height })
+        Ok(())
     }
 
     /// Goes back to the formatting before a push. A stack of formats that isn't higher stays.
@@ -317,6 +334,9 @@ impl<'a> WritingContext<'a> {
         ensures more_formats { OnOk result (length (state self.old).formats ≤ length (state self.new).formats) }
         ensures refused { OnErr result (heights (state self.new) ≡ heights (state self.old)) }
     {
+        if asks_nothing(format) {
+            return self.open();
+        }
         self.save()?;
         let frames = self.frames.len();
         let formats = self.push_format(format)?.height;
@@ -325,6 +345,25 @@ impl<'a> WritingContext<'a> {
             return Err(AllocError);
         }
         Ok(DisplayLoc { frames, formats })
+    }
+
+    // Opens a frame in the formatting of before.
+    #[tactic(auto, unfolding(crate::specs::WritingState::opened, crate::specs::WritingState::formatted))]
+    fn open(&mut self) -> Result<DisplayLoc, AllocError>
+        ensures frames { IfOk result (λ loc. loc.frames ≡ length (state self.old).frames) }
+        ensures formats { IfOk result (λ loc. loc.formats ≡ length (state self.old).formats) }
+        ensures done { OnOk result (state self.new ≡ opened nothing_asked (state self.old)) }
+        ensures height { OnOk result (length (state self.new).frames ≡ length (state self.old).frames + 1) }
+        ensures same_formats { OnOk result (length (state self.new).formats ≡ length (state self.old).formats) }
+        ensures refused { OnErr result (heights (state self.new) ≡ heights (state self.old)) }
+    {
+        self.save()?;
+        let loc = DisplayLoc {
+            frames: self.frames.len(),
+            formats: self.formats.len(),
+        };
+        self.frames.open()?;
+        Ok(loc)
     }
 
     /// Closes the top frame: it goes to the one below as an element, where it is set off or stands for
@@ -407,8 +446,10 @@ impl<'a> WritingContext<'a> {
         ensures same_formats { OnOk result (length (state self.new).formats ≡ length (state self.old).formats) }
         ensures refused { OnErr result (heights (state self.new) ≡ heights (state self.old)) }
     {
-        let loc = self.push_elem(NOTHING_ASKED)?;
-        let prefix = prefix.unwrap_or("");
+        let loc = self.open()?;
+        let Some(prefix) = prefix else {
+            return Ok((loc, 0));
+        };
         if self.buf.push_str(prefix).is_err() {
             self.frames.discard();
             return Err(AllocError);
