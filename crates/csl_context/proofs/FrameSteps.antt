@@ -1,4 +1,4 @@
--- Steps on open frames.
+-- Steps on one tree.
 use Rattle.std.proofs.Common.{◌≡◌, ℕ, ◌+◌, ◌-◌, ◌<◌, Bool, false, List, [], ◌∷◌, ◌++◌, length, take, Some, None, slice_set, refl, sym, ap, ◌∙◌, arith}
 use Rattle.std.specs.Prelude.{Option, IfSome, ◌||◌, drop}
 use Rattle.std.specs.List.{list_any}
@@ -21,7 +21,7 @@ use Rattle.csl_base.specs.Stack.{topmost, put_topmost}
 use Rattle.csl_base.specs.declared.elem.ElemChild.{ElemChild}
 use Rattle.csl_base.specs.declared.formatting.Display.{Display}
 use Rattle.csl_base.specs.declared.elem.ElemMeta.{ElemMeta}
-use Rattle.csl_context.specs.OpenFrames.{Frames, sole_text, on_sole_text, kids_sole_text, kids_on_sole_text, end_sole_text, on_end_sole_text, is_filled, filled, on_filled, closed, committed, child_shows, shows}
+use Rattle.csl_context.specs.OpenFrames.{sole_text, on_sole_text, kids_sole_text, kids_on_sole_text, end_sole_text, on_end_sole_text, on_last_child, child_shows, shows}
 
 -- a tree that has not one child alone has no sole text
 pub no_sole_text : (q : List ℕ → Bool) (cs : List Child) → (length cs ≡ 1 → ⊥) → false ≡ option_map_or q (kids_sole_text (kids_of cs)) false
@@ -33,45 +33,6 @@ pub no_sole_change : (f : List ℕ → List ℕ) (cs : List Child) → (length c
 no_sole_change f [] h = refl
 no_sole_change f (c ∷ []) h = absurd (h refl)
 no_sole_change f (c ∷ d ∷ cs) h = refl
-
-module _ {X : Type 0} where
-  -- the stack without its top, after a write there and one below it
-  pub popped_below : (F K : List X) (e w x : X) (i : ℕ) → i + 2 ≡ length F → slice_set (slice_set F (length F - 1) e) i w ≡ K ++ x ∷ [] → K ≡ slice_set (take (length F - 1) F) i w
-  popped_below F K e w x i l h =
-      let n = length F - 1 in
-      let k : length K ≡ n = omega (arith, ap length h, length-append K (x ∷ []), length-set (slice_set F n e) i w, length-set F n e) in
-      let a : K ≡ take n (K ++ x ∷ []) = rw (← k) (sym (take-append_seam K (x ∷ []))) in
-      a ∙ ap (take n) (sym h) ∙ take-set-lt n (slice_set F n e) i w (omega arith) ∙ ap (λ ys. slice_set ys i w) (take-set F n e)
-
-  -- what stands below the top, read past a write at the top
-  pub read_below : (F : List X) (e b : X) (i : ℕ) → i + 2 ≡ length F → slice_get (slice_set F (length F - 1) e) i ≡ Some b → slice_get (take (length F - 1) F) i ≡ Some b
-  read_below F e b i l h =
-      let n = length F - 1 in
-      let len : length (take n F) ≡ n = grind (arith, common_steps) in
-      let same : get_or (take n F) i b ≡ b =
-      get_or-take n F i b (omega arith) ∙ sym (get_or-set_other F n i e b (λ p. omega arith)) ∙ get_or_from_slice_get (slice_set F n e) i b b h in
-      slice_get-get_or (take n F) i b (omega arith) ∙ ap (λ y. Some y) same
-
--- the top frame closed into the one below
-committed_at : (d : Option Display) (m : Option ElemMeta) (F K : Frames) (frame b : List Child) (i : ℕ) → i + 2 ≡ length F → slice_get F (length F - 1) ≡ Some frame → slice_get (take (length F - 1) F) i ≡ Some b → K ≡ slice_set (take (length F - 1) F) i (b ++ closed d m frame) → K ≡ committed d m F
-committed_at d m F K frame b i l t r h =
-    let len : length (take (length F - 1) F) ≡ i + 1 = grind (arith, common_steps) in
-    let at : i ≡ length (take (length F - 1) F) - 1 = omega arith in
-    rw (t, ← at, r) h
-
-pub commit_steps : (d : Option Display) (m : Option ElemMeta) (F K : Frames) (frame e b w : List Child) (height : ℕ) (o : Option (List Child))
-    → height + 1 ≡ length F → 0 < height
-    → slice_get F (length F - 1) ≡ Some frame
-    → slice_get (slice_set F (length F - 1) e) (height - 1) ≡ Some b
-    → w ≡ b ++ closed d m frame
-    → IfSome o (λ x. slice_set (slice_set F (length F - 1) e) (height - 1) w ≡ K ++ x ∷ [])
-    → (o ≡ None → length (slice_set (slice_set F (length F - 1) e) (height - 1) w) ≡ 1)
-    → K ≡ committed d m F
-commit_steps d m F K frame e b w height None l p t r v s n =
-    absurd (omega (arith, n refl, length-set (slice_set F (length F - 1) e) (height - 1) w, length-set F (length F - 1) e))
-commit_steps d m F K frame e b w height (Some x) l p t r v s n =
-    let at : height - 1 + 2 ≡ length F = omega arith in
-    committed_at d m F K frame b (height - 1) at t (read_below F e b (height - 1) at r) (popped_below F K e w x (height - 1) at s ∙ ap (slice_set (take (length F - 1) F) (height - 1)) v)
 
 -- the last child of a tree, at its place
 last_child_at : (xs : List ElemChild) (i : ℕ) (x : ElemChild) → i + 1 ≡ length xs → x ≡ get_or xs i x → last_child (map child_view xs) ≡ Some (child_view x)
@@ -91,25 +52,26 @@ put_last_at (y ∷ z ∷ []) (suc (suc i)) w l = absurd (omega (arith, l))
 put_last_at (y ∷ z ∷ u ∷ xs) (suc zero) w l = absurd (omega (arith, l))
 put_last_at (y ∷ z ∷ u ∷ xs) (suc (suc i)) w l = ap (λ cs. child_view y ∷ cs) (put_last_at (z ∷ u ∷ xs) (suc i) w (omega (arith, l)))
 
+pub last_child_got : (xs : List ElemChild) (x : ElemChild) → Some x ≡ slice_get xs (length xs - 1) → last_child (map child_view xs) ≡ Some (child_view x)
+last_child_got [] x h = cc
+last_child_got (y ∷ xs) x h =
+    last_child_at (y ∷ xs) (length (y ∷ xs) - 1) x (omega arith) (sym (get_or_from_slice_get (y ∷ xs) (length (y ∷ xs) - 1) x x (sym h)))
+
 -- a mark is pulled into a tree as it is into the last child
 pub moved_at_end : (r : Result Bool AllocError) (q : List ℕ → Bool) (xs : List ElemChild) (cs : List Child) (i : ℕ) (x : ElemChild) → map child_view xs ≡ cs → i + 1 ≡ length xs → x ≡ get_or xs i x → IfOk r (λ m. m ≡ option_map_or q (sole_text (child_view x)) false) → IfOk r (λ m. m ≡ option_map_or q (end_sole_text cs) false)
 moved_at_end (Err e) q xs cs i x v l g h = tt
 moved_at_end (Ok b) q xs cs i x v l g h =
     h ∙ ap (λ o. option_map_or q (option_and_then sole_text o) false) (sym (ap last_child (sym v) ∙ last_child_at xs i x l g))
 
-pub changed_at_end : (r : Result Bool AllocError) (f : List ℕ → List ℕ) (xs : List ElemChild) (cs : List Child) (i : ℕ) (x w : ElemChild) → map child_view xs ≡ cs → i + 1 ≡ length xs → x ≡ get_or xs i x → OnOk r (child_view w ≡ on_sole_text f (child_view x)) → OnOk r (map child_view (slice_set xs i w) ≡ on_end_sole_text f cs)
-changed_at_end (Err e) f xs cs i x w v l g h = tt
-changed_at_end (Ok b) f xs cs i x w v l g h =
+-- a change of the last child is one of the tree
+pub child_changed_at_end : {R : Type 0} (r : Result R AllocError) (f : Child → Child) (xs : List ElemChild) (cs : List Child) (i : ℕ) (x w : ElemChild) → map child_view xs ≡ cs → i + 1 ≡ length xs → x ≡ get_or xs i x → OnOk r (child_view w ≡ f (child_view x)) → OnOk r (map child_view (slice_set xs i w) ≡ on_last_child f cs)
+child_changed_at_end (Err e) f xs cs i x w v l g h = tt
+child_changed_at_end (Ok b) f xs cs i x w v l g h =
     put_last_at xs i w l ∙ ap (λ ds. put_last ds (child_view w)) v ∙ ap (put_last cs) h
-    ∙ ap (λ o. option_map_or (λ c. put_last cs (on_sole_text f c)) o cs) (sym (ap last_child (sym v) ∙ last_child_at xs i x l g))
+    ∙ ap (λ o. option_map_or (λ c. put_last cs (f c)) o cs) (sym (ap last_child (sym v) ∙ last_child_at xs i x l g))
 
-length_put : {T : Type 0} (p : T → Bool) (xs : List T) (w : T) (o : Option ℕ) → topmost p xs ≡ o → length (put_topmost p xs w) ≡ length xs
-length_put p xs w None e = rw e refl
-length_put p xs w (Some i) e = rw e (length-set xs i w)
-
--- a write at the topmost item that passes a test keeps the height
-pub length-put_topmost : {T : Type 0} (p : T → Bool) (xs : List T) (w : T) → length (put_topmost p xs w) ≡ length xs
-length-put_topmost p xs w = length_put p xs w (topmost p xs) refl
+pub changed_at_end : (r : Result Bool AllocError) (f : List ℕ → List ℕ) (xs : List ElemChild) (cs : List Child) (i : ℕ) (x w : ElemChild) → map child_view xs ≡ cs → i + 1 ≡ length xs → x ≡ get_or xs i x → OnOk r (child_view w ≡ on_sole_text f (child_view x)) → OnOk r (map child_view (slice_set xs i w) ≡ on_end_sole_text f cs)
+changed_at_end r f xs cs i x w v l g h = child_changed_at_end r (on_sole_text f) xs cs i x w v l g h
 
 has_content_along : (xs : List ElemChild) → list_any (λ c. child_has_content (child_view c)) xs ≡ has_content (map child_view xs)
 has_content_along [] = refl
@@ -121,12 +83,3 @@ shows_later n [] cs x r v l g f h = absurd (omega (arith, l))
 shows_later n (y ∷ xs) cs x r v l g f h =
     let here : child_shows n (child_view y) ≡ false = ap (λ z. child_shows n (child_view z)) (sym g) ∙ f in
     h ∙ has_content_along xs ∙ ap (λ b. b || has_content (map child_view xs)) (sym here) ∙ ap (shows n) v
-
--- a write at the topmost frame that has children
-pub filled_changed : (f : List Child → List Child) (F left : Frames) (frame w : List Child) → Some frame ≡ filled F → left ≡ put_topmost is_filled F w → w ≡ f frame → left ≡ on_filled f F
-filled_changed f F left frame w s l h =
-    l ∙ ap (put_topmost is_filled F) h ∙ ap (λ o. option_map_or (λ x. put_topmost is_filled F (f x)) o F) s
-
-pub filled_changed_ok : (r : Result Bool AllocError) (f : List Child → List Child) (F left : Frames) (frame w : List Child) → Some frame ≡ filled F → left ≡ put_topmost is_filled F w → OnOk r (w ≡ f frame) → OnOk r (left ≡ on_filled f F)
-filled_changed_ok (Err e) f F left frame w s l h = tt
-filled_changed_ok (Ok b) f F left frame w s l h = filled_changed f F left frame w s l h

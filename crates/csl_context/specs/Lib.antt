@@ -1,5 +1,6 @@
 pub mod Steps
 pub mod Quotes
+pub mod Cuts
 pub mod OpenFrames
 pub mod Edits
 pub mod WritingState

@@ -7,6 +7,8 @@ use Rattle.csl_base.specs.Tree.{last_text, no_children, child_has_content, has_c
 use Rattle.csl_base.specs.LastText.{put_last_text}
 use Rattle.csl_base.specs.LastTextStep.{last_child, put_last}
 use Rattle.csl_base.specs.Stack.{topmost, put_topmost}
+use Rattle.csl_base.specs.Simplify.{same_formatting}
+use Rattle.csl_base.specs.declared.formatting.Formatting.{Formatting}
 use Rattle.csl_base.specs.declared.formatting.Formatted.{Formatted}
 use Rattle.csl_base.specs.declared.formatting.Display.{Display}
 use Rattle.csl_base.specs.declared.elem.ElemMeta.{ElemMeta}
@@ -84,6 +86,26 @@ closed d m cs = elem (kids_of cs) d m ∷ []
 -- the frames with the top one closed into the one below
 abbrev pub committed : Option Display → Option ElemMeta → Frames → Frames
 committed d m frames = option_map_or (λ frame. on_top (λ cs. cs ++ closed d m frame) (below frames)) (top frames) frames
+
+-- a tree with its last child changed by f
+abbrev pub on_last_child : (Child → Child) → List Child → List Child
+on_last_child f cs = option_map_or (λ c. put_last cs (f c)) (last_child cs) cs
+
+-- a child is a text in that formatting
+abbrev pub takes : Formatting → Child → Bool
+takes f (text t) = same_formatting t.formatting f
+takes f (elem ks d m) = false
+takes f (markup s) = false
+takes f (link t s) = false
+takes f (transparent i t) = false
+
+-- a text with these bytes at its end; every other child as it is
+abbrev pub extended : List ℕ → Child → Child
+extended more (text t) = text (record t { text = t.text ++ more })
+extended more (elem ks d m) = elem ks d m
+extended more (markup s) = markup s
+extended more (link t s) = link t s
+extended more (transparent i t) = transparent i t
 
 -- a child shows something behind n bytes of its text
 abbrev pub child_shows : ℕ → Child → Bool

@@ -1,29 +1,22 @@
-//! Changes of the open frames of a writing context.
-ghost use Rattle.std.specs.Prelude.{◌≡◌, ◌++◌, ◌+◌, ◌<◌, ◌∷◌, [], string_bytes, length, take, option_map, IfOk, OnOk, OnErr, false};
-ghost use Rattle.std.specs.Option.{option_map_or, option_and_then};
+//! Changes at the end of a tree, and what it shows.
+ghost use Rattle.std.specs.Prelude.{◌≡◌, ◌++◌, ◌≤◌, ◌∷◌, [], string_bytes, length, take, drop, map, IfOk, OnOk, OnErr, false};
+ghost use Rattle.std.specs.Option.{option_map_or};
 ghost use Rattle.std.specs.Str.{IsCharBoundary};
-ghost use Rattle.csl_base.specs.declared.elem.ElemChild.TheVariants as child;
-ghost use Rattle.csl_base.specs.Child.{kids_of};
+ghost use Rattle.csl_base.specs.Child.{elem, kids_of};
 ghost use Rattle.csl_base.specs.ChildView.{child_view};
-ghost use Rattle.csl_base.specs.Simplify.{join_last};
+ghost use Rattle.csl_base.specs.LastTextStep.{last_child};
 ghost use Rattle.csl_base.specs.Tree.{child_has_content};
 ghost use Rattle.std.specs.List.{list_any};
 ghost use Rattle.csl_context.specs.Steps.{ends_quoted, pulled, spaced};
 ghost use Rattle.csl_context.specs.Quotes.{quotes_view};
-ghost use Rattle.csl_context.specs.OpenFrames.{on_last_text, sole_text, kids_sole_text, on_sole_text, kids_on_sole_text, end_sole_text, on_end_sole_text, filled, on_filled, on_top, closed, committed, child_shows, shows};
+ghost use Rattle.csl_context.specs.OpenFrames.{on_last_text, sole_text, kids_sole_text, on_sole_text, kids_on_sole_text, end_sole_text, on_end_sole_text, on_last_child, takes, extended, child_shows, shows};
 ghost use Rattle.csl_context.specs.Edits.{edited};
 
 use crate::text::{ClosingQuotes, ends_in_space, is_visible_from, len_before, pull, trimmed_len};
 use csl_base::elem::{Elem, ElemChild, ElemChildren, ElemMeta};
-use csl_base::formatting::Display;
-use csl_base::simplify::append;
-use csl_base::stack::NonEmptyStack;
+use csl_base::formatting::{Display, Formatting};
 use csl_base::text::Text;
 use std::alloc::{AllocError, Global};
-use std::mem::replace;
-
-// For how many children a closed frame makes room.
-const FEW: usize = 3;
 
 /// What is done to the text before.
 #[derive(Clone, Copy)]
@@ -61,7 +54,8 @@ fn edit_text(text: &mut Text, edit: &Edit<'_>)
     text.truncate(kept);
 }
 
-fn edit_last_text(tree: &mut ElemChildren, edit: &Edit<'_>)
+/// Edits the last text of a tree.
+pub(crate) fn edit_last_text(tree: &mut ElemChildren, edit: &Edit<'_>)
     ensures { tree.new ≡ on_last_text (edited edit.now) tree.old }
 {
     if let Some(last) = tree.last_text_mut() {
@@ -69,26 +63,10 @@ fn edit_last_text(tree: &mut ElemChildren, edit: &Edit<'_>)
     }
 }
 
-/// Edits the last text of the topmost frame that has children.
-pub(crate) fn edit_filled(frames: &mut NonEmptyStack<ElemChildren>, edit: &Edit<'_>)
-    ensures done { frames.new ≡ on_filled (on_last_text (edited edit.now)) frames.old }
-    ensures height { length frames.new ≡ length frames.old }
-{
-    if let Some(frame) = frames.last_mut_predicate(|frame| !frame.is_empty()) {
-        edit_last_text(frame, edit);
-    }
-}
-
-/// Adds a space to the last text of the top frame, unless it ends with one.
-pub(crate) fn space_last_text(frames: &mut NonEmptyStack<ElemChildren>) -> Result<(), AllocError>
-    ensures done { OnOk result (frames.new ≡ on_top (on_last_text spaced) frames.old) }
-    ensures height { length frames.new ≡ length frames.old }
-{
-    add_space_to_tree(frames.last_mut())
-}
-
-fn add_space_to_tree(tree: &mut ElemChildren) -> Result<(), AllocError>
-    ensures { OnOk result (tree.new ≡ on_last_text spaced tree.old) }
+/// Adds a space to the last text of a tree, unless it ends with one.
+pub(crate) fn add_space_to_tree(tree: &mut ElemChildren) -> Result<(), AllocError>
+    ensures done { OnOk result (tree.new ≡ on_last_text spaced tree.old) }
+    ensures len { length tree.new ≡ length tree.old }
 {
     match tree.last_text_mut() {
         Some(last) => add_space_to_text(&mut last.text),
@@ -155,7 +133,8 @@ fn pull_in_only(
     pull_in_child(alloc, &mut tree.0[0], quotes, mark)
 }
 
-fn pull_in_tree(
+/// Puts a mark before the closing quote at the end of a tree. Tells whether there is one.
+pub(crate) fn pull_in_tree(
     alloc: Global,
     tree: &mut ElemChildren,
     quotes: ClosingQuotes<'_>,
@@ -163,6 +142,7 @@ fn pull_in_tree(
 ) -> Result<bool, AllocError>
     ensures moved { IfOk result (λ moved. moved ≡ option_map_or (ends_quoted (quotes_view quotes.entry)) (end_sole_text tree.old) false) }
     ensures tree { OnOk result (tree.new ≡ on_end_sole_text (pulled (quotes_view quotes.entry) mark.now) tree.old) }
+    ensures len { length tree.new ≡ length tree.old }
 {
     let len = tree.0.len();
     if len == 0 {
@@ -171,132 +151,117 @@ fn pull_in_tree(
     pull_in_child(alloc, &mut tree.0[len - 1], quotes, mark)
 }
 
-/// Puts a mark before the closing quote at the end of the topmost frame that has children. Tells
-/// whether there is one.
-pub(crate) fn pull_in_filled(
-    alloc: Global,
-    frames: &mut NonEmptyStack<ElemChildren>,
-    quotes: ClosingQuotes<'_>,
-    mark: &str,
-) -> Result<bool, AllocError>
-    ensures moved { IfOk result (λ moved. moved ≡ option_map_or (ends_quoted (quotes_view quotes.entry)) (option_and_then end_sole_text (filled frames.old)) false) }
-    ensures frames { OnOk result (frames.new ≡ on_filled (on_end_sole_text (pulled (quotes_view quotes.entry) mark.now)) frames.old) }
-    ensures height { length frames.new ≡ length frames.old }
+/// How many children a tree has.
+pub(crate) fn count(tree: &ElemChildren) -> usize
+    ensures { result ≡ length tree.now }
 {
-    match frames.last_mut_predicate(|frame| !frame.is_empty()) {
-        Some(frame) => pull_in_tree(alloc, frame, quotes, mark),
-        None => Ok(false),
+    tree.0.len()
+}
+
+/// The children of a tree from a place on.
+pub(crate) fn children_from(tree: &ElemChildren, start: usize) -> &[ElemChild]
+    requires { start ≤ length tree.now }
+    ensures { map child_view result.now ≡ drop start tree.now }
+{
+    let (_, later) = tree.0.as_slice().split_at(start);
+    later
+}
+
+/// Keeps the first `len` children of a tree.
+pub(crate) fn truncate(tree: &mut ElemChildren, len: usize)
+    ensures { tree.new ≡ take len tree.old }
+{
+    tree.0.truncate(len);
+}
+
+/// Adds a child at the end of a tree, which stays as it is where memory is refused.
+pub(crate) fn push_child(tree: &mut ElemChildren, child: ElemChild) -> Result<(), AllocError>
+    ensures done { OnOk result (tree.new ≡ tree.old ++ child_view child ∷ []) }
+    ensures refused { OnErr result (tree.new ≡ tree.old) }
+{
+    tree.0.push(child)?;
+    Ok(())
+}
+
+/// Makes the children of a tree from a place on those of one element. Where memory is refused, they
+/// may be lost.
+pub(crate) fn wrap(
+    tree: &mut ElemChildren,
+    start: usize,
+    display: Option<Display>,
+    meta: Option<ElemMeta>,
+) -> Result<(), AllocError>
+    requires { start ≤ length tree.old }
+    ensures done { OnOk result (tree.new ≡ take start tree.old ++ elem (kids_of (drop start tree.old)) display meta ∷ []) }
+    ensures kept { start ≤ length tree.new }
+{
+    let children = split_off(tree, start)?;
+    push_child(
+        tree,
+        ElemChild::Elem(Elem {
+            children,
+            display,
+            meta,
+        }),
+    )
+}
+
+// Takes the children of a tree from a place on, into a tree of their own.
+fn split_off(tree: &mut ElemChildren, start: usize) -> Result<ElemChildren, AllocError>
+    requires { start ≤ length tree.old }
+    ensures kept { OnOk result (tree.new ≡ take start tree.old) }
+    ensures taken { IfOk result (λ later. later ≡ drop start tree.old) }
+    ensures refused { OnErr result (tree.new ≡ tree.old) }
+{
+    Ok(ElemChildren(tree.0.split_off(start)?))
+}
+
+// Whether a child is a text in this formatting.
+fn takes(child: &ElemChild, formatting: Formatting) -> bool
+    ensures { result ≡ takes formatting (child_view child.now) }
+{
+    match child {
+        ElemChild::Text(text) => text.formatting == formatting,
+        ElemChild::Elem(_) => false,
+        ElemChild::Markup(_) => false,
+        ElemChild::Link { .. } => false,
+        ElemChild::Transparent { .. } => false,
     }
 }
 
-/// Adds a child to the top frame.
-pub(crate) fn push_child(
-    frames: &mut NonEmptyStack<ElemChildren>,
-    child: ElemChild,
-) -> Result<(), AllocError>
-    ensures done { OnOk result (frames.new ≡ on_top (λ cs. cs ++ child_view child ∷ []) frames.old) }
-    ensures height { length frames.new ≡ length frames.old }
+/// Whether the last child is a text in this formatting.
+pub(crate) fn ends_in(children: &[ElemChild], formatting: Formatting) -> bool
+    ensures { result ≡ option_map_or (takes formatting) (last_child (map child_view children.now)) false }
 {
-    frames.last_mut().push(child)
+    match children.last() {
+        Some(child) => takes(child, formatting),
+        None => false,
+    }
 }
 
-/// Adds a child to the top frame, joined to the last one where both are texts of equal formatting.
-pub(crate) fn join_child(
-    frames: &mut NonEmptyStack<ElemChildren>,
-    child: ElemChild,
-) -> Result<(), AllocError>
-    ensures done { OnOk result (frames.new ≡ on_top (λ cs. join_last cs (child_view child)) frames.old) }
-    ensures height { length frames.new ≡ length frames.old }
+// Puts `more` at the end of a child that is a text.
+fn extend(child: &mut ElemChild, more: &str) -> Result<(), AllocError>
+    ensures { OnOk result (child_view child.new ≡ extended more.now (child_view child.old)) }
 {
-    append(frames.last_mut(), child)
+    match child {
+        ElemChild::Text(text) => text.text.push_str(more),
+        ElemChild::Elem(_) => Ok(()),
+        ElemChild::Markup(_) => Ok(()),
+        ElemChild::Link { .. } => Ok(()),
+        ElemChild::Transparent { .. } => Ok(()),
+    }
 }
 
-// Adds children to a tree, which takes them over as they are where it is empty. Else their room is
-// to spare.
-fn push_all(
-    tree: &mut ElemChildren,
-    children: ElemChildren,
-    spare: &mut Vec<ElemChild>,
-) -> Result<(), AllocError>
-    ensures { OnOk result (tree.new ≡ tree.old ++ children) }
+/// Puts `more` at the end of the last child, where that is a text.
+pub(crate) fn extend_last(tree: &mut ElemChildren, more: &str) -> Result<(), AllocError>
+    ensures done { OnOk result (tree.new ≡ on_last_child (extended more.now) tree.old) }
+    ensures len { length tree.new ≡ length tree.old }
 {
-    if tree.is_empty() {
-        *tree = children;
+    let len = tree.0.len();
+    if len == 0 {
         return Ok(());
     }
-    let mut children = children;
-    tree.0.append(&mut children.0)?;
-    *spare = children.into_vec();
-    Ok(())
-}
-
-// A tree without children that has room for some: the spare room, if there is any.
-fn roomy_tree(alloc: Global, spare: &mut Vec<ElemChild>) -> Result<ElemChildren, AllocError>
-    ensures { IfOk result (λ tree. tree ≡ []) }
-{
-    let mut room = replace(spare, Vec::new(alloc));
-    room.clear();
-    room.reserve_exact(FEW)?;
-    Ok(ElemChildren(room))
-}
-
-// Adds an element to a tree.
-fn push_elem(
-    alloc: Global,
-    tree: &mut ElemChildren,
-    elem: Elem,
-    spare: &mut Vec<ElemChild>,
-) -> Result<(), AllocError>
-    ensures { OnOk result (tree.new ≡ tree.old ++ child_view (child.Elem elem) ∷ []) }
-{
-    if tree.is_empty() {
-        *tree = roomy_tree(alloc, spare)?;
-    }
-    tree.push(ElemChild::Elem(elem))
-}
-
-// Adds to a tree what a closed frame gives.
-fn push_closed(
-    alloc: Global,
-    tree: &mut ElemChildren,
-    children: ElemChildren,
-    display: Option<Display>,
-    meta: Option<ElemMeta>,
-    spare: &mut Vec<ElemChild>,
-) -> Result<(), AllocError>
-    ensures { OnOk result (tree.new ≡ tree.old ++ closed display meta children) }
-{
-    if display.is_none() && meta.is_none() {
-        return push_all(tree, children, spare);
-    }
-    let elem = Elem {
-        children,
-        display,
-        meta,
-    };
-    push_elem(alloc, tree, elem, spare)
-}
-
-/// Closes the top frame into the one below. The frame goes only once its children are there, so that
-/// a refusal leaves the height. Room that it leaves is to spare for the next ones.
-pub(crate) fn commit(
-    alloc: Global,
-    frames: &mut NonEmptyStack<ElemChildren>,
-    height: usize,
-    display: Option<Display>,
-    meta: Option<ElemMeta>,
-    spare: &mut Vec<ElemChild>,
-) -> Result<(), AllocError>
-    requires below { 0 < height }
-    requires top { height + 1 ≡ length frames.old }
-    ensures done { OnOk result (frames.new ≡ committed display meta frames.old) }
-    ensures refused { OnErr result (length frames.new ≡ length frames.old) }
-{
-    let children = replace(frames.last_mut(), ElemChildren::new(alloc));
-    let below = frames.item_mut(height - 1);
-    push_closed(alloc, below, children, display, meta, spare)?;
-    frames.pop();
-    Ok(())
+    extend(&mut tree.0[len - 1], more)
 }
 
 // Whether a child shows something behind the first `offset` bytes of its text.
@@ -319,10 +284,9 @@ fn any_has_content(children: &[ElemChild]) -> bool
 }
 
 /// Whether some child shows something, the first one behind `offset` bytes of its text.
-pub(crate) fn shows(tree: &ElemChildren, offset: usize) -> bool
-    ensures { result ≡ shows offset tree.now }
+pub(crate) fn shows(children: &[ElemChild], offset: usize) -> bool
+    ensures { result ≡ shows offset (map child_view children.now) }
 {
-    let children = tree.0.as_slice();
     if children.len() == 0 {
         return false;
     }

@@ -2,6 +2,7 @@
 #![tactic(auto)]
 
 pub mod context;
+mod flat;
 mod frames;
 mod pile;
 mod text;

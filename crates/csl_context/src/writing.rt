@@ -8,11 +8,10 @@ ghost use Rattle.csl_context.specs.Quotes.{quotes_view};
 ghost use Rattle.std.specs.Bool.{OnTrue};
 ghost use Rattle.std.specs.Option.{option_map_or};
 ghost use Rattle.csl_context.specs.Steps.{ends_quoted, pulled, term_text};
-ghost use Rattle.csl_context.specs.WritingState.{state, heights, begun, is_saved, saved, on_text_before, trimmed_for, unrepeated_for, appended, quoted_text, on_quoted_text, may_pull, after_pull, left_by_pull, written, with_child, formatting, after_push_str, verbatim, with_space, asks_nothing, formatted, cut_formats, unformatted, opened, closed_elem, discarded, prefixed, has_content_since, ends_so, pulling, stripping, not_stripping, deeper, less_deep, delimited, undelimited, with_options, without_options, flushed};
+ghost use Rattle.csl_context.specs.WritingState.{state, heights, begun, is_saved, saved, on_text_before, trimmed_for, unrepeated_for, appended, quoted_text, on_quoted_text, may_pull, after_pull, left_by_pull, written, with_child, formatting, after_push_str, verbatim, with_space, asks_nothing, nothing_asked, formatted, cut_formats, unformatted, opened, closed_elem, discarded, prefixed, has_content_since, ends_so, pulling, stripping, not_stripping, deeper, less_deep, delimited, undelimited, with_options, without_options, flushed};
 
-use crate::frames::{
-    Edit, commit, edit_filled, join_child, pull_in_filled, push_child, shows, space_last_text,
-};
+use crate::flat::FlatFrames;
+use crate::frames::Edit;
 use crate::pile::Pile;
 use crate::text::{
     ClosingQuotes, add_space, ends_with, has_letter, opens_tight, opens_with_mark, pull,
@@ -21,9 +20,7 @@ use crate::text::{
 use crate::token::{DelimiterIdx, DisplayLoc, FormatIdx};
 use csl_base::elem::{ElemChild, ElemChildren, ElemMeta};
 use csl_base::element::{Affixes, InheritableNameOptions};
-use csl_base::formatting::{Display, Formatted, Formatting, StyleFormatting};
-use csl_base::stack::NonEmptyStack;
-use csl_base::text::Text;
+use csl_base::formatting::{Display, Formatting, StyleFormatting};
 use std::alloc::{AllocError, Global};
 
 /// Texts that are written one after another, into trees that are still open. A refusal for memory
@@ -34,12 +31,10 @@ pub struct WritingContext<'a> {
     // The text that is not yet in a frame.
     buf: String,
     // The trees that are open, the innermost on top.
-    frames: NonEmptyStack<ElemChildren>,
+    frames: FlatFrames,
     formats: Pile<Formatting>,
     delimiters: Pile<Option<&'a str>>,
     name_options: Pile<&'a InheritableNameOptions>,
-    // Room that closed frames left; what stands in it means nothing.
-    spare: Vec<ElemChild>,
     // Whether closing quotes may pull punctuation in.
     pulling: bool,
     // Whether periods are left out.
@@ -50,11 +45,6 @@ pub struct WritingContext<'a> {
 
 // How long a text may be before the buffer grows.
 const ROOM: usize = 64;
-
-const NOTHING_ASKED: StyleFormatting = StyleFormatting {
-    font_style: None,
-    font_weight: None,
-};
 
 impl<'a> WritingContext<'a> {
     /// A context in which nothing is written, under these name options.
@@ -71,11 +61,10 @@ impl<'a> WritingContext<'a> {
         Ok(WritingContext {
             alloc,
             buf: String::with_capacity(alloc, ROOM)?,
-            frames: NonEmptyStack::new(alloc, ElemChildren::new(alloc))?,
+            frames: FlatFrames::new(alloc)?,
             formats: Pile::new(alloc, Formatting::default()),
             delimiters: Pile::new(alloc, None),
             name_options: Pile::new(alloc, options),
-            spare: Vec::new(alloc),
             pulling: false,
             stripping: false,
             quote_depth: 0,
@@ -98,13 +87,21 @@ impl<'a> WritingContext<'a> {
         if self.is_saved() {
             return Ok(());
         }
-        let text = Text::copied(self.alloc, self.buf.as_str())?;
+        self.save_text()
+    }
+
+    // The same of a buffer that isn't empty.
+    #[tactic(auto, unfolding(crate::specs::WritingState::saved))]
+    fn save_text(&mut self) -> Result<(), AllocError>
+        requires { is_saved (state self.old) ≡ false }
+        ensures done { OnOk result (state self.new ≡ saved (state self.old)) }
+        ensures heights { heights (state self.new) ≡ heights (state self.old) }
+    {
         let formatting = self.formatting();
+        self.frames
+            .join_text(self.alloc, self.buf.as_str(), formatting)?;
         self.buf.clear();
-        join_child(
-            &mut self.frames,
-            ElemChild::Text(Formatted { text, formatting }),
-        )
+        Ok(())
     }
 
     fn edit_before(&mut self, edit: &Edit<'_>)
@@ -112,7 +109,7 @@ impl<'a> WritingContext<'a> {
         ensures heights { heights (state self.new) ≡ heights (state self.old) }
     {
         if self.is_saved() {
-            edit_filled(&mut self.frames, edit);
+            self.frames.edit_filled(edit);
         } else {
             edit.apply(&mut self.buf);
         }
@@ -154,7 +151,7 @@ impl<'a> WritingContext<'a> {
         ensures heights { heights (state self.new) ≡ heights (state self.old) }
     {
         if self.is_saved() {
-            pull_in_filled(self.alloc, &mut self.frames, quotes, mark)
+            self.frames.pull_in_filled(self.alloc, quotes, mark)
         } else {
             pull(&mut self.buf, quotes, mark)
         }
@@ -243,7 +240,7 @@ impl<'a> WritingContext<'a> {
         ensures heights { heights (state self.new) ≡ heights (state self.old) }
     {
         self.save()?;
-        push_child(&mut self.frames, child)
+        self.frames.push_child(child)
     }
 
     /// The formatting in which texts are written now.
@@ -265,7 +262,7 @@ impl<'a> WritingContext<'a> {
         ensures heights { heights (state self.new) ≡ heights (state self.old) }
     {
         if self.is_saved() {
-            space_last_text(&mut self.frames)
+            self.frames.space_last_text()
         } else {
             add_space(&mut self.buf)
         }
@@ -288,10 +285,22 @@ impl<'a> WritingContext<'a> {
         if asks_nothing(format) {
             return Ok(FormatIdx { height });
         }
+        self.push_asked(format)?;
+        Ok(FormatIdx { height })
+    }
+
+    // The same of a format that asks for something.
+    #[tactic(auto, unfolding(crate::specs::WritingState::formatted))]
+    fn push_asked(&mut self, format: StyleFormatting) -> Result<(), AllocError>
+        requires { asks_nothing format ≡ false }
+        ensures done { OnOk result (state self.new ≡ formatted format (state self.old)) }
+        ensures refused { OnErr result (heights (state self.new) ≡ heights (state self.old)) }
+        ensures cut_back { heights (cut_formats (length (state self.old).formats) (state self.new)) ≡ heights (state self.old) }
+    {
         self.save()?;
         let formatting = self.formatting().apply(format);
         self.formats.push(formatting)?;
-        Ok(FormatIdx { height })
+        Ok(())
     }
 
     /// Goes back to the formatting before a push. A stack of formats that isn't higher stays.
@@ -325,14 +334,36 @@ impl<'a> WritingContext<'a> {
         ensures more_formats { OnOk result (length (state self.old).formats ≤ length (state self.new).formats) }
         ensures refused { OnErr result (heights (state self.new) ≡ heights (state self.old)) }
     {
+        if asks_nothing(format) {
+            return self.open();
+        }
         self.save()?;
         let frames = self.frames.len();
         let formats = self.push_format(format)?.height;
-        if self.frames.push(ElemChildren::new(self.alloc)).is_err() {
+        if self.frames.open().is_err() {
             self.formats.cut(formats);
             return Err(AllocError);
         }
         Ok(DisplayLoc { frames, formats })
+    }
+
+    // Opens a frame in the formatting of before.
+    #[tactic(auto, unfolding(crate::specs::WritingState::opened, crate::specs::WritingState::formatted))]
+    fn open(&mut self) -> Result<DisplayLoc, AllocError>
+        ensures frames { IfOk result (λ loc. loc.frames ≡ length (state self.old).frames) }
+        ensures formats { IfOk result (λ loc. loc.formats ≡ length (state self.old).formats) }
+        ensures done { OnOk result (state self.new ≡ opened nothing_asked (state self.old)) }
+        ensures height { OnOk result (length (state self.new).frames ≡ length (state self.old).frames + 1) }
+        ensures same_formats { OnOk result (length (state self.new).formats ≡ length (state self.old).formats) }
+        ensures refused { OnErr result (heights (state self.new) ≡ heights (state self.old)) }
+    {
+        self.save()?;
+        let loc = DisplayLoc {
+            frames: self.frames.len(),
+            formats: self.formats.len(),
+        };
+        self.frames.open()?;
+        Ok(loc)
     }
 
     /// Closes the top frame: it goes to the one below as an element, where it is set off or stands for
@@ -355,14 +386,7 @@ impl<'a> WritingContext<'a> {
         ensures refused { OnErr result (heights (state self.new) ≡ heights (state self.old)) }
     {
         self.save()?;
-        commit(
-            self.alloc,
-            &mut self.frames,
-            loc.frames,
-            display,
-            meta,
-            &mut self.spare,
-        )?;
+        self.frames.close(display, meta)?;
         self.formats.cut(loc.formats);
         Ok(())
     }
@@ -381,7 +405,7 @@ impl<'a> WritingContext<'a> {
         ensures refused { OnErr result (heights (state self.new) ≡ heights (state self.old)) }
     {
         self.save()?;
-        self.frames.cut(loc.frames);
+        self.frames.discard();
         self.formats.cut(loc.formats);
         Ok(())
     }
@@ -422,10 +446,12 @@ impl<'a> WritingContext<'a> {
         ensures same_formats { OnOk result (length (state self.new).formats ≡ length (state self.old).formats) }
         ensures refused { OnErr result (heights (state self.new) ≡ heights (state self.old)) }
     {
-        let loc = self.push_elem(NOTHING_ASKED)?;
-        let prefix = prefix.unwrap_or("");
+        let loc = self.open()?;
+        let Some(prefix) = prefix else {
+            return Ok((loc, 0));
+        };
         if self.buf.push_str(prefix).is_err() {
-            self.frames.cut(loc.frames);
+            self.frames.discard();
             return Err(AllocError);
         }
         Ok((loc, prefix.len()))
@@ -446,7 +472,7 @@ impl<'a> WritingContext<'a> {
         ensures heights { heights (state self.new) ≡ heights (state self.old) }
     {
         self.save()?;
-        Ok(shows(self.frames.last(), prefix.1))
+        Ok(self.frames.top_shows(prefix.1))
     }
 
     /// Whether the last text of the top frame ends so.
@@ -454,7 +480,7 @@ impl<'a> WritingContext<'a> {
     pub(crate) fn ends_so(&self, ending: &str) -> bool
         ensures { result ≡ ends_so ending.now (state self.now) }
     {
-        match self.frames.last().last_text() {
+        match self.frames.last_text() {
             Some(last) => ends_with(last.text.as_str(), ending),
             None => false,
         }
