@@ -9,3 +9,4 @@ pub mod Agree
 pub mod Nesting
 pub mod WorkSteps
 pub mod TextView
+pub mod AllKept

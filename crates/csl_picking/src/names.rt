@@ -13,7 +13,7 @@ ghost use Rattle.csl_picking.specs.InputView.{env_of};
 
 use crate::held::Picking;
 use crate::input::Input;
-use crate::name_blocks::{Blocks, blocks_of, keep_written};
+use crate::name_blocks::{Blocks, blocks_of, written_blocks};
 use crate::name_pieces::{Block, push_block};
 use crate::name_rules::{NameRules, own_forms};
 use crate::notes::Notes;
@@ -264,15 +264,12 @@ pub(crate) fn pick_names<'a, T: EntryLike>(
     let alloc = *picking.pieces.allocator();
     let chosen = blocks_of(alloc, input.entry, &picking.notes, variables, substitute)?;
     let Blocks {
-        variables: mut blocks,
+        variables,
         stand_in,
     } = chosen;
-    keep_written(
-        input.setting.form,
-        author_variable(input.entry),
-        &mut blocks,
-    );
-    let blocks = blocks.as_slice();
+    let author = author_variable(input.entry);
+    let written = written_blocks(alloc, input.setting.form, author, variables)?;
+    let blocks = written.as_slice();
     let style = input.setting.context.style;
     let rules = NameRules::new(
         options,

@@ -24,6 +24,9 @@ use csl_base::formatting::{Display, StyleFormatting};
 use csl_base::taxonomy::Variable;
 use std::alloc::AllocError;
 
+// How deep elements and macros nest before the list of steps grows.
+const DEPTH: usize = 8;
+
 // The node of a group.
 fn group_node<'a>(
     affixes: &'a Affixes,
@@ -321,7 +324,7 @@ pub fn pick_layout<'a, T: EntryLike>(
         OnOk result (held picking.new ≡ added (pick_layout env (macros_of input.now.setting) (elements_view elements.now.items) (held picking.old).noted) (held picking.old)) }
 {
     let depth = input.setting.context.style.macros.len();
-    let mut steps = Vec::new(*picking.pieces.allocator());
+    let mut steps = Vec::with_capacity(*picking.pieces.allocator(), DEPTH)?;
     steps.push(Step::Elements(elements.as_slice(), depth))?;
     while let Some(step) = steps.pop() {
         take_step(input, step, &mut steps, picking)?;

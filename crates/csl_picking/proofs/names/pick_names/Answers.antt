@@ -6,6 +6,7 @@ use Rattle.csl_picking.specs.Notes.{joined}
 use Rattle.csl_picking.specs.InputView.{env_of}
 use Rattle.csl_picking.specs.NameRulesView.{rules_view}
 use Rattle.csl_picking.specs.Names.{author_variable, blocks, stand_in, written_blocks, blocks_parts, names_node}
+use Rattle.csl_picking.specs.NamesView.{variables_view}
 use Rattle.csl_picking.specs.Pieces.{NodeValue, opening, plain_node}
 use Rattle.csl_picking.specs.PiecesView.{shape_look, token_of, tokens_of}
 use Rattle.csl_picking.proofs.NameParts.{length-mapped}
@@ -24,8 +25,8 @@ returns g c =
     let vs = c.as_slice-blocks.result.now in
     let ps = blocks_parts env r n vs in
     let kept : vs ≡ written_blocks setting.form (author_variable answers) (blocks answers n c.args.variables.now.items c.args.substitute.now.items) =
-    c.as_slice-blocks.ensures.value ∙ c.keep_written.ensures
-    ∙ ap (λ (a : NameVariable). written_blocks setting.form a c.in_ok-chosen.chosen.variables.items) c.author_variable.ensures
+    c.as_slice-blocks.ensures ∙ c.in_ok-written.ensures
+    ∙ ap (λ (a : NameVariable). written_blocks setting.form a (variables_view c.in_ok-chosen.chosen.variables)) c.author_variable-author.ensures
     ∙ ap (λ (bs : List NameVariable). written_blocks setting.form (author_variable answers) bs) c.in_ok-chosen.ensures.variables
     ∙ ap (λ (bs : List NameVariable). written_blocks setting.form (author_variable answers) (blocks answers n bs c.deref-2.result.now)) c.deref.ensures.value
     ∙ ap (λ (bs : List NameVariable). written_blocks setting.form (author_variable answers) (blocks answers n c.args.variables.now.items bs)) c.deref-2.ensures.value in
