@@ -1,10 +1,10 @@
 -- A list cut into pieces, and changes of the list that are changes of pieces.
-use Rattle.std.proofs.Common.{◌≡◌, ℕ, zero, suc, ◌+◌, ◌-◌, ◌<◌, ◌≤◌, List, [], ◌∷◌, ◌++◌, length, take, drop, Some, slice_set, refl, sym, ap, ◌∙◌, arith, inl, inr, ◌⊎◌, append_assoc}
+use Rattle.std.proofs.Common.{◌≡◌, ℕ, zero, suc, ◌+◌, ◌-◌, ◌<◌, List, [], ◌∷◌, ◌++◌, length, take, drop, Some, slice_set, refl, sym, ap, ◌∙◌, arith}
 use Rattle.std.specs.List.{slice_get, sum}
 use Rattle.std.proofs.lemmas.List.Sums.{sum_by-append}
-use Rattle.std.proofs.lemmas.List.{drop-drop, drop-take, take-append-drop, take_all, drop_all, length-append, length-take, length-drop, take-append-le, drop-append-le}
+use Rattle.std.proofs.lemmas.List.{drop-drop, drop-take, take-append-drop, take_all, drop_all, length-append, length-drop}
 use Rattle.std.proofs.lemmas.Option.{slice_get-get_or}
-use Rattle.std.proofs.Math.Seq.{get_or-append_seam, set-append_seam, take-append_seam, take-add}
+use Rattle.std.proofs.Math.Seq.{get_or-append_seam, set-append_seam, take-append_seam}
 use Rattle.csl_context.specs.Cuts.{cut}
 
 pub sum_first : (n : ℕ) (ns : List ℕ) → sum (n ∷ ns) ≡ n + sum ns

@@ -5,6 +5,7 @@ ghost use Rattle.csl_base.specs.Child.{text, elem, kids_of};
 ghost use Rattle.csl_base.specs.ChildView.{child_view};
 ghost use Rattle.csl_base.specs.Simplify.{join_last};
 ghost use Rattle.csl_base.specs.Tree.{last_text};
+ghost use Rattle.csl_context.specs.Cuts.{cut};
 ghost use Rattle.csl_context.specs.Edits.{edited};
 ghost use Rattle.csl_context.specs.OpenFrames.{on_last_text, end_sole_text, on_end_sole_text, filled, on_filled, top, on_top, below, committed, shows};
 ghost use Rattle.csl_context.specs.Quotes.{quotes_view};
@@ -12,7 +13,7 @@ ghost use Rattle.csl_context.specs.Steps.{ends_quoted, pulled, spaced};
 
 use crate::frames::{
     Edit, add_space_to_tree, children_from, count, edit_last_text, ends_in, extend_last,
-    pull_in_tree, push_child, shows, truncate, wrap,
+    pull_in_tree, push_child, shows, split_off, truncate, wrap,
 };
 use crate::text::ClosingQuotes;
 use csl_base::elem::{ElemChild, ElemChildren, ElemMeta};
@@ -20,9 +21,6 @@ use csl_base::formatting::{Display, Formatted, Formatting};
 use csl_base::text::Text;
 use std::alloc::{AllocError, Global};
 use std::marker::Model;
-
-// For how many children, and how many frames, there is room from the start.
-const ROOM: usize = 8;
 
 /// Trees that are open, one inside the other; there is always one. Contracts see the list of them,
 /// from the bottom to the top.
@@ -53,19 +51,17 @@ impl Model for FlatFrames {
 }
 
 impl FlatFrames {
-    /// One frame without children.
-    ///
-    /// # Errors
-    ///
-    /// Where memory is refused.
-    pub(crate) fn new(alloc: Global) -> Result<FlatFrames, AllocError>
-        ensures { IfOk result (λ frames. frames ≡ [] ∷ []) }
+    /// One frame without children, in the room of these lists.
+    pub(crate) fn within(mut children: Vec<ElemChild>, mut counts: Vec<usize>) -> FlatFrames
+        ensures { result ≡ [] ∷ [] }
     {
-        Ok(FlatFrames {
-            children: ElemChildren(Vec::with_capacity(alloc, ROOM)?),
-            counts: Vec::with_capacity(alloc, ROOM)?,
+        children.clear();
+        counts.clear();
+        FlatFrames {
+            children: ElemChildren(children),
+            counts,
             start: 0,
-        })
+        }
     }
 
     /// How many frames there are, at least one.
@@ -258,10 +254,37 @@ impl FlatFrames {
         ensures { slice_get self 0 ≡ Some result }
     {
         let mut children = self.children;
-        if let Some(count) = self.counts.first() {
-            truncate(&mut children, *count);
-        }
+        keep_bottom(&mut children, &self.counts);
         children
+    }
+
+    /// The bottom frame, as a tree of its own, and the room of the lists.
+    ///
+    /// # Errors
+    ///
+    /// Where memory is refused.
+    pub(crate) fn finish_apart(
+        self,
+    ) -> Result<(ElemChildren, Vec<ElemChild>, Vec<usize>), AllocError>
+        ensures { IfOk result (λ apart. slice_get self 0 ≡ Some apart.0) }
+    {
+        let FlatFrames {
+            mut children,
+            counts,
+            start: _,
+        } = self;
+        keep_bottom(&mut children, &counts);
+        let tree = split_off(&mut children, 0)?;
+        Ok((tree, children.into_vec(), counts))
+    }
+}
+
+// Keeps the children of the bottom frame, where those below the top have so many.
+fn keep_bottom(children: &mut ElemChildren, counts: &[usize])
+    ensures { slice_get (cut counts.now children.old) 0 ≡ Some children.new }
+{
+    if let Some(count) = counts.first() {
+        truncate(children, *count);
     }
 }
 

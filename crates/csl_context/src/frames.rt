@@ -206,8 +206,8 @@ pub(crate) fn wrap(
     )
 }
 
-// Takes the children of a tree from a place on, into a tree of their own.
-fn split_off(tree: &mut ElemChildren, start: usize) -> Result<ElemChildren, AllocError>
+/// Takes the children of a tree from a place on, into a tree of their own.
+pub(crate) fn split_off(tree: &mut ElemChildren, start: usize) -> Result<ElemChildren, AllocError>
     requires { start ≤ length tree.old }
     ensures kept { OnOk result (tree.new ≡ take start tree.old) }
     ensures taken { IfOk result (λ later. later ≡ drop start tree.old) }

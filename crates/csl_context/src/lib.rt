@@ -5,6 +5,7 @@ pub mod context;
 mod flat;
 mod frames;
 mod pile;
+pub mod room;
 mod text;
 pub mod token;
 pub mod wording;

@@ -13,6 +13,7 @@ ghost use Rattle.csl_context.specs.WritingState.{state, heights, begun, is_saved
 use crate::flat::FlatFrames;
 use crate::frames::Edit;
 use crate::pile::Pile;
+use crate::room::Room;
 use crate::text::{
     ClosingQuotes, add_space, ends_with, has_letter, opens_tight, opens_with_mark, pull,
     push_without_periods,
@@ -43,9 +44,6 @@ pub struct WritingContext<'a> {
     quote_depth: usize,
 }
 
-// How long a text may be before the buffer grows.
-const ROOM: usize = 64;
-
 impl<'a> WritingContext<'a> {
     /// A context in which nothing is written, under these name options.
     ///
@@ -58,17 +56,35 @@ impl<'a> WritingContext<'a> {
     ) -> Result<WritingContext<'a>, AllocError>
         ensures { IfOk result (λ context. state context ≡ begun (options_view options.now)) }
     {
-        Ok(WritingContext {
+        let room = Room::new(alloc)?;
+        Ok(WritingContext::in_room(alloc, options, room))
+    }
+
+    /// The same in the room that another context left.
+    pub fn in_room(
+        alloc: Global,
+        options: &'a InheritableNameOptions,
+        room: Room,
+    ) -> WritingContext<'a>
+        ensures { state result ≡ begun (options_view options.now) }
+    {
+        let Room {
+            mut text,
+            children,
+            counts,
+        } = room;
+        text.clear();
+        WritingContext {
             alloc,
-            buf: String::with_capacity(alloc, ROOM)?,
-            frames: FlatFrames::new(alloc)?,
+            buf: text,
+            frames: FlatFrames::within(children, counts),
             formats: Pile::new(alloc, Formatting::default()),
             delimiters: Pile::new(alloc, None),
             name_options: Pile::new(alloc, options),
             pulling: false,
             stripping: false,
             quote_depth: 0,
-        })
+        }
     }
 
     // Whether the buffer is empty.
@@ -595,6 +611,26 @@ impl<'a> WritingContext<'a> {
     {
         self.save()?;
         Ok(self.frames.finish())
+    }
+
+    /// The same as a tree that takes no more memory than it needs, and the room that is left.
+    ///
+    /// # Errors
+    ///
+    /// Where memory is refused.
+    #[tactic(auto, unfolding(crate::specs::WritingState::flushed))]
+    pub fn flush_apart(mut self) -> Result<(ElemChildren, Room), AllocError>
+        requires { length (state self).formats ≡ 1 }
+        ensures { IfOk result (λ apart. flushed (state self.entry) ≡ Some apart.0) }
+    {
+        self.save()?;
+        let (tree, children, counts) = self.frames.finish_apart()?;
+        let room = Room {
+            text: self.buf,
+            children,
+            counts,
+        };
+        Ok((tree, room))
     }
 }
 

@@ -1,5 +1,5 @@
 //! Writing of what a layout picks.
-ghost use Rattle.std.specs.Prelude.{◌≡◌, ◌+◌, OnOk, IfOk, length, option_map, if◌then◌else◌, string_bytes, List, true, false};
+ghost use Rattle.std.specs.Prelude.{◌≡◌, ◌+◌, OnOk, IfOk, length, option_map, if◌then◌else◌, List, true, false};
 ghost use Rattle.std.specs.Fmt.{decimal};
 ghost use Rattle.csl_lookup.specs.SourceView.{lookup_view};
 ghost use Rattle.csl_picking.specs.Pieces.{Part, tokens};
@@ -12,6 +12,7 @@ ghost use Rattle.csl_writing.specs.OpenNodes.{open_view, open_views, IsNested, r
 
 use crate::open_node::OpenNode;
 use csl_base::entry::ChunkedString;
+use csl_base::text::Text;
 use csl_context::wording::{
     allocator, apply_suffix, begin_prefix, joined_values, may_pull_punctuation, may_strip_periods,
     pop_quotes, push_chunked, push_link, push_quotes, push_str, push_transparent,
@@ -22,6 +23,7 @@ use csl_lookup::lookup::StyleLocales;
 use csl_lookup::year::{letters_of_suffix, year_in_words};
 use csl_picking::pieces::{Leaf, Node, Piece};
 use std::alloc::{AllocError, Global};
+use std::fmt::Write;
 
 // How deep nodes nest before their stack grows.
 const DEPTH: usize = 8;
@@ -114,10 +116,14 @@ fn end_node(
 }
 
 // A number is wider than any that is counted, so that one more can be printed.
-fn decimal_text(alloc: Global, number: u128) -> Result<String, AllocError>
-    ensures { IfOk result (λ text. string_bytes text ≡ decimal number) }
+fn decimal_text(alloc: Global, number: u128) -> Result<Text, AllocError>
+    ensures { IfOk result (λ text. text ≡ decimal number) }
 {
-    format!(in alloc; "{number}")
+    let mut text = Text::copied(alloc, "")?;
+    match write!(text, "{number}") {
+        Ok(()) => Ok(text),
+        Err(_) => Err(AllocError),
+    }
 }
 
 fn push_link_to_itself(

@@ -1,5 +1,5 @@
 -- The first child shows nothing: the others decide.
-use Rattle.std.proofs.Common.{◌∙◌, sym, ap, arith, drop, refl}
+use Rattle.std.proofs.Common.{◌∙◌, sym, ap, arith, refl}
 use Rattle.std.specs.List.{list_any}
 use Rattle.csl_base.specs.ChildView.{child_view}
 use Rattle.csl_base.specs.Tree.{child_has_content}

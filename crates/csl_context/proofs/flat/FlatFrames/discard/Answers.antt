@@ -1,5 +1,5 @@
 -- The children of the top frame go, and the number of the one below.
-use Rattle.std.proofs.Common.{◌≡◌, ◌+◌, take, ap, ◌∙◌, sym, arith}
+use Rattle.std.proofs.Common.{◌≡◌, ◌+◌, take, ap, ◌∙◌, sym}
 use Rattle.std.specs.List.{sum}
 use Rattle.csl_context.specs.Cuts.{cut}
 use Rattle.csl_context.specs.OpenFrames.{below}

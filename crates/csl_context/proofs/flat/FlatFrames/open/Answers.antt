@@ -3,7 +3,6 @@ use Rattle.std.proofs.Common.{◌≡◌, ◌++◌, ◌∷◌, ◌-◌, ◌+◌, 
 use Rattle.std.specs.List.{sum}
 use Rattle.csl_context.specs.Cuts.{cut}
 use Rattle.csl_context.proofs.CutSteps.{cut_at_end}
-use Rattle.csl_context.proofs.OpenSteps.{filled_cut, seen_filled}
 use Rattle.csl_context.proofs.flat.FlatFrames.open.Goals as goal
 
 pub returns-clause-opened : goal.returns-clause-opened
