@@ -69,13 +69,17 @@ fn render_cite<T: EntryLike>(
     alloc: Global,
     purpose: Option<CitePurpose>,
     verdict: Option<CollapseVerdict>,
+    renders: &mut Renders,
 ) -> Result<Cite, AllocError>
-    ensures { IfOk result (λ c. c ≡ rendered.rendered_cite (subject_view T.answers subject.now) purpose verdict) }
+    ensures cite { IfOk result (λ c. c ≡ rendered.rendered_cite (subject_view T.answers subject.now) purpose verdict) }
+    ensures count { renders.new ≡ renders.old }
 {
     let style = subject.context.style;
-    let mut writing = WritingContext::new(alloc, &style.settings.options)?;
+    let room = renders.take_room(alloc)?;
+    let mut writing = WritingContext::in_room(alloc, &style.settings.options, room);
     let notes = subject.write_cite(alloc, purpose, verdict, &mut writing)?;
-    let tree = writing.flush()?;
+    let (tree, room) = writing.flush_apart()?;
+    renders.leave_room(room);
     let children = arrange(alloc, style, purpose, tree)?;
     Ok(Cite {
         children,
@@ -89,8 +93,10 @@ fn render_item<'a, T: EntryLike>(
     subject: &Subject<'a, T>,
     alloc: Global,
     bibliography: &'a Bibliography,
+    renders: &mut Renders,
 ) -> Result<ElemChildren, AllocError>
-    ensures { IfOk result (λ tree. tree ≡ rendered.rendered_item (subject_view T.answers subject.now) (bibliography_view bibliography.now)) }
+    ensures item { IfOk result (λ tree. tree ≡ rendered.rendered_item (subject_view T.answers subject.now) (bibliography_view bibliography.now)) }
+    ensures count { renders.new ≡ renders.old }
 {
     let style = &subject.context;
     let notes = first_notes(subject.cite.usage);
@@ -98,11 +104,13 @@ fn render_item<'a, T: EntryLike>(
     let layout = &bibliography.layout;
     let before = text_of(&layout.prefix);
     let behind = text_of(&layout.suffix);
-    let mut writing = WritingContext::new(alloc, &style.style.settings.options)?;
+    let room = renders.take_room(alloc)?;
+    let mut writing = WritingContext::in_room(alloc, &style.style.settings.options, room);
     let prefix = begin_prefix(&mut writing, before)?;
     let _noted = write_section(style, &mut writing, section)?;
     apply_suffix(style, &mut writing, behind, prefix)?;
-    let tree = writing.flush()?;
+    let (tree, room) = writing.flush_apart()?;
+    renders.leave_room(room);
     Ok(tree)
 }
 
@@ -129,9 +137,11 @@ impl<'a> StyleContext<'a> {
         props: &CiteProperties<'_, P>,
         purpose: Option<CitePurpose>,
         verdict: Option<CollapseVerdict>,
+        renders: &mut Renders,
     ) -> Result<Cite, AllocError>
         requires { HasNoRing (context_source self.now).style.macros }
-        ensures { IfOk result (λ c. c ≡ rendered.cite (context_source self.now) (T.answers entry.now) (properties_view props.now) purpose verdict) }
+        ensures count { renders.new ≡ renders.old }
+        ensures cite { IfOk result (λ c. c ≡ rendered.cite (context_source self.now) (T.answers entry.now) (properties_view props.now) purpose verdict) }
     {
         let writes = self.writes_suffix(alloc, &props.speculative.disambiguation)?;
         let subject = Subject {
@@ -140,7 +150,7 @@ impl<'a> StyleContext<'a> {
             cite: cite_facts(props),
             explicit_suffix: writes,
         };
-        render_cite(&subject, alloc, purpose, verdict)
+        render_cite(&subject, alloc, purpose, verdict, renders)
     }
 
     /// Renders a cite of the entry by what it is written for, and counts a rendering, also where
@@ -171,7 +181,7 @@ impl<'a> StyleContext<'a> {
         ensures cite { IfOk result (λ c. c ≡ rendered.cite (context_source self.now) (T.answers entry.now) (properties_view props.now) purpose verdict) }
         ensures count { renders.new ≡ counted renders.old }
     {
-        let cite = self.cite_of(alloc, entry, props, purpose, verdict);
+        let cite = self.cite_of(alloc, entry, props, purpose, verdict, renders);
         renders.add_one();
         cite
     }
@@ -199,7 +209,7 @@ impl<'a> StyleContext<'a> {
         ensures count { renders.new ≡ counted renders.old }
     {
         renders.add_one();
-        let cite = self.cite_of(alloc, entry, props, purpose, verdict)?;
+        let cite = self.cite_of(alloc, entry, props, purpose, verdict, renders)?;
         Ok(cite.children)
     }
 
@@ -234,9 +244,11 @@ impl<'a> StyleContext<'a> {
         entry: &T,
         props: &CiteProperties<'_, P>,
         bibliography: &Bibliography,
+        renders: &mut Renders,
     ) -> Result<ElemChildren, AllocError>
         requires { HasNoRing (context_source self.now).style.macros }
-        ensures { IfOk result (λ tree. tree ≡ rendered.rendered_item (plain.subject (context_source self.now) (T.answers entry.now) (properties_view props.now)) (bibliography_view bibliography.now)) }
+        ensures count { renders.new ≡ renders.old }
+        ensures item { IfOk result (λ tree. tree ≡ rendered.rendered_item (plain.subject (context_source self.now) (T.answers entry.now) (properties_view props.now)) (bibliography_view bibliography.now)) }
     {
         let writes = self.writes_suffix(alloc, &props.speculative.disambiguation)?;
         let subject = Subject {
@@ -245,7 +257,7 @@ impl<'a> StyleContext<'a> {
             cite: cite_facts(props),
             explicit_suffix: writes,
         };
-        render_item(&subject, alloc, bibliography)
+        render_item(&subject, alloc, bibliography, renders)
     }
 
     // The item of the bibliography, if there is one, without a count.
@@ -255,13 +267,15 @@ impl<'a> StyleContext<'a> {
         alloc: Global,
         entry: &T,
         props: &CiteProperties<'_, P>,
+        renders: &mut Renders,
     ) -> Result<Option<ElemChildren>, AllocError>
         requires { HasNoRing (context_source self.now).style.macros }
-        ensures { IfOk result (λ item. item ≡ rendered.bibliography_text (context_source self.now) (T.answers entry.now) (properties_view props.now)) }
+        ensures count { renders.new ≡ renders.old }
+        ensures item { IfOk result (λ item. item ≡ rendered.bibliography_text (context_source self.now) (T.answers entry.now) (properties_view props.now)) }
     {
         match &self.locales.style.bibliography {
             Some(bibliography) => {
-                let tree = self.item_of(alloc, entry, props, bibliography)?;
+                let tree = self.item_of(alloc, entry, props, bibliography, renders)?;
                 Ok(Some(tree))
             }
             None => Ok(None),
@@ -292,6 +306,6 @@ impl<'a> StyleContext<'a> {
         ensures count { renders.new ≡ counted renders.old }
     {
         renders.add_one();
-        self.listed(alloc, entry, props)
+        self.listed(alloc, entry, props, renders)
     }
 }
