@@ -15,7 +15,7 @@ use document_words::error::ReadError;
 use document_words::tables::{
     DATE_VARIABLES, NAME_VARIABLES, NUMBER_VARIABLES, STANDARD_VARIABLES,
 };
-use document_words::words::{list_of, object_with, required_list, text_at, text_of, whole_between};
+use document_words::words::{list_of, object_with, required_list, text_at, whole_between};
 use serde_json::Value;
 use std::alloc::{AllocError, Global};
 
@@ -25,7 +25,10 @@ use std::alloc::{AllocError, Global};
 fn held_text(alloc: Global, value: &Value) -> Result<Text, ReadError>
     ensures { Reads (λ t. t) result (as_str (view value.now)) }
 {
-    Ok(Text::new(text_of(alloc, value)?))
+    match value.as_str() {
+        Some(text) => Ok(Text::copied(alloc, text)?),
+        None => Err(ReadError::Document),
+    }
 }
 
 fn person_of(alloc: Global, value: &Value) -> Result<Person, ReadError>
