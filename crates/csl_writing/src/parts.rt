@@ -4,6 +4,7 @@ ghost use Rattle.std.specs.Fmt.{decimal};
 ghost use Rattle.csl_lookup.specs.SourceView.{lookup_view};
 ghost use Rattle.csl_picking.specs.Pieces.{Part, tokens};
 ghost use Rattle.csl_picking.specs.PiecesView.{leaf_view, node_view, token_of, tokens_of};
+ghost use Rattle.csl_context.specs.Steps.{term_text};
 ghost use Rattle.csl_context.specs.WritingState.{state};
 ghost use Rattle.csl_context.specs.Wording.{quotes_opened, quotes_closed, pulling_if_asked, linked, joined_values};
 ghost use Rattle.csl_writing.specs.PartsWritten.{leaf_written, node_begun, node_ended, delimiter_pushed, parts_written};
@@ -13,6 +14,7 @@ ghost use Rattle.csl_writing.specs.OpenNodes.{open_view, open_views, IsNested, r
 use crate::open_node::OpenNode;
 use csl_base::entry::ChunkedString;
 use csl_base::text::Text;
+use csl_context::token::DisplayLoc;
 use csl_context::wording::{
     allocator, apply_suffix, begin_prefix, joined_values, may_pull_punctuation, may_strip_periods,
     pop_quotes, push_chunked, push_link, push_quotes, push_str, push_transparent,
@@ -75,23 +77,27 @@ fn close_quotes(
     Ok(())
 }
 
-// What comes before the parts of a node.
+// What comes before the parts of a node. Gives the frame that its prefix began, the prefix's length, and
+// the frame in its formatting.
 #[tactic(auto, unfolding(crate::specs::PartsWritten::node_begun))]
-fn begin_node<'a>(
+fn begin_node(
     style: &StyleLocales<'_>,
     writing: &mut WritingContext<'_>,
-    node: Node<'a>,
-) -> Result<OpenNode<'a>, AllocError>
-    ensures done { OnOk result (state writing.new ≡ node_begun (lookup_view style.now) (node_view node.entry) (state writing.old)) }
-    ensures node { IfOk result (λ begun. open_view begun ≡ record { node = node_view node.entry; formats = length (state writing.old).formats }) }
-    ensures frame { IfOk result (λ begun. begun.prefix.0.frames ≡ length (state writing.old).frames) }
+    node: &Node<'_>,
+) -> Result<(DisplayLoc, usize, DisplayLoc), AllocError>
+    ensures done { OnOk result (state writing.new ≡ node_begun (lookup_view style.now) (node_view node.now) (state writing.old)) }
+    ensures frame { IfOk result (λ begun. begun.0.frames ≡ length (state writing.old).frames) }
+    ensures formats { IfOk result (λ begun. begun.2.formats ≡ length (state writing.old).formats) }
+    ensures within_prefix { IfOk result (λ begun. begun.2.frames ≡ begun.0.frames + 1) }
+    ensures same_formats { IfOk result (λ begun. begun.2.formats ≡ begun.0.formats) }
+    ensures offset { IfOk result (λ begun. begun.1 ≡ length (term_text (node_view node.now).look.affixes.prefix)) }
     ensures height { OnOk result (length (state writing.new).frames ≡ length (state writing.old).frames + 2) }
 {
-    let prefix = begin_prefix(writing, prefix_of(&node))?;
+    let (prefix, offset) = begin_prefix(writing, prefix_of(node))?;
     let elem = writing.push_elem(node.formatting)?;
     open_quotes(style, writing, node.quotes)?;
     may_strip_periods(writing, node.strip_periods);
-    Ok(OpenNode { node, prefix, elem })
+    Ok((prefix, offset, elem))
 }
 
 // What comes behind the parts of a node.
@@ -238,8 +244,12 @@ fn open_node<'a>(
     ensures nested { OnOk result (IsNested nodes.new.items (length (state writing.new).frames)) }
 {
     separate(style, writing, nodes, after_part)?;
-    let begun = begin_node(style, writing, node)?;
-    nodes.push(begun)?;
+    let (prefix, offset, elem) = begin_node(style, writing, &node)?;
+    nodes.push(OpenNode {
+        node,
+        prefix: (prefix, offset),
+        elem,
+    })?;
     Ok(())
 }
 
