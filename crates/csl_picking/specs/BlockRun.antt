@@ -3,7 +3,7 @@
 use Rattle.std.specs.Prelude.{ℕ, zero, suc, List, [], ◌∷◌, ◌++◌, Bool, ◌||◌, Option, Some, None, if◌then◌else◌}
 use Rattle.csl_picking.specs.Pieces.{LeafValue, Part, leaf_part}
 use Rattle.csl_picking.specs.Picked.{gives}
-use Rattle.csl_picking.specs.Names.{joint_part, joined_parts, joined_behind}
+use Rattle.csl_picking.specs.Names.{joint_part}
 
 -- parts with a text before them, if there are any
 abbrev pub before_parts : Option (List ℕ) → List Part
@@ -28,8 +28,3 @@ name_behind joint (suc n) p = leaf_part joint ∷ p ∷ []
 abbrev pub waiting_parts : LeafValue → ℕ → Option Part → List Part
 waiting_parts joint n None = []
 waiting_parts joint n (Some p) = name_behind joint n p
-
--- names behind so many others
-abbrev pub joined_after : List ℕ → List ℕ → ℕ → List Part → List Part
-joined_after words last zero ps = joined_parts words last ps
-joined_after words last (suc n) ps = joined_behind words last ps

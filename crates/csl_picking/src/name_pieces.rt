@@ -53,8 +53,9 @@ fn last_joint<'a>(
     ensures { IfOk result (λ leaf. leaf_view leaf ≡ text_leaf (last_joint (term_for setting.now) (rules_view rules.now) count)) }
 {
     let and = match rules.and {
-        Some(and) => and,
         None => return Ok(Leaf::Text(rules.name_delimiter)),
+        Some(NameAnd::Symbol) if count == 2 => return Ok(Leaf::Text(" & ")),
+        Some(and) => and,
     };
     let before = if count == 2 {
         " "

@@ -1,9 +1,9 @@
 //! How one name is written (CSL 1.0.2, name).
-ghost use Rattle.std.specs.Prelude.{◌≡◌, ◌++◌, IfOk, Some, option_map, string_bytes, encode_utf8};
+ghost use Rattle.std.specs.Prelude.{◌≡◌, ◌++◌, OnOk, IfOk, Some, option_map, encode_utf8};
 ghost use Rattle.std.specs.List.{flat_map};
 ghost use Rattle.std.specs.Str.{chars};
 ghost use Rattle.csl_base.specs.Initials.{parts_name, initials};
-ghost use Rattle.csl_picking.specs.NameText.{whole_name, name_leaf};
+ghost use Rattle.csl_picking.specs.NameText.{whole_name, ended_initials, name_leaf};
 ghost use Rattle.csl_picking.specs.PiecesView.{leaf_view};
 ghost use Rattle.csl_picking.specs.Variables.{text_leaves};
 
@@ -21,17 +21,25 @@ fn parts_name(c: char) -> bool
     c.is_whitespace() || c == '-'
 }
 
-// The initials of a given name, each with this text behind it.
-fn ended_initials(alloc: Global, given: &str, end: &str) -> Result<String, AllocError>
-    ensures { IfOk result (λ text. string_bytes text ≡ flat_map (λ c. encode_utf8 c ++ end.now) (initials (chars given.now))) }
+// Adds an initial, and this text behind it.
+fn push_initial(initials: &mut Text, initial: char, end: &str) -> Result<(), AllocError>
+    ensures { OnOk result (initials.new ≡ initials.old ++ (encode_utf8 initial ++ end.now)) }
 {
-    let (mut initials, mut part_begins) = (String::new(alloc), true);
+    let mut bytes = [0; 4];
+    initials.push_str(initial.encode_utf8(&mut bytes))?;
+    initials.push_str(end)
+}
+
+// The initials of a given name, each with this text behind it.
+fn ended_initials(alloc: Global, given: &str, end: &str) -> Result<Text, AllocError>
+    ensures { IfOk result (λ text. text ≡ flat_map (λ c. encode_utf8 c ++ end.now) (initials (chars given.now))) }
+{
+    let (mut initials, mut part_begins) = (Text::copied(alloc, "")?, true);
     for c in given.chars() {
         if parts_name(c) {
             part_begins = true;
         } else if part_begins {
-            initials.push(c)?;
-            initials.push_str(end)?;
+            push_initial(&mut initials, c, end)?;
             part_begins = false;
         }
     }
@@ -59,6 +67,19 @@ fn whole_leaf<'a>(
     }
 }
 
+// The initials of a given name before a family name, where `end` follows each of them.
+fn initialed_leaf<'a>(
+    alloc: Global,
+    given: &str,
+    end: &str,
+    family: &'a str,
+) -> Result<Option<Leaf<'a>>, AllocError>
+    ensures { IfOk result (λ leaf. option_map leaf_view leaf ≡ text_leaves (Some (whole_name (ended_initials end.now (Some given.now)) family.now))) }
+{
+    let initials = ended_initials(alloc, given, end)?;
+    whole_leaf(alloc, initials.as_str().trim_end(), family)
+}
+
 /// A name in a form, where `end` follows each initial; none where it only counts, or is blank.
 pub fn name_leaf<'a>(
     alloc: Global,
@@ -73,8 +94,7 @@ pub fn name_leaf<'a>(
         (DisambiguatedNameForm::Count, _) => Ok(None),
         (DisambiguatedNameForm::Short, _) => Ok(text_leaf(Some(family))),
         (DisambiguatedNameForm::LongInitialized, Some(given)) => {
-            let initials = ended_initials(alloc, given.as_str(), end)?;
-            whole_leaf(alloc, initials.as_str().trim_end(), family)
+            initialed_leaf(alloc, given.as_str(), end, family)
         }
         (DisambiguatedNameForm::LongFull, Some(given)) => whole_leaf(alloc, given.as_str(), family),
         (_, None) => Ok(text_leaf(Some(family))),

@@ -3,11 +3,10 @@ use Rattle.csl_picking.specs.InputView.{term_for}
 use Rattle.csl_picking.specs.NameRulesView.{rules_view}
 use Rattle.csl_picking.specs.Names.{joined_parts, last_words, name_part, written_names}
 use Rattle.csl_picking.specs.NamesView.{name_view}
-use Rattle.csl_picking.specs.BlockRun.{joined_after}
 use Rattle.csl_picking.specs.Picked.{gives}
 use Rattle.csl_picking.specs.Pieces.{tokens}
 use Rattle.csl_picking.specs.PiecesView.{tokens_of}
-use Rattle.csl_picking.proofs.WrittenNames.{names_left}
+use Rattle.csl_picking.proofs.WrittenNames.{names_left, joined_after}
 use Rattle.csl_picking.proofs.name_pieces.push_names.Given as goal
 
 abbrev pub invariant-loop-place : goal.invariant-loop-place

@@ -1,4 +1,4 @@
-use Rattle.std.proofs.Common.{◌≡◌, ◌++◌, length, drop, string_bytes, encode_utf8}
+use Rattle.std.proofs.Common.{◌≡◌, ◌++◌, length, drop, encode_utf8}
 use Rattle.std.specs.List.{flat_map}
 use Rattle.std.specs.Str.{chars}
 use Rattle.csl_base.specs.Initials.{initials}
@@ -7,4 +7,4 @@ use Rattle.csl_picking.proofs.name_text.ended_initials.Given as goal
 
 abbrev pub invariant-loop-c : goal.invariant-loop-c
 invariant-loop-c l =
-    string_bytes l.initials ++ flat_map (λ c. encode_utf8 c ++ l.end) (initials_left l.part_begins (drop (length l.yielded) (chars l.given))) ≡ flat_map (λ c. encode_utf8 c ++ l.end) (initials (chars l.given))
+    l.initials ++ flat_map (λ c. encode_utf8 c ++ l.end) (initials_left l.part_begins (drop (length l.yielded) (chars l.given))) ≡ flat_map (λ c. encode_utf8 c ++ l.end) (initials (chars l.given))
