@@ -1,15 +1,19 @@
 #!/usr/bin/env python3
-"""gate_times.py PID: looks at the provers and compilers below the process PID twice a second until it is told to end
+"""gate_times.py PID LOG: looks at the provers and compilers below the process PID twice a second until it is told to end
 (SIGTERM), and then prints a line for each crate and kind of task: from when to when it ran, its processor time and the
-most memory that it held. What a process does after it was last looked at is missed."""
+most memory that it held. What a process does after it was last looked at is missed. A crate's seed is the check that its
+must-fail edits begin with, and the one that ends them. Then it prints a line for each kind, and how many proofs and edits
+`rt ci` says in LOG that it kept from an earlier run: only where that is none are these the times from nothing."""
 import os
+import re
 import signal
 import sys
 import time
 
 PAUSE = 0.5
 TICKS, PAGE = os.sysconf('SC_CLK_TCK'), os.sysconf('SC_PAGE_SIZE')
-KINDS = ('proof', 'tests', 'edits')
+KINDS = ('proof', 'tests', 'seed', 'edits')
+DONE = re.compile(r'done in this run: (\d+) of the (\d+) proofs.*?(?: and (\d+) of the (\d+) must-fail edits)?;')
 
 
 def processes():
@@ -38,7 +42,8 @@ def task(number):
         return None
     crate = words[words.index('--crate-name') + 1]
     if os.path.basename(folder).startswith('rt-edit-'):
-        return crate, 'edits'
+        is_seed = any(words[at] == '--incremental' and it.endswith('/seed') for at, it in enumerate(words[1:]))
+        return crate, 'seed' if is_seed else 'edits'
     return crate, 'tests' if '--test' in words else 'proof'
 
 
@@ -72,15 +77,34 @@ class Times:
 
     def table(self):
         lines = ['%-14s %-6s %8s %8s %8s %10s %9s' % ('crate', 'task', 'from', 'to', 'minutes', 'processor', 'memory')]
-        total = 0
+        total, of_kind = 0, dict.fromkeys(KINDS, 0)
         for found in sorted(self.seen, key=lambda it: (self.seen[it][0], KINDS.index(it[1]))):
             first, last, most = self.seen[found]
             spent = sum(it for whose, it in self.spent.values() if whose == found)
             total += spent
+            of_kind[found[1]] += spent
             numbers = first / 60, last / 60, (last - first) / 60, spent / 60, most / 2**30
             lines.append('%-14s %-6s %8.1f %8.1f %8.1f %10.1f %5.1f GiB' % (*found, *numbers))
+        for kind, spent in of_kind.items():
+            lines.append('%-14s %-6s %8s %8s %8s %10.1f' % ('all', kind, '', '', '', spent / 60))
         lines.append('%-14s %-6s %8s %8.1f %8s %10.1f' % ('all', '', '', (time.time() - self.began) / 60, '', total / 60))
         return '\n'.join(lines)
+
+
+def kept(log):
+    """How much `rt ci` kept from earlier runs, by its log, in a line."""
+    try:
+        with open(log, errors='replace') as file:
+            text = file.read()
+    except OSError:
+        text = ''
+    if 'every proof and must-fail edit was done in this run' in text:
+        return 'kept from an earlier run: nothing, so these are the times from nothing'
+    done = DONE.search(text)
+    if not done:
+        return 'kept from an earlier run: not known, since rt ci did not say'
+    proofs, edits = (int(of or 0) - int(new or 0) for new, of in (done.groups()[:2], done.groups()[2:]))
+    return 'kept from an earlier run: %d of %s proofs, %d of %s edits' % (proofs, done[2], edits, done[4] or 0)
 
 
 def main():
@@ -92,6 +116,7 @@ def main():
         times.look()
         time.sleep(PAUSE)
     print(times.table())
+    print(kept(sys.argv[2]))
 
 
 if __name__ == '__main__':
