@@ -1,6 +1,7 @@
 -- What substitution leaves as it was.
-use Rattle.std.proofs.Common.{◌≡◌, ℕ, ◌+◌, ◌⊎◌, Bool, true, false, cond, List, [], ◌∷◌, map, take, reverse, Option, None, Some, refl, inl, inr}
+use Rattle.std.proofs.Common.{◌≡◌, ℕ, ◌+◌, ◌⊎◌, Bool, true, false, cond, List, [], ◌∷◌, map, take, reverse, Option, None, Some, Result, OnOk, refl, sym, subst, inl, inr}
 use Rattle.std.specs.List.{AllZip, enumerate_from}
+use Rattle.std.proofs.lemmas.Result.{on_ok_weaker}
 use Rattle.csl_base.specs.Child.{Child}
 use Rattle.csl_base.specs.FirstNames.{put_names}
 use Rattle.csl_base.specs.declared.elem.Elem.{Elem}
@@ -8,8 +9,8 @@ use Rattle.csl_base.specs.declared.formatting.Formatted.{Formatted}
 use Rattle.csl_base.specs.declared.style.SubsequentAuthorSubstituteRule.{SubsequentAuthorSubstituteRule}
 use Rattle.csl_substitution.specs.Names.{names_element}
 use Rattle.csl_substitution.specs.Rules.{rule_for, rewritten_by}
-use Rattle.csl_substitution.specs.Substitution.{Item, is_replaced, base, names_after, tree_after, item_after, substitute_text}
-use Rattle.csl_substitution.specs.Laws.{IsSameButNames, FirstStays, OnlyNamesChange}
+use Rattle.csl_substitution.specs.Substitution.{Item, is_replaced, base, names_after, tree_after, item_after, substitute_text, substituted}
+use Rattle.csl_substitution.specs.Laws.{IsSameButNames, KeepsAllButNames, FirstStays, OnlyNamesChange}
 
 pub first_stays : FirstStays
 first_stays None rule items = refl
@@ -44,3 +45,13 @@ all_stay (x ∷ items) = ((refl, inl refl), all_stay items)
 pub only_names_change : OnlyNamesChange
 only_names_change None rule items = all_stay items
 only_names_change (Some bytes) rule items = each_stays (substitute_text bytes) rule items 0 items
+
+-- what substitution makes of items keeps all but names
+pub kept : (substitute : Option (List ℕ)) (rule : SubsequentAuthorSubstituteRule) (old new : List Item) → new ≡ substituted substitute rule old → KeepsAllButNames old new
+kept substitute rule old new e =
+    subst (KeepsAllButNames old) (sym e)
+    (record { first_item_never_changes = first_stays substitute rule old; only_first_names_elements_change = only_names_change substitute rule old })
+
+pub kept-on_ok : {V F : Type 0} (r : Result V F) (substitute : Option (List ℕ)) (rule : SubsequentAuthorSubstituteRule) (old new : List Item)
+    → OnOk r (new ≡ substituted substitute rule old) → OnOk r (KeepsAllButNames old new)
+kept-on_ok r substitute rule old new = on_ok_weaker r (kept substitute rule old new)

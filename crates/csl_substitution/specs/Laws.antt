@@ -13,6 +13,13 @@ abbrev pub IsSameButNames : Item → Item → Type 0
 IsSameButNames old new =
     (new.1 ≡ old.1) × ((new.0 ≡ old.0) ⊎ ((own : Elem) × (children : List Child) × (names_element old.0 ≡ Some own) × (new.0 ≡ put_names old.0 (record own { children = children }))))
 
+-- what a caller may rely on without reading a rule of substitution
+pub record KeepsAllButNames (old new : List Item) : Type 0 where
+  -- the first item is as it was
+  pub first_item_never_changes : slice_get new 0 ≡ slice_get old 0
+  -- each item has its key, and its tree but for the children of its first names element
+  pub only_first_names_elements_change : AllZip IsSameButNames old new
+
 -- the first item is as it was
 abbrev pub FirstStays : Type 0
 FirstStays = (substitute : Option (List ℕ)) (rule : SubsequentAuthorSubstituteRule) (items : List Item) → slice_get (substituted substitute rule items) 0 ≡ slice_get items 0
