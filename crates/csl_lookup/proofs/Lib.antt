@@ -4,3 +4,4 @@ pub mod FirstAnswers
 pub mod Letters
 pub mod Copies
 pub mod Equal
+pub mod GoingOn

@@ -10,3 +10,4 @@ pub mod Lookup
 pub mod FirstAnswer
 pub mod SourceView
 pub mod PreparedLookup
+pub mod GoingOn

@@ -8,6 +8,7 @@ ghost use Rattle.csl_lookup.specs.declared.properties.CiteProperties.{CiteProper
 ghost use Rattle.csl_lookup.specs.declared.properties.SpeculativeCiteProperties.{SpeculativeCiteProperties};
 ghost use Rattle.csl_lookup.specs.declared.state.DisambiguateState.{DisambiguateState};
 ghost use Rattle.csl_lookup.specs.declared.state.IdentifierUsage.{IdentifierUsage};
+ghost use Rattle.csl_lookup.specs.GoingOn.{GoesFarther, GoesOn, GreaterIsOne};
 ghost use Rattle.csl_lookup.specs.States.{with_label, with_number, state_cmp, greater};
 ghost use Rattle.csl_lookup.specs.SuffixLetters.{SuffixesDiffer};
 ghost use Rattle.csl_lookup.specs.ValueLaws.{IsCommutative, IsAssociative, IsIdempotent, IsNeverBelow, IsOnce, Commute, TellsEqual, TellsSeen};
@@ -35,6 +36,14 @@ pub fn states_have_a_greatest()
 {
     forms_are_in_order();
 }
+
+/// A law: a state goes on to itself, and on and on; of two states the greater is one of them; and a state that
+/// goes on to another comes farther, by its kind and by how much of its names is written.
+pub fn states_go_on()
+    ensures on_and_on { GoesOn }
+    ensures greater_is_one { GreaterIsOne }
+    ensures farther { GoesFarther }
+{}
 
 /// A law: the letters of suffixes are `a` to `z`, and say which suffix it is: they are its number
 /// and one more, written with these letters for 1 to 26. So different suffixes have different
