@@ -4,8 +4,6 @@
 #[cfg(test)]
 mod cites;
 #[cfg(test)]
-mod lookup;
+mod context;
 #[cfg(test)]
 mod small;
-#[cfg(test)]
-mod writing;
