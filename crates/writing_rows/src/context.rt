@@ -83,13 +83,18 @@ fn affixes(alloc: Global, prefix: &str, suffix: &str) -> Result<Affixes, AllocEr
     })
 }
 
-/// Affixes with nothing between.
-fn in_affixes(alloc: Global, style: &IndependentStyle) -> Result<ElemChildren, AllocError> {
-    let affixes = affixes(alloc, "(", ")")?;
+/// Whether nothing is written of the text in these affixes.
+fn is_dropped(
+    alloc: Global,
+    style: &IndependentStyle,
+    affixes: &Affixes,
+    text: &str,
+) -> Result<bool, AllocError> {
     let mut context = begin(alloc, style)?;
-    let prefix = context.writing.apply_prefix(&affixes)?;
-    context.apply_suffix(&affixes, prefix)?;
-    context.writing.flush()
+    let prefix = context.writing.apply_prefix(affixes)?;
+    context.push_str(text)?;
+    context.apply_suffix(affixes, prefix)?;
+    Ok(context.writing.flush()?.is_empty())
 }
 
 /// Whether what follows a prefix of one space is content.
@@ -105,7 +110,10 @@ fn stripped_behind_a_space(alloc: Global, style: &IndependentStyle) -> Result<bo
 #[test]
 fn prefixes(rt: HostRuntime) -> Result<(), Fail> {
     let style = numeric(rt.alloc())?;
-    assert!(rt; in_affixes(rt.alloc(), &style)?.is_empty());
+    for (prefix, text) in [("(", ""), (". ", ".")] {
+        let affixes = affixes(rt.alloc(), prefix, ")")?;
+        assert!(rt; is_dropped(rt.alloc(), &style, &affixes, text)?);
+    }
     assert!(rt; !stripped_behind_a_space(rt.alloc(), &style)?);
     Ok(())
 }
