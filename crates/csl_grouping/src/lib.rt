@@ -5,5 +5,3 @@ mod blocks;
 pub mod grouping;
 pub mod laws;
 mod moving;
-#[cfg(test)]
-mod tests;

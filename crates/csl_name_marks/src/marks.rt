@@ -150,6 +150,3 @@ pub fn disambiguate_names<T, P>(
     let greatest = greatest_step(first_adds_names(renders), &members);
     group_marks(alloc, &members, greatest)
 }
-
-#[cfg(test)]
-mod tests;

@@ -2,13 +2,15 @@
 #![tactic(auto)]
 
 #[cfg(test)]
-mod account;
-#[cfg(test)]
 mod counting;
 #[cfg(test)]
-mod finish;
+mod equality;
+#[cfg(test)]
+mod passes;
 pub mod paths;
 #[cfg(test)]
 mod prepared;
 #[cfg(test)]
-mod standalone;
+mod reading;
+#[cfg(test)]
+mod rows;

@@ -66,6 +66,8 @@ pub mod of_writing {
 pub mod of_driver {
     pub use csl_driver::account::Account;
     pub use csl_driver::brackets::Brackets;
+    pub use csl_driver::cite::Cite;
+    pub use csl_driver::context::Context;
     pub use csl_driver::counter::Renders;
     pub use csl_driver::driver::BibliographyDriver;
     pub use csl_driver::elem::BufWriteFormat;
@@ -101,7 +103,11 @@ pub mod of_driver {
     pub use csl_driver::formatting::Formatting;
     pub use csl_driver::formatting::StyleFormatting;
     pub use csl_driver::item::CitationItem;
+    pub use csl_driver::laws::answer_equality_decides;
+    pub use csl_driver::laws::answers_copy_equal;
     pub use csl_driver::laws::bibliography_holds_each_once;
+    pub use csl_driver::laws::item_equality_decides;
+    pub use csl_driver::laws::items_copy_equal;
     pub use csl_driver::laws::numbers_have_no_gaps;
     pub use csl_driver::locale::Locale;
     pub use csl_driver::locale::LocaleCode;
@@ -169,6 +175,10 @@ pub mod of_driver {
     pub use csl_driver::terms::TermTables;
     pub use csl_driver::text::Text;
     pub use csl_driver::text::has_content;
+    pub use csl_driver::token::DelimiterIdx;
+    pub use csl_driver::token::DisplayLoc;
+    pub use csl_driver::token::FormatIdx;
+    pub use csl_driver::writing::WritingContext;
     pub use csl_driver::year::letters_of_suffix;
     pub use csl_driver::year::write_year;
 }

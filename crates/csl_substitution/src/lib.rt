@@ -7,5 +7,3 @@ pub mod laws;
 mod names;
 mod rewriting;
 pub mod substitution;
-#[cfg(test)]
-mod tests;
