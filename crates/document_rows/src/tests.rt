@@ -3,32 +3,9 @@
 use cite_document::error::RunError;
 use cite_document::input::read_input;
 use cite_document::running::run;
-use csl_driver::error::RingPlace;
 use std::io;
 use std::io::{ErrorKind, Read, Write};
 use std::test::Fail;
-
-#[test]
-fn lines_of_errors(rt: HostRuntime) -> Result<(), Fail> {
-    let lines = [
-        (RunError::Output, "cite_run: input or output failed"),
-        (RunError::Document, "cite_run: document refused"),
-        (
-            RunError::MacroRing {
-                place: RingPlace::Bibliography,
-                macro_idx: 0,
-            },
-            "cite_run: macro ring",
-        ),
-        (RunError::NumberOverflow, "cite_run: number overflow"),
-        (RunError::OutOfMemory, "cite_run: out of memory"),
-    ];
-    for (error, line) in lines {
-        let text = format!(in rt.alloc(); "{error}")?;
-        assert_eq!(&rt; text.as_str(), line);
-    }
-    Ok(())
-}
 
 /// Takes some bytes, one at each write, keeps them, and then fails.
 struct Failing {
