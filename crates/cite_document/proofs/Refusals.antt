@@ -13,7 +13,6 @@ use Rattle.csl_driver.specs.declared.error.DriverError.TheVariants.{NumberOverfl
 use Rattle.csl_driver.specs.declared.error.RingPlace.{RingPlace}
 use Rattle.csl_assembly.specs.declared.rendered.Rendered.{Rendered}
 use Rattle.document_reading.specs.Form.{Document}
-use Rattle.cite_document.specs.Print.{print}
 use Rattle.cite_document.specs.Run.{same_entry, same_payload, accepted, wanted_of, answer, HasAnswer, HasFirstRing, HasTooLargeNumbers}
 
 module _ (v : Driver PlainEntry Infallible) (w : Wanted PlainEntry) (d : Document) (p : v ≡ record { requests = accepted d.requests; offset = d.offset }) (q : w ≡ wanted_of d) where
@@ -22,10 +21,10 @@ module _ (v : Driver PlainEntry Infallible) (w : Wanted PlainEntry) (d : Documen
       subst (λ x. NoRingAtAll x.requests d.style × (x.offset + length (distinct same_entry (cited x.requests)) < 2 ^ 64)) p
       (subst (λ (x : Wanted PlainEntry). NoRingAtAll v.requests x.style) q a, b)
 
-  pub is_answer : (r : Rendered) (text : List ℕ) → r ≡ rendered same_entry same_payload plain_answers w v.requests v.offset → text ≡ print r → text ≡ print (answer d)
-  is_answer r text e t =
-      t ∙ ap print (e ∙ ap (λ x. rendered same_entry same_payload plain_answers x v.requests v.offset) q
-      ∙ ap (λ x. rendered same_entry same_payload plain_answers (wanted_of d) x.requests x.offset) p)
+  pub is_answer : (r : Rendered) → r ≡ rendered same_entry same_payload plain_answers w v.requests v.offset → r ≡ answer d
+  is_answer r e =
+      e ∙ ap (λ x. rendered same_entry same_payload plain_answers x v.requests v.offset) q
+      ∙ ap (λ x. rendered same_entry same_payload plain_answers (wanted_of d) x.requests x.offset) p
 
   pub first_ring : (place : RingPlace) (i : ℕ) → IsFirstRingOf v.requests w.style place i → HasFirstRing place i d
   first_ring place i h =

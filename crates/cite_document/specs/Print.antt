@@ -1,4 +1,4 @@
--- The text that an answer is printed as.
+-- The texts that an answer is printed as.
 use Rattle.std.specs.Prelude.{ℕ, List, [], ◌∷◌, ◌++◌, Option, Some, None}
 use Rattle.std.specs.List.{flat_map}
 use Rattle.csl_base.specs.ChildView.{child_view}
@@ -8,6 +8,8 @@ use Rattle.csl_assembly.specs.declared.rendered.BibliographyItem.{BibliographyIt
 use Rattle.csl_assembly.specs.declared.rendered.Rendered.{Rendered}
 use Rattle.csl_assembly.specs.declared.rendered.RenderedBibliography.{RenderedBibliography}
 use Rattle.csl_assembly.specs.declared.rendered.RenderedCitation.{RenderedCitation}
+use Rattle.serde_json.specs.Written.{compact_text}
+use Rattle.answer_json.specs.AnswerData.{answer_data}
 
 -- the byte of a line feed
 abbrev pub line_feed : ℕ
@@ -38,3 +40,7 @@ bibliography_lines (Some b) = line_feed ∷ flat_map item_line b.items
 -- the citations, and then the bibliography, if there is one
 abbrev pub print : Rendered → List ℕ
 print r = flat_map citation_line r.citations ++ bibliography_lines r.bibliography
+
+-- the answer as JSON
+abbrev pub json_text : Rendered → List ℕ
+json_text r = compact_text (answer_data r)

@@ -13,7 +13,6 @@ use Rattle.csl_driver.specs.Rings.{NoRingAtAll, IsFirstRingOf, Overflows}
 use Rattle.csl_driver.specs.declared.error.RingPlace.{RingPlace}
 use Rattle.csl_assembly.specs.declared.rendered.Rendered.{Rendered}
 use Rattle.document_reading.specs.Form.{Document}
-use Rattle.cite_document.specs.Print.{print}
 use Rattle.cite_document.specs.declared.error.RunError.{RunError}
 use Rattle.cite_document.specs.declared.error.RunError.TheVariants as errors
 
@@ -53,11 +52,20 @@ HasTooLargeNumbers d = NoRingAtAll (accepted d.requests) d.style × Overflows sa
 abbrev pub IsDocumentThat : Option Document → (Document → Type 0) → Type 0
 IsDocumentThat read Such = (d : Document) × (read ≡ Some d) × Such d
 
--- the text that a run made, or why it made none, where the form gives this document, or none
-abbrev pub Prints : Result (String Global) RunError → Option Document → Type 0
-Prints (Ok text) read = IsDocumentThat read (λ d. HasAnswer d × (string_bytes text ≡ print (answer d)))
-Prints (Err errors.Document) read = read ≡ None
-Prints (Err (errors.MacroRing place i)) read = IsDocumentThat read (HasFirstRing place i)
-Prints (Err errors.NumberOverflow) read = IsDocumentThat read HasTooLargeNumbers
-Prints (Err errors.OutOfMemory) read = Unit {0}
-Prints (Err errors.Output) read = ⊥
+-- why there is no answer, where the form gives this document, or none
+abbrev pub IsRefused : RunError → Option Document → Type 0
+IsRefused errors.Document read = read ≡ None
+IsRefused (errors.MacroRing place i) read = IsDocumentThat read (HasFirstRing place i)
+IsRefused errors.NumberOverflow read = IsDocumentThat read HasTooLargeNumbers
+IsRefused errors.OutOfMemory read = Unit {0}
+IsRefused errors.Output read = ⊥
+
+-- the answer, or why there is none
+abbrev pub Answers : Result Rendered RunError → Option Document → Type 0
+Answers (Ok r) read = IsDocumentThat read (λ d. HasAnswer d × (r ≡ answer d))
+Answers (Err e) read = IsRefused e read
+
+-- the text that is made of the answer, or why there is none
+abbrev pub Prints : (Rendered → List ℕ) → Result (String Global) RunError → Option Document → Type 0
+Prints text_of (Ok text) read = IsDocumentThat read (λ d. HasAnswer d × (string_bytes text ≡ text_of (answer d)))
+Prints text_of (Err e) read = IsRefused e read

@@ -12,16 +12,18 @@ ghost use Rattle.document_reading.specs.DocumentView.{document_view};
 ghost use Rattle.document_reading.specs.Form.{asked_form, form, document_form};
 ghost use Rattle.document_reading.specs.Entries.{entry_named};
 ghost use Rattle.document_styles.specs.NamedStyleView.{named_styles_view};
-ghost use Rattle.cite_document.specs.Print.{print};
+ghost use Rattle.cite_document.specs.Print.{json_text, print};
 ghost use Rattle.document_styles.specs.Styles.{style_named};
-ghost use Rattle.cite_document.specs.Run.{accepted, answer, wanted_of, HasAnswer, HasFirstRing, HasTooLargeNumbers, IsDocumentThat, Prints};
+ghost use Rattle.cite_document.specs.Run.{accepted, answer, wanted_of, Answers, HasAnswer, HasFirstRing, HasTooLargeNumbers, IsDocumentThat, Prints};
 
 use crate::error::RunError;
 use crate::printing::print_rendered;
+use answer_json::printing::print_json;
 use csl_base::entry::PlainEntry;
 use csl_base::locale::Locale;
 use csl_driver::driver::BibliographyDriver;
 use csl_driver::error::DriverError;
+use csl_driver::rendered::Rendered;
 use csl_driver::request::{BibliographyRequest, Order};
 use csl_driver::terms::TermTables;
 use document_reading::document::{Asked, asked_in, top_of, utf8_text, value_of};
@@ -99,15 +101,15 @@ fn bibliography_request<'o, 'e>(
     }
 }
 
-/// The text that is printed for what a document asks for.
-fn print_asked<'r>(alloc: Global, asked: &'r Asked<'_>) -> Result<String, RunError>
-    ensures { Prints result (Some (document_view asked.now)) }
+/// The answer to what a document asks for.
+fn answer_asked<'r>(alloc: Global, asked: &'r Asked<'_>) -> Result<Rendered, RunError>
+    ensures { Answers result (Some (document_view asked.now)) }
 {
     let files = TermTables::new(alloc, asked.locales)?;
     let driver = filled_driver(alloc, &asked.requests, &files, asked.offset)?;
     let request = bibliography_request(alloc, asked, &files)?;
     match driver.finish(request) {
-        Ok(rendered) => Ok(print_rendered(alloc, &rendered)?),
+        Ok(rendered) => Ok(rendered),
         Err(DriverError::MacroRing { place, macro_idx }) => {
             Err(RunError::MacroRing { place, macro_idx })
         }
@@ -116,41 +118,67 @@ fn print_asked<'r>(alloc: Global, asked: &'r Asked<'_>) -> Result<String, RunErr
     }
 }
 
-/// Prints what the value asks for, of these styles, entries and locales. The value is let go before
-/// anything is written.
-fn print_of<'e>(
+/// The answer to what the value asks for, of these styles, entries and locales. The value is let go
+/// before anything is rendered.
+fn answer_of<'e>(
     alloc: Global,
     value: Value,
     styles: &'e [NamedStyle],
     entries: &'e [PlainEntry],
     locales: &'e [Locale],
-) -> Result<String, RunError>
-    ensures { Prints result (asked_form (style_named (named_styles_view styles.now)) (entry_named entries.now) (map locale_view locales.now) (view value)) }
+) -> Result<Rendered, RunError>
+    ensures { Answers result (asked_form (style_named (named_styles_view styles.now)) (entry_named entries.now) (map locale_view locales.now) (view value)) }
 {
     let found = found_styles(alloc, styles, &value)?;
     let asked = asked_in(alloc, &found, entries, locales, &value)?;
     drop(value);
-    print_asked(alloc, &asked)
+    answer_asked(alloc, &asked)
 }
 
 #[tactic(auto, unfolding(document_reading::specs::Form::document_form))]
-fn print_value(alloc: Global, value: Value) -> Result<String, RunError>
-    ensures { Prints result (document_form (view value)) }
+fn answer_value(alloc: Global, value: Value) -> Result<Rendered, RunError>
+    ensures { Answers result (document_form (view value)) }
 {
     let object = top_of(&value)?;
     let styles = styles_of(alloc, object)?;
     let locales = locales_at(alloc, object, "locales")?;
     let entries = entries_of(alloc, object)?;
-    print_of(alloc, value, &styles, &entries, &locales)
+    answer_of(alloc, value, &styles, &entries, &locales)
 }
 
+/// The answer to the document of these bytes.
+///
+/// # Errors
+/// As those of `run`, and never `Output`.
 #[tactic(auto, unfolding(document_reading::specs::Form::form))]
-fn print_bytes(alloc: Global, bytes: &[u8]) -> Result<String, RunError>
-    ensures { Prints result (form bytes.now) }
+pub fn answer_bytes(alloc: Global, bytes: &[u8]) -> Result<Rendered, RunError>
+    ensures { Answers result (form bytes.now) }
 {
     let text = utf8_text(bytes)?;
     let value = value_of(alloc, text)?;
-    print_value(alloc, value)
+    answer_value(alloc, value)
+}
+
+/// What the document of these bytes prints.
+///
+/// # Errors
+/// As those of `run`, and never `Output`.
+pub fn print_bytes(alloc: Global, bytes: &[u8]) -> Result<String, RunError>
+    ensures { Prints print result (form bytes.now) }
+{
+    let answer = answer_bytes(alloc, bytes)?;
+    Ok(print_rendered(alloc, &answer)?)
+}
+
+/// The answer to the document of these bytes as JSON.
+///
+/// # Errors
+/// As those of `run`, and never `Output`.
+pub fn print_json_bytes(alloc: Global, bytes: &[u8]) -> Result<String, RunError>
+    ensures { Prints json_text result (form bytes.now) }
+{
+    let answer = answer_bytes(alloc, bytes)?;
+    Ok(print_json(alloc, &answer)?)
 }
 
 /// Writes what the document of these bytes prints. The whole text is ready before any of it is

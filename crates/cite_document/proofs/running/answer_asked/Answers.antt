@@ -1,5 +1,5 @@
 -- What the driver answers, or why it refuses, is of the document.
-use Rattle.std.proofs.Common.{◌≡◌, map, refl, string_bytes, subst, ◌∙◌}
+use Rattle.std.proofs.Common.{◌≡◌, map, refl, subst, ◌∙◌}
 use Rattle.csl_base.specs.StyleView.{locale_view}
 use Rattle.csl_driver.specs.DriverView.{driver_view}
 use Rattle.csl_passes.specs.RequestView.{wanted_view}
@@ -8,7 +8,7 @@ use Rattle.document_reading.specs.DocumentView.{document_view}
 use Rattle.csl_driver.specs.Rings.{Refuses}
 use Rattle.cite_document.specs.Run.{accepted, same_entry, wanted_of}
 use Rattle.cite_document.proofs.Refusals.{has_answer, is_answer, first_ring, too_large}
-use Rattle.cite_document.proofs.running.print_asked.Goals as goal
+use Rattle.cite_document.proofs.running.answer_asked.Goals as goal
 
 pub returns-in-Ok : goal.returns-in-Ok
 returns-in-Ok c =
@@ -20,9 +20,8 @@ returns-in-Ok c =
     c.in_ok-driver.ensures.filled
     ∙ (λ i. record { requests = accepted (asked_requests_view (map locale_view (c.in_ok-files.ensures i)) (c.deref.ensures.value i)); offset = asked.offset }) in
     let wanted : w ≡ wanted_of d = c.in_ok-request.ensures ∙ (λ i. record (wanted_of d) { locales = map locale_view (c.in_ok-files.ensures i) }) in
-    let text = string_bytes c.in_ok-print_rendered-in-Ok.field-0 in
     let a = has_answer v w d made wanted c.in-Ok.ensures.ringless c.in-Ok.ensures.fits in
-    (d, refl, (a, is_answer v w d made wanted c.in-Ok.rendered text c.in-Ok.ensures.ok c.in_ok-print_rendered-in-Ok.ensures))
+    (d, refl, (a, is_answer v w d made wanted c.in-Ok.rendered c.in-Ok.ensures.ok))
 
 pub returns-in-Err-MacroRing : goal.returns-in-Err-MacroRing
 returns-in-Err-MacroRing c =

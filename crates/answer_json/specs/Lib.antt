@@ -1,0 +1,4 @@
+pub mod Members
+pub mod MetaData
+pub mod TreeData
+pub mod AnswerData

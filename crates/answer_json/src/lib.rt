@@ -1,0 +1,10 @@
+//! Answers as JSON: all that an answer holds, so that a reader can build it again.
+//!
+//! The objects have the names of the trees' own fields. What is absent has no key.
+#![tactic(auto)]
+
+mod answers;
+mod metas;
+mod objects;
+pub mod printing;
+mod trees;

@@ -1,0 +1,18 @@
+//! The text of an answer's JSON.
+ghost use Rattle.std.specs.Prelude.{◌≡◌, IfOk, string_bytes};
+ghost use Rattle.serde_json.specs.Written.{compact_text};
+ghost use Rattle.answer_json.specs.AnswerData.{answer_data};
+
+use crate::answers::answer_value;
+use csl_assembly::rendered::Rendered;
+use std::alloc::{AllocError, Global};
+
+/// The answer as JSON, without spaces between its parts.
+///
+/// # Errors
+/// Where memory is refused.
+pub fn print_json(alloc: Global, answer: &Rendered) -> Result<String, AllocError>
+    ensures { IfOk result (λ s. string_bytes s ≡ compact_text (answer_data answer.now)) }
+{
+    answer_value(alloc, answer)?.to_string(alloc)
+}

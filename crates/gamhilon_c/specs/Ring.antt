@@ -1,0 +1,40 @@
+-- What a call for the place of a ring does.
+use Rattle.std.specs.Prelude.{◌≡◌, ◌≢◌, ℕ, zero, suc, ◌≤◌, Option, None, Result, Ok, Err}
+use Rattle.csl_driver.specs.declared.error.RingPlace.{RingPlace}
+use Rattle.csl_driver.specs.declared.error.RingPlace.TheVariants as places
+use Rattle.csl_assembly.specs.declared.rendered.Rendered.{Rendered}
+use Rattle.document_reading.specs.Form.{Document}
+use Rattle.cite_document.specs.Run.{HasAnswer, HasFirstRing, HasTooLargeNumbers, IsDocumentThat}
+use Rattle.cite_document.specs.Status.{status}
+use Rattle.cite_document.specs.declared.error.RunError.{RunError}
+use Rattle.cite_document.specs.declared.error.RunError.TheVariants as errors
+use Rattle.gamhilon_c.specs.declared.ring.GamhilonRing.{GamhilonRing}
+
+abbrev pub place_in : ℕ → ℕ → RingPlace
+place_in zero request = places.Request request
+place_in (suc n) request = places.Bibliography
+
+-- the style's place
+abbrev pub place_of : GamhilonRing → RingPlace
+place_of r = place_in r.of_bibliography r.request
+
+-- A call that ended with the status `code`. The bytes that it was given are the document of `read`, or none; and the ring held `before`
+-- and then `after`.
+pub record FindsRing (read : Option Document) (code : ℕ) (before after : GamhilonRing) : Type 0 where
+  pub answered : code ≡ 0 → IsDocumentThat read HasAnswer
+  pub no_document : code ≡ 2 → read ≡ None
+  pub found : code ≡ 3 → IsDocumentThat read (HasFirstRing (place_of after) after.macro_place)
+  pub overflow : code ≡ 4 → IsDocumentThat read HasTooLargeNumbers
+  pub kept : code ≢ 3 → after ≡ before
+  pub is_status : (code ≤ 5) × (code ≢ 1)
+
+-- ---- for private clauses
+
+-- the place is noted where there is a ring
+abbrev pub NotesRing : RunError → GamhilonRing → GamhilonRing → Type 0
+NotesRing (errors.MacroRing place i) before after = (place_of after ≡ place) × (after.macro_place ≡ i)
+NotesRing _ before after = after ≡ before
+
+abbrev pub HandsOutRing : Result Rendered RunError → ℕ → GamhilonRing → GamhilonRing → Type 0
+HandsOutRing (Ok r) code before after = (code ≡ 0) × (after ≡ before)
+HandsOutRing (Err e) code before after = (code ≡ status e) × NotesRing e before after

@@ -1,0 +1,55 @@
+//! Documents answered for callers in C, and for whatever calls C.
+//!
+//! Each call stands alone: it is given a document and room for what it has to say, and keeps nothing.
+#![tactic(auto)]
+
+mod ring;
+mod room;
+
+ghost use Rattle.document_reading.specs.Form.{form};
+ghost use Rattle.cite_document.specs.Print.{json_text, print};
+ghost use Rattle.gamhilon_c.specs.Called.{Called};
+ghost use Rattle.gamhilon_c.specs.Ring.{FindsRing};
+
+use crate::ring::{GamhilonRing, hand_out_ring};
+use crate::room::hand_out;
+use cite_document::running::{answer_bytes, print_bytes, print_json_bytes};
+use std::alloc::Global;
+
+/// Puts what the document prints into the room, and tells how many bytes that takes. Gives the status.
+#[unsafe(no_mangle)]
+pub extern "C" fn gamhilon_print(
+    alloc: Global,
+    document: &[u8],
+    room: &mut [u8],
+    needed: &mut usize,
+) -> u32
+    ensures { Called print (form document.now) result room.old room.new needed.new }
+{
+    let text = print_bytes(alloc, document);
+    hand_out(&text, room, needed)
+}
+
+/// Puts the answer to the document, as JSON, into the room, and tells how many bytes that takes. Gives
+/// the status.
+#[unsafe(no_mangle)]
+pub extern "C" fn gamhilon_print_json(
+    alloc: Global,
+    document: &[u8],
+    room: &mut [u8],
+    needed: &mut usize,
+) -> u32
+    ensures { Called json_text (form document.now) result room.old room.new needed.new }
+{
+    let text = print_json_bytes(alloc, document);
+    hand_out(&text, room, needed)
+}
+
+/// Puts the place of the first ring of macros into `ring`, where the document has one. Gives the status.
+#[unsafe(no_mangle)]
+pub extern "C" fn gamhilon_ring(alloc: Global, document: &[u8], ring: &mut GamhilonRing) -> u32
+    ensures { FindsRing (form document.now) result ring.old ring.new }
+{
+    let answer = answer_bytes(alloc, document);
+    hand_out_ring(&answer, ring)
+}

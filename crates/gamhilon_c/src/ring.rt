@@ -1,0 +1,58 @@
+//! Places of rings as numbers.
+ghost use Rattle.std.specs.Prelude.{◌≡◌};
+ghost use Rattle.gamhilon_c.specs.Ring.{HandsOutRing, NotesRing, place_of};
+
+use cite_document::error::RunError;
+use csl_driver::error::RingPlace;
+use csl_driver::rendered::Rendered;
+
+/// Where the macros of a style call each other in a ring.
+#[derive(Clone, Copy)]
+#[repr(C)]
+pub struct GamhilonRing {
+    /// 1 where the style is that of the bibliography, and else 0.
+    pub of_bibliography: usize,
+    /// The place of the request whose style it is, from 0; 0 where it is that of the bibliography.
+    pub request: usize,
+    /// The place of the first macro on a ring, among the macros of its style, from 0.
+    pub macro_place: usize,
+}
+
+fn ring_at(place: RingPlace, macro_place: usize) -> GamhilonRing
+    ensures place { place_of result ≡ place }
+    ensures macro_place { result.macro_place ≡ macro_place }
+{
+    match place {
+        RingPlace::Request(request) => GamhilonRing {
+            of_bibliography: 0,
+            request,
+            macro_place,
+        },
+        RingPlace::Bibliography => GamhilonRing {
+            of_bibliography: 1,
+            request: 0,
+            macro_place,
+        },
+    }
+}
+
+fn note_ring(error: &RunError, ring: &mut GamhilonRing)
+    ensures { NotesRing error.now ring.old ring.new }
+{
+    if let RunError::MacroRing { place, macro_idx } = error {
+        *ring = ring_at(*place, *macro_idx);
+    }
+}
+
+/// Puts the place of the ring into `ring`, where that is why there is no answer.
+pub(crate) fn hand_out_ring(answer: &Result<Rendered, RunError>, ring: &mut GamhilonRing) -> u32
+    ensures { HandsOutRing answer.now result ring.old ring.new }
+{
+    match answer {
+        Ok(_) => 0,
+        Err(error) => {
+            note_ring(error, ring);
+            u32::from(error.status())
+        }
+    }
+}
