@@ -1,4 +1,7 @@
 //! Laws of what goes in and comes out, passed on.
 pub use csl_assembly::laws::{answer_equality_decides, answers_copy_equal};
 pub use csl_entries::laws::{bibliography_holds_each_once, numbers_have_no_gaps};
-pub use csl_passes::laws::{item_equality_decides, items_copy_equal};
+pub use csl_passes::laws::{
+    item_equality_decides, items_copy_equal, properties_equality_decides, request_equality_decides,
+    wanted_equality_decides,
+};

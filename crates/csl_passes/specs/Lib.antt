@@ -5,3 +5,5 @@ pub mod Renders
 pub mod RendersView
 pub mod Places
 pub mod Positions
+pub mod Same
+pub mod Unprepared

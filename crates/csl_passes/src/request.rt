@@ -45,8 +45,10 @@ fn noted(style: &IndependentStyle, note_number: Option<usize>) -> Option<usize>
 impl<'a, T, P> CitationRequest<'a, T, P> {
     ghost use Rattle.csl_passes.specs.Request.{source_of};
     ghost use Rattle.csl_passes.specs.RequestView.{cites_view, request_view};
+    ghost use Rattle.csl_passes.specs.Unprepared.{IsUnprepared};
 
     /// A request for a citation. The note number is kept only where the style's cites stand in notes.
+    /// Each public field may be written later.
     pub fn new(
         items: Vec<CitationItem<'a, T, P>>,
         style: &'a IndependentStyle,
@@ -54,8 +56,9 @@ impl<'a, T, P> CitationRequest<'a, T, P> {
         locale_files: &'a [Locale],
         note_number: Option<usize>,
     ) -> CitationRequest<'a, T, P>
-        ensures { request_view result
+        ensures view { request_view result
             ≡ record { cites = cites_view items.entry.items; style = style_view style.now; locale = option_map code_view locale; locales = map locale_view locale_files.now; note_number = (if is_note style.now.settings.class then note_number else None) } }
+        ensures unprepared { IsUnprepared result }
     {
         CitationRequest {
             items,
@@ -67,7 +70,8 @@ impl<'a, T, P> CitationRequest<'a, T, P> {
         }
     }
 
-    /// The request that `new` makes of the same style and files, which were prepared.
+    /// The request that `new` makes of the same style and files, which were prepared. Its files may be
+    /// written once it is `unprepared`.
     pub fn of_sound<'s: 'a>(
         items: Vec<CitationItem<'a, T, P>>,
         sound: &'a SoundStyle<'s>,
@@ -88,6 +92,22 @@ impl<'a, T, P> CitationRequest<'a, T, P> {
             locale,
             locale_files: files.locales(),
             note_number: noted(sound.style(), note_number),
+        }
+    }
+
+    /// The same request, beside which nothing is kept that was prepared: each public field may be
+    /// written.
+    pub fn unprepared(self) -> CitationRequest<'a, T, P>
+        ensures view { request_view result ≡ request_view self.entry }
+        ensures unprepared { IsUnprepared result }
+    {
+        CitationRequest {
+            items: self.items,
+            style: self.style,
+            prepared: None,
+            locale: self.locale,
+            locale_files: self.locale_files,
+            note_number: self.note_number,
         }
     }
 
@@ -123,8 +143,9 @@ impl<'a, T, P> CitationRequest<'a, T, P> {
         style: &'a IndependentStyle,
         locale_files: &'a [Locale],
     ) -> CitationRequest<'a, T, P>
-        ensures { request_view result
+        ensures view { request_view result
             ≡ record { cites = cites_view items.entry.items; style = style_view style.now; locale = None; locales = map locale_view locale_files.now; note_number = None } }
+        ensures unprepared { IsUnprepared result }
     {
         CitationRequest::new(items, style, None, locale_files, None)
     }
@@ -155,8 +176,10 @@ pub struct BibliographyRequest<'o, 'a, T> {
 impl<'o, 'a, T> BibliographyRequest<'o, 'a, T> {
     ghost use Rattle.csl_passes.specs.Request.{wanted_source};
     ghost use Rattle.csl_passes.specs.RequestView.{wanted_view};
+    ghost use Rattle.csl_passes.specs.Unprepared.{WantsUnprepared};
 
-    /// A request for a bibliography in the order of the first cites.
+    /// A request for a bibliography in the order of the first cites. Each of its fields may be written
+    /// later.
     pub fn new(
         style: &'o IndependentStyle,
         locale: Option<LocaleCode>,
@@ -166,6 +189,7 @@ impl<'o, 'a, T> BibliographyRequest<'o, 'a, T> {
         ensures locale { result.locale ≡ locale }
         ensures files { result.locale_files ≡ locale_files.entry }
         ensures order { result.order ≡ None }
+        ensures unprepared { WantsUnprepared result }
     {
         BibliographyRequest {
             style,
@@ -176,7 +200,8 @@ impl<'o, 'a, T> BibliographyRequest<'o, 'a, T> {
         }
     }
 
-    /// A request for a bibliography in this order; in that of the first cites where there is none.
+    /// A request for a bibliography in this order; in that of the first cites where there is none. Each
+    /// of its fields may be written later.
     pub fn ordered(
         style: &'o IndependentStyle,
         locale: Option<LocaleCode>,
@@ -187,6 +212,7 @@ impl<'o, 'a, T> BibliographyRequest<'o, 'a, T> {
         ensures locale { result.locale ≡ locale }
         ensures files { result.locale_files ≡ locale_files.entry }
         ensures order { result.order ≡ order.entry }
+        ensures unprepared { WantsUnprepared result }
     {
         BibliographyRequest {
             style,
@@ -197,7 +223,8 @@ impl<'o, 'a, T> BibliographyRequest<'o, 'a, T> {
         }
     }
 
-    /// The request that `ordered` makes of the same style and files, which were prepared.
+    /// The request that `ordered` makes of the same style and files, which were prepared. These two may be
+    /// written once it is `unprepared`.
     pub fn of_sound<'s: 'o>(
         sound: &'o SoundStyle<'s>,
         locale: Option<LocaleCode>,
@@ -218,6 +245,21 @@ impl<'o, 'a, T> BibliographyRequest<'o, 'a, T> {
             locale,
             locale_files: files.locales(),
             order,
+        }
+    }
+
+    /// The same request, beside which nothing is kept that was prepared: each of its fields may be
+    /// written.
+    pub fn unprepared(self) -> BibliographyRequest<'o, 'a, T>
+        ensures view { wanted_view result ≡ wanted_view self.entry }
+        ensures unprepared { WantsUnprepared result }
+    {
+        BibliographyRequest {
+            style: self.style,
+            prepared: None,
+            locale: self.locale,
+            locale_files: self.locale_files,
+            order: self.order,
         }
     }
 

@@ -6,6 +6,8 @@ mod counting;
 #[cfg(test)]
 mod equality;
 #[cfg(test)]
+mod fields;
+#[cfg(test)]
 mod passes;
 pub mod paths;
 #[cfg(test)]

@@ -109,6 +109,9 @@ pub mod of_driver {
     pub use csl_driver::laws::item_equality_decides;
     pub use csl_driver::laws::items_copy_equal;
     pub use csl_driver::laws::numbers_have_no_gaps;
+    pub use csl_driver::laws::properties_equality_decides;
+    pub use csl_driver::laws::request_equality_decides;
+    pub use csl_driver::laws::wanted_equality_decides;
     pub use csl_driver::locale::Locale;
     pub use csl_driver::locale::LocaleCode;
     pub use csl_driver::locale::LocalizedTerm;

@@ -1,0 +1,37 @@
+-- What `==` of cites and of requests tells: entries are equal by their own `==`, payloads of the
+-- caller's, styles and locales by theirs, and all else is the same. What was prepared isn't looked at.
+use Rattle.std.specs.Prelude.{◌≡◌, Bool, IsTrue, option_map}
+use Rattle.std.specs.Cmp.Lexicographic.{pointwise}
+use Rattle.std.specs.List.{AllZip}
+use Rattle.std.specs.Option.{option_eq}
+use Rattle.csl_base.specs.StyleView.{code_view}
+use Rattle.csl_base.specs.contracts.locale.LocalePartialEq.TheImpl as locale_eq
+use Rattle.csl_base.specs.contracts.style.IndependentStylePartialEq.TheImpl as style_eq
+use Rattle.csl_passes.specs.Positions.{same_locators}
+use Rattle.csl_passes.specs.Request.{RequestedCite}
+use Rattle.csl_passes.specs.RequestView.{cites_view, order_view}
+use Rattle.csl_passes.specs.declared.request.BibliographyRequest.{BibliographyRequest}
+use Rattle.csl_passes.specs.declared.request.CitationRequest.{CitationRequest}
+
+module _ {T P : Type 0} (entry_eq : T → T → Bool) (payload_eq : P → P → Bool) where
+  pub record IsSameCite (a b : RequestedCite T P) : Type 0 where
+    pub entry : IsTrue (entry_eq a.entry b.entry)
+    pub locator : IsTrue (same_locators payload_eq a.locator b.locator)
+    pub locale : a.locale ≡ b.locale
+    pub hidden : a.hidden ≡ b.hidden
+    pub purpose : a.purpose ≡ b.purpose
+    pub place : a.place ≡ b.place
+
+  pub record IsSameRequest (a b : CitationRequest T P) : Type 0 where
+    pub cites : AllZip IsSameCite (cites_view a.items.items) (cites_view b.items.items)
+    pub style : IsTrue ((style_eq.ghosts).eq a.style.now b.style.now)
+    pub locale : option_map code_view a.locale ≡ option_map code_view b.locale
+    pub locales : IsTrue (pointwise (locale_eq.ghosts).eq a.locale_files.now b.locale_files.now)
+    pub note_number : a.note_number ≡ b.note_number
+
+-- of requests for a bibliography
+pub record IsSameWanted {T : Type 0} (entry_eq : T → T → Bool) (a b : BibliographyRequest T) : Type 0 where
+  pub style : IsTrue ((style_eq.ghosts).eq a.style.now b.style.now)
+  pub locale : option_map code_view a.locale ≡ option_map code_view b.locale
+  pub locales : IsTrue (pointwise (locale_eq.ghosts).eq a.locale_files.now b.locale_files.now)
+  pub order : IsTrue (option_eq (pointwise entry_eq) (order_view a.order) (order_view b.order))
