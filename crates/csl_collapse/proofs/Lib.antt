@@ -3,3 +3,4 @@ pub mod RunLemmas
 pub mod StretchLemmas
 pub mod Tests
 pub mod Wholes
+pub mod ReadBack

@@ -22,7 +22,7 @@ next-of None y h e = absurd (true≢false (sym h))
 next-of (Some m) None h e = e
 next-of (Some m) (Some n) h e = e
 
-of-next : (x y : Option ℕ) → is_next x y ≡ true → (is_some x ≡ true) × (is_some y ≡ true) × (option_eq nat_eq y (option_map (λ n. n + 1) x) ≡ true)
+pub of-next : (x y : Option ℕ) → is_next x y ≡ true → (is_some x ≡ true) × (is_some y ≡ true) × (option_eq nat_eq y (option_map (λ n. n + 1) x) ≡ true)
 of-next None y h = absurd (true≢false (sym h))
 of-next (Some m) None h = absurd (true≢false (sym h))
 of-next (Some m) (Some n) h = (refl, refl, h)
@@ -38,7 +38,7 @@ module _ (numbers : List (Option ℕ)) where
   pub up-from : (k : ℕ) → goes_up k ≡ true → shows k ≡ true
   up-from k h = (of-next (number_at numbers k) (number_at numbers (suc k)) h).0
 
-  up-to : (k : ℕ) → goes_up k ≡ true → shows (suc k) ≡ true
+  pub up-to : (k : ℕ) → goes_up k ≡ true → shows (suc k) ≡ true
   up-to k h = (of-next (number_at numbers k) (number_at numbers (suc k)) h).1
 
   all-show : (a b k : ℕ) → Chain shows goes_up a b → a ≤ k → k < b + 1 → shows k ≡ true
@@ -48,7 +48,7 @@ module _ (numbers : List (Option ℕ)) where
       at : a ≤ suc k → (suc k ≡ a) ⊎ (a ≤ k)
       at h = grind arith
 
-  runs : IsOfChains (rises numbers) shows goes_up (length numbers)
+  pub runs : IsOfChains (rises numbers) shows goes_up (length numbers)
   runs = record { opens = opens; closes = closes; here = up-from; there = up-to; within = some-within numbers }
     where
       opens : (a b : ℕ) → rises numbers a b ≡ true → Chain shows goes_up a b

@@ -114,7 +114,7 @@ module _ {holds : ℕ → ℕ → Bool} {first link : ℕ → Bool} {n : ℕ} (i
       let r = to-right n l.0 b (omega arith) l.2 in
       (l.0, r.0, l.1, r.1, record { chain = r.2; left = l.3; right = r.3 })
 
-  linked-before : (k a b : ℕ) → Chain first link a b → a < k → k ≤ b → before link false k ≡ true
+  pub linked-before : (k a b : ℕ) → Chain first link a b → a < k → k ≤ b → before link false k ≡ true
   linked-before zero a b c u v = absurd (omega arith)
   linked-before (suc k) a b c u v = c.steps k (omega arith) (omega arith)
 

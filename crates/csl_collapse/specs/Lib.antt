@@ -3,3 +3,4 @@ pub mod NumberRuns
 pub mod YearStretches
 pub mod Collapsed
 pub mod Steps
+pub mod NumberLaws

@@ -4,6 +4,7 @@ ghost use Rattle.csl_base.specs.ElementView.{text_view};
 ghost use Rattle.csl_base.specs.StyleView.{citation_view};
 ghost use Rattle.csl_passes.specs.RendersView.{render_view};
 ghost use Rattle.csl_collapse.specs.Collapsed.{collapsed};
+ghost use Rattle.csl_collapse.specs.NumberLaws.{CanBeReadBack};
 ghost use Rattle.csl_collapse.specs.Stretches.{after_collapse};
 
 use crate::numbers::collapse_numbers;
@@ -26,7 +27,9 @@ use csl_passes::renders::SpeculativeCiteRender;
 ///
 /// It takes no memory. Purposes aren't looked at.
 pub fn collapse_items<T, P>(render: &mut SpeculativeCiteRender<'_, '_, T, P>)
-    ensures { render_view render.new ≡ collapsed (render_view render.old) }
+    ensures collapsed { render_view render.new ≡ collapsed (render_view render.old) }
+    ensures laws { let cites = (render_view render.old).items in
+        CanBeReadBack cites (render_view render.new).items (render_view render.old).request.style.citation.collapse }
 {
     let citation = &render.request.style().citation;
     match citation.collapse {
