@@ -2,7 +2,8 @@
 """run.py PROGRAM: runs a built cite_run on each document of this folder and of examples/, side by side, and compares
 standard output, exit status and the line on standard error. Then it tries what only a process can show, holds the
 documents to docs/document.schema.json, compares PROGRAM with model/ on random documents, and holds the model to what
-the documents must print.
+the documents must print. Where a C compiler is there, it refuses each growth of memory in turn (refuse.c), in PROGRAM and
+in crates/refusals, which is looked for beside it (../../refusals/out/refusals) and names each call before it is made.
 run.py PROGRAM FOLDER..: runs it on the documents of these folders, and does nothing else.
 
 A document is NAME.json. NAME.txt is what it must print; where the status isn't 0, NAME.status has it, and nothing is
@@ -16,6 +17,9 @@ The last line is 'N passed, M failed', and the exit status is 1 where a test fai
 import difflib
 import json
 import os
+import resource
+import shutil
+import signal
 import subprocess
 import sys
 import tempfile
@@ -209,7 +213,7 @@ def inside_many_lists(program):
 
 def cut_after_each_byte(program):
     """Only the whole document, with or without the line feed at its end, is one."""
-    whole, text = one_cite()
+    whole, text = row('rows/offset_and_order')
     document = whole.rstrip()
     for length in range(len(document)):
         got = ended(program, document[:length])
@@ -299,6 +303,24 @@ def refused_with_the_output_closed(program):
     hold(ended(['sh', '-c', 'exec "$0" >&-', program], b'{}'), 2)
 
 
+def output_takes_so_many_bytes(program):
+    """A file that takes no more than n bytes, for each n: the write fails then, and what went out is a beginning."""
+    given, text = row('rows/offset_and_order')
+
+    def limit(count):
+        signal.signal(signal.SIGXFSZ, signal.SIG_IGN)
+        resource.setrlimit(resource.RLIMIT_FSIZE, (count, count))
+
+    for count in range(len(text) + 1):
+        with tempfile.TemporaryFile() as out:
+            got = ended(program, given, stdout=out, preexec_fn=lambda: limit(count))
+            out.seek(0)
+            written = out.read()
+        hold(got, 1 if count < len(text) else 0)
+        if written != text[:count]:
+            raise Failed('%d bytes: %r went out' % (count, written))
+
+
 def memory_runs_out(program):
     """Under a limit of memory there is the whole answer, or none."""
     given, text = many_cites(8000)
@@ -307,10 +329,11 @@ def memory_runs_out(program):
         got = ended(['sh', '-c', 'ulimit -v %d; exec "$0"' % (limit * 1024), program], given)
         statuses.add(got[0])
         try:
-            hold(got, 5 if got[0] else 0, b'' if got[0] else text)
+            # (1 where what is read has no room)
+            hold(got, got[0] if got[0] in (1, 5) else 0, b'' if got[0] else text)
         except Failed as error:
             raise Failed('at %d MiB: %s' % (limit, error))
-    if statuses != {0, 5}:
+    if not {0, 5} <= statuses:
         raise Failed('only the statuses %s came' % sorted(statuses))
 
 
@@ -330,6 +353,7 @@ PROCESSES = [
     nobody_reads_the_output,
     reader_leaves,
     refused_with_the_output_closed,
+    output_takes_so_many_bytes,
     memory_runs_out,
     large_input_and_output,
     delimiter_of_a_megabyte,
@@ -338,6 +362,120 @@ PROCESSES = [
     bytes_that_are_no_text,
     cut_after_each_byte,
 ]
+
+
+# Each growth of memory refused in turn
+
+
+def row(name):
+    """A document of this folder, and what it must print."""
+    return read(HERE + '/' + name + '.json'), read(HERE + '/' + name + '.txt')
+
+
+# The documents that are answered by `finish` and by `finish_counted`.
+SWEPT = [
+    'rows/offset_and_order',
+    'disambiguation/suffix_by_entry',
+    'disambiguation/added_names',
+    'disambiguation/choose',
+    'disambiguation/labels',
+    'bibliography/author_substitution',
+    'collapsing/year_collapse_of_suffixes',
+]
+# Those that have a refusal for an answer, with its status.
+REFUSED = {'rows/ring_of_two_macros': 3, 'rows/number_overflow': 4}
+# A citation by itself has the number 0, which is printed as 1.
+ALONE = b'[1]\n' * 4
+# Calls of crates/refusals, which it names before it makes them; the status is 5 where one is refused, but for `citation`.
+CALLS = ['read', 'prepare', 'citation', 'finish', 'finish_counted', 'standalone_citation', 'run', 'free']
+MOST_GROWTHS = 100000
+
+
+def compiled(folder):
+    """What refuses the nth growth of a process, preloaded; none where no C compiler is here."""
+    compiler = next((it for it in map(shutil.which, ('cc', 'gcc', 'clang')) if it), None)
+    if not compiler:
+        return None
+    made = folder + '/refuse.so'
+    words = [compiler, '-shared', '-fPIC', '-O1', '-o', made, HERE + '/refuse.c', '-ldl']
+    if subprocess.run(words, stdout=subprocess.DEVNULL, stderr=subprocess.DEVNULL).returncode:
+        raise Failed('%s did not make refuse.so' % compiler)
+    return made
+
+
+def refused_in_turn(shim, program, given, judge):
+    """Runs with the first growth refused, the second, and on until none is refused; tells how many were. `judge` gets
+    status, output and the lines of standard error, in which `!` stands where a growth was refused."""
+    for n in range(1, MOST_GROWTHS):
+        status, out, error = ended(program, given, env={'LD_PRELOAD': shim, 'REFUSE': str(n)})
+        lines = error.replace(b'!', b'!\n').decode().split('\n')[:-1]
+        try:
+            judge(status, out, lines)
+        except Failed as failed:
+            raise Failed('growth %d refused: %s' % (n, failed))
+        if '!' not in lines:
+            return n - 1
+    raise Failed('growths are refused without end')
+
+
+def sweep_of_program(shim, program, name):
+    """Each refusal is status 5, or 1 while the input is read, and nothing is printed; at the end the answer comes."""
+    given, text = row(name)
+
+    def judge(status, out, lines):
+        if '!' not in lines:
+            return hold((status, out, ''.join(lines).encode()), 0, text)
+        hold((status, out, lines[-1].encode() + b'\n'), status if status in (1, 5) else 5)
+
+    return refused_in_turn(shim, program, given, judge)
+
+
+def sweep_of_calls(shim, program, way, given, status_wanted, text):
+    """Each run ends in the refusal of the very call whose growth was refused, or in the answer."""
+
+    def judge(status, out, lines):
+        called = [it for it in lines if it in CALLS or it == '!']
+        if '!' not in lines:
+            at, wanted, printed = None, status_wanted, text
+        else:
+            at = called[called.index('!') - 1]
+            # a request that came back is handed in again
+            wanted, printed = (6 if status_wanted == 0 else status_wanted, text) if at == 'citation' else (5, None)
+            if at == 'free':
+                raise Failed('a call that takes no memory was refused some')
+            if wanted == 5 and called[-1] != '!':
+                raise Failed('refused in %s, it went on: %s' % (at, called))
+        if status != wanted:
+            raise Failed('status %d, and not %d (%s)' % (status, wanted, ', '.join(lines[-4:])))
+        if printed is not None and out != printed:
+            raise Failed(difference(printed, out))
+        # what was answered before is a beginning: only calls for citations by themselves print between calls
+        if printed is None and not text.startswith(out):
+            raise Failed('%r was printed' % out)
+
+    return refused_in_turn(shim, program, way.encode() + b'\n' + given, judge)
+
+
+def sweeps(program):
+    """The sweeps, each with its name; or none, and why."""
+    refusals = os.path.join(os.path.dirname(program), '../../refusals/out/refusals')
+    if not os.access(refusals, os.X_OK):
+        return [], 'crates/refusals is not built'
+    folder = tempfile.mkdtemp()
+    shim = compiled(folder)
+    if not shim:
+        return [], 'no C compiler is here'
+    made = [('growths of %s' % it, sweep_of_program, shim, program, it) for it in SWEPT]
+    for way in ('finish', 'finish_counted'):
+        for name in SWEPT:
+            made.append(('growths of %s: %s' % (way, name), sweep_of_calls, shim, refusals, way, row(name)[0], 0, row(name)[1]))
+        for name, status in REFUSED.items():
+            given = read(HERE + '/' + name + '.json')
+            made.append(('growths of %s: %s' % (way, name), sweep_of_calls, shim, refusals, way, given, status, b''))
+    given, text = row('rows/offset_and_order')
+    for way, printed in (('run', text), ('standalone_citation', ALONE), ('free', b'')):
+        made.append(('growths of %s' % way, sweep_of_calls, shim, refusals, way, given, 0, printed))
+    return made, None
 
 
 def model(program):
@@ -356,10 +494,15 @@ def worked(folder):
         raise Failed(shortened(done.stdout, 4000))
 
 
+GROWTHS = []
+
+
 def tried(name, call, *given):
     """What failed, and how, or nothing."""
     try:
-        call(*given)
+        count = call(*given)
+        if call in (sweep_of_program, sweep_of_calls):
+            GROWTHS.append(count)
         return None
     except Failed as error:
         return name, str(error)
@@ -404,6 +547,8 @@ def main():
     bases = documents()
     tests = [('model: %d random documents' % RANDOM_DOCUMENTS, model, program)]
     tests += [('process: ' + it.__name__.replace('_', ' '), it, program) for it in reversed(PROCESSES)]
+    swept, why_not = sweeps(program)
+    tests += swept
     tests += [(name_of(it), document, program, it) for it in bases]
     tests += [('model: ' + name_of(it), worked, it) for it in [*folders_of(HERE), ROOT + '/examples']]
     tests.append(('files of the folders', strays))
@@ -416,8 +561,10 @@ def main():
     count = told(results)
     if not validator:
         print('note: the documents were not held to the schema: the library jsonschema (python3-jsonschema) is not here')
-    print('%d documents, %d of a process, %d against the schema, %d random ones against the model: %.1f seconds'
-          % (len(bases), len(PROCESSES), len(by_schema), RANDOM_DOCUMENTS, time.time() - began))
+    if why_not:
+        print('note: no growth of memory was refused: ' + why_not)
+    print('%d documents, %d of a process, %d against the schema, %d growths of memory refused in %d sweeps, %d random documents against the model: '
+          '%.1f seconds' % (len(bases), len(PROCESSES), len(by_schema), sum(GROWTHS), len(GROWTHS), RANDOM_DOCUMENTS, time.time() - began))
     print('%d passed, %d failed' % (len(results) - count, count))
     return 1 if count else 0
 

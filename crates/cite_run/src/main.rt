@@ -11,7 +11,10 @@ use std::io;
 use std::process::ExitCode;
 
 fn answer(rt: &(impl Input + Print + AllocGlobal)) -> Result<(), RunError> {
-    let bytes = read_input(rt.alloc(), &mut rt.reader())?;
+    // a reading that fails is a failed input for whatever cause, want of memory too
+    let Ok(bytes) = read_input(rt.alloc(), &mut rt.reader()) else {
+        return Err(RunError::Output);
+    };
     run(rt.alloc(), &bytes, &mut io::writer(rt))
 }
 
