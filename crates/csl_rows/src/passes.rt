@@ -61,8 +61,9 @@ fn cite<'a>(alloc: Global, entry: &'a PlainEntry) -> Result<Cite<'a>, AllocError
 /// The marks of the passes that tell cites apart, as far as they are those of the second cite and
 /// these: by names there are none.
 fn marks_are(alloc: Global, cites: &[Cites<'_, '_>]) -> Result<bool, AllocError> {
+    let groups = find_ambiguous_sets(alloc, cites)?;
     let mut alike = true;
-    for group in &find_ambiguous_sets(alloc, cites)? {
+    for group in &groups {
         let names = disambiguate_names(alloc, cites, group)?;
         let choose = disambiguate_with_choose(alloc, cites, group)?;
         let suffixes = disambiguate_year_suffix(alloc, cites, group)?;
