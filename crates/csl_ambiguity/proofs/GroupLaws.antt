@@ -1,5 +1,5 @@
 -- Cites without suffix: their groups, and their marks.
-use Rattle.std.proofs.Common.{◌≡◌, ℕ, zero, suc, ◌<◌, ◌≤◌, Bool, true, false, cond, not, ◌&&◌, ◌||◌, List, [], ◌∷◌, Option, None, Some, filter, get_or, length, map, refl, sym, ap, subst, ◌∙◌, true≢false, arith}
+use Rattle.std.proofs.Common.{◌≡◌, ℕ, zero, suc, Bool, true, false, cond, not, ◌&&◌, ◌||◌, List, [], ◌∷◌, Option, None, Some, filter, get_or, map, refl, sym, ap, subst, ◌∙◌, true≢false, arith}
 use Rattle.std.specs.Prelude.{All, Contains, bytes_eq, find, if◌then◌else◌}
 use Rattle.std.specs.Cmp.{IsEquivalence}
 use Rattle.std.specs.List.{list_any}
@@ -7,18 +7,18 @@ use Rattle.std.proofs.lemmas.List.Elements.{All-contains_itself, All-filter, All
 use Rattle.std.proofs.lemmas.Slice.Eq.{bytes_eq-Decides}
 use Rattle.csl_entries.specs.Entries.{distinct}
 use Rattle.csl_lookup.specs.GoingOn.{GoesOnTo}
-use Rattle.csl_lookup.specs.States.{may_get_names, may_get_suffix}
+use Rattle.csl_lookup.specs.States.{may_get_suffix}
 use Rattle.csl_lookup.specs.declared.state.DisambiguateState.{DisambiguateState}
-use Rattle.csl_passes.specs.Renders.{CiteRender, Place}
+use Rattle.csl_passes.specs.Renders.{CiteRender}
 use Rattle.csl_ambiguity.specs.Ambiguity.{ambiguous_groups, cite_different, class_of, classes, seconds, without_suffix}
-use Rattle.csl_ambiguity.specs.ChooseMarks.{asks, choose_marks, chosen, may_be_chosen}
+use Rattle.csl_ambiguity.specs.ChooseMarks.{asks, chosen, may_be_chosen}
 use Rattle.csl_ambiguity.specs.ClassesSoFar.{texts}
 use Rattle.csl_ambiguity.specs.MarkLaws.{AmbiguousStandTogether, AreAmbiguous, ChooseMarksGoOn, GroupsHaveNoSuffix, HaveNoSuffix, IsMarkOf, StandInOneGroup, SuffixMarksGoOn, SuffixesCountEntries}
 use Rattle.csl_ambiguity.specs.Members.{Member, document, entry_of, members, place_of, shown_text, state_of}
-use Rattle.csl_ambiguity.specs.SuffixMarks.{adds_suffix, first_cites, suffix_among, suffix_marks, year_suffix_marks}
+use Rattle.csl_ambiguity.specs.SuffixMarks.{adds_suffix, first_cites, suffix_among, suffix_marks}
 use Rattle.csl_ambiguity.proofs.Distinct.{all-filter, distinct-map}
 use Rattle.csl_ambiguity.proofs.FirstOnes.{enumerate-map, numbered-firsts}
-use Rattle.csl_ambiguity.proofs.Seconds.{are-texts, are_two, bytes_laws}
+use Rattle.csl_ambiguity.proofs.Seconds.{are-texts, are_two}
 use Rattle.csl_ambiguity.proofs.Sifted.{StandsThere, document-stands, members-there}
 
 -- what stands in a list
