@@ -47,7 +47,7 @@ module _ {T P : Type 0} (eq : T → T → Bool) (laws : IsEquivalence eq) (cites
   abbrev pub Mark : Type 0
   Mark = Place × DisambiguateState
 
-  enumerate-map : (k : ℕ) (ms : List (Member T P))
+  pub enumerate-map : (k : ℕ) (ms : List (Member T P))
       → map {B = Mark} (λ p. (p.1.1, YearSuffix p.0)) (enumerate_from k (map first_cite_of ms)) ≡ map {B = Mark} (λ p. (p.1.place, YearSuffix p.0)) (enumerate_from k ms)
   enumerate-map k [] = refl
   enumerate-map k (m ∷ ms) = ap (λ t. (m.place, YearSuffix k) ∷ t) (enumerate-map (k + 1) ms)

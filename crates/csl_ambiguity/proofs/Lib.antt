@@ -11,3 +11,4 @@ pub mod Document
 pub mod Different
 pub mod Apart
 pub mod Sifted
+pub mod GroupLaws

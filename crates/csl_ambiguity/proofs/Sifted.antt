@@ -46,7 +46,7 @@ module _ {E P : Type 0} (renders : List (CiteRender E P)) where
       (cites-stand r c (before ++ i ∷ []) is at (e ∙ sym (append_assoc before (i ∷ []) is))) in
       (cite-stands r (length before) c i at there, rest)
 
-  document-stands : (before cs : List (CiteRender E P)) → renders ≡ before ++ cs → AllByRecursion StandsThere (flat_map (λ p. request_cites p.0 p.1) (enumerate_from (length before) cs))
+  pub document-stands : (before cs : List (CiteRender E P)) → renders ≡ before ++ cs → AllByRecursion StandsThere (flat_map (λ p. request_cites p.0 p.1) (enumerate_from (length before) cs))
   document-stands before [] e = tt
   document-stands before (c ∷ cs) e =
       let there : slice_get renders (length before) ≡ Some c = ap (λ xs. slice_get xs (length before)) e ∙ after before c cs in
@@ -55,7 +55,7 @@ module _ {E P : Type 0} (renders : List (CiteRender E P)) where
       (subst (λ n. AllByRecursion StandsThere (flat_map (λ p. request_cites p.0 p.1) (enumerate_from n cs))) (length-append before (c ∷ []))
       (document-stands (before ++ c ∷ []) cs (e ∙ sym (append_assoc before (c ∷ []) cs))))
 
-  classes-stand : AllByRecursion (AllByRecursion StandsThere) (classes (without_suffix (document renders)))
+  pub classes-stand : AllByRecursion (AllByRecursion StandsThere) (classes (without_suffix (document renders)))
   classes-stand = by (seconds (without_suffix (document renders)))
     where
       by : (ms : List (Member E P)) → AllByRecursion (AllByRecursion StandsThere) (map (λ m. class_of (without_suffix (document renders)) (shown_text m)) ms)
@@ -67,7 +67,7 @@ module _ {E P : Type 0} (renders : List (CiteRender E P)) where
       )
 
   -- the cites at the places of cites that stand there
-  members-there : (ms : List (Member E P)) → AllByRecursion StandsThere ms → members renders (map place_of ms) ≡ ms
+  pub members-there : (ms : List (Member E P)) → AllByRecursion StandsThere ms → members renders (map place_of ms) ≡ ms
   members-there [] h = refl
   members-there (m ∷ ms) h = by (member_at renders m.place) h.0 (members-there ms h.1)
     where

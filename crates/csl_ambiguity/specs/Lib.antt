@@ -5,3 +5,4 @@ pub mod SuffixMarks
 pub mod InRange
 pub mod ClassesSoFar
 pub mod FirstCites
+pub mod MarkLaws

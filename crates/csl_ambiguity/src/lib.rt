@@ -6,5 +6,6 @@ pub mod ambiguity;
 pub mod choose;
 mod classes;
 mod first_cites;
+pub mod laws;
 mod members;
 pub mod suffixes;

@@ -30,7 +30,7 @@ module _ {E P : Type 0} where
   abbrev seen : List (ItemRender E P) → List (Option (ItemRender E P))
   seen = map (λ c. Some (bare c))
 
-  places-seen : (b : ℕ) (front xs : List (ItemRender E P)) → ((k : ℕ) → slice_get (map bare front) (b + k) ≡ slice_get (map bare xs) k)
+  pub places-seen : (b : ℕ) (front xs : List (ItemRender E P)) → ((k : ℕ) → slice_get (map bare front) (b + k) ≡ slice_get (map bare xs) k)
       → map (λ k. slice_get (map bare front) k) (range_with_len b (length xs)) ≡ seen xs
   places-seen b front [] h = refl
   places-seen b front (x ∷ xs) h =

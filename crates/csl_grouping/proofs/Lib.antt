@@ -7,3 +7,4 @@ pub mod Placing
 pub mod Swaps
 pub mod Whole
 pub mod Kept
+pub mod FinalOrders

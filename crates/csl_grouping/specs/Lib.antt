@@ -4,3 +4,4 @@ pub mod Steps
 pub mod Moves
 pub mod KeyLaws
 pub mod Laws
+pub mod FinalOrder

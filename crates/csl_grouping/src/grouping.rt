@@ -4,6 +4,7 @@ ghost use Rattle.csl_base.specs.ElementView.{text_view};
 ghost use Rattle.csl_base.specs.StyleView.{citation_view};
 ghost use Rattle.csl_passes.specs.RendersView.{item_view, items_view, render_view};
 ghost use Rattle.csl_grouping.specs.Blocks.{group_delimiter, grouped, grouped_cites, is_grouped};
+ghost use Rattle.csl_grouping.specs.FinalOrder.{HasFinalOrder};
 ghost use Rattle.csl_grouping.specs.Steps.{all_marked, marked};
 
 use crate::blocks::{Placed, block_order};
@@ -29,6 +30,7 @@ pub fn group_cites<T, P>(
 ) -> Result<(), AllocError>
     ensures grouped { OnOk result (render_view render.new ≡ grouped (render_view render.old)) }
     ensures refused { OnErr result (render_view render.new ≡ render_view render.old) }
+    ensures laws { OnOk result (HasFinalOrder (is_grouped (render_view render.old).request.style.citation) (render_view render.old).items (render_view render.new).items) }
 {
     let citation = &render.request.style().citation;
     match delimiter_of_groups(citation) {

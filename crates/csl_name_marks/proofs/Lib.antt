@@ -12,3 +12,4 @@ pub mod Shown
 pub mod Telling
 pub mod Namesakes
 pub mod Marking
+pub mod Rising

@@ -6,3 +6,4 @@ pub mod Classes
 pub mod Raising
 pub mod ByName
 pub mod NameMarks
+pub mod MarkLaws

@@ -5,6 +5,7 @@ mod by_name;
 mod classes;
 mod cut;
 mod group;
+pub mod laws;
 pub mod marks;
 mod named_cite;
 mod persons;
