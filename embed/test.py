@@ -1,6 +1,6 @@
 #!/usr/bin/env python3
-"""test.py [--after-ci | --archive FILE]: builds the library (build.py, with these words), and tries it as its users would: from C,
-Python and Rust, on each document of documents/ and examples/.
+"""test.py [--after-ci | --archive FILE]: builds the library (build.py, with these words), and tries it as its users would:
+from C, Python and Rust, on each document of documents/ and examples/.
 
 It needs the toolchain and a C compiler. What else it would use (c++, rustc, valgrind, pip, python3-jsonschema) is left out where
 it is missing, and a line says so.
@@ -65,7 +65,8 @@ def printed(answer):
     """What docs/ANSWER.md says that an answer is printed as."""
     lines = [plain(it['content']) for it in answer['citations']]
     if 'bibliography' in answer:
-        lines += ['', *[it['key'] + '\t' + plain(it.get('first_field', [])) + plain(it['content']) for it in answer['bibliography']['items']]]
+        items = answer['bibliography']['items']
+        lines += ['', *[it['key'] + '\t' + plain(it.get('first_field', [])) + plain(it['content']) for it in items]]
     return ''.join(line + '\n' for line in lines)
 
 
@@ -126,25 +127,31 @@ def try_from_c(room, cases):
         for one, other, case in zip(texts[form], answers_of(room, form, 1, cases), cases):
             hold(one == other, f'{case.name}: {form} in a room of one byte')
     for case, text, answer in zip(cases, texts['text'], texts['json']):
-        hold(text == (case.status, case.text), f'{case.name}: the text: status {text[0]}, and not {case.status}, or another text')
+        hold(text == (case.status, case.text), f'{case.name}: the text, or status {text[0]}, and not {case.status}')
         hold(answer[0] == case.status, f'{case.name}: JSON: status {answer[0]}, and not {case.status}')
         if case.status == 0:
             value = json.loads(answer[1])
             hold(printed(value) == case.text.decode(), f'{case.name}: the text that is read off its JSON')
             if schema:
                 hold(schema.is_valid(value), f'{case.name}: its JSON against docs/answer.schema.json')
+    one = Case(f'{HERE}/tests/every_kind.json')
+    status, answer = answers_of(room, 'json', big, [one])[0]
+    wanted = json.loads(read(f'{HERE}/tests/every_kind.answer.json'))
+    hold(status == 0 and json.loads(answer) == wanted, 'the JSON that was worked out by hand for tests/every_kind.json')
     return [it[1] for it in texts['json']]
+
+
+def members(part):
+    """What there is of a part of an answer, by name."""
+    return {name: it for name, it in vars(part).items() if it is not None}
 
 
 def is_rebuilt(gamhilon, case, value):
     """Whether `render` gives all that the JSON has, and `plain` the text of each tree."""
     answer = gamhilon.render(case.bytes)
-    found = {'citations': [vars(it) for it in answer.citations]}
+    found = {'citations': [members(it) for it in answer.citations]}
     if answer.bibliography:
-        found['bibliography'] = {**vars(answer.bibliography), 'items': [vars(it) for it in answer.bibliography.items]}
-        found['bibliography'] = {key: it for key, it in found['bibliography'].items() if it is not None}
-        found['bibliography']['items'] = [{key: it for key, it in one.items() if it is not None} for one in found['bibliography']['items']]
-    found['citations'] = [{key: it for key, it in one.items() if it is not None} for one in found['citations']]
+        found['bibliography'] = {**members(answer.bibliography), 'items': [members(it) for it in answer.bibliography.items]}
     return found == value and all(gamhilon.plain(it.content) == plain(it.content) for it in answer.citations)
 
 
@@ -194,22 +201,25 @@ def try_package(room):
     made = ran(sys.executable, '-m', 'pip', 'install', '-q', '--no-index', '--target', f'{room}/site', f'{HERE}/python')
     hold(made.returncode == 0, f'pip install: {made.stderr.decode()[-600:]}')
     words = 'import gamhilon, sys; sys.stdout.write(gamhilon.print_document(sys.stdin.read())); print(gamhilon.__file__)'
-    done = ran(sys.executable, '-c', words, input=read(f'{ROOT}/examples/first.json'), cwd=room, env={'PYTHONPATH': f'{room}/site', 'PATH': os.environ['PATH']})
-    hold(done.stdout == read(f'{ROOT}/examples/first.txt') + f'{room}/site/gamhilon.py\n'.encode(), 'the installed package')
+    how = {'cwd': room, 'env': {'PYTHONPATH': f'{room}/site', 'PATH': os.environ['PATH']}}
+    done = ran(sys.executable, '-c', words, input=read(f'{ROOT}/examples/first.json'), **how)
+    wanted = read(f'{ROOT}/examples/first.txt') + f'{room}/site/gamhilon.py\n'.encode()
+    hold(done.stdout == wanted, 'the installed package')
 
 
 def try_callers(room):
     """The callers in C and in Rust, as programs, and the example to_html."""
     programs = {'c/print.c': f'{room}/print'}
     if has_tool('rustc', 'the caller in Rust'):
-        made = ran('rustc', '--edition', '2021', '-O', '-o', f'{room}/rust', f'{HERE}/rust/gamhilon.rs', '-L', f'native={HERE}/out', '-l', 'static=gamhilon')
+        words = ['--edition', '2021', '-O', '-L', f'native={HERE}/out', '-l', 'static=gamhilon']
+        made = ran('rustc', *words, '-o', f'{room}/rust', f'{HERE}/rust/gamhilon.rs')
         hold(made.returncode == 0, f'rust/gamhilon.rs compiles: {made.stderr.decode()[:600]}')
         programs['rust/gamhilon.rs'] = f'{room}/rust'
-    first = read(f'{ROOT}/examples/first.json')
+    first, text = read(f'{ROOT}/examples/first.json'), read(f'{ROOT}/examples/first.txt')
     for name, program in programs.items():
-        hold(ran(program, input=first).stdout == read(f'{ROOT}/examples/first.txt'), f'{name}: examples/first.json')
+        hold(ran(program, input=first).stdout == text, f'{name}: examples/first.json')
         answer = ran(program, 'json', input=first).stdout
-        hold(answer[:1] == b'{' and printed(json.loads(answer)).encode() == read(f'{ROOT}/examples/first.txt'), f'{name}: JSON of examples/first.json')
+        hold(answer[:1] == b'{' and printed(json.loads(answer)).encode() == text, f'{name}: JSON of examples/first.json')
         hold(ran(program, input=b'{').returncode == 2, f'{name}: the status of what is no document')
     shown = ran(sys.executable, f'{HERE}/python/to_html.py', input=first).stdout.decode()
     hold('<i>On the Origin of Species</i>' in shown, 'python/to_html.py: italics')
@@ -226,12 +236,12 @@ def try_hard(room, cases):
     """Memory refused, threads, valgrind, and the need of stack."""
     few = [it.path for it in ten(cases)]
     done = ran(f'{room}/failing', *few)
-    print(done.stdout.decode().strip().split('\n')[0])
-    hold(done.returncode == 0, f'each allocation refused in turn: {[it for it in done.stdout.decode().split(chr(10)) if " 0 wrong" not in it][:3]}')
+    wrong = [it for it in done.stdout.decode().splitlines() if ', 0 wrong' not in it]
+    hold(done.returncode == 0, f'each allocation refused in turn: {wrong[:3]}')
     done = ran(f'{room}/threads', *few)
     hold(done.returncode == 0, f'eight threads: {done.stdout.decode()}')
     if has_tool('valgrind', 'leaks and wrong reads'):
-        words = ['valgrind', '-q', '--error-exitcode=9', '--leak-check=full', '--errors-for-leak-kinds=all', '--show-leak-kinds=all', f'{room}/calls']
+        words = ['valgrind', '-q', '--error-exitcode=9', '--leak-check=full', '--errors-for-leak-kinds=all', f'{room}/calls']
         with ThreadPoolExecutor(2) as pool:
             for form, done in zip(FORMS, pool.map(lambda it: ran(*words, it, '1', *few), FORMS)):
                 hold(done.returncode == 0, f'valgrind, {form}: {done.stderr.decode()[:900]}')
