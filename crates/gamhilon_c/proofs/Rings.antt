@@ -1,13 +1,12 @@
 -- What is handed out of a ring is of the document.
-use Rattle.std.proofs.Common.{◌≡◌, ◌≢◌, ℕ, ◌≤◌, Option, Result, Ok, Err, subst, sym, arith}
-use Rattle.csl_driver.specs.declared.error.RingPlace.{RingPlace}
+use Rattle.std.proofs.Common.{◌≡◌, ℕ, Option, Result, Ok, Err, arith}
 use Rattle.csl_assembly.specs.declared.rendered.Rendered.{Rendered}
 use Rattle.document_reading.specs.Form.{Document}
-use Rattle.cite_document.specs.Run.{Answers, HasFirstRing, IsRefused, IsDocumentThat}
+use Rattle.cite_document.specs.Run.{Answers, IsRefused}
 use Rattle.cite_document.specs.Status.{status}
 use Rattle.cite_document.specs.declared.error.RunError.{RunError}
 use Rattle.cite_document.specs.declared.error.RunError.TheVariants as errors
-use Rattle.gamhilon_c.specs.Ring.{FindsRing, HandsOutRing, NotesRing, place_of}
+use Rattle.gamhilon_c.specs.Ring.{FindsRing, HandsOutRing, NotesRing}
 use Rattle.gamhilon_c.specs.declared.ring.GamhilonRing.{GamhilonRing}
 
 module _ (read : Option Document) (code : ℕ) (before after : GamhilonRing) where
@@ -24,7 +23,7 @@ module _ (read : Option Document) (code : ℕ) (before after : GamhilonRing) whe
   refused (errors.MacroRing place i) h s n = record {
     answered = λ c. absurd (omega arith);
     no_document = λ c. absurd (omega arith);
-    found = λ c. subst (λ p. IsDocumentThat read (HasFirstRing p after.macro_place)) (sym n.0) (subst (λ j. IsDocumentThat read (HasFirstRing place j)) (sym n.1) h);
+    found = λ c. (h.0, h.1, (place, i, n, h.2));
     overflow = λ c. absurd (omega arith);
     kept = λ c. absurd (c s);
     is_status = (omega arith, λ c. absurd (omega arith));

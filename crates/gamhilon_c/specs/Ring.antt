@@ -1,5 +1,5 @@
 -- What a call for the place of a ring does.
-use Rattle.std.specs.Prelude.{◌≡◌, ◌≢◌, ℕ, zero, suc, ◌≤◌, Option, None, Result, Ok, Err}
+use Rattle.std.specs.Prelude.{◌≡◌, ◌≢◌, ℕ, ◌≤◌, Option, None, Result, Ok, Err}
 use Rattle.csl_driver.specs.declared.error.RingPlace.{RingPlace}
 use Rattle.csl_driver.specs.declared.error.RingPlace.TheVariants as places
 use Rattle.csl_assembly.specs.declared.rendered.Rendered.{Rendered}
@@ -10,20 +10,21 @@ use Rattle.cite_document.specs.declared.error.RunError.{RunError}
 use Rattle.cite_document.specs.declared.error.RunError.TheVariants as errors
 use Rattle.gamhilon_c.specs.declared.ring.GamhilonRing.{GamhilonRing}
 
-abbrev pub place_in : ℕ → ℕ → RingPlace
-place_in zero request = places.Request request
-place_in (suc n) request = places.Bibliography
+-- the numbers that tell a style's place and that of a macro
+abbrev pub numbers_of : RingPlace → ℕ → GamhilonRing
+numbers_of (places.Request k) i = record { of_bibliography = 0; request = k; macro_place = i }
+numbers_of places.Bibliography i = record { of_bibliography = 1; request = 0; macro_place = i }
 
--- the style's place
-abbrev pub place_of : GamhilonRing → RingPlace
-place_of r = place_in r.of_bibliography r.request
+-- the numbers tell the place of the document's first ring
+abbrev pub TellsFirstRing : GamhilonRing → Document → Type 0
+TellsFirstRing r d = (place : RingPlace) × (i : ℕ) × (r ≡ numbers_of place i) × HasFirstRing place i d
 
 -- A call that ended with the status `code`. The bytes that it was given are the document of `read`, or none; and the ring held `before`
 -- and then `after`.
 pub record FindsRing (read : Option Document) (code : ℕ) (before after : GamhilonRing) : Type 0 where
   pub answered : code ≡ 0 → IsDocumentThat read HasAnswer
   pub no_document : code ≡ 2 → read ≡ None
-  pub found : code ≡ 3 → IsDocumentThat read (HasFirstRing (place_of after) after.macro_place)
+  pub found : code ≡ 3 → IsDocumentThat read (TellsFirstRing after)
   pub overflow : code ≡ 4 → IsDocumentThat read HasTooLargeNumbers
   pub kept : code ≢ 3 → after ≡ before
   pub is_status : (code ≤ 5) × (code ≢ 1)
@@ -32,7 +33,7 @@ pub record FindsRing (read : Option Document) (code : ℕ) (before after : Gamhi
 
 -- the place is noted where there is a ring
 abbrev pub NotesRing : RunError → GamhilonRing → GamhilonRing → Type 0
-NotesRing (errors.MacroRing place i) before after = (place_of after ≡ place) × (after.macro_place ≡ i)
+NotesRing (errors.MacroRing place i) before after = after ≡ numbers_of place i
 NotesRing _ before after = after ≡ before
 
 abbrev pub HandsOutRing : Result Rendered RunError → ℕ → GamhilonRing → GamhilonRing → Type 0

@@ -1,6 +1,6 @@
 //! Places of rings as numbers.
 ghost use Rattle.std.specs.Prelude.{◌≡◌};
-ghost use Rattle.gamhilon_c.specs.Ring.{HandsOutRing, NotesRing, place_of};
+ghost use Rattle.gamhilon_c.specs.Ring.{HandsOutRing, NotesRing, numbers_of};
 
 use cite_document::error::RunError;
 use csl_driver::error::RingPlace;
@@ -19,8 +19,7 @@ pub struct GamhilonRing {
 }
 
 fn ring_at(place: RingPlace, macro_place: usize) -> GamhilonRing
-    ensures place { place_of result ≡ place }
-    ensures macro_place { result.macro_place ≡ macro_place }
+    ensures { result ≡ numbers_of place macro_place }
 {
     match place {
         RingPlace::Request(request) => GamhilonRing {

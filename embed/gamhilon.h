@@ -1,0 +1,78 @@
+/* Gamhilon: citations and bibliographies. C99 and C++17.
+ *
+ * A call is given a document, which is JSON (docs/DOCUMENT.md), and room that the caller owns, and puts the answer
+ * there: as text, a line for each citation and for each item of the bibliography, or as JSON (docs/ANSWER.md), with
+ * formatting, links, keys, note numbers and settings. Both are UTF-8 with no NUL at the end.
+ *
+ *     size_t length;
+ *     uint32_t status = gamhilon_print(document, document_length, NULL, 0, &length);
+ *     if (status == GAMHILON_ROOM_TOO_SMALL) {
+ *         uint8_t *room = malloc(length);
+ *         status = gamhilon_print(document, document_length, room, length, &length);
+ *         ...
+ *         free(room);
+ *     }
+ *
+ * Each such call does the whole work, so give it room at once that will mostly do: text is rarely longer than its
+ * document, and JSON rarely longer than ten times that.
+ *
+ * Ownership. Document, room, `length` and `ring` are the caller's before and after a call, and must not overlap. The
+ * library keeps no pointer to them. A pointer may be null where its length is 0; `length` and `ring` must not be null.
+ *
+ * Memory. The library takes memory by malloc and realloc, and has freed all of it when a call returns. Where that is
+ * refused, the call ends with GAMHILON_OUT_OF_MEMORY; it never ends the process. Nothing is to be freed by the caller.
+ *
+ * Threads. Each call stands alone: there is no state between calls and nothing to initialise, and any number of threads
+ * may call at once, on rooms of their own. No call reads a file, the environment, the locale or a clock, or writes to a
+ * stream.
+ *
+ * Stack. A call takes more of it the deeper the document's elements nest. Give a thread that calls 256 KiB: of the documents that
+ * the tests try the deepest take 145 KiB, and embed/test.py holds all of them to 256. JSON nests no deeper than 127, but macros
+ * that call one another deepen trees further. Running out of stack ends the process, as everywhere in C.
+ *
+ * What each call does with document, room, `length` and `ring` is proved, for callers that keep to the lines above
+ * (crates/gamhilon_c). The C compiler and malloc are trusted. */
+#ifndef GAMHILON_H
+#define GAMHILON_H
+
+#include <stddef.h>
+#include <stdint.h>
+
+#ifdef __cplusplus
+extern "C" {
+#endif
+
+/* What a call ends with. At every status but GAMHILON_OK the room is as it was; at GAMHILON_OK it begins with the answer,
+ * and the rest of it is as it was. `*length` is the length of the whole answer at GAMHILON_OK and at
+ * GAMHILON_ROOM_TOO_SMALL, and else 0. There is no status 1: that is the program's, where reading or writing fails. */
+#define GAMHILON_OK 0u
+#define GAMHILON_DOCUMENT_REFUSED 2u /* not JSON, or not of the form of a document */
+#define GAMHILON_MACRO_RING 3u       /* the macros of a style call each other in a ring: gamhilon_ring tells where */
+#define GAMHILON_NUMBER_OVERFLOW 4u  /* the citation numbers don't fit 64 bits */
+#define GAMHILON_OUT_OF_MEMORY 5u    /* memory was refused */
+#define GAMHILON_ROOM_TOO_SMALL 6u   /* the answer has *length bytes, more than the room */
+
+/* Puts the answer to the document, as text, into the room. */
+uint32_t gamhilon_print(const uint8_t *document, size_t document_length,
+                        uint8_t *room, size_t room_length, size_t *length);
+
+/* Puts the answer to the document, as JSON, into the room. */
+uint32_t gamhilon_print_json(const uint8_t *document, size_t document_length,
+                             uint8_t *room, size_t room_length, size_t *length);
+
+/* Where the first ring of macros is. */
+typedef struct {
+    size_t of_bibliography; /* 1 where the style is that of the bibliography, and else 0 */
+    size_t request;         /* the place of the request whose style it is, from 0; 0 where it's the bibliography's */
+    size_t macro_place;     /* the place of the first macro on a ring, among the macros of its style, from 0 */
+} gamhilon_ring_place;
+
+/* Ends with a status as gamhilon_print does, and never with GAMHILON_ROOM_TOO_SMALL. At GAMHILON_MACRO_RING `*ring` is the
+ * place of the first ring, and at every other status it is as it was. */
+uint32_t gamhilon_ring(const uint8_t *document, size_t document_length, gamhilon_ring_place *ring);
+
+#ifdef __cplusplus
+}
+#endif
+
+#endif

@@ -1,0 +1,91 @@
+/* failing FILE..: each allocation of a call refused in turn, and each refused with all that come after it; of both texts and of
+ * the place of a ring. Linked with --wrap=malloc,--wrap=realloc,--wrap=free. */
+#include "gamhilon.h"
+
+#include <stdio.h>
+#include <stdlib.h>
+#include <string.h>
+
+void *__real_malloc(size_t);
+void *__real_realloc(void *, size_t);
+void __real_free(void *);
+void *__wrap_malloc(size_t);
+void *__wrap_realloc(void *, size_t);
+void __wrap_free(void *);
+
+static long left = -1, made, open_blocks;
+static int and_all_after;
+
+static int is_refused(void) {
+    made++;
+    if (left < 0) return 0;
+    if (left > 0) return left--, 0;
+    if (!and_all_after) left = -1;
+    return 1;
+}
+
+void *__wrap_malloc(size_t n) {
+    if (is_refused()) return NULL;
+    open_blocks++;
+    return __real_malloc(n);
+}
+
+void *__wrap_realloc(void *p, size_t n) {
+    if (is_refused()) return NULL;
+    if (p == NULL) open_blocks++;
+    return __real_realloc(p, n);
+}
+
+void __wrap_free(void *p) {
+    if (p != NULL) open_blocks--;
+    __real_free(p);
+}
+
+enum { ROOM = 1 << 22 };
+
+static uint8_t document[ROOM], room[ROOM], answer[ROOM];
+static size_t n;
+static gamhilon_ring_place ring;
+
+static uint32_t called(int form, uint8_t *into, size_t *length) {
+    ring.macro_place = 77;
+    *length = 0;
+    if (form == 0) return gamhilon_print(document, n, into, ROOM, length);
+    if (form == 1) return gamhilon_print_json(document, n, into, ROOM, length);
+    return gamhilon_ring(document, n, &ring);
+}
+
+/* Whether a call of which some allocation was refused is right: refused itself, or the answer all the same. */
+static int is_right(uint32_t status, size_t length, uint32_t whole_status, size_t whole_length) {
+    if (open_blocks != 0) return 0;
+    if (status == GAMHILON_OUT_OF_MEMORY) return length == 0 && room[0] == 7 && room[99] == 7 && ring.macro_place == 77;
+    return status == whole_status && length == whole_length && memcmp(room, answer, whole_length) == 0;
+}
+
+int main(int argc, char **argv) {
+    int wrong = 0;
+    for (int i = 1; i < argc; i++) {
+        FILE *file = fopen(argv[i], "rb");
+        n = fread(document, 1, sizeof document, file);
+        fclose(file);
+        for (int form = 0; form < 3; form++) {
+            size_t whole_length, length;
+            left = -1, made = open_blocks = 0;
+            uint32_t whole_status = called(form, answer, &whole_length);
+            long count = made, refused = 0, leaked = open_blocks, bad = leaked != 0;
+            for (and_all_after = 0; and_all_after < 2; and_all_after++)
+                for (long k = 0; k < count; k++) {
+                    memset(room, 7, 100);
+                    left = k, open_blocks = 0;
+                    uint32_t status = called(form, room, &length);
+                    left = -1;
+                    refused += status == GAMHILON_OUT_OF_MEMORY;
+                    bad += !is_right(status, length, whole_status, whole_length);
+                }
+            printf("%s: form %d, status %u, %ld allocations, %ld of %ld calls out of memory, %ld wrong\n", argv[i], form,
+                   (unsigned)whole_status, count, refused, 2 * count, bad);
+            wrong |= bad != 0 || refused < count;
+        }
+    }
+    return wrong;
+}
