@@ -8,3 +8,4 @@ pub mod places;
 pub mod positions;
 pub mod renders;
 pub mod request;
+pub mod texts;
