@@ -16,8 +16,8 @@ use Rattle.csl_passes.specs.Places.{IsPlace}
 use Rattle.csl_passes.specs.Renders.{CiteRender, ItemRender, Place}
 use Rattle.csl_passes.specs.Request.{Request}
 use Rattle.csl_rounds.specs.Gathered.{AreGreatest, IsPlaced, by_places, cite_again, document_again, entry_place, greatest_at, request_again}
-use Rattle.csl_rounds.specs.RoundMarks.{Mark, greatest}
-use Rattle.csl_rounds.specs.Rounds.{at_table, cites, mark_of, request_at, with_any}
+use Rattle.csl_rounds.specs.RoundMarks.{Mark, cites, greatest}
+use Rattle.csl_rounds.specs.Rounds.{at_table, mark_of, request_at, with_any}
 
 -- the same place is an equal entry
 module _ {E : Type 0} (eq : E → E → Bool) (laws : IsEquivalence eq) where
@@ -140,16 +140,18 @@ module _ {E P : Type 0} (eq : E → E → Bool) (es : List E) (places : List (Li
           cited : Option (Request E P × ItemRender E P) → Bool
           cited o = option_map_or {T = Member E P} (λ m. eq e (entry_of m)) (option_map (λ cite. record { place = at; item = cite.1; style = cite.0.style }) o) false
 
+      -- a mark of a cite of e has its place
+      agree : (e : E) (m : Mark) → IsPlace renders m.0 → nat_eq (entry_place places m.0) (place eq e es) ≡ cites eq renders e m.0
+      agree e m there =
+          let s : Stands m.0 = stands m.0 there in
+          let below : place eq s.item.entry es < length es = subst (λ n. n < length es) (entry-at m.0 s) (is-placed m.0 s).below in
+          ap (λ n. nat_eq n (place eq e es)) (entry-at m.0 s) ∙ same-place eq laws s.item.entry e es below ∙ sym (cited-at m.0 e s)
+
       -- by its place an entry has the greatest of its marks
       marks-at : (marks : List Mark) → All (λ m. IsPlace renders m.0) marks → (e : E) → greatest_at places marks (place eq e es) ≡ mark_of eq renders marks e
       marks-at marks h e =
-          ap (λ ms. greatest (map (λ m. m.1) ms)) (same-kept (λ m. IsPlace renders m.0) (λ m. nat_eq (entry_place places m.0) (place eq e es)) (λ m. cites eq renders e m.0) agree marks h)
-        where
-          agree : (m : Mark) → IsPlace renders m.0 → nat_eq (entry_place places m.0) (place eq e es) ≡ cites eq renders e m.0
-          agree m there =
-              let s : Stands m.0 = stands m.0 there in
-              let below : place eq s.item.entry es < length es = subst (λ n. n < length es) (entry-at m.0 s) (is-placed m.0 s).below in
-              ap (λ n. nat_eq n (place eq e es)) (entry-at m.0 s) ∙ same-place eq laws s.item.entry e es below ∙ sym (cited-at m.0 e s)
+          ap (λ ms. greatest (map (λ m. m.1) ms))
+          (same-kept (λ m. IsPlace renders m.0) (λ m. nat_eq (entry_place places m.0) (place eq e es)) (λ m. cites eq renders e m.0) (agree e) marks h)
 
       module _ (answers : E → Answers) (marks : List Mark) (there : All (λ m. IsPlace renders m.0) marks) (states : List (Option DisambiguateState)) (great : AreGreatest places marks (length es) states) where
         abbrev table : E → Option DisambiguateState

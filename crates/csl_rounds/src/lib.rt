@@ -4,6 +4,7 @@
 pub mod contexts;
 pub mod first_renders;
 mod marks;
+pub mod mode;
 mod rerender;
 pub mod rounds;
 mod states;

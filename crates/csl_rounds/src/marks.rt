@@ -4,6 +4,7 @@ ghost use Rattle.csl_passes.specs.Places.{AreDistinct, IsPlace};
 ghost use Rattle.csl_passes.specs.RendersView.{renders_view};
 ghost use Rattle.csl_rounds.specs.Gathered.{with_group};
 ghost use Rattle.csl_rounds.specs.RoundMarks.{round_marks};
+ghost use Rattle.csl_rounds.specs.declared.mode.RoundMode.{RoundMode};
 
 use csl_ambiguity::ambiguity::find_ambiguous_sets;
 use csl_ambiguity::choose::disambiguate_with_choose;
@@ -36,14 +37,14 @@ fn add_group<T: EntryLike, P>(
     Ok(())
 }
 
-/// The marks of a round: those by names of every ambiguous group; and for the first group that can be
-/// marked in any way, where it has none by names, its choose marks, or its suffixes where there are
+/// The marks of a round in mode three: those by names of every ambiguous group; and for the first group that
+/// can be marked in any way, where it has none by names, its choose marks, or its suffixes where there are
 /// none of these either.
-pub(crate) fn round_marks<T: EntryLike, P>(
+pub(crate) fn marks_of_three<T: EntryLike, P>(
     alloc: Global,
     renders: &[SpeculativeCiteRender<'_, '_, T, P>],
 ) -> Result<Marks, AllocError>
-    ensures { IfOk result (λ v. v.items ≡ round_marks T.eq T.answers (renders_view renders.now)) }
+    ensures { IfOk result (λ v. v.items ≡ round_marks RoundMode.Three T.eq T.answers (renders_view renders.now)) }
 {
     let dated = shows_dates(renders);
     let groups = find_ambiguous_sets(alloc, renders)?;

@@ -4,12 +4,14 @@ ghost use Rattle.csl_base.specs.Ring.{HasNoRing};
 ghost use Rattle.csl_entries.specs.Entries.{place};
 ghost use Rattle.csl_entries.specs.TableView.{table_view};
 ghost use Rattle.csl_passes.specs.RendersView.{renders_view};
-ghost use Rattle.csl_rounds.specs.Rerenders.{AreStatesOf, entries_cited, last_states, marked_among, rerenders, round_tables};
+ghost use Rattle.csl_rounds.specs.AfterRounds.{AreAfterRounds};
+ghost use Rattle.csl_rounds.specs.Rerenders.{AreStatesOf, marked_among};
 ghost use Rattle.csl_rounds.specs.RoundMarks.{has_any, round_marks};
-ghost use Rattle.csl_rounds.specs.Rounds.{Table, at_table, disambiguated, mark_of, with_marks};
+ghost use Rattle.csl_rounds.specs.Rounds.{Table, at_table, entries_cited, mark_of, with_marks};
+ghost use Rattle.csl_rounds.specs.declared.mode.RoundMode.{RoundMode};
 ghost use Rattle.csl_writing.specs.Counted.{counted_times};
 
-use crate::marks::round_marks;
+use crate::marks::marks_of_three;
 use crate::rerender::render_marked;
 use crate::states::{greatest_marks, no_states, put_before};
 use csl_base::entry::EntryLike;
@@ -22,8 +24,8 @@ use std::alloc::{AllocError, Global};
 /// What the rounds did.
 #[derive(Drop)]
 pub struct Rounds {
-    /// How many of them marked.
-    pub marked: usize,
+    /// How many of them marked; the greatest `u128` where more did.
+    pub marked: u128,
     /// The states that the entries have after them, by their places in the table; none where no round
     /// marked the entry.
     pub states: Vec<Option<DisambiguateState>>,
@@ -42,15 +44,15 @@ fn run_round<'a, T: EntryLike, P>(
     requires placed { (table_view table.now).places ≡ map (λ c. map (λ i. place T.eq i.entry (table_view table.now).entries) c.items) (renders_view renders.old) }
     requires listed { All (λ ps. All (λ p. p < length (table_view table.now).entries) ps) (table_view table.now).places }
     requires long { length states.old ≡ length (table_view table.now).entries }
-    ensures again { IfOk result (λ again. again ≡ has_any (round_marks T.eq T.answers (renders_view renders.old))) }
+    ensures again { IfOk result (λ again. again ≡ has_any (round_marks RoundMode.Three T.eq T.answers (renders_view renders.old))) }
     ensures marked { OnOk result (renders_view renders.new
-        ≡ at_table T.answers (mark_of T.eq (renders_view renders.old) (round_marks T.eq T.answers (renders_view renders.old))) (renders_view renders.old)) }
+        ≡ at_table T.answers (mark_of T.eq (renders_view renders.old) (round_marks RoundMode.Three T.eq T.answers (renders_view renders.old))) (renders_view renders.old)) }
     ensures states { OnOk result ((known : Table T) → AreStatesOf T.eq (table_view table.now).entries known states.old
-        → AreStatesOf T.eq (table_view table.now).entries (with_marks (mark_of T.eq (renders_view renders.old) (round_marks T.eq T.answers (renders_view renders.old))) known) states.new) }
+        → AreStatesOf T.eq (table_view table.now).entries (with_marks (mark_of T.eq (renders_view renders.old) (round_marks RoundMode.Three T.eq T.answers (renders_view renders.old))) known) states.new) }
     ensures counted { OnOk result (counter.new ≡ counted_times (marked_among (entries_cited (renders_view renders.old))
-        (mark_of T.eq (renders_view renders.old) (round_marks T.eq T.answers (renders_view renders.old)))) counter.old) }
+        (mark_of T.eq (renders_view renders.old) (round_marks RoundMode.Three T.eq T.answers (renders_view renders.old)))) counter.old) }
 {
-    let marks = round_marks(alloc, renders)?;
+    let marks = marks_of_three(alloc, renders)?;
     if marks.is_empty() {
         return Ok(false);
     }
@@ -84,11 +86,8 @@ pub fn disambiguate<'a, T: EntryLike, P>(
     requires no_ring { All (λ c. HasNoRing c.request.style.macros) (renders_view renders.old) }
     requires placed { (table_view table.now).places ≡ map (λ c. map (λ i. place T.eq i.entry (table_view table.now).entries) c.items) (renders_view renders.old) }
     requires listed { All (λ ps. All (λ p. p < length (table_view table.now).entries) ps) (table_view table.now).places }
-    ensures renders { OnOk result (renders_view renders.new ≡ disambiguated T.eq T.answers (renders_view renders.old)) }
-    ensures marked { IfOk result (λ r. r.marked ≡ length (round_tables T.eq T.answers (renders_view renders.old))) }
-    ensures states { IfOk result (λ r. AreStatesOf T.eq (table_view table.now).entries (last_states T.eq T.answers (renders_view renders.old)) r.states.items) }
-    ensures counted { OnOk result (counter.new
-        ≡ counted_times (rerenders (entries_cited (renders_view renders.old)) (round_tables T.eq T.answers (renders_view renders.old))) counter.old) }
+    ensures { IfOk result (λ r. AreAfterRounds RoundMode.Three T.eq T.answers (renders_view renders.old) (table_view table.now).entries counter.old
+        (renders_view renders.new) r.states.items r.marked counter.new) }
 {
     let mut rounds = Rounds {
         marked: 0,
@@ -98,7 +97,7 @@ pub fn disambiguate<'a, T: EntryLike, P>(
         if !run_round(alloc, renders, table, &mut rounds.states, counter)? {
             return Ok(rounds);
         }
-        rounds.marked += 1;
+        rounds.marked = rounds.marked.saturating_add(1);
     }
     Ok(rounds)
 }

@@ -2,7 +2,7 @@ use Rattle.std.proofs.Common.{◌≡◌, [], map, take}
 use Rattle.std.specs.Prelude.{fold}
 use Rattle.csl_passes.specs.RendersView.{renders_view}
 use Rattle.csl_rounds.specs.Gathered.{with_group}
-use Rattle.csl_rounds.proofs.marks.round_marks.Given as goal
+use Rattle.csl_rounds.proofs.marks.marks_of_three.Given as goal
 
 abbrev pub invariant-loop-group : goal.invariant-loop-group
 invariant-loop-group g l =
