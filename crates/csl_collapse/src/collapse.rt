@@ -1,5 +1,6 @@
 //! Collapsing, by what a style asks for (CSL 1.0.2, cite collapsing).
 ghost use Rattle.std.specs.Prelude.{◌≡◌, option_map};
+ghost use Rattle.csl_base.specs.ElementView.{text_view};
 ghost use Rattle.csl_base.specs.StyleView.{citation_view};
 ghost use Rattle.csl_passes.specs.RendersView.{render_view};
 ghost use Rattle.csl_collapse.specs.Collapsed.{collapsed};
@@ -10,7 +11,6 @@ use crate::numbers::collapse_numbers;
 use crate::years::collapse_years;
 use csl_base::style::{Citation, Collapse};
 use csl_passes::renders::SpeculativeCiteRender;
-use csl_passes::texts::optional_str;
 
 /// Draws the cites of a request together as its style asks for (CSL 1.0.2, `collapse`). Only hidden
 /// flags, overrides of delimiters and verdicts change; nothing does where the style has no collapse.
@@ -50,4 +50,14 @@ pub(crate) fn after_collapse(citation: &Citation) -> Option<&str>
 {
     let layout = optional_str(&citation.layout.delimiter);
     optional_str(&citation.after_collapse_delimiter).or(layout)
+}
+
+/// A text that may be lacking, as a slice.
+pub(crate) fn optional_str(text: &Option<String>) -> Option<&str>
+    ensures { option_map (λ t. t.now) result ≡ text_view text.now }
+{
+    match text {
+        Some(text) => Some(text.as_str()),
+        None => None,
+    }
 }

@@ -6,11 +6,10 @@ ghost use Rattle.csl_collapse.specs.Steps.{is_same, year_step};
 ghost use Rattle.csl_collapse.specs.Stretches.{by_places};
 ghost use Rattle.csl_collapse.specs.YearStretches.{has_later_suffix, year_collapsed};
 
-use crate::collapse::after_collapse;
+use crate::collapse::{after_collapse, optional_str};
 use csl_base::style::Citation;
 use csl_lookup::state::CollapseVerdict;
 use csl_passes::renders::SpeculativeItemRender;
-use csl_passes::texts::optional_str;
 
 /// Draws the years of each group together, down to their suffixes if asked for.
 pub(crate) fn collapse_years<'a, T, P>(

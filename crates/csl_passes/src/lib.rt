@@ -8,4 +8,3 @@ pub mod places;
 pub mod positions;
 pub mod renders;
 pub mod request;
-pub mod texts;

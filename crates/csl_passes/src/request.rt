@@ -178,8 +178,8 @@ impl<'o, 'a, T> BibliographyRequest<'o, 'a, T> {
     ghost use Rattle.csl_passes.specs.RequestView.{wanted_view};
     ghost use Rattle.csl_passes.specs.Unprepared.{WantsUnprepared};
 
-    /// A request for a bibliography in the order of the first cites. Each of its fields may be written
-    /// later.
+    /// A request for a bibliography in the order of the first cites. Its style, its locale and its files
+    /// may be written later.
     pub fn new(
         style: &'o IndependentStyle,
         locale: Option<LocaleCode>,
@@ -200,8 +200,8 @@ impl<'o, 'a, T> BibliographyRequest<'o, 'a, T> {
         }
     }
 
-    /// A request for a bibliography in this order; in that of the first cites where there is none. Each
-    /// of its fields may be written later.
+    /// A request for a bibliography in this order; in that of the first cites where there is none. Its
+    /// style, its locale and its files may be written later.
     pub fn ordered(
         style: &'o IndependentStyle,
         locale: Option<LocaleCode>,
@@ -248,8 +248,8 @@ impl<'o, 'a, T> BibliographyRequest<'o, 'a, T> {
         }
     }
 
-    /// The same request, beside which nothing is kept that was prepared: each of its fields may be
-    /// written.
+    /// The same request, beside which nothing is kept that was prepared: its style, its locale and its
+    /// files may be written.
     pub fn unprepared(self) -> BibliographyRequest<'o, 'a, T>
         ensures view { wanted_view result ≡ wanted_view self.entry }
         ensures unprepared { WantsUnprepared result }

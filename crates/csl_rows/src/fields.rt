@@ -10,7 +10,7 @@ use csl_driver::laws::{
 };
 use csl_driver::locator::{LocatorPayload, SpecificLocator};
 use csl_driver::properties::{CertainCiteProperties, CiteProperties, SpeculativeCiteProperties};
-use csl_driver::request::{BibliographyRequest, CitationRequest, Order};
+use csl_driver::request::{BibliographyRequest, CitationRequest};
 use csl_driver::state::{DisambiguateState, IbidState, IdentifierUsage};
 use row_styles::styles::{entry, value_style};
 use std::alloc::{AllocError, Global};
@@ -19,7 +19,7 @@ use std::test::Fail;
 
 type Request<'a> = CitationRequest<'a, PlainEntry, Infallible>;
 
-type Wanted<'a> = BibliographyRequest<'a, 'a, PlainEntry>;
+type Wanted<'o> = BibliographyRequest<'o, 'o, PlainEntry>;
 
 #[test]
 fn laws() {
@@ -32,20 +32,27 @@ fn code(alloc: Global, tag: &str) -> Result<Option<LocaleCode>, AllocError> {
     Ok(Some(LocaleCode(String::from_str(alloc, tag)?)))
 }
 
-/// A locale that says nothing.
-fn files(alloc: Global) -> Result<Vec<Locale>, AllocError> {
+/// A locale that says this of marks and quotes.
+fn files(alloc: Global, punctuation_in_quote: bool) -> Result<Vec<Locale>, AllocError> {
     let locale = Locale {
         lang: None,
         terms: Vec::new(alloc),
-        punctuation_in_quote: None,
+        punctuation_in_quote: Some(punctuation_in_quote),
     };
     Ok(vec![in alloc; locale]?)
 }
 
-/// Two styles in notes.
-fn styles(alloc: Global) -> Result<(IndependentStyle, IndependentStyle), AllocError> {
-    let first = value_style(alloc, StyleClass::Note, "T")?;
-    Ok((first, value_style(alloc, StyleClass::Note, "U")?))
+/// A style in notes.
+fn style(alloc: Global, is_other: bool) -> Result<IndependentStyle, AllocError> {
+    value_style(alloc, StyleClass::Note, if is_other { "U" } else { "T" })
+}
+
+fn cited(alloc: Global, is_other: bool) -> Result<PlainEntry, AllocError> {
+    entry(alloc, if is_other { "b" } else { "a" })
+}
+
+fn tag(is_other: bool) -> &'static str {
+    if is_other { "fr" } else { "de" }
 }
 
 fn request<'a>(
@@ -61,53 +68,53 @@ fn request<'a>(
     Ok(CitationRequest::new(items, style, locale, files, Some(note)))
 }
 
+/// Whether two requests differ that say the same but for the field of this number, if there is one.
+fn differ_in(alloc: Global, field: usize) -> Result<bool, Fail> {
+    let a = cited(alloc, false)?;
+    let b = cited(alloc, field == 0)?;
+    let first = style(alloc, false)?;
+    let second = style(alloc, field == 1)?;
+    let own = files(alloc, false)?;
+    let other = files(alloc, field == 2)?;
+    let note = if field == 3 { 2 } else { 1 };
+    let request_a = request(alloc, &a, &first, tag(false), &own, 1)?;
+    let request_b = request(alloc, &b, &second, tag(field == 4), &other, note)?;
+    Ok(request_a != request_b)
+}
+
 #[test]
 fn requests_differ_by_each_field(rt: HostRuntime) -> Result<(), Fail> {
-    let alloc = rt.alloc();
-    let (one, two) = styles(alloc)?;
-    let (a, b) = (entry(alloc, "a")?, entry(alloc, "b")?);
-    let files = files(alloc)?;
-    let first = request(alloc, &a, &one, "de", &files, 1)?;
-    for (cited, style, locale, files, note, equal) in [
-        (&a, &one, "de", files.as_slice(), 1, true),
-        (&b, &one, "de", &files, 1, false),
-        (&a, &two, "de", &files, 1, false),
-        (&a, &one, "fr", &files, 1, false),
-        (&a, &one, "de", &[], 1, false),
-        (&a, &one, "de", &files, 2, false),
-    ] {
-        assert!(rt; (first == request(alloc, cited, style, locale, files, note)?) == equal);
+    for field in 0..6 {
+        assert!(rt; differ_in(rt.alloc(), field)? == (field < 5));
     }
     Ok(())
 }
 
-fn wanted<'a>(
+fn wanted<'o>(
     alloc: Global,
-    style: &'a IndependentStyle,
+    style: &'o IndependentStyle,
     locale: &str,
-    files: &'a [Locale],
-    order: Order<'a, 'a, PlainEntry>,
-) -> Result<Wanted<'a>, AllocError> {
+    files: &'o [Locale],
+) -> Result<Wanted<'o>, AllocError> {
     let locale = code(alloc, locale)?;
-    Ok(BibliographyRequest::ordered(style, locale, files, Some(order)))
+    Ok(BibliographyRequest::new(style, locale, files))
+}
+
+/// The same of requests for bibliographies, but for their orders.
+fn wanted_differ_in(alloc: Global, field: usize) -> Result<bool, Fail> {
+    let first = style(alloc, false)?;
+    let second = style(alloc, field == 0)?;
+    let own = files(alloc, false)?;
+    let other = files(alloc, field == 1)?;
+    let wanted_a = wanted(alloc, &first, tag(false), &own)?;
+    let wanted_b = wanted(alloc, &second, tag(field == 2), &other)?;
+    Ok(wanted_a != wanted_b)
 }
 
 #[test]
 fn wanted_bibliographies_differ_by_each_field(rt: HostRuntime) -> Result<(), Fail> {
-    let alloc = rt.alloc();
-    let (one, two) = styles(alloc)?;
-    let (a, b) = (entry(alloc, "a")?, entry(alloc, "b")?);
-    let files = files(alloc)?;
-    let orders: [&[&PlainEntry]; 2] = [&[&a, &b], &[&b]];
-    let first = wanted(alloc, &one, "de", &files, Order(orders[0]))?;
-    for (style, locale, files, order, equal) in [
-        (&one, "de", files.as_slice(), orders[0], true),
-        (&two, "de", &files, orders[0], false),
-        (&one, "fr", &files, orders[0], false),
-        (&one, "de", &[], orders[0], false),
-        (&one, "de", &files, orders[1], false),
-    ] {
-        assert!(rt; (first == wanted(alloc, style, locale, files, Order(order))?) == equal);
+    for field in 0..4 {
+        assert!(rt; wanted_differ_in(rt.alloc(), field)? == (field < 3));
     }
     Ok(())
 }
@@ -191,8 +198,8 @@ fn properties_differ_by_what_may_change(rt: HostRuntime) -> Result<(), Fail> {
     for each in changes().iter() {
         assert!(rt; *each != first);
     }
-    let [page, ..] = changes();
-    assert!(rt; changing(page) != changing(first));
+    let numbered = SpeculativeCiteProperties::speculate(None, 1, IbidState::Different);
+    assert!(rt; changing(numbered) != changing(first));
     Ok(())
 }
 
@@ -210,23 +217,18 @@ fn written<'a>(
     Ok(request)
 }
 
-/// The same of a request for a bibliography.
-fn wanted_written<'a>(
+/// The same of a request for a bibliography, which was made in another style.
+fn wanted_written<'o>(
     alloc: Global,
-    styles: [&'a IndependentStyle; 2],
-    files: &'a [Locale],
-    order: Option<Order<'a, 'a, PlainEntry>>,
-) -> Result<Wanted<'a>, AllocError> {
-    let mut wanted: Wanted<'a> = BibliographyRequest::new(styles[0], None, &[]);
-    wanted.style = styles[1];
+    before: &'o IndependentStyle,
+    style: &'o IndependentStyle,
+    files: &'o [Locale],
+) -> Result<Wanted<'o>, AllocError> {
+    let mut wanted: Wanted<'o> = BibliographyRequest::new(before, None, &[]);
+    wanted.style = style;
     wanted.locale = code(alloc, "de")?;
     wanted.locale_files = files;
-    wanted.order = order;
     Ok(wanted)
-}
-
-fn order<'a>(entries: &'a [&'a PlainEntry]) -> Option<Order<'a, 'a, PlainEntry>> {
-    Some(Order(entries))
 }
 
 #[test]
@@ -234,7 +236,7 @@ fn fields_are_written(rt: HostRuntime) -> Result<(), Fail> {
     let alloc = rt.alloc();
     let style = value_style(alloc, StyleClass::InText, "T")?;
     let a = entry(alloc, "a")?;
-    let files = files(alloc)?;
+    let files = files(alloc, true)?;
     let request = request(alloc, &a, &style, "de", &files, 1)?;
     assert!(rt; written(alloc, &a, &style, &files)? == request);
     Ok(())
@@ -243,10 +245,10 @@ fn fields_are_written(rt: HostRuntime) -> Result<(), Fail> {
 #[test]
 fn fields_of_wanted_bibliographies_are_written(rt: HostRuntime) -> Result<(), Fail> {
     let alloc = rt.alloc();
-    let (one, two) = styles(alloc)?;
-    let a = entry(alloc, "a")?;
-    let (files, entries) = (files(alloc)?, [&a]);
-    let wanted = wanted(alloc, &one, "de", &files, Order(&entries))?;
-    assert!(rt; wanted_written(alloc, [&two, &one], &files, order(&entries))? == wanted);
+    let before = style(alloc, true)?;
+    let style = style(alloc, false)?;
+    let files = files(alloc, true)?;
+    let wanted = wanted(alloc, &style, "de", &files)?;
+    assert!(rt; wanted_written(alloc, &before, &style, &files)? == wanted);
     Ok(())
 }

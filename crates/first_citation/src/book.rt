@@ -13,17 +13,19 @@ pub struct Book {
     issued: Date,
 }
 
-/// A book of one author, by a family name.
-pub fn book(alloc: Global, key: &str, author: &str, year: i32) -> Result<Book, AllocError> {
-    let author = Person {
-        name: Text::copied(alloc, author)?,
-        given_name: None,
-    };
-    Ok(Book {
-        key: Text::copied(alloc, key)?,
-        authors: Seq::new(vec![in alloc; author]?),
-        issued: Date { year },
-    })
+impl Book {
+    /// A book of one author, by a family name.
+    pub fn by(alloc: Global, key: &str, author: &str, year: i32) -> Result<Book, AllocError> {
+        let author = Person {
+            name: Text::copied(alloc, author)?,
+            given_name: None,
+        };
+        Ok(Book {
+            key: Text::copied(alloc, key)?,
+            authors: Seq::new(vec![in alloc; author]?),
+            issued: Date { year },
+        })
+    }
 }
 
 impl EntryLike for Book {

@@ -4,7 +4,7 @@
 mod book;
 mod style;
 
-use crate::book::{Book, book};
+use crate::book::Book;
 use crate::style::author_date;
 use csl_driver::driver::BibliographyDriver;
 use csl_driver::error::DriverError;
@@ -30,11 +30,14 @@ fn request<'a>(
 }
 
 /// The citation, and the bibliography.
-fn answer(alloc: Global, books: &[Book]) -> Result<Rendered, DriverError> {
-    let style = author_date(alloc)?;
+fn answer<'a>(
+    alloc: Global,
+    style: &'a IndependentStyle,
+    books: &'a [Book],
+) -> Result<Rendered, DriverError> {
     let mut driver = BibliographyDriver::new(alloc);
-    match driver.citation(request(alloc, &style, books)?) {
-        Ok(()) => driver.finish(BibliographyRequest::new(&style, None, &[])),
+    match driver.citation(request(alloc, style, books)?) {
+        Ok(()) => driver.finish(BibliographyRequest::new(style, None, &[])),
         Err(_refused) => Err(DriverError::OutOfMemory(AllocError)),
     }
 }
@@ -56,14 +59,15 @@ fn lines(alloc: Global, rendered: &Rendered) -> Result<String, AllocError> {
 }
 
 fn two_books(alloc: Global) -> Result<Vec<Book>, AllocError> {
-    let moths = book(alloc, "moths", "Doe", 1999)?;
-    let mosses = book(alloc, "mosses", "Doe", 1999)?;
+    let moths = Book::by(alloc, "moths", "Doe", 1999)?;
+    let mosses = Book::by(alloc, "mosses", "Doe", 1999)?;
     Ok(vec![in alloc; moths, mosses]?)
 }
 
 fn printed(alloc: Global) -> Result<String, DriverError> {
+    let style = author_date(alloc)?;
     let books = two_books(alloc)?;
-    Ok(lines(alloc, &answer(alloc, &books)?)?)
+    Ok(lines(alloc, &answer(alloc, &style, &books)?)?)
 }
 
 fn main(rt: HostRuntime) -> ExitCode {
