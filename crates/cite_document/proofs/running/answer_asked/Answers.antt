@@ -33,12 +33,8 @@ returns-in-Err-MacroRing c =
     c.in_ok-driver.ensures.filled
     ∙ (λ i. record { requests = accepted (asked_requests_view (map locale_view (c.in_ok-files.ensures i)) (c.deref.ensures.value i)); offset = asked.offset }) in
     let wanted : w ≡ wanted_of d = c.in_ok-request.ensures ∙ (λ i. record (wanted_of d) { locales = map locale_view (c.in_ok-files.ensures i) }) in
-    let e = c.in-Err-MacroRing in (
-      d,
-      refl,
-      rw (e.field-0-is) (first_ring v w d made wanted e.place e.macro_idx
-          (subst (Refuses same_entry v.requests w.style v.offset) e.field-0-is e.ensures.refused)),
-    )
+    let e = c.in-Err-MacroRing in
+    (d, refl, first_ring v w d made wanted e.place e.macro_idx (subst (Refuses same_entry v.requests w.style v.offset) e.field-0-is e.ensures.refused))
 
 pub returns-in-Err-NumberOverflow : goal.returns-in-Err-NumberOverflow
 returns-in-Err-NumberOverflow c =
