@@ -6,8 +6,6 @@ mod counting;
 #[cfg(test)]
 mod equality;
 #[cfg(test)]
-mod fields;
-#[cfg(test)]
 mod passes;
 pub mod paths;
 #[cfg(test)]
