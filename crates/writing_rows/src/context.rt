@@ -43,13 +43,16 @@ fn formula(alloc: Global) -> Result<ChunkedString, AllocError> {
 }
 
 /// A text, a formula, a link and a mark.
-fn marked(alloc: Global, style: &IndependentStyle) -> Result<ElemChildren, AllocError> {
-    let formula = formula(alloc)?;
-    let url = String::from_str(alloc, "u")?;
+fn marked(
+    alloc: Global,
+    style: &IndependentStyle,
+    formula: &ChunkedString,
+    url: String,
+) -> Result<ElemChildren, AllocError> {
     let mut context = begin(alloc, style)?;
     context.push_str("A")?;
-    context.push_chunked(&formula)?;
-    context.push_link(&formula, url)?;
+    context.push_chunked(formula)?;
+    context.push_link(formula, url)?;
     context.push_transparent(2)?;
     context.writing.flush()
 }
@@ -57,7 +60,9 @@ fn marked(alloc: Global, style: &IndependentStyle) -> Result<ElemChildren, Alloc
 #[test]
 fn formulas_links_and_marks_stand_apart(rt: HostRuntime) -> Result<(), Fail> {
     let style = numeric(rt.alloc())?;
-    let tree = marked(rt.alloc(), &style)?;
+    let formula = formula(rt.alloc())?;
+    let url = String::from_str(rt.alloc(), "u")?;
+    let tree = marked(rt.alloc(), &style, &formula, url)?;
     let alike = match tree.0.as_slice() {
         [
             ElemChild::Text(first),
