@@ -18,7 +18,7 @@ use csl_writing::purpose::CitePurpose;
 use document_styles::elements::elements_nest;
 use document_words::tables::rows_are_as_defined;
 use row_styles::styles::{entry, numeric, value_style};
-use std::alloc::{AllocError, Global};
+use std::alloc::Global;
 use std::convert::Infallible;
 use std::test::Fail;
 
@@ -55,8 +55,9 @@ fn request<'a>(
     alloc: Global,
     style: &'a IndependentStyle,
     cited: &'a PlainEntry,
-) -> Result<Request<'a>, AllocError> {
-    let items = vec![in alloc; CitationItem::with_entry(cited)]?;
+    hidden: bool,
+) -> Result<Request<'a>, Fail> {
+    let items = vec![in alloc; CitationItem::new(cited, None, None, hidden, None)]?;
     Ok(CitationRequest::new(items, style, None, &[], Some(7)))
 }
 
@@ -65,7 +66,10 @@ fn noted(alloc: Global, class: StyleClass, written: &str) -> Result<Rendered, Fa
     let style = value_style(alloc, class, written)?;
     let cited = entry(alloc, "a")?;
     let mut driver = BibliographyDriver::new(alloc);
-    if driver.citation(request(alloc, &style, &cited)?).is_err() {
+    if driver
+        .citation(request(alloc, &style, &cited, false)?)
+        .is_err()
+    {
         return Err(Fail::new("the request was refused"));
     }
     Ok(driver.finish(BibliographyRequest::new(&style, None, &[]))?)
@@ -105,11 +109,16 @@ fn answers_are_equal_where_their_parts_are(rt: HostRuntime) -> Result<(), Fail> 
     Ok(())
 }
 
-/// Whether items and orders are equal that cite these.
-fn are_alike(a: &PlainEntry, b: &PlainEntry) -> Result<(bool, bool), AllocError> {
+/// Whether items, requests and orders are equal that cite these.
+fn are_alike(alloc: Global, a: &PlainEntry, b: &PlainEntry) -> Result<(bool, bool, bool), Fail> {
     let item: Item<'_> = CitationItem::with_entry(a);
-    let items = item.clone()? == CitationItem::with_entry(b);
-    Ok((items, Order(&[a]) == Order(&[b])))
+    let style = numeric(alloc)?;
+    let requests = request(alloc, &style, a, false)? == request(alloc, &style, b, false)?;
+    Ok((
+        item.clone()? == CitationItem::with_entry(b),
+        requests,
+        Order(&[a]) == Order(&[b]),
+    ))
 }
 
 #[test]
@@ -117,12 +126,23 @@ fn entries_are_compared_by_what_they_are(rt: HostRuntime) -> Result<(), Fail> {
     let a = entry(rt.alloc(), "a")?;
     for (key, alike) in [("a", true), ("b", false)] {
         let other = entry(rt.alloc(), key)?;
-        assert!(rt; are_alike(&a, &other)? == (alike, alike));
+        assert!(rt; are_alike(rt.alloc(), &a, &other)? == (alike, alike, alike));
     }
     let item: Item<'_> = CitationItem::with_entry(&a);
-    assert!(rt;
-        item != CitationItem::with_entry(&a).kind(CitePurpose::Year)
-            && item != CitationItem::new(&a, None, None, true, None)
+    assert!(rt; item != CitationItem::with_entry(&a).kind(CitePurpose::Year));
+    Ok(())
+}
+
+#[test]
+fn requests_are_compared_by_their_styles(rt: HostRuntime) -> Result<(), Fail> {
+    let numbers = numeric(rt.alloc())?;
+    let plain = value_style(rt.alloc(), StyleClass::Note, "T")?;
+    let wanted: BibliographyRequest<'_, '_, PlainEntry> = BibliographyRequest::new(
+        &numbers,
+        None,
+        &[],
     );
+    assert!(rt; wanted == BibliographyRequest::new(&numbers, None, &[]));
+    assert!(rt; wanted != BibliographyRequest::new(&plain, None, &[]));
     Ok(())
 }
