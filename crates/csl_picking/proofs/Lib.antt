@@ -10,3 +10,5 @@ pub mod Nesting
 pub mod WorkSteps
 pub mod TextView
 pub mod AllKept
+pub mod Noted
+pub mod QuietMacros

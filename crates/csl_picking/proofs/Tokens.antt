@@ -66,7 +66,7 @@ is_empty ts node =
     let short : length ((ts ++ opening node ∷ []) ++ []) ≤ length ts + 1 = omega (arith, length-append (ts ++ opening node ∷ []) [], length-append ts (opening node ∷ [])) in
     grind (arith, nat_tests)
 
-is_filled : (ts : List Token) (node : NodeValue) (p : Part) (ps : List Part) → nat_le (length ((ts ++ opening node ∷ []) ++ tokens (p ∷ ps))) (length ts + 1) ≡ false
+pub is_filled : (ts : List Token) (node : NodeValue) (p : Part) (ps : List Part) → nat_le (length ((ts ++ opening node ∷ []) ++ tokens (p ∷ ps))) (length ts + 1) ≡ false
 is_filled ts node p ps =
     let long : length ts + 1 < length ((ts ++ opening node ∷ []) ++ tokens (p ∷ ps)) = omega (arith, length-append (ts ++ opening node ∷ []) (tokens (p ∷ ps)), length-append ts (opening node ∷ []), has_tokens p ps) in
     grind (arith, nat_tests)

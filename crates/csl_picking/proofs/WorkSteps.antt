@@ -1,6 +1,6 @@
 -- Steps that are added to a picking's list, over plain data.
-use Rattle.std.proofs.Common.{◌≡◌, ℕ, zero, suc, ◌+◌, ◌-◌, ◌<◌, List, [], ◌∷◌, ◌++◌, length, Bool, true, false, cond, Some, None, Bor, refl, sym, ap, ◌∙◌, arith}
-use Rattle.std.proofs.lemmas.List.{map-append}
+use Rattle.std.proofs.Common.{◌≡◌, ℕ, zero, suc, ◌+◌, ◌-◌, ◌<◌, List, [], ◌∷◌, ◌++◌, length, Bool, true, false, cond, Some, None, Bor, refl, sym, ap, ◌∙◌, subst, arith}
+use Rattle.std.proofs.lemmas.List.{map-append, append-nil}
 use Rattle.csl_base.specs.declared.element.LayoutRenderingElement.{LayoutRenderingElement}
 use Rattle.csl_base.specs.declared.element.Condition.{Condition}
 use Rattle.csl_base.specs.declared.element.ChooseMatch.{ChooseMatch}
@@ -9,18 +9,23 @@ use Rattle.csl_base.specs.ElementView.{elements_view}
 use Rattle.csl_base.specs.Ring.{body_of}
 use Rattle.csl_base.specs.Weight.{weight_all_with}
 use Rattle.csl_picking.specs.declared.held.Opened.{Opened}
+use Rattle.csl_picking.specs.declared.notes.Called.{Called}
 use Rattle.csl_picking.specs.declared.notes.Notes.{Notes}
+use Rattle.csl_picking.specs.declared.picking.OpenMacro.{OpenMacro}
 use Rattle.csl_picking.specs.declared.picking.Step.{Step}
 use Rattle.csl_picking.specs.declared.picking.Step.TheVariants as steps
 use Rattle.csl_picking.specs.Env.{Env}
 use Rattle.csl_picking.specs.Conditions.{passes, tested}
 use Rattle.csl_picking.specs.Pieces.{NodeValue}
-use Rattle.csl_picking.specs.Picked.{Held, added, grouped}
-use Rattle.csl_picking.specs.Nodes.{inside, remembered}
+use Rattle.csl_picking.specs.Notes.{joined}
+use Rattle.csl_picking.specs.Picked.{Picked, Held, added, grouped}
+use Rattle.csl_picking.specs.Nodes.{inside, remembered, group_closed, macro_closed}
+use Rattle.csl_picking.specs.Quiet.{seen, IsOpened}
 use Rattle.csl_picking.specs.Pick.{Call, pick_all_with, pick_first_with, body_picked, called_macro, picks, picks_all}
-use Rattle.csl_picking.specs.Work.{StepValue, step_view, steps_view, done, all_done, plain_done, inside_done, body_weight, macro_weight, weight_all, step_work, work}
+use Rattle.csl_picking.specs.Work.{StepValue, step_view, steps_view, done, all_done, plain_done, inside_done, Fits, AllFit, body_weight, macro_weight, weight_all, step_work, work}
 use Rattle.csl_picking.proofs.Tokens.{group_step, macro_step, added-nothing, added-followed}
 use Rattle.csl_picking.proofs.MacroCalls.{macro_called}
+use Rattle.csl_picking.proofs.Noted.{picks-kept}
 
 all_done-append : (env : Env) (ms : List Macro) (xs ys : List StepValue) (h : Held) → all_done env ms (xs ++ ys) h ≡ all_done env ms xs (all_done env ms ys h)
 all_done-append env ms [] ys h = refl
@@ -41,28 +46,77 @@ pushed-work ms old new x e =
     let all = ap (λ xs. work ms (steps_view xs)) e ∙ ap (work ms) (map-append step_view old (x ∷ [])) ∙ work-append ms (steps_view old) (step_view x ∷ []) in
     omega (arith, all)
 
+-- what holds of a step that comes next, and of those before it once it is done, holds of all
+fit-append : (env : Env) (ms : List Macro) (xs : List StepValue) (y : StepValue) (h : Held) → AllFit env ms xs (done env ms y h) → Fits (called_macro env ms) y h → AllFit env ms (xs ++ y ∷ []) h
+fit-append env ms [] y h f g = (g, tt)
+fit-append env ms (x ∷ xs) y h f g = (subst (Fits (called_macro env ms) x) (sym (all_done-append env ms xs (y ∷ []) h)) f.0, fit-append env ms xs y h f.1 g)
+
+fit-last : (env : Env) (ms : List Macro) (xs : List StepValue) (y : StepValue) (h : Held) → AllFit env ms (xs ++ y ∷ []) h → AllFit env ms xs (done env ms y h) × Fits (called_macro env ms) y h
+fit-last env ms [] y h f = (tt, f.0)
+fit-last env ms (x ∷ xs) y h f =
+    let r = fit-last env ms xs y h f.1 in ((subst (Fits (called_macro env ms) x) (all_done-append env ms xs (y ∷ []) h) f.0, r.0), r.1)
+
+pub fits_more : (env : Env) (ms : List Macro) (old new : List Step) (x : Step) (h : Held) → new ≡ old ++ x ∷ []
+    → AllFit env ms (steps_view old) (done env ms (step_view x) h) → Fits (called_macro env ms) (step_view x) h → AllFit env ms (steps_view new) h
+fits_more env ms old new x h e f g =
+    subst (λ xs. AllFit env ms xs h) (sym (ap steps_view e ∙ map-append step_view old (x ∷ []))) (fit-append env ms (steps_view old) (step_view x) h f g)
+
+pub fits_popped : (env : Env) (ms : List Macro) (new old : List Step) (x : Step) (h : Held) → old ≡ new ++ x ∷ []
+    → AllFit env ms (steps_view old) h → AllFit env ms (steps_view new) (done env ms (step_view x) h) × Fits (called_macro env ms) (step_view x) h
+fits_popped env ms new old x h e f =
+    fit-last env ms (steps_view new) (step_view x) h (subst (λ xs. AllFit env ms xs h) (ap steps_view e ∙ map-append step_view new (x ∷ [])) f)
+
+-- a macro that is passed over
+pub passed_over : (p : Picked) (c : Called) (s now : Held) → p ≡ record { parts = []; called = c; noted = s.noted } → now ≡ record s { called = joined s.called c } → now ≡ added p s
+passed_over p c s now e f = f ∙ (λ i. record { tokens = sym (append-nil s.tokens) i; called = joined s.called c; noted = s.noted }) ∙ ap (λ q. added q s) (sym e)
+
 module _ (env : Env) (ms : List Macro) (depth : ℕ) where
   -- a group, which is opened
-  pub group_pushed : (a b c : List Step) (slice : Bor (List LayoutRenderingElement)) (items : List LayoutRenderingElement) (o : Opened) (node seen : NodeValue) (s now : Held)
-      → b ≡ a ++ steps.CloseGroup o ∷ [] → c ≡ b ++ steps.Elements slice depth ∷ [] → slice.now ≡ items → seen ≡ node → now ≡ inside seen s → o ≡ remembered s
-      → all_done env ms (steps_view c) now ≡ all_done env ms (steps_view a) (added (grouped node (picks_all env ms depth (elements_view items) s.noted)) s)
-  group_pushed a b c slice items o node seen s now e f v w x y =
-      pushed env ms b c (steps.Elements slice depth) now f
-      ∙ ap (λ xs. all_done env ms (steps_view b) (added (picks_all env ms depth (elements_view xs) now.noted) now)) v
-      ∙ pushed env ms a b (steps.CloseGroup o) _ e
-      ∙ ap (all_done env ms (steps_view a)) (group_step (λ n. picks_all env ms depth (elements_view items) n) node seen s now _ _ o w x y refl refl)
+  module _ (a b c : List Step) (slice : Bor (List LayoutRenderingElement)) (items : List LayoutRenderingElement) (o : Opened) (node seen : NodeValue) (s now : Held)
+      (e : b ≡ a ++ steps.CloseGroup o ∷ []) (f : c ≡ b ++ steps.Elements slice depth ∷ []) (v : slice.now ≡ items) (w : seen ≡ node) (x : now ≡ inside seen s) (y : o ≡ remembered s) where
+    group_is : group_closed o (done env ms (step_view (steps.Elements slice depth)) now) ≡ added (grouped node (picks_all env ms depth (elements_view items) s.noted)) s
+    group_is =
+        ap (λ xs. group_closed o (added (picks_all env ms depth (elements_view xs) now.noted) now)) v
+        ∙ group_step (λ n. picks_all env ms depth (elements_view items) n) node seen s now _ _ o w x y refl refl
+
+    pub group_pushed : all_done env ms (steps_view c) now ≡ all_done env ms (steps_view a) (added (grouped node (picks_all env ms depth (elements_view items) s.noted)) s)
+    group_pushed =
+        pushed env ms b c (steps.Elements slice depth) now f ∙ pushed env ms a b (steps.CloseGroup o) _ e ∙ ap (all_done env ms (steps_view a)) group_is
+
+    pub group_fits : AllFit env ms (steps_view a) (added (grouped node (picks_all env ms depth (elements_view items) s.noted)) s) → AllFit env ms (steps_view c) now
+    group_fits all =
+        fits_more env ms b c (steps.Elements slice depth) now f
+        (fits_more env ms a b (steps.CloseGroup o) (done env ms (step_view (steps.Elements slice depth)) now) e (subst (AllFit env ms (steps_view a)) (sym group_is) all) tt) tt
 
   -- a macro, which is opened
-  pub macro_pushed : (a b c : List Step) (slice : Bor (List LayoutRenderingElement)) (items : List LayoutRenderingElement) (o : Opened) (name : Name) (node seen : NodeValue) (s now : Held)
-      → b ≡ a ++ steps.CloseMacro o ∷ [] → c ≡ b ++ steps.Elements slice (depth - 1) ∷ [] → slice.now ≡ items → seen ≡ node → now ≡ inside seen s → o ≡ remembered s
-      → 0 < depth → Some (elements_view items) ≡ body_of name ms
-      → all_done env ms (steps_view c) now ≡ all_done env ms (steps_view a) (added (called_macro env ms depth name node s.noted) s)
-  macro_pushed a b c slice items o name node seen s now e f v w x y deep found =
-      pushed env ms b c (steps.Elements slice (depth - 1)) now f
-      ∙ ap (λ xs. all_done env ms (steps_view b) (added (picks_all env ms (depth - 1) (elements_view xs) now.noted) now)) v
-      ∙ pushed env ms a b (steps.CloseMacro o) _ e
-      ∙ ap (all_done env ms (steps_view a)) (macro_step (λ n. picks_all env ms (depth - 1) (elements_view items) n) node seen s now _ _ o w x y refl refl)
-      ∙ ap (λ p. all_done env ms (steps_view a) (added p s)) (macro_called env ms depth name node s.noted (elements_view items) deep found)
+  module _ (a b c : List Step) (slice : Bor (List LayoutRenderingElement)) (items : List LayoutRenderingElement) (call : OpenMacro) (node around : NodeValue) (s now : Held)
+      (e : b ≡ a ++ steps.CloseMacro call ∷ []) (f : c ≡ b ++ steps.Elements slice (call.depth - 1) ∷ []) (v : slice.now ≡ items) (w : around ≡ node) (x : now ≡ inside around s)
+      (y : call.opened ≡ remembered s) (deep : 0 < call.depth) (found : Some (elements_view items) ≡ body_of call.name.now ms) where
+    macro_is : macro_closed call.opened (done env ms (step_view (steps.Elements slice (call.depth - 1))) now) ≡ added (called_macro env ms call.depth call.name.now node s.noted) s
+    macro_is =
+        ap (λ xs. macro_closed call.opened (added (picks_all env ms (call.depth - 1) (elements_view xs) now.noted) now)) v
+        ∙ macro_step (λ n. picks_all env ms (call.depth - 1) (elements_view items) n) node around s now _ _ call.opened w x y refl refl
+        ∙ ap (λ p. added p s) (macro_called env ms call.depth call.name.now node s.noted (elements_view items) deep found)
+
+    pub macro_pushed : all_done env ms (steps_view c) now ≡ all_done env ms (steps_view a) (added (called_macro env ms call.depth call.name.now node s.noted) s)
+    macro_pushed =
+        pushed env ms b c (steps.Elements slice (call.depth - 1)) now f ∙ pushed env ms a b (steps.CloseMacro call) _ e ∙ ap (all_done env ms (steps_view a)) macro_is
+
+    pub macro_fits : call.seen ≡ seen s.noted → AllFit env ms (steps_view a) (added (called_macro env ms call.depth call.name.now node s.noted) s) → AllFit env ms (steps_view c) now
+    macro_fits noted all =
+        let inner : Notes → Picked = λ n. picks_all env ms (call.depth - 1) (elements_view items) n in
+        let opened : IsOpened (called_macro env ms) call.name.now call.depth call.seen call.opened (done env ms (step_view (steps.Elements slice (call.depth - 1))) now) = record {
+          node = node;
+          outside = s;
+          inner = inner;
+          means = λ k n. sym (macro_called env ms call.depth call.name.now k n (elements_view items) deep found);
+          opened = y;
+          noted = noted;
+          keeps = picks-kept env ms (call.depth - 1) (elements_view items) s.noted;
+          holds = ap (λ xs. added (picks_all env ms (call.depth - 1) (elements_view xs) now.noted) now) v ∙ ap (λ h. added (inner h.noted) h) (x ∙ ap (λ k. inside k s) w);
+        } in
+        fits_more env ms b c (steps.Elements slice (call.depth - 1)) now f
+        (fits_more env ms a b (steps.CloseMacro call) (done env ms (step_view (steps.Elements slice (call.depth - 1))) now) e (subst (AllFit env ms (steps_view a)) (sym macro_is) all) opened) tt
 
   -- an element: at once, or by the steps inside
   plain_inside : (e : Element) (h : Held) → inside_done env ms depth e (plain_done env (called_macro env ms depth) e h) ≡ added (picks env ms depth e h.noted) h
@@ -87,6 +141,17 @@ module _ (env : Env) (ms : List Macro) (depth : ℕ) where
       k ∙ ap (λ x. all_done env ms (steps_view b) (inside_done env ms depth e x)) q ∙ ap (all_done env ms (steps_view b)) (plain_inside e s)
       ∙ pushed env ms a b (steps.Elements slice depth) h p
       ∙ ap (all_done env ms (steps_view a)) (added-followed one (picks_all env ms depth (elements_view slice.now) one.noted) s)
+
+  pub element_fits : (a b c : List Step) (slice : Bor (List LayoutRenderingElement)) (e : Element) (s now after : Held)
+      → b ≡ a ++ steps.Elements slice depth ∷ [] → now ≡ plain_done env (called_macro env ms depth) e s
+      → (AllFit env ms (steps_view b) (inside_done env ms depth e now) → AllFit env ms (steps_view c) after)
+      → AllFit env ms (steps_view a) (added (picks_all env ms depth (element e (elements_view slice.now)) s.noted) s) → AllFit env ms (steps_view c) after
+  element_fits a b c slice e s now after p q k all =
+      let one = picks env ms depth e s.noted in
+      let h : Held = added one s in
+      let is : inside_done env ms depth e now ≡ h = ap (inside_done env ms depth e) q ∙ plain_inside e s in
+      let rest = added-followed one (picks_all env ms depth (elements_view slice.now) one.noted) s in
+      k (subst (AllFit env ms (steps_view b)) (sym is) (fits_more env ms a b (steps.Elements slice depth) h p (subst (AllFit env ms (steps_view a)) (sym rest) all) tt))
 
 -- a branch whose test holds, and one whose doesn't
 module _ (env : Env) (call : Call) (conditions : List Condition) (rule : ChooseMatch) (children : Elements) (bs : Branches) (test : Bool) (n noted : Notes) where

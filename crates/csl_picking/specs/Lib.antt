@@ -15,6 +15,7 @@ pub mod Names
 pub mod BlockRun
 pub mod NamesView
 pub mod Pick
+pub mod Quiet
 pub mod InputView
 pub mod Work
 pub mod HeldView

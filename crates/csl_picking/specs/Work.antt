@@ -1,28 +1,30 @@
 -- For the code: what a picking has still to do, as a list of steps of which the last comes next.
-use Rattle.std.specs.Prelude.{ℕ, zero, suc, ◌+◌, ◌*◌, List, [], ◌∷◌, map, Option, Some, None}
+use Rattle.std.specs.Prelude.{ℕ, zero, suc, ◌+◌, ◌*◌, List, [], ◌∷◌, map, Option, Some, None, ⊤}
 use Rattle.csl_base.specs.Element.{Name, macro_target, Element, text_element, group_element, choose_element, Elements, Macro}
 use Rattle.csl_base.specs.ElementView.{elements_view}
 use Rattle.csl_base.specs.Ring.{body_of}
 use Rattle.csl_base.specs.Weight.{weight_with, weight_all_with}
 use Rattle.csl_picking.specs.declared.held.Opened.{Opened}
+use Rattle.csl_picking.specs.declared.quiet.Seen.{Seen}
 use Rattle.csl_picking.specs.declared.picking.Step.{Step}
 use Rattle.csl_picking.specs.declared.picking.Step.TheVariants as steps
 use Rattle.csl_picking.specs.Env.{Env}
 use Rattle.csl_picking.specs.Pieces.{plain_node}
 use Rattle.csl_picking.specs.Picked.{Held, added}
 use Rattle.csl_picking.specs.Nodes.{group_closed, macro_closed}
+use Rattle.csl_picking.specs.Quiet.{IsOpened}
 use Rattle.csl_picking.specs.Pick.{Call, pick_with, picks, picks_all, picks_first, called_macro}
 
 -- these elements are to be picked, with macros nested so deep; a node is to be closed
 pub data StepValue : Type 0 where
   elements_step : Elements → ℕ → StepValue
   group_step : Opened → StepValue
-  macro_step : Opened → StepValue
+  macro_step : Name → ℕ → Seen → Opened → StepValue
 
 abbrev pub step_view : Step → StepValue
 step_view (steps.Elements elements depth) = elements_step (elements_view elements.now) depth
 step_view (steps.CloseGroup opened) = group_step opened
-step_view (steps.CloseMacro opened) = macro_step opened
+step_view (steps.CloseMacro call) = macro_step call.name.now call.depth call.seen call.opened
 
 abbrev pub steps_view : List Step → List StepValue
 steps_view = map step_view
@@ -31,12 +33,23 @@ steps_view = map step_view
 abbrev pub done : Env → List Macro → StepValue → Held → Held
 done env macros (elements_step es depth) h = added (picks_all env macros depth es h.noted) h
 done env macros (group_step o) h = group_closed o h
-done env macros (macro_step o) h = macro_closed o h
+done env macros (macro_step name depth before o) h = macro_closed o h
 
 -- once all are done, from the last to the first
 abbrev pub all_done : Env → List Macro → List StepValue → Held → Held
 all_done env macros [] h = h
 all_done env macros (x ∷ xs) h = done env macros x (all_done env macros xs h)
+
+-- what holds where a step is done next
+abbrev pub Fits : (ℕ → Call) → StepValue → Held → Type 0
+Fits call (elements_step es depth) h = ⊤
+Fits call (group_step o) h = ⊤
+Fits call (macro_step name depth before o) h = IsOpened call name depth before o h
+
+-- where each is done in its turn
+abbrev pub AllFit : Env → List Macro → List StepValue → Held → Type 0
+AllFit env macros [] h = ⊤
+AllFit env macros (x ∷ xs) h = Fits (called_macro env macros) x (all_done env macros xs h) × AllFit env macros xs h
 
 -- an element that has none inside is picked at once
 abbrev pub plain_done : Env → Call → Element → Held → Held
@@ -70,7 +83,7 @@ weight_all macros depth = weight_all_with (macro_weight macros depth)
 abbrev pub step_work : List Macro → StepValue → ℕ
 step_work macros (elements_step es depth) = 2 * weight_all macros depth es
 step_work macros (group_step o) = 1
-step_work macros (macro_step o) = 1
+step_work macros (macro_step name depth before o) = 1
 
 abbrev pub work : List Macro → List StepValue → ℕ
 work macros [] = 0

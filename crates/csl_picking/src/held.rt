@@ -41,7 +41,8 @@ impl<'a> Picking<'a> {
         })
     }
 
-    fn is_empty_node(&self, opened: Opened) -> bool
+    /// Whether nothing stands in a node.
+    pub(crate) fn is_empty_node(&self, opened: Opened) -> bool
         ensures { result ≡ is_empty_node opened (held self.now) }
     {
         self.pieces.len() <= opened.inside

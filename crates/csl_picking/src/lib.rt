@@ -12,4 +12,5 @@ pub mod names;
 pub mod notes;
 pub mod picking;
 pub mod pieces;
+mod quiet;
 mod variables;

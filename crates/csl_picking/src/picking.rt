@@ -7,7 +7,9 @@ ghost use Rattle.csl_picking.specs.Picked.{added};
 ghost use Rattle.csl_picking.specs.PiecesView.{node_view, shape_look};
 ghost use Rattle.csl_picking.specs.Pieces.{plain_node};
 ghost use Rattle.csl_picking.specs.Pick.{Call, group_node, pick_all_with, pick_first_with, called_macro, pick_layout, MacrosUnfold};
-ghost use Rattle.csl_picking.specs.Work.{steps_view, step_view, done, all_done, plain_done, inside_done, macro_weight, weight, step_work, work};
+ghost use Rattle.csl_picking.specs.Nodes.{macro_closed};
+ghost use Rattle.csl_picking.specs.Quiet.{Keeps, IsQuiet, IsOpened};
+ghost use Rattle.csl_picking.specs.Work.{steps_view, step_view, done, all_done, plain_done, inside_done, Fits, AllFit, macro_weight, weight, step_work, work};
 ghost use Rattle.csl_picking.specs.HeldView.{held};
 ghost use Rattle.csl_picking.specs.InputView.{env_of, macros_of};
 
@@ -17,6 +19,7 @@ use crate::input::Input;
 use crate::names::pick_names;
 use crate::notes::Notes;
 use crate::pieces::{Node, Shape};
+use crate::quiet::{QuietMacros, Seen};
 use crate::variables::{meant, pick_date, pick_variable, pick_words};
 use csl_base::element::{Affixes, ChooseBranch, LayoutRenderingElement, TextTarget};
 use csl_base::entry::EntryLike;
@@ -70,13 +73,22 @@ fn plain_shape<'a>(
     }
 }
 
+/// The call of a macro, and what was noted before it.
+#[derive(Clone, Copy)]
+struct OpenMacro<'a> {
+    name: &'a str,
+    depth: usize,
+    seen: Seen,
+    opened: Opened,
+}
+
 /// A step that is still to be done.
 #[derive(Drop)]
 enum Step<'a> {
     /// These elements are to be picked, with macros nested at most so deep.
     Elements(&'a [LayoutRenderingElement], usize),
     CloseGroup(Opened),
-    CloseMacro(Opened),
+    CloseMacro(OpenMacro<'a>),
 }
 
 // Picks an element that has none inside, and nothing of any other.
@@ -176,6 +188,7 @@ fn chosen_children<'a, T: EntryLike>(
 ) -> &'a Vec<LayoutRenderingElement>
     ensures chosen { let env = env_of (T.answers input.now.entry.now) input.now.setting in
         (call : Call) → pick_first_with env call (branches_view branches.now.items otherwise.now.items) notes.old ≡ pick_all_with env call (elements_view result.now.items) notes.new }
+    ensures keeps { Keeps notes.old notes.new }
     ensures lighter { (call : Name → ℕ) → weight_all_with call (elements_view result.now.items) < weight_branches_with call (branches_view branches.now.items otherwise.now.items) }
 {
     for branch in branches {
@@ -192,12 +205,19 @@ fn step_inside<'a, T: EntryLike>(
     element: &'a LayoutRenderingElement,
     depth: usize,
     steps: &mut Vec<Step<'a>>,
+    quiet: &QuietMacros<'a>,
     picking: &mut Picking<'a>,
 ) -> Result<(), AllocError>
+    requires { IsQuiet (called_macro (env_of (T.answers input.now.entry.now) input.now.setting) (macros_of input.now.setting)) quiet.now picking.old.notes }
     ensures done { let env = env_of (T.answers input.now.entry.now) input.now.setting in
         let ms = macros_of input.now.setting in
         OnOk result (all_done env ms (steps_view steps.new.items) (held picking.new)
         ≡ all_done env ms (steps_view steps.old.items) (inside_done env ms depth (element_view element.now) (held picking.old))) }
+    ensures fit { let env = env_of (T.answers input.now.entry.now) input.now.setting in
+        let ms = macros_of input.now.setting in
+        OnOk result (AllFit env ms (steps_view steps.old.items) (inside_done env ms depth (element_view element.now) (held picking.old))
+        → AllFit env ms (steps_view steps.new.items) (held picking.new)) }
+    ensures keeps { OnOk result (Keeps picking.old.notes picking.new.notes) }
     ensures falls { let ms = macros_of input.now.setting in
         OnOk result (work ms (steps_view steps.new.items) < work ms (steps_view steps.old.items) + 2 * weight ms depth (element_view element.now)) }
 {
@@ -217,7 +237,7 @@ fn step_inside<'a, T: EntryLike>(
                 quotes: *quotes,
                 strip_periods: *strip_periods,
             };
-            step_macro(input, name.as_str(), shape, depth, steps, picking)
+            step_macro(input, name.as_str(), shape, depth, steps, quiet, picking)
         }
         LayoutRenderingElement::Group {
             children,
@@ -243,35 +263,86 @@ fn step_inside<'a, T: EntryLike>(
     }
 }
 
-// Adds the steps of a macro's call; none where there is no such macro.
+// Adds the steps of a macro's call; none where there is no such macro, or where it is known to give
+// nothing.
 fn step_macro<'a, T: EntryLike>(
     input: &Input<'a, T>,
-    name: &str,
+    name: &'a str,
     shape: Shape<'a>,
     depth: usize,
     steps: &mut Vec<Step<'a>>,
+    quiet: &QuietMacros<'a>,
     picking: &mut Picking<'a>,
 ) -> Result<(), AllocError>
+    requires { IsQuiet (called_macro (env_of (T.answers input.now.entry.now) input.now.setting) (macros_of input.now.setting)) quiet.now picking.old.notes }
     ensures done { let env = env_of (T.answers input.now.entry.now) input.now.setting in
         let ms = macros_of input.now.setting in
         let node = plain_node (shape_look shape.entry) shape.entry.quotes shape.entry.strip_periods None in
         OnOk result (all_done env ms (steps_view steps.new.items) (held picking.new)
         ≡ all_done env ms (steps_view steps.old.items) (added (called_macro env ms depth name.now node (held picking.old).noted) (held picking.old))) }
+    ensures fit { let env = env_of (T.answers input.now.entry.now) input.now.setting in
+        let ms = macros_of input.now.setting in
+        let node = plain_node (shape_look shape.entry) shape.entry.quotes shape.entry.strip_periods None in
+        OnOk result (AllFit env ms (steps_view steps.old.items) (added (called_macro env ms depth name.now node (held picking.old).noted) (held picking.old))
+        → AllFit env ms (steps_view steps.new.items) (held picking.new)) }
+    ensures same { OnOk result (picking.new.notes ≡ picking.old.notes) }
     ensures falls { let ms = macros_of input.now.setting in
         OnOk result (work ms (steps_view steps.new.items) < work ms (steps_view steps.old.items) + 2 * (1 + macro_weight ms depth name.now)) }
 {
     if depth == 0 {
         return Ok(());
     }
+    if let Some(called) = quiet.called(name, depth, &picking.notes) {
+        picking.called = picking.called.and(called);
+        return Ok(());
+    }
     match input.setting.context.body_of(name) {
         None => Ok(()),
         Some(elements) => {
+            let seen = Seen::of(&picking.notes);
             let opened = picking.open(shape.node(None))?;
-            steps.push(Step::CloseMacro(opened))?;
+            let call = OpenMacro {
+                name,
+                depth,
+                seen,
+                opened,
+            };
+            steps.push(Step::CloseMacro(call))?;
             steps.push(Step::Elements(elements.as_slice(), depth - 1))?;
             Ok(())
         }
     }
+}
+
+// Remembers a macro that gave nothing and noted nothing.
+fn remember<'a>(
+    call: OpenMacro<'a>,
+    quiet: &mut QuietMacros<'a>,
+    picking: &Picking<'a>,
+) -> Result<(), AllocError>
+    ensures { OnOk result ((calls : ℕ → Call) → IsOpened calls call.entry.name.now call.entry.depth call.entry.seen call.entry.opened (held picking.now)
+        → IsQuiet calls quiet.old picking.now.notes → IsQuiet calls quiet.new picking.now.notes) }
+{
+    if !picking.is_empty_node(call.opened) || !call.seen.is_of(&picking.notes) {
+        return Ok(());
+    }
+    quiet.add(call.name, call.depth, picking.called, &picking.notes)?;
+    Ok(())
+}
+
+// Closes a macro.
+fn close_macro<'a>(
+    call: OpenMacro<'a>,
+    quiet: &mut QuietMacros<'a>,
+    picking: &mut Picking<'a>,
+) -> Result<(), AllocError>
+    ensures done { OnOk result (held picking.new ≡ macro_closed call.entry.opened (held picking.old)) }
+    ensures quiet { OnOk result ((calls : ℕ → Call) → IsOpened calls call.entry.name.now call.entry.depth call.entry.seen call.entry.opened (held picking.old)
+        → IsQuiet calls quiet.old picking.old.notes → IsQuiet calls quiet.new picking.new.notes) }
+{
+    remember(call, quiet, picking)?;
+    picking.close_macro(call.opened)?;
+    Ok(())
 }
 
 // Does one step, which may add others.
@@ -279,12 +350,20 @@ fn take_step<'a, T: EntryLike>(
     input: &Input<'a, T>,
     step: Step<'a>,
     steps: &mut Vec<Step<'a>>,
+    quiet: &mut QuietMacros<'a>,
     picking: &mut Picking<'a>,
 ) -> Result<(), AllocError>
+    requires quiet { IsQuiet (called_macro (env_of (T.answers input.now.entry.now) input.now.setting) (macros_of input.now.setting)) quiet.old picking.old.notes }
+    requires fits { Fits (called_macro (env_of (T.answers input.now.entry.now) input.now.setting) (macros_of input.now.setting)) (step_view step) (held picking.old) }
     ensures done { let env = env_of (T.answers input.now.entry.now) input.now.setting in
         let ms = macros_of input.now.setting in
         OnOk result (all_done env ms (steps_view steps.new.items) (held picking.new)
         ≡ all_done env ms (steps_view steps.old.items) (done env ms (step_view step.entry) (held picking.old))) }
+    ensures fit { let env = env_of (T.answers input.now.entry.now) input.now.setting in
+        let ms = macros_of input.now.setting in
+        OnOk result (AllFit env ms (steps_view steps.old.items) (done env ms (step_view step.entry) (held picking.old))
+        → AllFit env ms (steps_view steps.new.items) (held picking.new)) }
+    ensures quiet { OnOk result (IsQuiet (called_macro (env_of (T.answers input.now.entry.now) input.now.setting) (macros_of input.now.setting)) quiet.new picking.new.notes) }
     ensures falls { let ms = macros_of input.now.setting in
         OnOk result (work ms (steps_view steps.new.items) < work ms (steps_view steps.old.items) + step_work ms (step_view step.entry)) }
 {
@@ -293,12 +372,12 @@ fn take_step<'a, T: EntryLike>(
             if let Some((element, rest)) = elements.split_first() {
                 steps.push(Step::Elements(rest, depth))?;
                 pick_plain(input, element, picking)?;
-                step_inside(input, element, depth, steps, picking)?;
+                step_inside(input, element, depth, steps, quiet, picking)?;
             }
             Ok(())
         }
         Step::CloseGroup(opened) => picking.close_group(opened),
-        Step::CloseMacro(opened) => picking.close_macro(opened),
+        Step::CloseMacro(call) => close_macro(call, quiet, picking),
     }
 }
 
@@ -324,10 +403,12 @@ pub fn pick_layout<'a, T: EntryLike>(
         OnOk result (held picking.new ≡ added (pick_layout env (macros_of input.now.setting) (elements_view elements.now.items) (held picking.old).noted) (held picking.old)) }
 {
     let depth = input.setting.context.style.macros.len();
-    let mut steps = Vec::with_capacity(*picking.pieces.allocator(), DEPTH)?;
+    let alloc = *picking.pieces.allocator();
+    let mut quiet = QuietMacros::new(alloc, &picking.notes);
+    let mut steps = Vec::with_capacity(alloc, DEPTH)?;
     steps.push(Step::Elements(elements.as_slice(), depth))?;
     while let Some(step) = steps.pop() {
-        take_step(input, step, &mut steps, picking)?;
+        take_step(input, step, &mut steps, &mut quiet, picking)?;
     }
     Ok(())
 }

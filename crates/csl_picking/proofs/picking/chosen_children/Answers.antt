@@ -20,11 +20,11 @@ returns-then-passes-clause-chosen g c call =
     let rest = branches_view (drop (i + 1) items) last in
     let h = branches_rest last items i b c.loop-branch-test.true c.branch-item.is in
     ap (λ xs. pick_first_with env call (branches_view xs last) c.args.notes.now) (sym c.deref-branch-items.ensures.value)
-    ∙ sym (c.loop-branch.invariant call) ∙ ap (λ bs. pick_first_with env call bs c.loop-branch.notes) h
+    ∙ sym (c.loop-branch.invariant.chosen call) ∙ ap (λ bs. pick_first_with env call bs c.loop-branch.notes) h
     ∙ taken env call b.conditions.items b.rule (elements_view b.children.items) rest c.passes.result c.loop-branch.notes c.passes.new.notes c.passes.ensures.value c.if-passes.true c.passes.ensures.after
 
 pub loop-branch-preserved : goal.loop-branch-preserved
-loop-branch-preserved g c call =
+loop-branch-preserved g c =
     let env = env_of (g.T.EntryLike.answers c.args.input.now.entry.now) c.args.input.now.setting in
     let last = c.args.otherwise.now.items in
     let items = c.deref-branch-items.result.now in
@@ -32,8 +32,18 @@ loop-branch-preserved g c call =
     let b = c.branch-item.result in
     let rest = branches_view (drop (i + 1) items) last in
     let h = branches_rest last items i b c.loop-branch-test.true c.branch-item.is in
-    sym (passed env call b.conditions.items b.rule (elements_view b.children.items) rest c.passes.result c.loop-branch.notes c.passes.new.notes c.passes.ensures.value c.if-passes.false c.passes.ensures.after)
-    ∙ ap (λ bs. pick_first_with env call bs c.loop-branch.notes) (sym h) ∙ c.loop-branch.invariant call
+    record {
+      chosen = λ call.
+          sym (passed env call b.conditions.items b.rule (elements_view b.children.items) rest c.passes.result c.loop-branch.notes c.passes.new.notes c.passes.ensures.value c.if-passes.false c.passes.ensures.after)
+          ∙ ap (λ bs. pick_first_with env call bs c.loop-branch.notes) (sym h) ∙ c.loop-branch.invariant.chosen call;
+      keeps = λ p e. ap (λ n. n.first_name) c.passes.ensures.after ∙ c.loop-branch.invariant.keeps p e;
+    }
+
+pub returns-then-passes-clause-keeps : goal.returns-then-passes-clause-keeps
+returns-then-passes-clause-keeps g c p e = ap (λ n. n.first_name) c.passes.ensures.after ∙ c.loop-branch.invariant.keeps p e
+
+pub returns-clause-keeps : goal.returns-clause-keeps
+returns-clause-keeps g c p e = c.loop-branch.invariant.keeps p e
 
 pub returns-clause-chosen : goal.returns-clause-chosen
 returns-clause-chosen g c call =
@@ -42,7 +52,7 @@ returns-clause-chosen g c call =
     let items = c.deref-branch-items.result.now in
     let end = drop_all c.loop-branch.branch-index items c.loop-branch-test.false in
     ap (λ xs. pick_first_with env call (branches_view xs last) c.args.notes.now) (sym c.deref-branch-items.ensures.value)
-    ∙ sym (c.loop-branch.invariant call) ∙ ap (λ xs. pick_first_with env call (branches_view xs last) c.loop-branch.notes) end
+    ∙ sym (c.loop-branch.invariant.chosen call) ∙ ap (λ xs. pick_first_with env call (branches_view xs last) c.loop-branch.notes) end
 
 pub returns-then-passes-clause-lighter : goal.returns-then-passes-clause-lighter
 returns-then-passes-clause-lighter g c call =

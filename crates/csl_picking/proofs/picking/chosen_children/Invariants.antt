@@ -2,10 +2,14 @@ use Rattle.std.proofs.Common.{◌≡◌, drop}
 use Rattle.csl_base.specs.ElementView.{branches_view}
 use Rattle.csl_picking.specs.InputView.{env_of}
 use Rattle.csl_picking.specs.Pick.{Call, pick_first_with}
+use Rattle.csl_picking.specs.Quiet.{Keeps}
 use Rattle.csl_picking.proofs.picking.chosen_children.Given as goal
 
 abbrev pub invariant-loop-branch : goal.invariant-loop-branch
 invariant-loop-branch g l =
     let env = env_of (g.T.EntryLike.answers l.input.entry.now) l.input.setting in
-    (call : Call)
-    → pick_first_with env call (branches_view (drop l.branch-index l.branch-items) l.otherwise.items) l.notes ≡ pick_first_with env call (branches_view l.branch-items l.otherwise.items) l.initial.notes
+    record {
+      chosen : (call : Call)
+          → pick_first_with env call (branches_view (drop l.branch-index l.branch-items) l.otherwise.items) l.notes ≡ pick_first_with env call (branches_view l.branch-items l.otherwise.items) l.initial.notes;
+      keeps : Keeps l.initial.notes l.notes;
+    }

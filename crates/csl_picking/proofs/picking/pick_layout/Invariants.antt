@@ -1,14 +1,20 @@
 use Rattle.std.proofs.Common.{◌≡◌}
 use Rattle.csl_picking.specs.InputView.{env_of, macros_of}
 use Rattle.csl_picking.specs.HeldView.{held}
-use Rattle.csl_picking.specs.Work.{steps_view, all_done, work}
+use Rattle.csl_picking.specs.Work.{steps_view, all_done, AllFit, work}
+use Rattle.csl_picking.specs.Pick.{called_macro}
+use Rattle.csl_picking.specs.Quiet.{IsQuiet}
 use Rattle.csl_picking.proofs.picking.pick_layout.Given as goal
 
 abbrev pub invariant-loop-step : goal.invariant-loop-step
 invariant-loop-step g l =
     let env = env_of (g.T.EntryLike.answers l.input.entry.now) l.input.setting in
     let ms = macros_of l.input.setting in
-    all_done env ms (steps_view l.steps.items) (held l.picking) ≡ all_done env ms (steps_view l.initial.steps.items) (held l.initial.picking)
+    record {
+      all : all_done env ms (steps_view l.steps.items) (held l.picking) ≡ all_done env ms (steps_view l.initial.steps.items) (held l.initial.picking);
+      fit : AllFit env ms (steps_view l.steps.items) (held l.picking);
+      quiet : IsQuiet (called_macro env ms) l.quiet l.picking.notes;
+    }
 
 abbrev pub decreases-loop-step : goal.decreases-loop-step
 decreases-loop-step g l = work (macros_of l.input.setting) (steps_view l.steps.items)
