@@ -7,8 +7,10 @@ use csl_base::style::{IndependentStyle, StyleClass};
 use csl_driver::driver::BibliographyDriver;
 use csl_driver::item::CitationItem;
 use csl_driver::laws::{
-    answer_equality_decides, answers_copy_equal, bibliography_holds_each_once,
-    item_equality_decides, items_copy_equal, numbers_have_no_gaps,
+    ambiguous_stand_together, answer_equality_decides, answers_copy_equal,
+    bibliography_holds_each_once, choose_and_suffix_go_on, item_equality_decides, items_copy_equal,
+    name_marks_go_on, numbers_have_no_gaps, properties_equality_decides, request_equality_decides,
+    suffixes_count_entries, wanted_equality_decides,
 };
 use csl_driver::rendered::Rendered;
 use csl_driver::request::{BibliographyRequest, CitationRequest, Order};
@@ -32,6 +34,13 @@ fn laws() {
     numbers_have_no_gaps::<PlainEntry>();
     items_copy_equal::<PlainEntry, Infallible>();
     item_equality_decides::<PlainEntry, Infallible>();
+    request_equality_decides::<PlainEntry, Infallible>();
+    wanted_equality_decides::<PlainEntry>();
+    properties_equality_decides::<Infallible>();
+    name_marks_go_on::<PlainEntry, Infallible>();
+    ambiguous_stand_together::<PlainEntry, Infallible>();
+    choose_and_suffix_go_on::<PlainEntry, Infallible>();
+    suffixes_count_entries::<PlainEntry, Infallible>();
     answers_copy_equal();
     answer_equality_decides();
     final_order_laws::<PlainEntry, Infallible>();

@@ -44,8 +44,8 @@ pub mod of_writing {
     pub use csl_writing::context::Context;
     pub use csl_writing::counter::Renders;
     pub use csl_writing::laws::{
-        copies_are_equal, defaults_are_none, equality_decides, states_have_a_greatest,
-        suffixes_differ, usage_counts_once,
+        copies_are_equal, defaults_are_none, equality_decides, states_go_on,
+        states_have_a_greatest, suffixes_differ, usage_counts_once,
     };
     pub use csl_writing::locator::{LocatorPayload, SpecificLocator, TransparentLocator};
     pub use csl_writing::lookup::StyleContext;
@@ -103,14 +103,18 @@ pub mod of_driver {
     pub use csl_driver::formatting::Formatting;
     pub use csl_driver::formatting::StyleFormatting;
     pub use csl_driver::item::CitationItem;
+    pub use csl_driver::laws::ambiguous_stand_together;
     pub use csl_driver::laws::answer_equality_decides;
     pub use csl_driver::laws::answers_copy_equal;
     pub use csl_driver::laws::bibliography_holds_each_once;
+    pub use csl_driver::laws::choose_and_suffix_go_on;
     pub use csl_driver::laws::item_equality_decides;
     pub use csl_driver::laws::items_copy_equal;
+    pub use csl_driver::laws::name_marks_go_on;
     pub use csl_driver::laws::numbers_have_no_gaps;
     pub use csl_driver::laws::properties_equality_decides;
     pub use csl_driver::laws::request_equality_decides;
+    pub use csl_driver::laws::suffixes_count_entries;
     pub use csl_driver::laws::wanted_equality_decides;
     pub use csl_driver::locale::Locale;
     pub use csl_driver::locale::LocaleCode;

@@ -2,8 +2,8 @@
 use csl_base::taxonomy::Locator;
 use csl_writing::brackets::Brackets;
 use csl_writing::laws::{
-    copies_are_equal, defaults_are_none, equality_decides, states_have_a_greatest, suffixes_differ,
-    usage_counts_once,
+    copies_are_equal, defaults_are_none, equality_decides, states_go_on, states_have_a_greatest,
+    suffixes_differ, usage_counts_once,
 };
 use csl_writing::locator::{LocatorPayload, SpecificLocator, TransparentLocator};
 use csl_writing::picking::{macros_unfold, suffixes_unfold};
@@ -17,6 +17,7 @@ use std::test::Fail;
 fn laws() {
     suffixes_differ();
     states_have_a_greatest();
+    states_go_on();
     usage_counts_once();
     macros_unfold();
     suffixes_unfold();
