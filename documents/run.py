@@ -9,7 +9,7 @@ A document is NAME.json. NAME.txt is what it must print; where the status isn't 
 printed. What is expected was worked out by hand from the rules, never taken from the program. The folders:
 rows/ whole runs; layouts/ each kind of element; words/ locales, terms, quotes and punctuation; purposes/ what cites are
 written for; keywords/ each name of a variable, term, form and so on; parts/ each kind of object with all its keys;
-disambiguation/, grouping/, collapsing/ and bibliography/ how cites and items work together (each with a README.md that
+disambiguation/, rounds/, grouping/, collapsing/ and bibliography/ how cites and items work together (each with a README.md that
 tells why a document prints what it does); hostile/ depth; refused/ what the program and the schema refuse;
 beyond_schema/ what the program alone refuses.
 The last line is 'N passed, M failed', and the exit status is 1 where a test failed."""

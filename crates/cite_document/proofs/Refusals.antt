@@ -6,6 +6,7 @@ use Rattle.csl_base.specs.declared.entry.PlainEntry.{PlainEntry}
 use Rattle.csl_driver.specs.Answer.{rendered}
 use Rattle.csl_entries.specs.Entries.{distinct}
 use Rattle.csl_passes.specs.Request.{Wanted, cited}
+use Rattle.csl_rounds.specs.declared.mode.RoundMode.{RoundMode}
 use Rattle.csl_driver.specs.Driver.{Driver}
 use Rattle.csl_driver.specs.Rings.{IsFirstRingOf, NoRingAtAll, Overflows, Refuses}
 use Rattle.csl_driver.specs.declared.error.DriverError.{DriverError}
@@ -22,10 +23,12 @@ module _ (v : Driver PlainEntry Infallible) (w : Wanted PlainEntry) (d : Documen
       subst (λ x. NoRingAtAll x.requests d.style × (x.offset + length (distinct same_entry (cited x.requests)) < 2 ^ 64)) p
       (subst (λ (x : Wanted PlainEntry). NoRingAtAll v.requests x.style) q a, b)
 
-  pub is_answer : (r : Rendered) (text : List ℕ) → r ≡ rendered same_entry same_payload plain_answers w v.requests v.offset → text ≡ print r → text ≡ print (answer d)
-  is_answer r text e t =
-      t ∙ ap print (e ∙ ap (λ x. rendered same_entry same_payload plain_answers x v.requests v.offset) q
-      ∙ ap (λ x. rendered same_entry same_payload plain_answers (wanted_of d) x.requests x.offset) p)
+  pub is_answer : (mode : RoundMode) (r : Rendered) (text : List ℕ) → mode ≡ d.rounds
+      → r ≡ rendered same_entry same_payload plain_answers mode (record { wanted = w; requests = v.requests; offset = v.offset }) → text ≡ print r → text ≡ print (answer d)
+  is_answer mode r text m e t =
+      t ∙ ap print (e ∙ ap (λ x. rendered same_entry same_payload plain_answers x (record { wanted = w; requests = v.requests; offset = v.offset })) m
+      ∙ ap (λ x. rendered same_entry same_payload plain_answers d.rounds (record { wanted = x; requests = v.requests; offset = v.offset })) q
+      ∙ ap (λ x. rendered same_entry same_payload plain_answers d.rounds (record { wanted = wanted_of d; requests = x.requests; offset = x.offset })) p)
 
   pub first_ring : (place : RingPlace) (i : ℕ) → IsFirstRingOf v.requests w.style place i → HasFirstRing place i d
   first_ring place i h =

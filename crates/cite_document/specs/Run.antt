@@ -6,7 +6,7 @@ use Rattle.csl_base.specs.PlainEntry.{plain_answers}
 use Rattle.csl_base.specs.declared.entry.PlainEntry.{PlainEntry}
 use Rattle.csl_base.specs.contracts.entry.PlainEntryPartialEq.TheImpl as plain_entry_eq
 use Rattle.std.specs.contracts.prelude.InfalliblePartialEq.TheImpl as infallible_eq
-use Rattle.csl_driver.specs.Answer.{rendered}
+use Rattle.csl_driver.specs.Answer.{Asked, rendered}
 use Rattle.csl_entries.specs.Entries.{distinct}
 use Rattle.csl_passes.specs.Request.{Request, Wanted, cited, with_places}
 use Rattle.csl_driver.specs.Rings.{NoRingAtAll, IsFirstRingOf, Overflows}
@@ -33,9 +33,13 @@ accepted = map with_places
 abbrev pub wanted_of : Document → Wanted PlainEntry
 wanted_of d = record { style = d.style; locale = d.locale; locales = d.locales; order = d.order }
 
--- the whole answer to a document
+-- what a document asks of a driver
+abbrev pub asked_by : Document → Asked PlainEntry Infallible
+asked_by d = record { wanted = wanted_of d; requests = accepted d.requests; offset = d.offset }
+
+-- the whole answer to a document: that of as many rounds as it says
 abbrev pub answer : Document → Rendered
-answer d = rendered same_entry same_payload plain_answers (wanted_of d) (accepted d.requests) d.offset
+answer d = rendered same_entry same_payload plain_answers d.rounds (asked_by d)
 
 -- the first ring of a document's styles: the style's place, and that of its first macro on a ring
 abbrev pub HasFirstRing : RingPlace → ℕ → Document → Type 0

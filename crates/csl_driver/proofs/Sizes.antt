@@ -13,7 +13,7 @@ use Rattle.csl_base.specs.Style.{CitationValue}
 use Rattle.csl_base.specs.declared.style.Collapse.{Collapse}
 use Rattle.csl_assembly.specs.CitationTree.{has_no_purpose}
 use Rattle.csl_collapse.specs.Collapsed.{collapsed, collapsed_cites}
-use Rattle.csl_driver.specs.Answer.{drawn_together, entries_listed, final_number, in_final_order, in_the_end, rendered_first}
+use Rattle.csl_driver.specs.Answer.{Asked, drawn_together, entries_listed, final_number, in_final_order, in_the_end, rendered_first}
 use Rattle.csl_driver.proofs.FirstPlaced.{first-cited}
 use Rattle.csl_entries.specs.Entries.{number}
 use Rattle.csl_grouping.specs.Blocks.{final_order, group_delimiter, grouped, grouped_cites, is_grouped}
@@ -21,11 +21,13 @@ use Rattle.csl_grouping.specs.Laws.{bare}
 use Rattle.csl_grouping.proofs.OrderLaws.{ordered}
 use Rattle.csl_grouping.proofs.Whole.{final-permuted}
 use Rattle.csl_passes.specs.Renders.{CiteRender, ItemRender}
-use Rattle.csl_passes.specs.Request.{Request, Wanted, cites_of, entries_of}
+use Rattle.csl_passes.specs.Request.{cites_of, entries_of}
 use Rattle.csl_positions.specs.FinalProperties.{items_before, with_final_items}
 use Rattle.csl_writing.proofs.Counting.{counted_times-add, counted_times-all}
 use Rattle.csl_writing.specs.Counted.{counted_times}
-use Rattle.csl_rounds.specs.Rounds.{after_rounds, disambiguated, no_states, request_at}
+use Rattle.csl_rounds.specs.Rounds.{request_at}
+use Rattle.csl_rounds.specs.Tables.{disambiguated, last_states}
+use Rattle.csl_rounds.specs.declared.mode.RoundMode.{RoundMode}
 
 module _ {X : Type 0} where
   sum-same : (v w : X → ℕ) → ((x : X) → v x ≡ w x) → (xs : List X) → sum_by v xs ≡ sum_by w xs
@@ -68,30 +70,31 @@ module _ {E P : Type 0} where
       by true = collapsed-length c.request.style.citation.collapse c.request.style.citation c.items
       by false = refl
 
-module _ {E P : Type 0} (eq : E → E → Bool) (payload_eq : P → P → Bool) (answers : E → Answers) (wanted : Wanted E) (requests : List (Request E P)) (offset : ℕ) where
-  first-size : sum_by size (rendered_first eq payload_eq answers wanted requests offset) ≡ length (cites_of requests)
+module _ {E P : Type 0} (eq : E → E → Bool) (payload_eq : P → P → Bool) (answers : E → Answers) (mode : RoundMode) (asked : Asked E P) where
+  first-size : sum_by size (rendered_first eq payload_eq answers asked) ≡ length (cites_of asked.requests)
   first-size =
-      let firsts = rendered_first eq payload_eq answers wanted requests offset in
+      let firsts = rendered_first eq payload_eq answers asked in
+      let requests = asked.requests in
       sum-same size (λ c. length (map (λ i. i.entry) c.items)) (λ c. sym (length-map c.items (λ i. i.entry))) firsts
       ∙ sym (length-flat_map (λ c. map (λ i. i.entry) c.items) firsts)
-      ∙ ap length (first-cited eq payload_eq answers (number eq offset (entries_listed eq wanted requests)) [] requests)
+      ∙ ap length (first-cited eq payload_eq answers (number eq asked.offset (entries_listed eq asked.wanted requests)) [] requests)
       ∙ length-flat_map (λ r. entries_of r.cites) requests
       ∙ sum-same (λ r. length (entries_of r.cites)) (λ r. length r.cites) (λ r. length-map r.cites (λ c. c.entry)) requests
       ∙ sym (length-flat_map (λ r. r.cites) requests)
 
-  told-size : sum_by size (disambiguated eq answers (rendered_first eq payload_eq answers wanted requests offset)) ≡ sum_by size (rendered_first eq payload_eq answers wanted requests offset)
+  told-size : sum_by size (disambiguated mode eq answers (rendered_first eq payload_eq answers asked)) ≡ sum_by size (rendered_first eq payload_eq answers asked)
   unfolding disambiguated
   told-size =
-      let firsts = rendered_first eq payload_eq answers wanted requests offset in
-      let table = after_rounds answers eq firsts 3 no_states in
-      sum-mapped size (request_at answers table) (λ c. length-map c.items _) firsts
+      let firsts = rendered_first eq payload_eq answers asked in
+      sum-mapped size (request_at answers (last_states mode eq answers firsts)) (λ c. length-map c.items _) firsts
 
   -- as many as the requests have
-  pub last-size : sum_by size (map drawn_together (in_the_end eq payload_eq answers wanted requests offset)) ≡ length (cites_of requests)
+  pub last-size : sum_by size (map drawn_together (in_the_end eq payload_eq answers mode asked)) ≡ length (cites_of asked.requests)
   last-size =
-      let told = disambiguated eq answers (rendered_first eq payload_eq answers wanted requests offset) in
-      sum-mapped size drawn_together drawn-size (in_the_end eq payload_eq answers wanted requests offset)
-      ∙ sum-changed size (λ k c. record c { items = with_final_items eq payload_eq (final_number eq payload_eq answers wanted requests offset) (items_before (in_final_order eq payload_eq answers wanted requests offset) k) c.items })
+      let told = disambiguated mode eq answers (rendered_first eq payload_eq answers asked) in
+      let number_of = final_number eq payload_eq answers mode asked in
+      sum-mapped size drawn_together drawn-size (in_the_end eq payload_eq answers mode asked)
+      ∙ sum-changed size (λ k c. record c { items = with_final_items eq payload_eq number_of (items_before (in_final_order eq payload_eq answers mode asked) k) c.items })
       (λ k c. length-map (enumerate_from 0 c.items) _ ∙ length-enumerate_from 0 c.items) 0 (map grouped told)
       ∙ sum-mapped size grouped grouped-size told ∙ told-size ∙ first-size
 

@@ -22,7 +22,9 @@ use Rattle.csl_passes.specs.Request.{Request, cited}
 use Rattle.csl_positions.specs.FinalProperties.{items_before, with_final, with_final_items, with_final_properties}
 use Rattle.csl_positions.specs.FirstProperties.{first_properties}
 use Rattle.csl_rounds.specs.FirstRenders.{first_renders}
-use Rattle.csl_rounds.specs.Rounds.{Table as States, after_rounds, at_table, disambiguated, no_states, request_at, with_any}
+use Rattle.csl_rounds.specs.Rounds.{Table as States, at_table, request_at, with_any}
+use Rattle.csl_rounds.specs.Tables.{disambiguated, last_states}
+use Rattle.csl_rounds.specs.declared.mode.RoundMode.{RoundMode}
 
 module _ {X : Type 0} (h : ℕ → X → X) where
   -- members changed by their places
@@ -126,9 +128,9 @@ module _ {E P : Type 0} (eq : E → E → Bool) (laws : IsEquivalence eq) (answe
     }
 
     -- told apart
-    pub disambiguated-stand : AreCitesOf eq entered requests (disambiguated eq answers renders)
+    pub disambiguated-stand : (mode : RoundMode) → AreCitesOf eq entered requests (disambiguated mode eq answers renders)
     unfolding disambiguated
-    disambiguated-stand = again-stand (after_rounds answers eq renders 3 no_states)
+    disambiguated-stand mode = again-stand (last_states mode eq answers renders)
 
     -- in their blocks
     pub grouped-stand : AreCitesOf eq entered requests (map grouped renders)
@@ -165,8 +167,8 @@ module _ {E P : Type 0} (eq : E → E → Bool) (laws : IsEquivalence eq) (answe
       (first-stand eq laws answers payload_eq number_of requests))
 
   -- told apart and in their blocks
-  pub ordered-stand : (told ordered : List (CiteRender E P)) → told ≡ disambiguated eq answers begun → ordered ≡ map grouped told → AreCitesOf eq table requests ordered
-  ordered-stand told ordered apart grouping =
+  pub ordered-stand : (mode : RoundMode) (told ordered : List (CiteRender E P)) → told ≡ disambiguated mode eq answers begun → ordered ≡ map grouped told → AreCitesOf eq table requests ordered
+  ordered-stand mode told ordered apart grouping =
       subst (AreCitesOf eq table requests) (sym grouping)
       (grouped-stand eq laws answers table requests told
-      (subst (AreCitesOf eq table requests) (sym apart) (disambiguated-stand eq laws answers table requests begun begun-stand)))
+      (subst (AreCitesOf eq table requests) (sym apart) (disambiguated-stand eq laws answers table requests begun begun-stand mode)))

@@ -1,11 +1,12 @@
 -- The account of an answer: what it cost, and how it numbers its entries and tells them apart.
 use Rattle.std.specs.Prelude.{ℕ, ◌+◌, ◌*◌, Bool, List, Option, None, Some, length, unwrap_or}
 use Rattle.csl_base.specs.Answers.{Answers}
-use Rattle.csl_driver.specs.Answer.{entries_listed, rendered_first}
+use Rattle.csl_driver.specs.Answer.{Asked, entries_listed, rendered_first}
 use Rattle.csl_lookup.specs.declared.state.DisambiguateState.{DisambiguateState}
 use Rattle.csl_passes.specs.Request.{Request, Wanted, cited, cites_of}
-use Rattle.csl_rounds.specs.Rerenders.{last_states, rerenders, round_tables}
-use Rattle.csl_rounds.specs.Rounds.{Table}
+use Rattle.csl_rounds.specs.Rerenders.{rerenders}
+use Rattle.csl_rounds.specs.Tables.{last_states, round_tables, rounds}
+use Rattle.csl_rounds.specs.declared.mode.RoundMode.{RoundMode}
 
 -- by what an entry with this state is told apart
 abbrev pub told_by : Option DisambiguateState → DisambiguateState
@@ -20,20 +21,20 @@ where_listed (Some b) n = n
 abbrev pub listed_count : {E P : Type 0} → (E → E → Bool) → Wanted E → List (Request E P) → ℕ
 listed_count eq wanted requests = where_listed wanted.style.bibliography (length (entries_listed eq wanted requests))
 
-module _ {E P : Type 0} (eq : E → E → Bool) (payload_eq : P → P → Bool) (answers : E → Answers) (wanted : Wanted E) (requests : List (Request E P)) (offset : ℕ) where
-  -- what the rounds mark, one table for each that marks
-  abbrev pub marking : List (Table E)
-  marking = round_tables eq answers (rendered_first eq payload_eq answers wanted requests offset)
+module _ {E P : Type 0} (eq : E → E → Bool) (payload_eq : P → P → Bool) (answers : E → Answers) (mode : RoundMode) (asked : Asked E P) where
+  -- how many rounds mark
+  abbrev pub marking : ℕ
+  marking = rounds mode eq answers (rendered_first eq payload_eq answers asked)
 
   -- the renderings of the rounds: one in each that marks for each cite whose entry it marks
   abbrev pub rerendered : ℕ
-  rerendered = rerenders (cited requests) marking
+  rerendered = rerenders (cited asked.requests) (round_tables mode eq answers (rendered_first eq payload_eq answers asked))
 
   -- the renderings: two for each cite, hidden or not; those of the rounds; and one for each entry of the bibliography,
   -- where there is one
   abbrev pub cost : ℕ
-  cost = 2 * length (cites_of requests) + rerendered + listed_count eq wanted requests
+  cost = 2 * length (cites_of asked.requests) + rerendered + listed_count eq asked.wanted asked.requests
 
   -- by what an entry is told apart in the end
   abbrev pub final_state : E → DisambiguateState
-  final_state e = told_by (last_states eq answers (rendered_first eq payload_eq answers wanted requests offset) e)
+  final_state e = told_by (last_states mode eq answers (rendered_first eq payload_eq answers asked) e)

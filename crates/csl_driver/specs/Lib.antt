@@ -7,3 +7,6 @@ pub mod AreCitesOf
 pub mod StandaloneCitation
 pub mod Rings
 pub mod Account
+pub mod Promised
+pub mod AskedView
+pub mod AreSettled

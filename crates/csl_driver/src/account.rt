@@ -13,7 +13,7 @@ use std::alloc::{AllocError, Global};
 pub struct Account<'a, T> {
     /// The renderings that were made; the greatest `u128` where there were more.
     pub renders: u128,
-    /// The rounds that marked entries.
+    /// The rounds that marked entries; the greatest `u128` where there were more.
     pub rounds: u128,
     /// The distinct entries, in the order of their first cites in the requests.
     pub entries: Vec<&'a T>,

@@ -1,13 +1,16 @@
 //! The whole answer, from all requests at once.
-ghost use Rattle.std.specs.Prelude.{◌≡◌, ◌+◌, ◌-◌, ◌<◌, ◌^◌, All, length, map, min, take, OnOk, IfOk, IfErr};
+ghost use Rattle.std.specs.Prelude.{◌≡◌, ◌+◌, ◌<◌, ◌^◌, All, length, map, take, OnOk, IfOk, IfErr};
 ghost use Rattle.std.specs.List.{sum_by};
 ghost use Rattle.csl_base.specs.Ring.{HasNoRing};
 ghost use Rattle.csl_base.specs.StyleView.{style_view};
-ghost use Rattle.csl_driver.specs.Account.{cost, final_state, listed_count, marking, rerendered, told_by};
-ghost use Rattle.csl_driver.specs.Answer.{citation_of, drawn_together, final_number, in_the_end, numbered_finally, order_in_use, rendered, rendered_first};
+ghost use Rattle.csl_driver.specs.Account.{listed_count, rerendered, told_by};
+ghost use Rattle.csl_driver.specs.Answer.{citation_of, drawn_together, in_the_end, numbered_finally, order_in_use, rendered, rendered_first};
 ghost use Rattle.csl_driver.specs.AreCitesOf.{AreCitesOf};
+ghost use Rattle.csl_driver.specs.AreSettled.{AreSettled};
+ghost use Rattle.csl_driver.specs.AskedView.{asked_of, asked_view};
 ghost use Rattle.csl_driver.specs.Cited.{IsCitedBy};
 ghost use Rattle.csl_driver.specs.DriverView.{driver_view};
+ghost use Rattle.csl_driver.specs.Promised.{IsAnswer};
 ghost use Rattle.csl_driver.specs.Rings.{NoRingAtAll, NoRingIn, Refuses};
 ghost use Rattle.csl_entries.specs.Entries.{distinct, number};
 ghost use Rattle.csl_entries.specs.TableView.{table_view};
@@ -16,7 +19,7 @@ ghost use Rattle.csl_passes.specs.RendersView.{render_view, renders_view};
 ghost use Rattle.csl_passes.specs.Request.{cited, cites_of};
 ghost use Rattle.csl_passes.specs.RequestView.{order_view, requests_view, wanted_view};
 ghost use Rattle.csl_positions.specs.FirstProperties.{numbered_by};
-ghost use Rattle.csl_rounds.specs.Rerenders.{AreStatesOf, last_states};
+ghost use Rattle.csl_rounds.specs.declared.mode.RoundMode.{RoundMode};
 ghost use Rattle.csl_writing.specs.Counted.{counted_times};
 
 use crate::account::{Account, first_numbers, table_entries, told_states};
@@ -38,6 +41,7 @@ use csl_passes::request::{BibliographyRequest, CitationRequest, Order};
 use csl_positions::final_order::{final_listing, set_final_properties};
 use csl_positions::first::first_properties;
 use csl_rounds::first_renders::{discard_renders, first_renders};
+use csl_rounds::mode::RoundMode;
 use csl_rounds::rounds::{Rounds, disambiguate};
 use csl_writing::counter::Renders;
 use std::alloc::{AllocError, Global};
@@ -102,7 +106,7 @@ fn rendered_first<'r, 'a, T: EntryLike, P: Eq + Drop>(
     requires no_ring { NoRingIn (requests_view requests.now) }
     requires known { IsCitedBy T.eq (requests_view requests.now) (order_in_use (wanted_view wanted.now)) cited.now }
     ensures first { IfOk result (λ c. renders_view c.renders.items
-        ≡ rendered_first T.eq P.eq T.answers (wanted_view wanted.now) (requests_view requests.now) cited.now.offset) }
+        ≡ rendered_first T.eq P.eq T.answers (asked_view requests.now cited.now.offset wanted.now)) }
     ensures counted { OnOk result (renders.new ≡ counted_times (length (cites_of (requests_view requests.now))) renders.old) }
 {
     let numbers = cited.numbers(alloc, &cited.listing)?;
@@ -160,30 +164,24 @@ struct Settled {
 
 /// Tells the cites of all requests apart, brings them into their final order, and sets their final
 /// positions and numbers.
-fn settle<'a, T: EntryLike, P: Eq>(
+fn settle_cites<'a, T: EntryLike, P: Eq>(
     alloc: Global,
     requests: &[CitationRequest<'a, T, P>],
     wanted: &BibliographyRequest<'_, 'a, T>,
+    mode: RoundMode,
     cited: &Cited<'a, T>,
     cites: &mut [SpeculativeCiteRender<'_, 'a, T, P>],
     renders: &mut Renders,
 ) -> Result<Settled, AllocError>
     requires no_ring { NoRingIn (requests_view requests.now) }
     requires known { IsCitedBy T.eq (requests_view requests.now) (order_in_use (wanted_view wanted.now)) cited.now }
-    requires first { renders_view cites.old ≡ rendered_first T.eq P.eq T.answers (wanted_view wanted.now) (requests_view requests.now) cited.now.offset }
-    ensures settled { OnOk result (renders_view cites.new
-        ≡ in_the_end T.eq P.eq T.answers (wanted_view wanted.now) (requests_view requests.now) cited.now.offset) }
+    requires first { renders_view cites.old ≡ rendered_first T.eq P.eq T.answers (asked_view requests.now cited.now.offset wanted.now) }
+    ensures in_the_end { OnOk result (renders_view cites.new ≡ in_the_end T.eq P.eq T.answers mode (asked_view requests.now cited.now.offset wanted.now)) }
     ensures stand { OnOk result (AreCitesOf T.eq (table_view cited.now.table) (requests_view requests.now) (renders_view cites.new)) }
-    ensures marked { IfOk result (λ s. s.rounds.marked ≡ length (marking T.eq P.eq T.answers (wanted_view wanted.now) (requests_view requests.now) cited.now.offset)) }
-    ensures states { IfOk result (λ s. AreStatesOf T.eq (table_view cited.now.table).entries
-        (last_states T.eq T.answers (rendered_first T.eq P.eq T.answers (wanted_view wanted.now) (requests_view requests.now) cited.now.offset)) s.rounds.states.items) }
-    ensures long { IfOk result (λ s. length s.numbers.items ≡ length (table_view cited.now.table).entries + 1) }
-    ensures numbers { IfOk result (λ s. numbered_by T.eq s.numbers.items (table_view cited.now.table).entries
-        ≡ final_number T.eq P.eq T.answers (wanted_view wanted.now) (requests_view requests.now) cited.now.offset) }
-    ensures counted { OnOk result (renders.new
-        ≡ counted_times (rerendered T.eq P.eq T.answers (wanted_view wanted.now) (requests_view requests.now) cited.now.offset) renders.old) }
+    ensures settled { IfOk result (AreSettled T.eq P.eq T.answers mode (asked_view requests.now cited.now.offset wanted.now) (table_view cited.now.table).entries) }
+    ensures counted { OnOk result (renders.new ≡ counted_times (rerendered T.eq P.eq T.answers mode (asked_view requests.now cited.now.offset wanted.now)) renders.old) }
 {
-    let rounds = disambiguate(alloc, cites, &cited.table, renders)?;
+    let rounds = disambiguate(alloc, cites, &cited.table, mode, renders)?;
     group_all(alloc, cites)?;
     let numbers = final_numbers(alloc, requests, wanted, cited, cites)?;
     set_final_properties(cites, &cited.table, &numbers);
@@ -229,28 +227,24 @@ fn rendered_citations<T: EntryLike, P: Drop>(
 }
 
 /// The answer, from the cites of all requests as they were rendered first.
-fn answer_from<'a, T: EntryLike, P: Eq + Drop>(
+fn settled_answer<'a, T: EntryLike, P: Eq + Drop>(
     alloc: Global,
     requests: &[CitationRequest<'a, T, P>],
     wanted: &BibliographyRequest<'_, 'a, T>,
+    mode: RoundMode,
     cited: &Cited<'a, T>,
     cites: &mut [SpeculativeCiteRender<'_, 'a, T, P>],
     renders: &mut Renders,
 ) -> Result<(Rendered, Settled), AllocError>
     requires no_ring { NoRingAtAll (requests_view requests.now) (style_view wanted.now.style.now) }
     requires known { IsCitedBy T.eq (requests_view requests.now) (order_in_use (wanted_view wanted.now)) cited.now }
-    requires first { renders_view cites.old ≡ rendered_first T.eq P.eq T.answers (wanted_view wanted.now) (requests_view requests.now) cited.now.offset }
-    ensures rendered { IfOk result (λ r. r.0 ≡ rendered T.eq P.eq T.answers (wanted_view wanted.now) (requests_view requests.now) cited.now.offset) }
-    ensures marked { IfOk result (λ r. r.1.rounds.marked ≡ length (marking T.eq P.eq T.answers (wanted_view wanted.now) (requests_view requests.now) cited.now.offset)) }
-    ensures states { IfOk result (λ r. AreStatesOf T.eq (table_view cited.now.table).entries
-        (last_states T.eq T.answers (rendered_first T.eq P.eq T.answers (wanted_view wanted.now) (requests_view requests.now) cited.now.offset)) r.1.rounds.states.items) }
-    ensures long { IfOk result (λ r. length r.1.numbers.items ≡ length (table_view cited.now.table).entries + 1) }
-    ensures numbers { IfOk result (λ r. numbered_by T.eq r.1.numbers.items (table_view cited.now.table).entries
-        ≡ final_number T.eq P.eq T.answers (wanted_view wanted.now) (requests_view requests.now) cited.now.offset) }
-    ensures counted { OnOk result (renders.new ≡ counted_times (length (cites_of (requests_view requests.now)) + (listed_count T.eq (wanted_view wanted.now) (requests_view requests.now)
-        + rerendered T.eq P.eq T.answers (wanted_view wanted.now) (requests_view requests.now) cited.now.offset)) renders.old) }
+    requires first { renders_view cites.old ≡ rendered_first T.eq P.eq T.answers (asked_view requests.now cited.now.offset wanted.now) }
+    ensures rendered { IfOk result (λ r. r.0 ≡ rendered T.eq P.eq T.answers mode (asked_view requests.now cited.now.offset wanted.now)) }
+    ensures settled { IfOk result (λ r. AreSettled T.eq P.eq T.answers mode (asked_view requests.now cited.now.offset wanted.now) (table_view cited.now.table).entries r.1) }
+    ensures counted { OnOk result (renders.new
+        ≡ counted_times (length (cites_of (requests_view requests.now)) + (listed_count T.eq (wanted_view wanted.now) (requests_view requests.now) + rerendered T.eq P.eq T.answers mode (asked_view requests.now cited.now.offset wanted.now))) renders.old) }
 {
-    let settled = settle(alloc, requests, wanted, cited, cites, renders)?;
+    let settled = settle_cites(alloc, requests, wanted, mode, cited, cites, renders)?;
     let bibliography = wanted_bibliography(alloc, requests, wanted, cited, cites, renders)?;
     draw_together(cites);
     let citations = rendered_citations(alloc, cites, renders)?;
@@ -276,7 +270,7 @@ fn account_of<'a, T: EntryLike>(
     ensures numbers { IfOk result (λ a. a.numbers.items ≡ take (length (table_view cited.now.table).entries) settled.numbers.items) }
 {
     let Settled { rounds, numbers } = settled;
-    let marked = rounds.marked as u128;
+    let marked = rounds.marked;
     Ok(Account {
         renders: renders.count(),
         rounds: marked,
@@ -287,29 +281,24 @@ fn account_of<'a, T: EntryLike>(
 }
 
 /// The answer to requests whose cited entries are known, and its account.
-fn answer_of<'a, T: EntryLike, P: Eq + Drop>(
+fn counted_answer<'a, T: EntryLike, P: Eq + Drop>(
     alloc: Global,
     requests: &[CitationRequest<'a, T, P>],
     wanted: &BibliographyRequest<'_, 'a, T>,
+    mode: RoundMode,
     cited: &Cited<'a, T>,
 ) -> Result<(Rendered, Account<'a, T>), AllocError>
     requires no_ring { NoRingAtAll (requests_view requests.now) (style_view wanted.now.style.now) }
     requires known { IsCitedBy T.eq (requests_view requests.now) (order_in_use (wanted_view wanted.now)) cited.now }
-    ensures rendered { IfOk result (λ r. r.0 ≡ rendered T.eq P.eq T.answers (wanted_view wanted.now) (requests_view requests.now) cited.now.offset) }
-    ensures renders { IfOk result (λ r. r.1.renders ≡ min (cost T.eq P.eq T.answers (wanted_view wanted.now) (requests_view requests.now) cited.now.offset) (2 ^ 128 - 1)) }
-    ensures rounds { IfOk result (λ r. r.1.rounds ≡ length (marking T.eq P.eq T.answers (wanted_view wanted.now) (requests_view requests.now) cited.now.offset)) }
-    ensures entries { IfOk result (λ r. map (λ e. e.now) r.1.entries.items ≡ (table_view cited.now.table).entries) }
-    ensures states { IfOk result (λ r. r.1.states.items
-        ≡ map (final_state T.eq P.eq T.answers (wanted_view wanted.now) (requests_view requests.now) cited.now.offset) (table_view cited.now.table).entries) }
-    ensures numbers { IfOk result (λ r. r.1.numbers.items
-        ≡ map (final_number T.eq P.eq T.answers (wanted_view wanted.now) (requests_view requests.now) cited.now.offset) (table_view cited.now.table).entries) }
+    ensures { IfOk result (IsAnswer T.eq P.eq T.answers mode (asked_view requests.now cited.now.offset wanted.now)) }
 {
     let mut renders = Renders::new();
     let mut cites = rendered_first(alloc, requests, wanted, cited, &mut renders)?;
-    let (rendered, settled) = answer_from(
+    let (rendered, settled) = settled_answer(
         alloc,
         requests,
         wanted,
+        mode,
         cited,
         &mut cites.renders,
         &mut renders,
@@ -318,30 +307,43 @@ fn answer_of<'a, T: EntryLike, P: Eq + Drop>(
     Ok((rendered, account))
 }
 
-/// The answer to the requests, and its account.
-fn answer<'a, T: EntryLike, P: Eq + Drop>(
+/// The answer to the requests, and its account; refused where a style has a ring or the numbers don't fit.
+fn checked_answer<'a, T: EntryLike, P: Eq + Drop>(
     alloc: Global,
     requests: &[CitationRequest<'a, T, P>],
     wanted: &BibliographyRequest<'_, 'a, T>,
+    mode: RoundMode,
     offset: usize,
 ) -> Result<(Rendered, Account<'a, T>), DriverError>
-    ensures ok { IfOk result (λ r. r.0 ≡ rendered T.eq P.eq T.answers (wanted_view wanted.now) (requests_view requests.now) offset) }
+    ensures answer { IfOk result (IsAnswer T.eq P.eq T.answers mode (asked_view requests.now offset wanted.now)) }
     ensures ringless { OnOk result (NoRingAtAll (requests_view requests.now) (style_view wanted.now.style.now)) }
     ensures fits { OnOk result (offset + length (distinct T.eq (cited (requests_view requests.now))) < 2 ^ 64) }
     ensures refused { IfErr result (Refuses T.eq (requests_view requests.now) (style_view wanted.now.style.now) offset) }
-    ensures renders { IfOk result (λ r. r.1.renders ≡ min (cost T.eq P.eq T.answers (wanted_view wanted.now) (requests_view requests.now) offset) (2 ^ 128 - 1)) }
-    ensures rounds { IfOk result (λ r. r.1.rounds ≡ length (marking T.eq P.eq T.answers (wanted_view wanted.now) (requests_view requests.now) offset)) }
-    ensures entries { IfOk result (λ r. map (λ e. e.now) r.1.entries.items ≡ distinct T.eq (cited (requests_view requests.now))) }
-    ensures states { IfOk result (λ r. r.1.states.items ≡ map (final_state T.eq P.eq T.answers (wanted_view wanted.now) (requests_view requests.now) offset) (distinct T.eq (cited (requests_view requests.now)))) }
-    ensures numbers { IfOk result (λ r. r.1.numbers.items ≡ map (final_number T.eq P.eq T.answers (wanted_view wanted.now) (requests_view requests.now) offset) (distinct T.eq (cited (requests_view requests.now)))) }
 {
     refuse_rings(alloc, requests, wanted)?;
     let cited = cited_by(alloc, requests, wanted, offset)?;
-    let answer = answer_of(alloc, requests, wanted, &cited)?;
+    let answer = counted_answer(alloc, requests, wanted, mode, &cited)?;
     Ok(answer)
 }
 
 impl<'a, T: EntryLike, P: Eq + Drop> BibliographyDriver<'a, T, P> {
+    /// Answers all requests, and gives the account, with so many rounds.
+    fn answered(
+        self,
+        request: BibliographyRequest<'_, 'a, T>,
+        mode: RoundMode,
+    ) -> Result<(Rendered, Account<'a, T>), DriverError>
+        ensures answer { IfOk result (IsAnswer T.eq P.eq T.answers mode (asked_of self.entry request.entry)) }
+        ensures ringless { OnOk result (NoRingAtAll (driver_view self.entry).requests (style_view request.entry.style.now)) }
+        ensures fits { OnOk result ((driver_view self.entry).offset + length (distinct T.eq (cited (driver_view self.entry).requests)) < 2 ^ 64) }
+        ensures refused { IfErr result (Refuses T.eq (driver_view self.entry).requests (style_view request.entry.style.now) (driver_view self.entry).offset) }
+    {
+        let (citations, offset, alloc) = self.into_parts();
+        let result = checked_answer(alloc, &citations, &request, mode, offset);
+        discard(citations);
+        result
+    }
+
     /// Answers all requests: a citation for each, and the bibliography, where its style has one.
     ///
     /// Cites that read alike are told apart, cites of one author are grouped, and runs of numbers and years
@@ -357,8 +359,7 @@ impl<'a, T: EntryLike, P: Eq + Drop> BibliographyDriver<'a, T, P> {
     /// exactly where none has, and the offset and the number of distinct entries together are above
     /// `usize::MAX`; `OutOfMemory` where memory runs out, at any point.
     pub fn finish(self, request: BibliographyRequest<'_, 'a, T>) -> Result<Rendered, DriverError>
-        ensures ok { IfOk result
-            (λ r. r ≡ rendered T.eq P.eq T.answers (wanted_view request.entry) (driver_view self.entry).requests (driver_view self.entry).offset) }
+        ensures ok { IfOk result (λ r. r ≡ rendered T.eq P.eq T.answers RoundMode.Three (asked_of self.entry request.entry)) }
         ensures ringless { OnOk result (NoRingAtAll (driver_view self.entry).requests (style_view request.entry.style.now)) }
         ensures fits { OnOk result ((driver_view self.entry).offset + length (distinct T.eq (cited (driver_view self.entry).requests)) < 2 ^ 64) }
         ensures refused { IfErr result (Refuses T.eq (driver_view self.entry).requests (style_view request.entry.style.now) (driver_view self.entry).offset) }
@@ -379,26 +380,30 @@ impl<'a, T: EntryLike, P: Eq + Drop> BibliographyDriver<'a, T, P> {
         self,
         request: BibliographyRequest<'_, 'a, T>,
     ) -> Result<(Rendered, Account<'a, T>), DriverError>
-        ensures ok { IfOk result
-            (λ r. r.0 ≡ rendered T.eq P.eq T.answers (wanted_view request.entry) (driver_view self.entry).requests (driver_view self.entry).offset) }
+        ensures answer { IfOk result (IsAnswer T.eq P.eq T.answers RoundMode.Three (asked_of self.entry request.entry)) }
         ensures ringless { OnOk result (NoRingAtAll (driver_view self.entry).requests (style_view request.entry.style.now)) }
         ensures fits { OnOk result ((driver_view self.entry).offset + length (distinct T.eq (cited (driver_view self.entry).requests)) < 2 ^ 64) }
         ensures refused { IfErr result (Refuses T.eq (driver_view self.entry).requests (style_view request.entry.style.now) (driver_view self.entry).offset) }
-        ensures renders { IfOk result (λ r. r.1.renders
-            ≡ min (cost T.eq P.eq T.answers (wanted_view request.entry) (driver_view self.entry).requests (driver_view self.entry).offset) (2 ^ 128 - 1)) }
-        ensures rounds { IfOk result (λ r. r.1.rounds
-            ≡ length (marking T.eq P.eq T.answers (wanted_view request.entry) (driver_view self.entry).requests (driver_view self.entry).offset)) }
-        ensures entries { IfOk result (λ r. map (λ e. e.now) r.1.entries.items ≡ distinct T.eq (cited (driver_view self.entry).requests)) }
-        ensures states { IfOk result (λ r. r.1.states.items
-            ≡ map (final_state T.eq P.eq T.answers (wanted_view request.entry) (driver_view self.entry).requests (driver_view self.entry).offset)
-            (distinct T.eq (cited (driver_view self.entry).requests))) }
-        ensures numbers { IfOk result (λ r. r.1.numbers.items
-            ≡ map (final_number T.eq P.eq T.answers (wanted_view request.entry) (driver_view self.entry).requests (driver_view self.entry).offset)
-            (distinct T.eq (cited (driver_view self.entry).requests))) }
     {
-        let (citations, offset, alloc) = self.into_parts();
-        let result = answer(alloc, &citations, &request, offset);
-        discard(citations);
-        result
+        self.answered(request, RoundMode::Three)
+    }
+
+    /// Answers all requests, as `finish_counted` does, but for the rounds in which cites are told apart:
+    /// these go on until none marks. In a round each ambiguous group is tried in all ways, and a mark counts
+    /// only where it is greater than the state of its entry; a group waits for the next round where an entry
+    /// of it was marked in this one.
+    ///
+    /// # Errors
+    /// Those of `finish`.
+    pub fn finish_full(
+        self,
+        request: BibliographyRequest<'_, 'a, T>,
+    ) -> Result<(Rendered, Account<'a, T>), DriverError>
+        ensures answer { IfOk result (IsAnswer T.eq P.eq T.answers RoundMode.Full (asked_of self.entry request.entry)) }
+        ensures ringless { OnOk result (NoRingAtAll (driver_view self.entry).requests (style_view request.entry.style.now)) }
+        ensures fits { OnOk result ((driver_view self.entry).offset + length (distinct T.eq (cited (driver_view self.entry).requests)) < 2 ^ 64) }
+        ensures refused { IfErr result (Refuses T.eq (driver_view self.entry).requests (style_view request.entry.style.now) (driver_view self.entry).offset) }
+    {
+        self.answered(request, RoundMode::Full)
     }
 }

@@ -1,5 +1,5 @@
 -- What a round needs: its marks stand at cites, and what is known of the renders holds after it too.
-use Rattle.std.proofs.Common.{◌≡◌, ℕ, Bool, true, false, cond, not, ◌&&◌, Option, Some, None, List, [], ◌∷◌, map, filter, refl, ap, subst, ◌∙◌}
+use Rattle.std.proofs.Common.{◌≡◌, ℕ, Bool, true, false, cond, not, ◌&&◌, Option, Some, None, List, [], ◌∷◌, ◌++◌, map, filter, refl, ap, subst, ◌∙◌}
 use Rattle.std.specs.Prelude.{⊤, All, find, fold, is_some, option_map}
 use Rattle.std.specs.List.{filter_map, flat_map}
 use Rattle.std.proofs.lemmas.List.Elements.{All-append, All-cons, All-filter, All-head, All-map, All-nil, All-tail}
@@ -21,14 +21,15 @@ use Rattle.csl_passes.specs.Places.{IsPlace, cite_at}
 use Rattle.csl_passes.specs.Renders.{CiteRender, ItemRender, Place}
 use Rattle.csl_passes.specs.Request.{Request}
 use Rattle.csl_rounds.proofs.Twice.{same-entry}
-use Rattle.csl_rounds.specs.RoundMarks.{Mark, by_choice, by_suffix, can_be_marked, has_any, of_first, or_others, round_marks}
+use Rattle.csl_rounds.specs.RoundMarks.{Mark, all_ways, by_choice, by_full, by_suffix, by_three, counting, counts, has_any, or_others, round_marks, waits}
 use Rattle.csl_rounds.specs.Rounds.{Table, at_table, request_at, with_any}
+use Rattle.csl_rounds.specs.declared.mode.RoundMode.{RoundMode}
 
 some-inj : {A : Type 0} (x y : A) → Some x ≡ Some y → x ≡ y
 some-inj x y h = cc
 
 module _ {X Y : Type 0} (P : X → Type 0) (Q : Y → Type 0) where
-  all-kept : (f : X → Option Y) → ((x : X) (y : Y) → P x → f x ≡ Some y → Q y) → (xs : List X) → All P xs → All Q (filter_map f xs)
+  pub all-kept : (f : X → Option Y) → ((x : X) (y : Y) → P x → f x ≡ Some y → Q y) → (xs : List X) → All P xs → All Q (filter_map f xs)
   all-kept f h [] all = All-nil Q
   all-kept f h (x ∷ xs) all = by (f x) refl (all-kept f h xs (All-tail P x xs all))
     where
@@ -36,19 +37,50 @@ module _ {X Y : Type 0} (P : X → Type 0) (Q : Y → Type 0) where
       by None e more = rw e more
       by (Some y) e more = rw e (All-cons Q y (filter_map f xs) (h x y (All-head P x xs all) e) more)
 
-  all-joined : (f : X → List Y) → ((x : X) → All Q (f x)) → (xs : List X) → All Q (flat_map f xs)
-  all-joined f h [] = All-nil Q
-  all-joined f h (x ∷ xs) = All-append Q (f x) (flat_map f xs) (h x) (all-joined f h xs)
-
 module _ {X : Type 0} (P : X → Type 0) where
-  all-chosen : (b : Bool) (xs ys : List X) → All P xs → All P ys → All P (cond b xs ys)
+  pub all-chosen : (b : Bool) (xs ys : List X) → All P xs → All P ys → All P (cond b xs ys)
   all-chosen true xs ys h g = h
   all-chosen false xs ys h g = g
 
-  all-distinct : (eq : X → X → Bool) (xs : List X) → All P xs → All P (distinct eq xs)
+  pub all-distinct : (eq : X → X → Bool) (xs : List X) → All P xs → All P (distinct eq xs)
   all-distinct eq [] h = All-nil P
   all-distinct eq (x ∷ xs) h =
       All-cons P x _ (All-head P x xs h) (All-filter (λ y. not (eq x y)) P (distinct eq xs) (all-distinct eq xs (All-tail P x xs h)))
+
+-- what holds of the marks of such groups in each way holds of those of a round
+module _ (G : List Place → Type 0) (Q : Mark → Type 0) (n c s : List Place → List Mark)
+    (hn : (g : List Place) → G g → All Q (n g)) (hc : (g : List Place) → G g → All Q (c g)) (hs : (g : List Place) → G g → All Q (s g)) where
+  ways-kept : (g : List Place) → G g → All Q (all_ways n c s g)
+  ways-kept g h = all-chosen Q (has_any (n g)) (n g) (or_others (c g) (s g)) (hn g h) (all-chosen Q (has_any (c g)) (c g) (s g) (hc g h) (hs g h))
+
+  names-kept : (gs : List (List Place)) → All G gs → All Q (flat_map (λ g. g.1) (map (λ h. (h, n h)) gs))
+  names-kept [] h = All-nil Q
+  names-kept (g ∷ gs) h = All-append Q (n g) (flat_map (λ g. g.1) (map (λ h. (h, n h)) gs)) (hn g (All-head G g gs h)) (names-kept gs (All-tail G g gs h))
+
+  pub three-kept : (gs : List (List Place)) → All G gs → All Q (flat_map (λ g. g.1) (by_three n c s gs))
+  three-kept [] h = All-nil Q
+  three-kept (g ∷ gs) h = by (has_any (all_ways n c s g)) (three-kept gs (All-tail G g gs h))
+    where
+      by : (b : Bool) → All Q (flat_map (λ g. g.1) (by_three n c s gs))
+          → All Q (flat_map (λ g. g.1) (cond b ((g, all_ways n c s g) ∷ map (λ h. (h, n h)) gs) ((g, []) ∷ by_three n c s gs)))
+      by true more =
+          All-append Q (all_ways n c s g) (flat_map (λ g. g.1) (map (λ h. (h, n h)) gs)) (ways-kept g (All-head G g gs h)) (names-kept gs (All-tail G g gs h))
+      by false more = more
+
+  pub full-kept : (w : List Mark → List Place → Bool) (marks : List Mark) (gs : List (List Place)) → All G gs → All Q (flat_map (λ g. g.1) (by_full n c s w marks gs))
+  full-kept w marks [] h = All-nil Q
+  full-kept w marks (g ∷ gs) h =
+      let own : List Mark = cond (w marks g) [] (all_ways n c s g) in
+      All-append Q own (flat_map (λ g. g.1) (by_full n c s w (marks ++ own) gs))
+      (all-chosen Q (w marks g) [] (all_ways n c s g) (All-nil Q) (ways-kept g (All-head G g gs h))) (full-kept w (marks ++ own) gs (All-tail G g gs h))
+
+-- of any groups nothing is known
+abbrev AnyGroup : List Place → Type 0
+AnyGroup g = ⊤
+
+any-groups : (gs : List (List Place)) → All AnyGroup gs
+any-groups [] = All-nil AnyGroup
+any-groups (g ∷ gs) = All-cons AnyGroup g gs tt (any-groups gs)
 
 module _ {E P : Type 0} (renders : List (CiteRender E P)) where
   abbrev Marks-stand : List Mark → Type 0
@@ -81,14 +113,14 @@ module _ {E P : Type 0} (renders : List (CiteRender E P)) where
     chosen-stand ms h None = All-nil stands
     chosen-stand ms h (Some first) = All-filter (λ m. asks m && not (eq (entry_of first) (entry_of m))) stands ms h
 
-    choice-stands : (group : List Place) → Marks-stand (by_choice eq renders group)
+    pub choice-stands : (group : List Place) → Marks-stand (by_choice eq renders group)
     choice-stands group =
         let ms = members renders group in
         all-chosen (λ m. IsPlace renders m.0) (may_be_chosen ms) (map (λ m. (m.place, Choose)) (chosen eq ms)) []
         (All-map (λ m. IsPlace renders m.0) (λ m. (m.place, Choose)) (chosen eq ms) (chosen-stand ms (members-stand group) (find asks ms)))
         (All-nil (λ m. IsPlace renders m.0))
 
-    suffixes-stand : (dated : Bool) (group : List Place) → Marks-stand (by_suffix eq renders dated group)
+    pub suffixes-stand : (dated : Bool) (group : List Place) → Marks-stand (by_suffix eq renders dated group)
     suffixes-stand dated group =
         let ms = members renders group in
         all-chosen (λ m. IsPlace renders m.0) (dated && adds_suffix ms) (map (λ m. (m.place, suffix_among eq ms m)) (first_cites eq ms)) []
@@ -119,7 +151,7 @@ module _ {E P : Type 0} (renders : List (CiteRender E P)) where
           by None g = cc
           by (Some start) g = subst (λ p. IsPlace renders p) (ap (λ y. y.0) (some-inj _ m g)) there
 
-  names-stand : (group : List Place) → Marks-stand (name_marks renders group)
+  pub names-stand : (group : List Place) → Marks-stand (name_marks renders group)
   unfolding name_marks
   names-stand group =
       let found = named_cites renders group in
@@ -127,22 +159,30 @@ module _ {E P : Type 0} (renders : List (CiteRender E P)) where
       name-stands found (steps found greatest) (step found greatest)
       (all-kept (λ p. ⊤) named-stands (named_cite_at renders) (λ p x u e. named-found p x e) group (λ k d h. tt))
 
-  module _ (eq : E → E → Bool) (dated : Bool) where
-    first-stands : (o : Option (List Place)) → Marks-stand (of_first (name_marks renders) (by_choice eq renders) (by_suffix eq renders dated) o)
-    first-stands None = All-nil (λ m. IsPlace renders m.0)
-    first-stands (Some group) =
-        all-chosen (λ m. IsPlace renders m.0) (has_any (name_marks renders group)) [] (or_others (by_choice eq renders group) (by_suffix eq renders dated group)) (All-nil (λ m. IsPlace renders m.0))
-        (all-chosen (λ m. IsPlace renders m.0) (has_any (by_choice eq renders group)) (by_choice eq renders group) (by_suffix eq renders dated group) (choice-stands eq group) (suffixes-stand eq dated group))
+  -- those of a group that count stand too
+  counting-stand : (way : List Place → List Mark) → ((g : List Place) → Marks-stand (way g)) → (g : List Place) → Marks-stand (counting renders way g)
+  counting-stand way h g = All-filter (counts renders) (λ m. IsPlace renders m.0) (way g) (h g)
+
+  -- the marks of a group that count, in any way
+  pub ways-stand : (eq : E → E → Bool) (dated : Bool) (g : List Place)
+      → Marks-stand (all_ways (counting renders (name_marks renders)) (counting renders (by_choice eq renders)) (counting renders (by_suffix eq renders dated)) g)
+  ways-stand eq dated g =
+      ways-kept AnyGroup (λ m. IsPlace renders m.0) (counting renders (name_marks renders)) (counting renders (by_choice eq renders)) (counting renders (by_suffix eq renders dated))
+      (λ g h. counting-stand (name_marks renders) names-stand g) (λ g h. counting-stand (by_choice eq renders) (choice-stands eq) g)
+      (λ g h. counting-stand (by_suffix eq renders dated) (suffixes-stand eq dated) g) g tt
 
   -- the marks of a round stand at cites
-  pub marks-stand : (eq : E → E → Bool) (answers : E → Answers) → All (λ m. IsPlace renders m.0) (round_marks eq answers renders)
+  pub marks-stand : (mode : RoundMode) (eq : E → E → Bool) (answers : E → Answers) → All (λ m. IsPlace renders m.0) (round_marks mode eq answers renders)
   unfolding round_marks
-  marks-stand eq answers =
+  marks-stand RoundMode.Three eq answers =
       let dated = shows_dates answers renders in
-      let groups = ambiguous_groups eq renders in
-      All-append (λ m. IsPlace renders m.0) _ (flat_map (name_marks renders) groups)
-      (first-stands eq dated (find (can_be_marked (name_marks renders) (by_choice eq renders) (by_suffix eq renders dated)) groups))
-      (all-joined (λ p. ⊤) (λ m. IsPlace renders m.0) (name_marks renders) names-stand groups)
+      three-kept AnyGroup (λ m. IsPlace renders m.0) (name_marks renders) (by_choice eq renders) (by_suffix eq renders dated)
+      (λ g h. names-stand g) (λ g h. choice-stands eq g) (λ g h. suffixes-stand eq dated g) (ambiguous_groups eq renders) (any-groups (ambiguous_groups eq renders))
+  marks-stand RoundMode.Full eq answers =
+      let dated = shows_dates answers renders in
+      full-kept AnyGroup (λ m. IsPlace renders m.0) (counting renders (name_marks renders)) (counting renders (by_choice eq renders)) (counting renders (by_suffix eq renders dated))
+      (λ g h. counting-stand (name_marks renders) names-stand g) (λ g h. counting-stand (by_choice eq renders) (choice-stands eq) g)
+      (λ g h. counting-stand (by_suffix eq renders dated) (suffixes-stand eq dated) g) (waits eq renders) [] (ambiguous_groups eq renders) (any-groups (ambiguous_groups eq renders))
 
 -- what is known of the renders holds after a round
 module _ {E P : Type 0} (answers : E → Answers) (t : Table E) where

@@ -15,8 +15,9 @@ use Rattle.csl_rounds.specs.Gathered.{AreGreatest, IsPlaced, document_again}
 use Rattle.csl_rounds.specs.RoundMarks.{Mark, has_any, or_others, round_marks}
 use Rattle.csl_rounds.proofs.Kept.{marks-stand, places-kept, rings-kept}
 use Rattle.csl_rounds.proofs.Placed.{are-placed, document-alike, state-at}
-use Rattle.csl_rounds.specs.Rerenders.{AreStatesOf, entries_cited, marked_among}
-use Rattle.csl_rounds.specs.Rounds.{Table, at_table, mark_of, with_marks}
+use Rattle.csl_rounds.specs.Rerenders.{AreStatesOf, marked_among}
+use Rattle.csl_rounds.specs.Rounds.{Table, at_table, entries_cited, mark_of, with_marks}
+use Rattle.csl_rounds.specs.declared.mode.RoundMode.{RoundMode}
 use Rattle.csl_rounds.proofs.Rerendered.{cites-marked, none-marked, states-more}
 use Rattle.csl_rounds.proofs.Twice.{nothing-new}
 use Rattle.csl_rounds.specs.Gathered.{put_before, with_states}
@@ -78,15 +79,15 @@ module _ {E P : Type 0} (eq : E → E → Bool) (es : List E) where
   as-long view xs rs e = sym (lengths view xs) ∙ ap (map length) e ∙ row-lengths rs
 
 -- the parts of a round fit
-module _ {E P : Type 0} (eq : E → E → Bool) (answers : E → Answers) (es : List E) (rs : List (CiteRender E P)) (at : List (List ℕ))
+module _ {E P : Type 0} (mode : RoundMode) (eq : E → E → Bool) (answers : E → Answers) (es : List E) (rs : List (CiteRender E P)) (at : List (List ℕ))
     (placed : at ≡ map (λ c. map (λ i. place eq i.entry es) c.items) rs) (listed : All (λ ps. All (λ p. p < length es) ps) at) where
   abbrev listed-in : List (List ℕ) → Type 0
   listed-in ps = All (λ row. All (λ p. p < length es) row) ps
 
-  pub round-placed : (places : List (List ℕ)) (count : ℕ) (marks : List Mark) → places ≡ at → count ≡ length es → marks ≡ round_marks eq answers rs → All (λ m. IsPlaced places count m.0) marks
+  pub round-placed : (places : List (List ℕ)) (count : ℕ) (marks : List Mark) → places ≡ at → count ≡ length es → marks ≡ round_marks mode eq answers rs → All (λ m. IsPlaced places count m.0) marks
   round-placed places count marks e f m =
       subst (λ n. All (λ m. IsPlaced places n m.0) marks) (sym f)
-      (are-placed eq es places rs (e ∙ placed) (subst listed-in (sym e) listed) marks (subst (λ ms. All (λ m. IsPlace rs m.0) ms) (sym m) (marks-stand rs eq answers)))
+      (are-placed eq es places rs (e ∙ placed) (subst listed-in (sym e) listed) marks (subst (λ ms. All (λ m. IsPlace rs m.0) ms) (sym m) (marks-stand rs mode eq answers)))
 
   pub round-within : {A : Type 0} (view : A → List ℕ) (xs : List A) (n : ℕ) → map view xs ≡ at → n ≡ length es → All (λ x. All (λ p. p < n) (view x)) xs
   round-within view xs n e f =
@@ -94,38 +95,38 @@ module _ {E P : Type 0} (eq : E → E → Bool) (answers : E → Answers) (es : 
 
   module _ (laws : IsEquivalence eq) where
     module _ (first places : List (List ℕ)) (count : ℕ) (marks : List Mark) (states now : List (Option DisambiguateState)) (e : first ≡ at) (f : places ≡ at) (n : count ≡ length es)
-        (m : marks ≡ round_marks eq answers rs) (s : now ≡ states) (great : AreGreatest first marks count states) where
-      greatest-now : AreGreatest places (round_marks eq answers rs) (length es) now
+        (m : marks ≡ round_marks mode eq answers rs) (s : now ≡ states) (great : AreGreatest first marks count states) where
+      greatest-now : AreGreatest places (round_marks mode eq answers rs) (length es) now
       greatest-now =
           let one : AreGreatest places marks count states = subst (λ ps. AreGreatest ps marks count states) (e ∙ sym f) great in
-          let two : AreGreatest places (round_marks eq answers rs) count states = subst (λ ms. AreGreatest places ms count states) m one in
-          let three : AreGreatest places (round_marks eq answers rs) (length es) states = subst (λ k. AreGreatest places (round_marks eq answers rs) k states) n two in
-          subst (λ ss. AreGreatest places (round_marks eq answers rs) (length es) ss) (sym s) three
+          let two : AreGreatest places (round_marks mode eq answers rs) count states = subst (λ ms. AreGreatest places ms count states) m one in
+          let three : AreGreatest places (round_marks mode eq answers rs) (length es) states = subst (λ k. AreGreatest places (round_marks mode eq answers rs) k states) n two in
+          subst (λ ss. AreGreatest places (round_marks mode eq answers rs) (length es) ss) (sym s) three
 
-      pub round-done : document_again answers now places rs ≡ at_table answers (mark_of eq rs (round_marks eq answers rs)) rs
-      round-done = document-alike eq es places rs (f ∙ placed) (subst listed-in (sym f) listed) laws answers (round_marks eq answers rs) (marks-stand rs eq answers) now greatest-now
+      pub round-done : document_again answers now places rs ≡ at_table answers (mark_of eq rs (round_marks mode eq answers rs)) rs
+      round-done = document-alike eq es places rs (f ∙ placed) (subst listed-in (sym f) listed) laws answers (round_marks mode eq answers rs) (marks-stand rs mode eq answers) now greatest-now
 
       -- the states that it gives, by the places of the entries
-      state-of : (x : E) → place eq x es < length es → get_or now (place eq x es) None ≡ mark_of eq rs (round_marks eq answers rs) x
-      state-of = state-at eq es places rs (f ∙ placed) (subst listed-in (sym f) listed) laws answers (round_marks eq answers rs) (marks-stand rs eq answers) now greatest-now
+      state-of : (x : E) → place eq x es < length es → get_or now (place eq x es) None ≡ mark_of eq rs (round_marks mode eq answers rs) x
+      state-of = state-at eq es places rs (f ∙ placed) (subst listed-in (sym f) listed) laws answers (round_marks mode eq answers rs) (marks-stand rs mode eq answers) now greatest-now
 
       pub round-states : (known : Table E) (old new : List (Option DisambiguateState)) → new ≡ put_before now old → AreStatesOf eq es known old
-          → AreStatesOf eq es (with_marks (mark_of eq rs (round_marks eq answers rs)) known) new
-      round-states known old new put = states-more eq es (mark_of eq rs (round_marks eq answers rs)) now state-of known old new put
+          → AreStatesOf eq es (with_marks (mark_of eq rs (round_marks mode eq answers rs)) known) new
+      round-states known old new put = states-more eq es (mark_of eq rs (round_marks mode eq answers rs)) now state-of known old new put
 
       -- and how many cites it renders again
       pub round-counted : {A : Type 0} (view : A → List ℕ) (rows : List A) (before after : ℕ) → map view rows ≡ at → after ≡ counted_times (sum_by (λ x. with_states now (view x)) rows) before
-          → after ≡ counted_times (marked_among (entries_cited rs) (mark_of eq rs (round_marks eq answers rs))) before
+          → after ≡ counted_times (marked_among (entries_cited rs) (mark_of eq rs (round_marks mode eq answers rs))) before
       round-counted view rows before after g more =
           more ∙ ap (λ k. counted_times k before)
-          (cites-marked eq es (mark_of eq rs (round_marks eq answers rs)) now state-of view rows rs (g ∙ placed) (subst listed-in (sym g) listed))
+          (cites-marked eq es (mark_of eq rs (round_marks mode eq answers rs)) now state-of view rows rs (g ∙ placed) (subst listed-in (sym g) listed))
 
 -- the rounds, one after another
-module _ {E P : Type 0} (eq : E → E → Bool) (answers : E → Answers) (now new : List (CiteRender E P)) (marked : new ≡ at_table answers (mark_of eq now (round_marks eq answers now)) now) where
+module _ {E P : Type 0} (mode : RoundMode) (eq : E → E → Bool) (answers : E → Answers) (now new : List (CiteRender E P)) (marked : new ≡ at_table answers (mark_of eq now (round_marks mode eq answers now)) now) where
   pub rings-after : All (λ c. HasNoRing c.request.style.macros) now → All (λ c. HasNoRing c.request.style.macros) new
   rings-after h =
-      subst (λ rs. All (λ c. HasNoRing c.request.style.macros) rs) (sym marked) (rings-kept answers (mark_of eq now (round_marks eq answers now)) now h)
+      subst (λ rs. All (λ c. HasNoRing c.request.style.macros) rs) (sym marked) (rings-kept answers (mark_of eq now (round_marks mode eq answers now)) now h)
 
   pub places-after : (es : List E) (at : List (List ℕ)) → at ≡ map (λ c. map (λ i. place eq i.entry es) c.items) now → at ≡ map (λ c. map (λ i. place eq i.entry es) c.items) new
   places-after es at h =
-      h ∙ sym (places-kept answers (mark_of eq now (round_marks eq answers now)) eq es now) ∙ ap (map (λ c. map (λ i. place eq i.entry es) c.items)) (sym marked)
+      h ∙ sym (places-kept answers (mark_of eq now (round_marks mode eq answers now)) eq es now) ∙ ap (map (λ c. map (λ i. place eq i.entry es) c.items)) (sym marked)

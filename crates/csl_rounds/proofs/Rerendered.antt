@@ -9,8 +9,8 @@ use Rattle.csl_entries.specs.Entries.{place}
 use Rattle.csl_lookup.specs.declared.state.DisambiguateState.{DisambiguateState}
 use Rattle.csl_passes.specs.Renders.{CiteRender, ItemRender}
 use Rattle.csl_rounds.specs.Gathered.{put_before, with_states}
-use Rattle.csl_rounds.specs.Rerenders.{AreStatesOf, entries_cited, marked_among}
-use Rattle.csl_rounds.specs.Rounds.{Table, with_marks}
+use Rattle.csl_rounds.specs.Rerenders.{AreStatesOf, marked_among}
+use Rattle.csl_rounds.specs.Rounds.{Table, entries_cited, with_marks}
 use Rattle.csl_rounds.proofs.Halves.{by_places-at, by_places-length}
 
 sum_by-map : {A B : Type 0} (f : B → ℕ) (g : A → B) (xs : List A) → sum_by (λ x. f (g x)) xs ≡ sum_by f (map g xs)

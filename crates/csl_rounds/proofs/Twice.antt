@@ -5,8 +5,7 @@ use Rattle.csl_base.specs.Answers.{Answers}
 use Rattle.csl_lookup.specs.declared.state.DisambiguateState.{DisambiguateState}
 use Rattle.csl_passes.specs.Renders.{CiteRender, ItemRender}
 use Rattle.csl_passes.specs.Request.{Request}
-use Rattle.csl_rounds.specs.Rerenders.{entries_cited}
-use Rattle.csl_rounds.specs.Rounds.{Table, at_table, no_states, request_at, with_any, with_marks}
+use Rattle.csl_rounds.specs.Rounds.{Table, at_table, entries_cited, no_states, request_at, with_any, with_marks}
 
 module _ {E P : Type 0} (answers : E → Answers) where
   -- the entry stays

@@ -1,11 +1,9 @@
 -- What the rounds render again, and the states that they give.
-use Rattle.std.specs.Prelude.{◌≡◌, ℕ, ◌<◌, Bool, List, Option, None, filter, flat_map, is_some, length, map, slice_index_or}
+use Rattle.std.specs.Prelude.{◌≡◌, ℕ, ◌<◌, Bool, List, Option, None, filter, is_some, length, slice_index_or}
 use Rattle.std.specs.List.{sum_by}
-use Rattle.csl_base.specs.Answers.{Answers}
 use Rattle.csl_entries.specs.Entries.{place}
 use Rattle.csl_lookup.specs.declared.state.DisambiguateState.{DisambiguateState}
-use Rattle.csl_passes.specs.Renders.{CiteRender}
-use Rattle.csl_rounds.specs.Rounds.{Table, after_rounds, marking_rounds, no_states}
+use Rattle.csl_rounds.specs.Rounds.{Table}
 
 module _ {E : Type 0} where
   -- how many of these cited entries the table has states for
@@ -20,17 +18,3 @@ module _ {E : Type 0} where
   pub record AreStatesOf (eq : E → E → Bool) (entries : List E) (table : Table E) (states : List (Option DisambiguateState)) : Type 0 where
     pub long : length states ≡ length entries
     pub at : (e : E) → place eq e entries < length entries → slice_index_or states (place eq e entries) None ≡ table e
-
-module _ {E P : Type 0} where
-  -- the entries that cites cite, in their order
-  abbrev pub entries_cited : List (CiteRender E P) → List E
-  entries_cited renders = flat_map (λ c. map (λ i. i.entry) c.items) renders
-
-  module _ (eq : E → E → Bool) (answers : E → Answers) (firsts : List (CiteRender E P)) where
-    -- what each of the three rounds at most marks, of those that mark
-    abbrev pub round_tables : List (Table E)
-    round_tables = marking_rounds answers eq firsts 3 no_states
-
-    -- the states that the entries have after them
-    abbrev pub last_states : Table E
-    last_states = after_rounds answers eq firsts 3 no_states

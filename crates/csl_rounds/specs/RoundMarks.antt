@@ -1,15 +1,18 @@
 -- The marks of a round: states by which entries are told apart from now on, at the places of cites.
-use Rattle.std.specs.Prelude.{Bool, true, false, ◌||◌, List, [], ◌∷◌, ◌++◌, Option, Some, None, find, fold, if◌then◌else◌}
-use Rattle.std.specs.List.{flat_map}
+use Rattle.std.specs.Prelude.{Bool, true, false, List, [], ◌∷◌, ◌++◌, Option, Some, None, filter, fold, if◌then◌else◌, map}
+use Rattle.std.specs.List.{flat_map, list_any}
+use Rattle.std.specs.Option.{option_map_or}
+use Rattle.std.specs.Ordering.{is_lt}
 use Rattle.csl_ambiguity.specs.Ambiguity.{ambiguous_groups}
 use Rattle.csl_ambiguity.specs.ChooseMarks.{choose_marks}
-use Rattle.csl_ambiguity.specs.Members.{members}
+use Rattle.csl_ambiguity.specs.Members.{entry_of, member_at, members, state_of}
 use Rattle.csl_ambiguity.specs.SuffixMarks.{shows_dates, year_suffix_marks}
 use Rattle.csl_base.specs.Answers.{Answers}
-use Rattle.csl_lookup.specs.States.{greater}
+use Rattle.csl_lookup.specs.States.{greater, state_cmp}
 use Rattle.csl_lookup.specs.declared.state.DisambiguateState.{DisambiguateState}
 use Rattle.csl_name_marks.specs.NameMarks.{name_marks}
 use Rattle.csl_passes.specs.Renders.{CiteRender, Place}
+use Rattle.csl_rounds.specs.declared.mode.RoundMode.{RoundMode}
 
 -- a state, at the place of a cite of the entry that gets it
 abbrev pub Mark : Type 0
@@ -29,22 +32,32 @@ abbrev pub greatest : List DisambiguateState → Option DisambiguateState
 greatest [] = None
 greatest (s ∷ ss) = Some (fold greater s ss)
 
+-- groups, each with the marks that it gets
+abbrev pub MarkedGroups : Type 0
+MarkedGroups = List (List Place × List Mark)
+
 module _ (by_names by_choice by_suffix : List Place → List Mark) where
-  -- a group has marks of some kind
-  abbrev pub can_be_marked : List Place → Bool
-  can_be_marked group = has_any (by_names group) || (has_any (by_choice group) || has_any (by_suffix group))
+  -- what a group gets that is tried in all ways: its marks by names; its choose marks where it has none by names; its suffixes
+  -- where it has none of these either
+  abbrev pub all_ways : List Place → List Mark
+  all_ways group = or_others (by_names group) (or_others (by_choice group) (by_suffix group))
 
-  -- what it gets beside names: nothing where it has marks by names; else its choose marks, or its suffixes where it has none of these
-  abbrev pub beside_names : List Place → List Mark
-  beside_names group = if has_any (by_names group) then [] else or_others (by_choice group) (by_suffix group)
+  -- in mode three: the first group that can be marked is the last that is tried in all ways, and those behind it get their marks by
+  -- names alone
+  abbrev pub by_three : List (List Place) → MarkedGroups
+  by_three [] = []
+  by_three (g ∷ gs) = if has_any (all_ways g) then (g, all_ways g) ∷ map (λ h. (h, by_names h)) gs else (g, []) ∷ by_three gs
 
-  abbrev pub of_first : Option (List Place) → List Mark
-  of_first None = []
-  of_first (Some group) = beside_names group
+  -- in mode full, behind groups with these marks: each group is tried in all ways, unless it waits
+  abbrev pub by_full : (List Mark → List Place → Bool) → List Mark → List (List Place) → MarkedGroups
+  by_full waits marks [] = []
+  by_full waits marks (g ∷ gs) =
+      let own = if waits marks g then [] else all_ways g in
+      (g, own) ∷ by_full waits (marks ++ own) gs
 
-  -- the marks of groups: those by names of every group, and what the first that can be marked gets beside
-  abbrev pub marks_of : List (List Place) → List Mark
-  marks_of groups = of_first (find can_be_marked groups) ++ flat_map by_names groups
+-- a mark is greater than a state
+abbrev pub raises : DisambiguateState → DisambiguateState → Bool
+raises state mark = is_lt (state_cmp state mark)
 
 module _ {E P : Type 0} (eq : E → E → Bool) (renders : List (CiteRender E P)) where
   abbrev pub by_choice : List Place → List Mark
@@ -53,7 +66,35 @@ module _ {E P : Type 0} (eq : E → E → Bool) (renders : List (CiteRender E P)
   abbrev pub by_suffix : Bool → List Place → List Mark
   by_suffix dated group = year_suffix_marks eq dated (members renders group)
 
--- the marks of a round: those of the ambiguous groups
-unfoldable pub round_marks : {E P : Type 0} → (E → E → Bool) → (E → Answers) → List (CiteRender E P) → List Mark
-round_marks eq answers renders =
-    marks_of (name_marks renders) (by_choice eq renders) (by_suffix eq renders (shows_dates answers renders)) (ambiguous_groups eq renders)
+  -- the cite at a place cites an entry equal to e
+  abbrev pub cites : E → Place → Bool
+  cites e place = option_map_or (λ m. eq e (entry_of m)) (member_at renders place) false
+
+  -- some cite of the group cites an entry with a mark
+  abbrev pub waits : List Mark → List Place → Bool
+  waits marks group = list_any (λ c. list_any (λ m. cites (entry_of c) m.0) marks) (members renders group)
+
+module _ {E P : Type 0} (renders : List (CiteRender E P)) where
+  -- the mark counts: it is greater than the state of the cite at its place
+  abbrev pub counts : Mark → Bool
+  counts m = option_map_or (λ c. raises (state_of c) m.1) (member_at renders m.0) false
+
+  -- those of the marks that a group gets in some way which count
+  abbrev pub counting : (List Place → List Mark) → List Place → List Mark
+  counting way group = filter counts (way group)
+
+module _ {E P : Type 0} (eq : E → E → Bool) (renders : List (CiteRender E P)) (dated : Bool) where
+  -- the groups with the marks that they get in a round
+  abbrev pub marked_groups : RoundMode → List (List Place) → MarkedGroups
+  marked_groups RoundMode.Three groups = by_three (name_marks renders) (by_choice eq renders) (by_suffix eq renders dated) groups
+  marked_groups RoundMode.Full groups =
+      by_full (counting renders (name_marks renders)) (counting renders (by_choice eq renders)) (counting renders (by_suffix eq renders dated))
+      (waits eq renders) [] groups
+
+-- the ambiguous groups with their marks
+abbrev pub marks_by_group : {E P : Type 0} → RoundMode → (E → E → Bool) → (E → Answers) → List (CiteRender E P) → MarkedGroups
+marks_by_group mode eq answers renders = marked_groups eq renders (shows_dates answers renders) mode (ambiguous_groups eq renders)
+
+-- the marks of a round
+unfoldable pub round_marks : {E P : Type 0} → RoundMode → (E → E → Bool) → (E → Answers) → List (CiteRender E P) → List Mark
+round_marks mode eq answers renders = flat_map (λ g. g.1) (marks_by_group mode eq answers renders)

@@ -1,13 +1,12 @@
--- The rounds in which cites that read alike are told apart.
-use Rattle.std.specs.Prelude.{ℕ, zero, suc, Bool, false, List, [], ◌∷◌, map, filter, Option, Some, None, if◌then◌else◌}
-use Rattle.std.specs.Option.{option_map_or, option_or}
-use Rattle.csl_ambiguity.specs.Members.{entry_of, member_at}
+-- The states of entries, and cites that are rendered again with them.
+use Rattle.std.specs.Prelude.{Bool, List, map, filter, flat_map, Option, Some, None}
+use Rattle.std.specs.Option.{option_or}
 use Rattle.csl_base.specs.Answers.{Answers}
 use Rattle.csl_lookup.specs.Properties.{Properties}
 use Rattle.csl_lookup.specs.declared.state.DisambiguateState.{DisambiguateState}
-use Rattle.csl_passes.specs.Renders.{CiteRender, ItemRender, Place}
+use Rattle.csl_passes.specs.Renders.{CiteRender, ItemRender}
 use Rattle.csl_passes.specs.Request.{Request, source_of}
-use Rattle.csl_rounds.specs.RoundMarks.{Mark, greatest, has_any, round_marks}
+use Rattle.csl_rounds.specs.RoundMarks.{Mark, cites, greatest}
 use Rattle.csl_writing.specs.CiteText.{cite_text}
 
 -- by what means entries are told apart; for most there is none
@@ -25,9 +24,9 @@ abbrev pub with_state : {P : Type 0} → DisambiguateState → Properties P → 
 with_state s p = record p { speculative = record p.speculative { disambiguation = s } }
 
 module _ {E P : Type 0} where
-  -- the cite at a place cites an entry equal to e
-  abbrev pub cites : (E → E → Bool) → List (CiteRender E P) → E → Place → Bool
-  cites eq renders e place = option_map_or (λ m. eq e (entry_of m)) (member_at renders place) false
+  -- the entries that cites cite, in their order
+  abbrev pub entries_cited : List (CiteRender E P) → List E
+  entries_cited renders = flat_map (λ c. map (λ i. i.entry) c.items) renders
 
   -- the greatest of the marks of cites of e
   abbrev pub mark_of : (E → E → Bool) → List (CiteRender E P) → List Mark → Table E
@@ -52,25 +51,3 @@ module _ {E P : Type 0} where
     -- the cites whose entries the table has states for, rendered again with these; the others stay
     abbrev pub at_table : Table E → List (CiteRender E P) → List (CiteRender E P)
     at_table table = map (request_at table)
-
-    module _ (eq : E → E → Bool) (firsts : List (CiteRender E P)) where
-      -- the table after at most so many rounds; a round without marks is the last
-      unfoldable pub after_rounds : ℕ → Table E → Table E
-      after_rounds zero table = table
-      after_rounds (suc n) table =
-          let renders = at_table table firsts in
-          let marks = round_marks eq answers renders in
-          if has_any marks then after_rounds n (with_marks (mark_of eq renders marks) table) else table
-
-      -- what these rounds mark, one table for each that marks
-      unfoldable pub marking_rounds : ℕ → Table E → List (Table E)
-      marking_rounds zero table = []
-      marking_rounds (suc n) table =
-          let renders = at_table table firsts in
-          let marks = round_marks eq answers renders in
-          let marked = mark_of eq renders marks in
-          if has_any marks then marked ∷ marking_rounds n (with_marks marked table) else []
-
--- the first renders, rendered again with the states that tell their entries apart after three rounds at most
-unfoldable pub disambiguated : {E P : Type 0} → (E → E → Bool) → (E → Answers) → List (CiteRender E P) → List (CiteRender E P)
-disambiguated eq answers firsts = at_table answers (after_rounds answers eq firsts 3 no_states) firsts

@@ -2,8 +2,10 @@
 #![tactic(auto)]
 
 pub mod contexts;
+mod counting;
 pub mod first_renders;
 mod marks;
+pub mod mode;
 mod rerender;
 pub mod rounds;
 mod states;

@@ -22,7 +22,7 @@ returns-in-Ok c =
     let wanted : w ≡ wanted_of d = c.in_ok-request.ensures ∙ (λ i. record (wanted_of d) { locales = map locale_view (c.in_ok-files.ensures i) }) in
     let text = string_bytes c.in_ok-print_rendered-in-Ok.field-0 in
     let a = has_answer v w d made wanted c.in-Ok.ensures.ringless c.in-Ok.ensures.fits in
-    (d, refl, (a, is_answer v w d made wanted c.in-Ok.rendered text c.in-Ok.ensures.ok c.in_ok-print_rendered-in-Ok.ensures))
+    (d, refl, (a, is_answer v w d made wanted asked.rounds c.in-Ok.rendered text refl c.in-Ok.ensures.ok c.in_ok-print_rendered-in-Ok.ensures))
 
 pub returns-in-Err-MacroRing : goal.returns-in-Err-MacroRing
 returns-in-Err-MacroRing c =

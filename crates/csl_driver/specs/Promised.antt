@@ -1,0 +1,21 @@
+-- What is promised of an answer and its account.
+use Rattle.std.specs.Prelude.{◌≡◌, ◌-◌, ◌^◌, Bool, map, min}
+use Rattle.csl_assembly.specs.declared.rendered.Rendered.{Rendered}
+use Rattle.csl_base.specs.Answers.{Answers}
+use Rattle.csl_driver.specs.Account.{cost, final_state, marking}
+use Rattle.csl_driver.specs.Answer.{Asked, final_number, rendered}
+use Rattle.csl_driver.specs.declared.account.Account.{Account}
+use Rattle.csl_entries.specs.Entries.{distinct}
+use Rattle.csl_passes.specs.Request.{cited}
+use Rattle.csl_rounds.specs.declared.mode.RoundMode.{RoundMode}
+
+-- the answer to what is asked, with its account
+pub record IsAnswer {E P : Type 0} (eq : E → E → Bool) (payload_eq : P → P → Bool) (answers : E → Answers) (mode : RoundMode) (asked : Asked E P) (r : Rendered × Account E) : Type 0 where
+  pub ok : r.0 ≡ rendered eq payload_eq answers mode asked
+  -- the renderings and the rounds that marked; counts stand still at the greatest number of 128 bits
+  pub renders : r.1.renders ≡ min (cost eq payload_eq answers mode asked) (2 ^ 128 - 1)
+  pub rounds : r.1.rounds ≡ min (marking eq payload_eq answers mode asked) (2 ^ 128 - 1)
+  -- the distinct entries, in the order of their first cites; and at the same places their states and numbers
+  pub entries : map (λ e. e.now) r.1.entries.items ≡ distinct eq (cited asked.requests)
+  pub states : r.1.states.items ≡ map (final_state eq payload_eq answers mode asked) (distinct eq (cited asked.requests))
+  pub numbers : r.1.numbers.items ≡ map (final_number eq payload_eq answers mode asked) (distinct eq (cited asked.requests))

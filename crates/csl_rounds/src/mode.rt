@@ -1,0 +1,11 @@
+//! In how many rounds cites are told apart.
+
+/// In how many rounds cites that read alike are told apart, and which marks count in them.
+#[derive(Clone, Copy, PartialEq, Eq)]
+pub enum RoundMode {
+    /// In three at most. Each mark counts.
+    Three,
+    /// In as many as mark. A mark counts only where it raises the state of its entry, and a group waits for
+    /// the next round where an entry of it was marked in this one.
+    Full,
+}
