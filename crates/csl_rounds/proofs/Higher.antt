@@ -10,6 +10,7 @@ use Rattle.csl_ambiguity.specs.SuffixMarks.{adds_suffix, first_cites, shows_date
 use Rattle.csl_base.specs.Answers.{Answers}
 use Rattle.csl_base.specs.Ordered.{extent}
 use Rattle.csl_base.specs.declared.names.NameDisambiguationProperties.{NameDisambiguationProperties}
+use Rattle.csl_entries.specs.Entries.{distinct, place}
 use Rattle.csl_lookup.specs.declared.state.DisambiguateState.{DisambiguateState}
 use Rattle.csl_lookup.specs.declared.state.DisambiguateState.TheVariants.{Choose}
 use Rattle.csl_name_marks.specs.NameMarks.{name_marks}
@@ -113,7 +114,7 @@ module _ {E P : Type 0} (f : ℕ) (renders : List (CiteRender E P)) where
       suffixed group [] h = All-nil IsHigher
       suffixed group (m ∷ ms) h =
           All-cons IsHigher (m.place, suffix_among eq group m) (map (λ m. (m.place, suffix_among eq group m)) ms)
-          (λ c found. (suffix-higher f _ (state_of c) (few m.place c found).0 (All-head (λ (m : Member E P). IsOpen renders m.place) m ms h c found), tt))
+          (λ c found. (suffix-higher f (place eq (entry_of m) (distinct eq (map entry_of group))) (state_of c) (few m.place c found).0 (All-head (λ (m : Member E P). IsOpen renders m.place) m ms h c found), tt))
           (suffixed group ms (All-tail (λ (m : Member E P). IsOpen renders m.place) m ms h))
 
       suffixes-are-higher : (dated : Bool) (g : List Place) → All (IsOpen renders) g → All IsHigher (counting renders (by_suffix eq renders dated) g)

@@ -21,7 +21,7 @@ use Rattle.csl_passes.specs.Places.{IsPlace, cite_at}
 use Rattle.csl_passes.specs.Renders.{CiteRender, ItemRender, Place}
 use Rattle.csl_passes.specs.Request.{Request}
 use Rattle.csl_rounds.proofs.Twice.{same-entry}
-use Rattle.csl_rounds.specs.RoundMarks.{Mark, all_ways, by_choice, by_full, by_suffix, by_three, counting, counts, has_any, or_others, round_marks, waits}
+use Rattle.csl_rounds.specs.RoundMarks.{Mark, all_ways, by_choice, by_full, by_suffix, by_three, counting, counts, has_any, marks_of, or_others, round_marks, waits}
 use Rattle.csl_rounds.specs.Rounds.{Table, at_table, request_at, with_any}
 use Rattle.csl_rounds.specs.declared.mode.RoundMode.{RoundMode}
 
@@ -53,25 +53,25 @@ module _ (G : List Place → Type 0) (Q : Mark → Type 0) (n c s : List Place �
   ways-kept : (g : List Place) → G g → All Q (all_ways n c s g)
   ways-kept g h = all-chosen Q (has_any (n g)) (n g) (or_others (c g) (s g)) (hn g h) (all-chosen Q (has_any (c g)) (c g) (s g) (hc g h) (hs g h))
 
-  names-kept : (gs : List (List Place)) → All G gs → All Q (flat_map (λ g. g.1) (map (λ h. (h, n h)) gs))
+  names-kept : (gs : List (List Place)) → All G gs → All Q (marks_of (map (λ h. (h, n h)) gs))
   names-kept [] h = All-nil Q
-  names-kept (g ∷ gs) h = All-append Q (n g) (flat_map (λ g. g.1) (map (λ h. (h, n h)) gs)) (hn g (All-head G g gs h)) (names-kept gs (All-tail G g gs h))
+  names-kept (g ∷ gs) h = All-append Q (n g) (marks_of (map (λ h. (h, n h)) gs)) (hn g (All-head G g gs h)) (names-kept gs (All-tail G g gs h))
 
-  pub three-kept : (gs : List (List Place)) → All G gs → All Q (flat_map (λ g. g.1) (by_three n c s gs))
+  pub three-kept : (gs : List (List Place)) → All G gs → All Q (marks_of (by_three n c s gs))
   three-kept [] h = All-nil Q
   three-kept (g ∷ gs) h = by (has_any (all_ways n c s g)) (three-kept gs (All-tail G g gs h))
     where
-      by : (b : Bool) → All Q (flat_map (λ g. g.1) (by_three n c s gs))
-          → All Q (flat_map (λ g. g.1) (cond b ((g, all_ways n c s g) ∷ map (λ h. (h, n h)) gs) ((g, []) ∷ by_three n c s gs)))
+      by : (b : Bool) → All Q (marks_of (by_three n c s gs))
+          → All Q (marks_of (cond b ((g, all_ways n c s g) ∷ map (λ h. (h, n h)) gs) ((g, []) ∷ by_three n c s gs)))
       by true more =
-          All-append Q (all_ways n c s g) (flat_map (λ g. g.1) (map (λ h. (h, n h)) gs)) (ways-kept g (All-head G g gs h)) (names-kept gs (All-tail G g gs h))
+          All-append Q (all_ways n c s g) (marks_of (map (λ h. (h, n h)) gs)) (ways-kept g (All-head G g gs h)) (names-kept gs (All-tail G g gs h))
       by false more = more
 
-  pub full-kept : (w : List Mark → List Place → Bool) (marks : List Mark) (gs : List (List Place)) → All G gs → All Q (flat_map (λ g. g.1) (by_full n c s w marks gs))
+  pub full-kept : (w : List Mark → List Place → Bool) (marks : List Mark) (gs : List (List Place)) → All G gs → All Q (marks_of (by_full n c s w marks gs))
   full-kept w marks [] h = All-nil Q
   full-kept w marks (g ∷ gs) h =
       let own : List Mark = cond (w marks g) [] (all_ways n c s g) in
-      All-append Q own (flat_map (λ g. g.1) (by_full n c s w (marks ++ own) gs))
+      All-append Q own (marks_of (by_full n c s w (marks ++ own) gs))
       (all-chosen Q (w marks g) [] (all_ways n c s g) (All-nil Q) (ways-kept g (All-head G g gs h))) (full-kept w (marks ++ own) gs (All-tail G g gs h))
 
 -- of any groups nothing is known

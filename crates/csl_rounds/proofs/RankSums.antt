@@ -53,19 +53,21 @@ module _ {X : Type 0} (f g : X → ℕ) (q : X → Bool) (up : (x : X) → f x +
 
   sum-rises : (xs : List X) → list_any q xs ≡ true → sum_by f xs < sum_by g xs
   sum-rises [] h = cc
-  sum-rises (x ∷ xs) h = by (q x) refl h (up x)
+  sum-rises (x ∷ xs) h = by (q x) h (up x) (λ k. sum-rises xs k)
     where
-      by : (b : Bool) → q x ≡ b → (b || list_any q xs) ≡ true → f x + cond b 1 0 ≤ g x → sum_by f (x ∷ xs) < sum_by g (x ∷ xs)
-      by true e h one = omega (arith, one, sum-up xs, sum_by-cons f x xs, sum_by-cons g x xs)
-      by false e h one = omega (arith, one, sum-rises xs h, sum_by-cons f x xs, sum_by-cons g x xs)
+      by : (b : Bool) → (b || list_any q xs) ≡ true → f x + cond b 1 0 ≤ g x → (list_any q xs ≡ true → sum_by f xs < sum_by g xs) → sum_by f (x ∷ xs) < sum_by g (x ∷ xs)
+      by true h one more = omega (arith, one, sum-up xs, sum_by-cons f x xs, sum_by-cons g x xs)
+      by false h one more =
+          let rest : sum_by f xs < sum_by g xs = more h in
+          omega (arith, one, rest, sum_by-cons f x xs, sum_by-cons g x xs)
 
 any-then : {X : Type 0} (p q : X → Bool) → ((x : X) → p x ≡ true → q x ≡ true) → (xs : List X) → list_any p xs ≡ true → list_any q xs ≡ true
 any-then p q h [] e = cc
-any-then p q h (x ∷ xs) e = by (p x) refl e
+any-then p q h (x ∷ xs) e = by (p x) refl e (λ k. any-then p q h xs k)
   where
-    by : (b : Bool) → p x ≡ b → (b || list_any p xs) ≡ true → (q x || list_any q xs) ≡ true
-    by true here e = ap (λ b. b || list_any q xs) (h x here)
-    by false here e = or-right (q x) (list_any q xs) (any-then p q h xs e)
+    by : (b : Bool) → p x ≡ b → (b || list_any p xs) ≡ true → (list_any p xs ≡ true → list_any q xs ≡ true) → (q x || list_any q xs) ≡ true
+    by true here e more = ap (λ b. b || list_any q xs) (h x here)
+    by false here e more = or-right (q x) (list_any q xs) (more e)
 
 -- the greatest is one of them
 greater-kept : (Q : DisambiguateState → Type 0) (a b : DisambiguateState) → Q a → Q b → Q (greater a b)
@@ -118,14 +120,14 @@ module _ {E P : Type 0} (answers : E → Answers) (firsts : List (CiteRender E P
 
   module _ (t : Table E) where
     -- a cite at a table is one of the first, rendered again or not
-    record IsAgain (c : Member E P) : Type 0 where
+    record IsAgain (Q : ItemRender E P → Type 0) (c : Member E P) : Type 0 where
       pub request : Request E P
       pub item : ItemRender E P
       pub is : c.item ≡ with_any answers request (t item.entry) item
-      pub among : (Q : ItemRender E P → Type 0) → All Q (flat_map (λ c. c.items) firsts) → Q item
+      pub known : Q item
 
-    again : (p : Place) (c : Member E P) → member_at (at_table answers t firsts) p ≡ Some c → IsAgain c
-    again p c found = outer (slice_get firsts p.0) refl (sym (ap place_in (slice_get-map (request_at answers t) firsts p.0)) ∙ found)
+    again : (Q : ItemRender E P → Type 0) → All Q (flat_map (λ c. c.items) firsts) → (p : Place) (c : Member E P) → member_at (at_table answers t firsts) p ≡ Some c → IsAgain Q c
+    again Q all p c found = outer (slice_get firsts p.0) refl (sym (ap place_in (slice_get-map (request_at answers t) firsts p.0)) ∙ found)
       where
         place_in : Option (CiteRender E P) → Option (Member E P)
         place_in o =
@@ -135,16 +137,16 @@ module _ {E P : Type 0} (answers : E → Answers) (firsts : List (CiteRender E P
         item_in r o = option_map (λ cite. record { place = p; item = cite.1; style = cite.0.style }) (option_map (λ item. (r.request, item)) o)
 
         inner : (r : CiteRender E P) → slice_get firsts p.0 ≡ Some r → (o : Option (ItemRender E P)) → slice_get r.items p.1 ≡ o
-            → item_in r (option_map (λ i. with_any answers r.request (t i.entry) i) o) ≡ Some c → IsAgain c
+            → item_in r (option_map (λ i. with_any answers r.request (t i.entry) i) o) ≡ Some c → IsAgain Q c
         inner r e None f h = cc
         inner r e (Some i) f h = record {
           request = r.request;
           item = i;
           is = ap (λ (m : Member E P). m.item) (sym (some-inj _ c h));
-          among = λ Q all. all-at Q r.items p.1 i f (all-part Q (λ c. c.items) firsts p.0 r e all);
+          known = all-at Q r.items p.1 i f (all-part Q (λ c. c.items) firsts p.0 r e all);
         }
 
-        outer : (o : Option (CiteRender E P)) → slice_get firsts p.0 ≡ o → place_in (option_map (request_at answers t) o) ≡ Some c → IsAgain c
+        outer : (o : Option (CiteRender E P)) → slice_get firsts p.0 ≡ o → place_in (option_map (request_at answers t) o) ≡ Some c → IsAgain Q c
         outer None e h = cc
         outer (Some r) e h = inner r e (slice_get r.items p.1) refl (sym (ap (item_in r) (slice_get-map (λ i. with_any answers r.request (t i.entry) i) r.items p.1)) ∙ h)
 
@@ -162,16 +164,16 @@ module _ {E P : Type 0} (answers : E → Answers) (firsts : List (CiteRender E P
     -- its state is that of its entry
     shown : (p : Place) (c : Member E P) → member_at (at_table answers t firsts) p ≡ Some c → state_of c ≡ told (t (entry_of c))
     shown p c found =
-        let a : IsAgain c = again p c found in
-        ap item_state a.is ∙ again-state a.request (t a.item.entry) a.item (a.among (λ i. item_state i ≡ DisambiguateState.None) begun)
+        let a : IsAgain (λ i. item_state i ≡ DisambiguateState.None) c = again (λ i. item_state i ≡ DisambiguateState.None) begun p c found in
+        ap item_state a.is ∙ again-state a.request (t a.item.entry) a.item a.known
         ∙ ap (λ e. told (t e)) (sym (ap (λ (i : ItemRender E P). i.entry) a.is ∙ same-entry answers a.request (t a.item.entry) a.item))
 
     has-few : ((e : E) → IsShort forms_most (told (t e))) → HasFew forms_most (at_table answers t firsts)
     has-few short p c found =
-        let a : IsAgain c = again p c found in (
+        let a : IsAgain (λ i. form_count i.first_name ≤ forms_most) c = again (λ i. form_count i.first_name ≤ forms_most) few-forms p c found in (
           subst (IsShort forms_most) (sym (shown p c found)) (short (entry_of c)),
           subst (λ o. form_count o ≤ forms_most) (sym (ap (λ (i : ItemRender E P). i.first_name) a.is ∙ again-forms a.request (t a.item.entry) a.item))
-              (a.among (λ i. form_count i.first_name ≤ forms_most) few-forms),
+              a.known,
         )
 
   -- the sum of ranks of entries
@@ -239,7 +241,7 @@ module _ {E P : Type 0} (answers : E → Answers) (firsts : List (CiteRender E P
 
           even : (x y : E) → eq x y ≡ true → with_marks marked t x ≡ with_marks marked t y
           even x y e =
-              ap (λ ms. option_or (greatest (map (λ m. m.1) ms)) (t x)) (filter_agree _ _ (same-cites x y e) marks)
+              ap (λ ms. option_or (greatest (map (λ m. m.1) ms)) (t x)) (filter_agree (λ m. cites eq now x m.0) (λ m. cites eq now y m.0) (same-cites x y e) marks)
               ∙ ap (option_or (marked y)) (sound.even x y e)
 
           short : (e : E) (o : Option DisambiguateState) → marked e ≡ o → IsShort forms_most (told (option_or o (t e)))
@@ -261,35 +263,38 @@ module _ {E P : Type 0} (answers : E → Answers) (firsts : List (CiteRender E P
 
       some-greatest : (q : Mark → Bool) (ms : List Mark) → list_any q ms ≡ true → is_some (greatest (map (λ m. m.1) (filter q ms))) ≡ true
       some-greatest q [] h = cc
-      some-greatest q (m ∷ ms) h = by (q m) h
+      some-greatest q (m ∷ ms) h = by (q m) h (λ k. some-greatest q ms k)
         where
-          by : (b : Bool) → (b || list_any q ms) ≡ true → is_some (greatest (map (λ m. m.1) (cond b (m ∷ filter q ms) (filter q ms)))) ≡ true
-          by true h = refl
-          by false h = some-greatest q ms h
+          by : (b : Bool) → (b || list_any q ms) ≡ true → (list_any q ms ≡ true → is_some (greatest (map (λ m. m.1) (filter q ms))) ≡ true) → is_some (greatest (map (λ m. m.1) (cond b (m ∷ filter q ms) (filter q ms)))) ≡ true
+          by true h more = refl
+          by false h more = more h
 
       cited-there : (p : Place) (c : Member E P) → member_at now p ≡ Some c → list_any (eq (entry_of c)) (entries_cited firsts) ≡ true
       cited-there p c found =
-          let a : IsAgain t c = again t p c found in
+          let a : IsAgain t Listed c = again t Listed (each-from (entry_of c) firsts) p c found in
           let entry : entry_of c ≡ a.item.entry = ap (λ (i : ItemRender E P). i.entry) a.is ∙ same-entry answers a.request (t a.item.entry) a.item in
-          a.among (λ i. eq (entry_of c) i.entry ≡ true → list_any (eq (entry_of c)) (entries_cited firsts) ≡ true) (each-there (entry_of c)) (ap (eq (entry_of c)) (sym entry) ∙ laws.refl (entry_of c))
+          a.known (ap (eq (entry_of c)) (sym entry) ∙ laws.refl (entry_of c))
         where
+          Listed : ItemRender E P → Type 0
+          Listed i = eq (entry_of c) i.entry ≡ true → list_any (eq (entry_of c)) (entries_cited firsts) ≡ true
+
           row-there : (x : E) (items : List (ItemRender E P)) → All (λ i. eq x i.entry ≡ true → list_any (eq x) (map (λ i. i.entry) items) ≡ true) items
           row-there x [] = All-nil (λ i. eq x i.entry ≡ true → list_any (eq x) [] ≡ true)
           row-there x (i ∷ items) =
               All-cons (λ j. eq x j.entry ≡ true → list_any (eq x) (map (λ i. i.entry) (i ∷ items)) ≡ true) i items
               (λ h. ap (λ b. b || list_any (eq x) (map (λ i. i.entry) items)) h)
-              (all-weaker _ _ (λ j h e. or-right (eq x i.entry) (list_any (eq x) (map (λ i. i.entry) items)) (h e)) items (row-there x items))
+              (all-weaker (λ j. eq x j.entry ≡ true → list_any (eq x) (map (λ i. i.entry) items) ≡ true) (λ j. eq x j.entry ≡ true → list_any (eq x) (map (λ i. i.entry) (i ∷ items)) ≡ true)
+              (λ j h e. or-right (eq x i.entry) (list_any (eq x) (map (λ i. i.entry) items)) (h e)) items (row-there x items))
 
           each-from : (x : E) (rs : List (CiteRender E P)) → All (λ i. eq x i.entry ≡ true → list_any (eq x) (entries_cited rs) ≡ true) (flat_map (λ c. c.items) rs)
           each-from x [] = All-nil (λ i. eq x i.entry ≡ true → list_any (eq x) (entries_cited []) ≡ true)
           each-from x (r ∷ rs) =
               All-append (λ i. eq x i.entry ≡ true → list_any (eq x) (entries_cited (r ∷ rs)) ≡ true) r.items (flat_map (λ c. c.items) rs)
-              (all-weaker _ _ (λ j h e. list_any-append (eq x) (map (λ i. i.entry) r.items) (entries_cited rs) ∙ ap (λ b. b || list_any (eq x) (entries_cited rs)) (h e)) r.items (row-there x r.items))
-              (all-weaker _ _ (λ j h e. list_any-append (eq x) (map (λ i. i.entry) r.items) (entries_cited rs)
+              (all-weaker (λ j. eq x j.entry ≡ true → list_any (eq x) (map (λ i. i.entry) r.items) ≡ true) (λ j. eq x j.entry ≡ true → list_any (eq x) (entries_cited (r ∷ rs)) ≡ true)
+              (λ j h e. list_any-append (eq x) (map (λ i. i.entry) r.items) (entries_cited rs) ∙ ap (λ b. b || list_any (eq x) (entries_cited rs)) (h e)) r.items (row-there x r.items))
+              (all-weaker (λ j. eq x j.entry ≡ true → list_any (eq x) (entries_cited rs) ≡ true) (λ j. eq x j.entry ≡ true → list_any (eq x) (entries_cited (r ∷ rs)) ≡ true)
+              (λ j h e. list_any-append (eq x) (map (λ i. i.entry) r.items) (entries_cited rs)
               ∙ or-right (list_any (eq x) (map (λ i. i.entry) r.items)) (list_any (eq x) (entries_cited rs)) (h e)) (flat_map (λ c. c.items) rs) (each-from x rs))
-
-          each-there : (x : E) → All (λ i. eq x i.entry ≡ true → list_any (eq x) (entries_cited firsts) ≡ true) (flat_map (λ c. c.items) firsts)
-          each-there x = each-from x firsts
 
       -- in any list that has an entry equal to each that is cited, one gets a mark
       one-marked : (es : List E) → ((e : E) → list_any (eq e) (entries_cited firsts) ≡ true → list_any (eq e) es ≡ true) → has_any marks ≡ true → list_any (λ e. is_some (marked e)) es ≡ true

@@ -1,5 +1,5 @@
 -- How far an entry is told apart, as a number that rises with each mark that counts.
-use Rattle.std.proofs.Common.{◌≡◌, ℕ, zero, suc, ◌+◌, ◌*◌, ◌<◌, ◌≤◌, ◌==◌, Bool, true, false, List, [], ◌∷◌, length, get_or, refl, ap, sym, subst, ◌∙◌, arith}
+use Rattle.std.proofs.Common.{◌≡◌, ◌≢◌, ℕ, zero, suc, ◌+◌, ◌*◌, ◌<◌, ◌≤◌, ◌==◌, Bool, true, false, List, [], ◌∷◌, length, get_or, refl, ap, sym, subst, ◌∙◌, arith}
 use Rattle.std.specs.Prelude.{⊤, All, None, Option, Some, unwrap_or}
 use Rattle.std.specs.List.{AllZip, sum_by}
 use Rattle.std.specs.Ordering.{is_lt, nat_cmp, ordering_then}
@@ -41,6 +41,7 @@ form_of (suc (suc zero)) = DisambiguatedNameForm.LongInitialized
 form_of (suc (suc (suc n))) = DisambiguatedNameForm.LongFull
 
 form-back : (x : DisambiguatedNameForm) → form_of (extent x) ≡ x
+unfolding form_of
 form-back DisambiguatedNameForm.Count = refl
 form-back DisambiguatedNameForm.Short = refl
 form-back DisambiguatedNameForm.LongInitialized = refl
@@ -102,11 +103,8 @@ names-higher f names forms h counts = by (sum_by extent names.forms == sum_by ex
         ap (λ l. raises (DisambiguateState.NameDisambiguation names) (DisambiguateState.NameDisambiguation (record { forms = l }))) same ∙ counts in
         absurd (false≢true (sym (never-itself names) ∙ again))
     by false e =
-        let apart = eqb-false (sum_by extent names.forms) (sum_by extent forms) e in
-        apart_then apart
-      where
-        apart_then : (sum_by extent names.forms ≡ sum_by extent forms → ⊥) → 1 + sum_by extent names.forms < 1 + sum_by extent forms
-        apart_then apart = omega (arith, most, apart)
+        let apart : sum_by extent names.forms ≢ sum_by extent forms = eqb-false (sum_by extent names.forms) (sum_by extent forms) e in
+        omega (arith, most, apart)
 
 -- so has a choose mark
 pub choose-higher : (f : ℕ) (s : DisambiguateState) → IsShort f s → raises s DisambiguateState.Choose ≡ true → rank f s < rank f DisambiguateState.Choose

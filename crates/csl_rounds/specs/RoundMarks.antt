@@ -36,6 +36,10 @@ greatest (s ∷ ss) = Some (fold greater s ss)
 abbrev pub MarkedGroups : Type 0
 MarkedGroups = List (List Place × List Mark)
 
+-- the marks of all of them
+abbrev pub marks_of : MarkedGroups → List Mark
+marks_of groups = flat_map (λ g. g.1) groups
+
 module _ (by_names by_choice by_suffix : List Place → List Mark) where
   -- what a group gets that is tried in all ways: its marks by names; its choose marks where it has none by names; its suffixes
   -- where it has none of these either
@@ -97,4 +101,4 @@ marks_by_group mode eq answers renders = marked_groups eq renders (shows_dates a
 
 -- the marks of a round
 unfoldable pub round_marks : {E P : Type 0} → RoundMode → (E → E → Bool) → (E → Answers) → List (CiteRender E P) → List Mark
-round_marks mode eq answers renders = flat_map (λ g. g.1) (marks_by_group mode eq answers renders)
+round_marks mode eq answers renders = marks_of (marks_by_group mode eq answers renders)

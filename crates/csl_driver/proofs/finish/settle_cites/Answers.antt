@@ -12,10 +12,12 @@ use Rattle.csl_positions.specs.FinalProperties.{with_final_properties}
 use Rattle.csl_positions.specs.FirstProperties.{numbered_by}
 use Rattle.csl_positions.specs.FirstProperties.{first_properties}
 use Rattle.csl_rounds.specs.FirstRenders.{first_renders}
+use Rattle.csl_rounds.specs.Gathered.{AreBegun}
 use Rattle.csl_rounds.specs.Rerenders.{AreStatesOf, rerenders}
 use Rattle.csl_rounds.specs.Rounds.{entries_cited}
 use Rattle.csl_rounds.specs.Tables.{disambiguated, last_states, round_tables, rounds}
 use Rattle.csl_writing.specs.Counted.{counted_times}
+use Rattle.csl_rounds.proofs.Begun.{first-begun}
 use Rattle.csl_driver.proofs.FirstPlaced.{first-cited, first-places}
 use Rattle.csl_driver.proofs.Listings.{table-within}
 use Rattle.csl_driver.proofs.Standing.{begun-stand, final-stand, of-requests, ordered-stand}
@@ -43,6 +45,15 @@ disambiguate-requires-clause-placed g c =
 
 pub disambiguate-requires-clause-listed : goal.disambiguate-requires-clause-listed
 disambiguate-requires-clause-listed g c = table-within g.T.PartialEq.eq g.met.T.Eq.laws (requests_view c.args.requests.now) (table_view c.args.cited.now.table) c.requires.known.table
+
+pub disambiguate-requires-clause-begun : goal.disambiguate-requires-clause-begun
+disambiguate-requires-clause-begun g c = λ full.
+    let eq = g.T.PartialEq.eq in
+    let requests = requests_view c.args.requests.now in
+    let wanted = wanted_view c.args.wanted.now in
+    let cited_now = c.args.cited.now in
+    subst AreBegun (sym c.requires.first)
+    (first-begun g.T.EntryLike.answers requests (first_properties eq g.P.PartialEq.eq (number eq cited_now.offset (entries_listed eq wanted requests)) requests))
 
 pub final_numbers-requires-clause-cites : goal.final_numbers-requires-clause-cites
 final_numbers-requires-clause-cites g c =
