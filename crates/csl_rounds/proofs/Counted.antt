@@ -7,6 +7,7 @@ use Rattle.std.proofs.Math.ListN.{set}
 use Rattle.std.proofs.Math.Seq.{drop-cons}
 use Rattle.std.proofs.lemmas.Bool.{eqb-true, eq-eqb, false≢true}
 use Rattle.std.proofs.lemmas.List.{get_or-set_same, get_or-set_other, length-set, take_more}
+use Rattle.std.proofs.lemmas.List.Elements.{All-get_or}
 use Rattle.std.proofs.lemmas.List.Folds.{list_any-append}
 use Rattle.csl_rounds.specs.Gathered.{AreMarked, entry_place}
 use Rattle.csl_rounds.specs.RoundMarks.{Mark}
@@ -79,3 +80,7 @@ module _ (places : List (List ℕ)) (marks : List Mark) (old : List Bool) where
             ap (λ l. get_or l p false) changed ∙ get_or-set_other was e p true false apart ∙ so_far p below
             ∙ sym (ap (λ b. get_or old p false || b)
             (seen p ∙ ap (λ b. list_any (λ m. nat_eq (entry_place places m.0) p) (take k marks) || (b || false)) h ∙ or-false (list_any (λ m. nat_eq (entry_place places m.0) p) (take k marks))))
+
+-- what is known of a member of a list
+pub known-at : {X : Type 0} (Q : X → Type 0) (xs ys : List X) (k : ℕ) (x : X) → ys ≡ xs → All Q xs → k < length ys → x ≡ get_or ys k x → Q x
+known-at Q xs ys k x same all within here = subst Q (sym here) (All-get_or Q ys k x within (subst (All Q) (sym same) all))

@@ -79,7 +79,7 @@ module _ {E P : Type 0} (mode : RoundMode) (eq : E → E → Bool) (answers : E 
       pub marked_is : marked ≡ min k (2 ^ 128 - 1)
       pub counted : count ≡ counted_times (rerenders (entries_cited firsts) (map (marked_at mode eq answers firsts) done)) old
 
-    pub begun : (states : List (Option DisambiguateState)) (n : ℕ) → states ≡ replicate n None → n ≡ length es → InRounds 0 firsts states 0 old
+    unfoldable pub begun : (states : List (Option DisambiguateState)) (n : ℕ) → states ≡ replicate n None → n ≡ length es → InRounds 0 firsts states 0 old
     begun states n none same = record {
       table = no_states;
       done = [];
@@ -124,7 +124,7 @@ module _ {E P : Type 0} (mode : RoundMode) (eq : E → E → Bool) (answers : E 
         start = at_table answers so.table firsts
 
         -- a round that marks
-        pub one-round : k < most_rounds mode eq firsts → (next : ℕ) → has_any (round_marks mode eq answers now) ≡ true → next ≡ min (marked + 1) (2 ^ 128 - 1)
+        unfoldable pub one-round : k < most_rounds mode eq firsts → (next : ℕ) → has_any (round_marks mode eq answers now) ≡ true → next ≡ min (marked + 1) (2 ^ 128 - 1)
             → InRounds (k + 1) new given next total
         one-round within next any one =
             let left : most_rounds mode eq firsts - k ≡ suc (most_rounds mode eq firsts - (k + 1)) = omega (arith, within) in

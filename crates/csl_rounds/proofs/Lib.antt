@@ -16,3 +16,5 @@ pub mod Open
 pub mod Higher
 pub mod RankSums
 pub mod Begun
+pub mod FullRounds
+pub mod FullMarks

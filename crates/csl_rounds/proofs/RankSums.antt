@@ -131,10 +131,10 @@ module _ {E P : Type 0} (answers : E → Answers) (firsts : List (CiteRender E P
       where
         place_in : Option (CiteRender E P) → Option (Member E P)
         place_in o =
-            option_map (λ cite. record { place = p; item = cite.1; style = cite.0.style }) (option_and_then (λ cite. option_map (λ item. (cite.request, item)) (slice_get cite.items p.1)) o)
+            option_map (λ (cite : Request E P × ItemRender E P). record { place = p; item = cite.1; style = cite.0.style }) (option_and_then (λ cite. option_map (λ item. (cite.request, item)) (slice_get cite.items p.1)) o)
 
         item_in : CiteRender E P → Option (ItemRender E P) → Option (Member E P)
-        item_in r o = option_map (λ cite. record { place = p; item = cite.1; style = cite.0.style }) (option_map (λ item. (r.request, item)) o)
+        item_in r o = option_map (λ (cite : Request E P × ItemRender E P). record { place = p; item = cite.1; style = cite.0.style }) (option_map (λ item. (r.request, item)) o)
 
         inner : (r : CiteRender E P) → slice_get firsts p.0 ≡ Some r → (o : Option (ItemRender E P)) → slice_get r.items p.1 ≡ o
             → item_in r (option_map (λ i. with_any answers r.request (t i.entry) i) o) ≡ Some c → IsAgain Q c
@@ -287,7 +287,7 @@ module _ {E P : Type 0} (answers : E → Answers) (firsts : List (CiteRender E P
               (λ j h e. or-right (eq x i.entry) (list_any (eq x) (map (λ i. i.entry) items)) (h e)) items (row-there x items))
 
           each-from : (x : E) (rs : List (CiteRender E P)) → All (λ i. eq x i.entry ≡ true → list_any (eq x) (entries_cited rs) ≡ true) (flat_map (λ c. c.items) rs)
-          each-from x [] = All-nil (λ i. eq x i.entry ≡ true → list_any (eq x) (entries_cited []) ≡ true)
+          each-from x [] = All-nil (λ i. eq x i.entry ≡ true → list_any (eq x) [] ≡ true)
           each-from x (r ∷ rs) =
               All-append (λ i. eq x i.entry ≡ true → list_any (eq x) (entries_cited (r ∷ rs)) ≡ true) r.items (flat_map (λ c. c.items) rs)
               (all-weaker (λ j. eq x j.entry ≡ true → list_any (eq x) (map (λ i. i.entry) r.items) ≡ true) (λ j. eq x j.entry ≡ true → list_any (eq x) (entries_cited (r ∷ rs)) ≡ true)

@@ -20,7 +20,7 @@ fn raises(state: &DisambiguateState, mark: &DisambiguateState) -> bool
         (_, DisambiguateState::None) => false,
         (DisambiguateState::None, _) => true,
         (DisambiguateState::NameDisambiguation(a), DisambiguateState::NameDisambiguation(b)) => {
-            *a < *b
+            a.cmp(b).is_lt()
         }
         (DisambiguateState::NameDisambiguation(_), _) => true,
         (_, DisambiguateState::NameDisambiguation(_)) => false,

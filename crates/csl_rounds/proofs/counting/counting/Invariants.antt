@@ -7,7 +7,7 @@ use Rattle.csl_rounds.specs.RoundMarks.{counts}
 use Rattle.csl_rounds.proofs.counting.counting.Given as goal
 
 abbrev pub invariant-loop-place : goal.invariant-loop-place
-invariant-loop-place l = record {
+invariant-loop-place g l = record {
   exist : All (λ m. IsPlace (renders_view l.renders) m.0) (into_iter_items l.place-iterator);
   kept : l.kept.items ++ filter (counts (renders_view l.renders)) (into_iter_items l.place-iterator) ≡ filter (counts (renders_view l.renders)) l.fn.marks.items;
 }

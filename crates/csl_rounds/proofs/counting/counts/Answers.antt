@@ -6,6 +6,6 @@ use Rattle.csl_rounds.proofs.Counted.{known-or}
 use Rattle.csl_rounds.proofs.counting.counts.Goals as goal
 
 pub returns : goal.returns
-returns c =
+returns g c =
     c.raises.ensures
     ∙ known-or state_of (λ s. raises s c.args.mark.now) (member_at (renders_view c.args.renders.now) c.args.place) c.state_at.result.now c.state_at.ensures
