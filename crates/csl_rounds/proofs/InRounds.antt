@@ -22,7 +22,7 @@ use Rattle.csl_writing.specs.Counted.{counted_times}
 pub three-not-full : RoundMode.Three ≡ RoundMode.Full → ⊥
 three-not-full e = cc
 
-one-more : (k : ℕ) → min (min k (2 ^ 128 - 1) + 1) (2 ^ 128 - 1) ≡ min (k + 1) (2 ^ 128 - 1)
+pub one-more : (k : ℕ) → min (min k (2 ^ 128 - 1) + 1) (2 ^ 128 - 1) ≡ min (k + 1) (2 ^ 128 - 1)
 one-more k = omega arith
 
 module _ {E P : Type 0} (mode : RoundMode) (eq : E → E → Bool) (answers : E → Answers) (firsts : List (CiteRender E P)) where
@@ -34,7 +34,7 @@ module _ {E P : Type 0} (mode : RoundMode) (eq : E → E → Bool) (answers : E 
   last_of t = t ∷ []
 
   -- a round that marks, and one that doesn't
-  from-yes : (n : ℕ) (t : Table E) → has_any (marks_at mode eq answers firsts t) ≡ true
+  pub from-yes : (n : ℕ) (t : Table E) → has_any (marks_at mode eq answers firsts t) ≡ true
       → tables_from mode eq answers firsts (suc n) t ≡ t ∷ tables_from mode eq answers firsts n (with_marks (marked_at mode eq answers firsts t) t)
   unfolding tables_from
   from-yes n t h = rw h refl

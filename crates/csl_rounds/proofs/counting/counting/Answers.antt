@@ -6,9 +6,7 @@ use Rattle.std.proofs.lemmas.List.Elements.{All-head, All-tail}
 use Rattle.csl_passes.specs.Places.{IsPlace}
 use Rattle.csl_passes.specs.RendersView.{renders_view}
 use Rattle.csl_rounds.specs.RoundMarks.{Mark, counts}
-use Rattle.csl_rounds.proofs.Counted.{kept-more, kept-skip}
 use Rattle.csl_rounds.proofs.counting.counting.Goals as goal
-use Rattle.csl_rounds.proofs.counting.counting.Goals.{then-counts+in_ok-push, else-counts}
 
 pub loop-place-init : goal.loop-place-init
 loop-place-init g c =
@@ -25,22 +23,4 @@ counts-requires g c =
     let mark : Mark = (c.in-Some.place, c.in-Some.mark) in
     record {
       exists = All-head (λ m. IsPlace rs m.0) mark (into_iter_items c.next.new.self) (subst (All (λ m. IsPlace rs m.0)) c.in-Some.ensures.steps.0 c.loop-place.invariant.exist);
-    }
-
-pub loop-place-preserved : goal.loop-place-preserved
-loop-place-preserved g c =
-    let rs = renders_view c.args.renders.now in
-    let mark : Mark = (c.in-Some.place, c.in-Some.mark) in
-    let rest = into_iter_items c.next.new.self in
-    let left = into_iter_items c.loop-place.place-iterator in
-    record {
-      exist = All-tail (λ m. IsPlace rs m.0) mark rest (subst (All (λ m. IsPlace rs m.0)) c.in-Some.ensures.steps.0 c.loop-place.invariant.exist);
-      kept = elim c.if-counts.branch [
-        | then-counts+in_ok-push w ↦
-            kept-more (counts rs) c.loop-place.kept.items _ rest left mark c.in-Some.ensures.steps.0 c.loop-place.invariant.kept c.if-counts.kept.items
-            (sym c.counts.ensures ∙ w.if-counts.true) (ap (λ v. v.items) w.kept-is ∙ w.in_ok-push.ensures.items)
-        | else-counts w ↦
-            kept-skip (counts rs) c.loop-place.kept.items _ rest left mark c.in-Some.ensures.steps.0 c.loop-place.invariant.kept c.if-counts.kept.items
-            (sym c.counts.ensures ∙ w.if-counts.false) (ap (λ v. v.items) w.kept-is)
-      ];
     }
