@@ -19,7 +19,7 @@ use std::test::Fail;
 
 type Request<'a> = CitationRequest<'a, PlainEntry, Infallible>;
 
-type Wanted<'o> = BibliographyRequest<'o, 'o, PlainEntry>;
+type Wanted<'a> = BibliographyRequest<'a, 'a, PlainEntry>;
 
 #[test]
 fn laws() {
@@ -32,6 +32,16 @@ fn code(alloc: Global, tag: &str) -> Result<Option<LocaleCode>, AllocError> {
     Ok(Some(LocaleCode(String::from_str(alloc, tag)?)))
 }
 
+/// What requests are made of.
+#[derive(Drop)]
+struct Parts {
+    cited: PlainEntry,
+    style: IndependentStyle,
+    files: Vec<Locale>,
+    tag: &'static str,
+    note: usize,
+}
+
 /// A locale that says this of marks and quotes.
 fn files(alloc: Global, punctuation_in_quote: bool) -> Result<Vec<Locale>, AllocError> {
     let locale = Locale {
@@ -42,79 +52,42 @@ fn files(alloc: Global, punctuation_in_quote: bool) -> Result<Vec<Locale>, Alloc
     Ok(vec![in alloc; locale]?)
 }
 
-/// A style in notes.
-fn style(alloc: Global, is_other: bool) -> Result<IndependentStyle, AllocError> {
-    value_style(alloc, StyleClass::Note, if is_other { "U" } else { "T" })
+/// Parts of which the one of this number isn't as in others; from 5 on they are the same.
+fn parts(alloc: Global, other: usize) -> Result<Parts, AllocError> {
+    Ok(Parts {
+        cited: entry(alloc, if other == 0 { "b" } else { "a" })?,
+        style: value_style(alloc, StyleClass::Note, if other == 1 { "U" } else { "T" })?,
+        files: files(alloc, other == 2)?,
+        tag: if other == 3 { "fr" } else { "de" },
+        note: if other == 4 { 2 } else { 1 },
+    })
 }
 
-fn cited(alloc: Global, is_other: bool) -> Result<PlainEntry, AllocError> {
-    entry(alloc, if is_other { "b" } else { "a" })
+fn request<'a>(alloc: Global, parts: &'a Parts) -> Result<Request<'a>, AllocError> {
+    let items = vec![in alloc; CitationItem::with_entry(&parts.cited)]?;
+    let locale = code(alloc, parts.tag)?;
+    let note = Some(parts.note);
+    Ok(CitationRequest::new(items, &parts.style, locale, &parts.files, note))
 }
 
-fn tag(is_other: bool) -> &'static str {
-    if is_other { "fr" } else { "de" }
+fn wanted<'a>(alloc: Global, parts: &'a Parts) -> Result<Wanted<'a>, AllocError> {
+    let locale = code(alloc, parts.tag)?;
+    Ok(BibliographyRequest::new(&parts.style, locale, &parts.files))
 }
 
-fn request<'a>(
-    alloc: Global,
-    cited: &'a PlainEntry,
-    style: &'a IndependentStyle,
-    locale: &str,
-    files: &'a [Locale],
-    note: usize,
-) -> Result<Request<'a>, AllocError> {
-    let items = vec![in alloc; CitationItem::with_entry(cited)]?;
-    let locale = code(alloc, locale)?;
-    Ok(CitationRequest::new(items, style, locale, files, Some(note)))
-}
-
-/// Whether two requests differ that say the same but for the field of this number, if there is one.
-fn differ_in(alloc: Global, field: usize) -> Result<bool, Fail> {
-    let a = cited(alloc, false)?;
-    let b = cited(alloc, field == 0)?;
-    let first = style(alloc, false)?;
-    let second = style(alloc, field == 1)?;
-    let own = files(alloc, false)?;
-    let other = files(alloc, field == 2)?;
-    let note = if field == 3 { 2 } else { 1 };
-    let request_a = request(alloc, &a, &first, tag(false), &own, 1)?;
-    let request_b = request(alloc, &b, &second, tag(field == 4), &other, note)?;
-    Ok(request_a != request_b)
+/// Whether requests of these parts are equal, and requests for bibliographies.
+fn are_equal(alloc: Global, a: &Parts, b: &Parts) -> Result<(bool, bool), AllocError> {
+    let requests = request(alloc, a)? == request(alloc, b)?;
+    Ok((requests, wanted(alloc, a)? == wanted(alloc, b)?))
 }
 
 #[test]
 fn requests_differ_by_each_field(rt: HostRuntime) -> Result<(), Fail> {
-    for field in 0..6 {
-        assert!(rt; differ_in(rt.alloc(), field)? == (field < 5));
-    }
-    Ok(())
-}
-
-fn wanted<'o>(
-    alloc: Global,
-    style: &'o IndependentStyle,
-    locale: &str,
-    files: &'o [Locale],
-) -> Result<Wanted<'o>, AllocError> {
-    let locale = code(alloc, locale)?;
-    Ok(BibliographyRequest::new(style, locale, files))
-}
-
-/// The same of requests for bibliographies, but for their orders.
-fn wanted_differ_in(alloc: Global, field: usize) -> Result<bool, Fail> {
-    let first = style(alloc, false)?;
-    let second = style(alloc, field == 0)?;
-    let own = files(alloc, false)?;
-    let other = files(alloc, field == 1)?;
-    let wanted_a = wanted(alloc, &first, tag(false), &own)?;
-    let wanted_b = wanted(alloc, &second, tag(field == 2), &other)?;
-    Ok(wanted_a != wanted_b)
-}
-
-#[test]
-fn wanted_bibliographies_differ_by_each_field(rt: HostRuntime) -> Result<(), Fail> {
-    for field in 0..4 {
-        assert!(rt; wanted_differ_in(rt.alloc(), field)? == (field < 3));
+    let first = parts(rt.alloc(), 5)?;
+    for other in 0..6 {
+        let parts = parts(rt.alloc(), other)?;
+        let wanted = other == 0 || other > 3;
+        assert!(rt; are_equal(rt.alloc(), &first, &parts)? == (other == 5, wanted));
     }
     Ok(())
 }
@@ -204,51 +177,45 @@ fn properties_differ_by_what_may_change(rt: HostRuntime) -> Result<(), Fail> {
 }
 
 /// A request of which every public field is written after it was made.
-fn written<'a>(
-    alloc: Global,
-    cited: &'a PlainEntry,
-    style: &'a IndependentStyle,
-    files: &'a [Locale],
-) -> Result<Request<'a>, AllocError> {
-    let mut request: Request<'a> = CitationRequest::from_items(Vec::new(alloc), style, &[]);
-    request.items = vec![in alloc; CitationItem::with_entry(cited)]?;
-    request.locale = code(alloc, "de")?;
-    request.locale_files = files;
+fn request_written<'a>(alloc: Global, parts: &'a Parts) -> Result<Request<'a>, AllocError> {
+    let note = Some(parts.note);
+    let mut request: Request<'a> = CitationRequest::new(
+        Vec::new(alloc),
+        &parts.style,
+        None,
+        &[],
+        note,
+    );
+    request.items = vec![in alloc; CitationItem::with_entry(&parts.cited)]?;
+    request.locale = code(alloc, parts.tag)?;
+    request.locale_files = &parts.files;
     Ok(request)
 }
 
 /// The same of a request for a bibliography, which was made in another style.
-fn wanted_written<'o>(
+fn wanted_written<'a>(
     alloc: Global,
-    before: &'o IndependentStyle,
-    style: &'o IndependentStyle,
-    files: &'o [Locale],
-) -> Result<Wanted<'o>, AllocError> {
-    let mut wanted: Wanted<'o> = BibliographyRequest::new(before, None, &[]);
-    wanted.style = style;
-    wanted.locale = code(alloc, "de")?;
-    wanted.locale_files = files;
+    before: &'a IndependentStyle,
+    parts: &'a Parts,
+) -> Result<Wanted<'a>, AllocError> {
+    let mut wanted: Wanted<'a> = BibliographyRequest::new(before, None, &[]);
+    wanted.style = &parts.style;
+    wanted.locale = code(alloc, parts.tag)?;
+    wanted.locale_files = &parts.files;
     Ok(wanted)
+}
+
+/// Whether requests that were written are equal to those that were made so.
+fn are_written(alloc: Global, before: &Parts, parts: &Parts) -> Result<(bool, bool), AllocError> {
+    let requests = request_written(alloc, parts)? == request(alloc, parts)?;
+    let wanted = wanted_written(alloc, &before.style, parts)? == wanted(alloc, parts)?;
+    Ok((requests, wanted))
 }
 
 #[test]
 fn fields_are_written(rt: HostRuntime) -> Result<(), Fail> {
-    let alloc = rt.alloc();
-    let style = value_style(alloc, StyleClass::InText, "T")?;
-    let a = entry(alloc, "a")?;
-    let files = files(alloc, true)?;
-    let request = request(alloc, &a, &style, "de", &files, 1)?;
-    assert!(rt; written(alloc, &a, &style, &files)? == request);
-    Ok(())
-}
-
-#[test]
-fn fields_of_wanted_bibliographies_are_written(rt: HostRuntime) -> Result<(), Fail> {
-    let alloc = rt.alloc();
-    let before = style(alloc, true)?;
-    let style = style(alloc, false)?;
-    let files = files(alloc, true)?;
-    let wanted = wanted(alloc, &style, "de", &files)?;
-    assert!(rt; wanted_written(alloc, &before, &style, &files)? == wanted);
+    let before = parts(rt.alloc(), 1)?;
+    let parts = parts(rt.alloc(), 5)?;
+    assert!(rt; are_written(rt.alloc(), &before, &parts)? == (true, true));
     Ok(())
 }
