@@ -2,8 +2,8 @@
 """run.py PROGRAM: runs a built cite_run on each document of this folder and of examples/, side by side, and compares
 standard output, exit status and the line on standard error. Then it tries what only a process can show, holds the
 documents to docs/document.schema.json, compares PROGRAM with model/ on random documents, and holds the model to what
-the documents must print. Where a C compiler is there, it refuses each growth of memory in turn (refuse.c), in PROGRAM and
-in crates/refusals, which is looked for beside it (../../refusals/out/refusals) and names each call before it is made.
+the documents must print. Where a C compiler is there, it refuses each growth of memory of PROGRAM in turn (refuse.c), on
+some documents.
 run.py PROGRAM FOLDER..: runs it on the documents of these folders, and does nothing else.
 
 A document is NAME.json. NAME.txt is what it must print; where the status isn't 0, NAME.status has it, and nothing is
@@ -372,7 +372,7 @@ def row(name):
     return read(HERE + '/' + name + '.json'), read(HERE + '/' + name + '.txt')
 
 
-# The documents that are answered by `finish` and by `finish_counted`.
+# The documents whose growths are refused in turn.
 SWEPT = [
     'rows/offset_and_order',
     'disambiguation/suffix_by_entry',
@@ -382,12 +382,6 @@ SWEPT = [
     'bibliography/author_substitution',
     'collapsing/year_collapse_of_suffixes',
 ]
-# Those that have a refusal for an answer, with its status.
-REFUSED = {'rows/ring_of_two_macros': 3, 'rows/number_overflow': 4}
-# A citation by itself has the number 0, which is printed as 1.
-ALONE = b'[1]\n' * 4
-# Calls of crates/refusals, which it names before it makes them; the status is 5 where one is refused, but for `citation`.
-CALLS = ['read', 'prepare', 'citation', 'finish', 'finish_counted', 'standalone_citation', 'run', 'free']
 MOST_GROWTHS = 100000
 
 
@@ -419,62 +413,25 @@ def refused_in_turn(shim, program, given, judge):
 
 
 def sweep_of_program(shim, program, name):
-    """Each refusal is status 5, or 1 while the input is read, and nothing is printed; at the end the answer comes."""
+    """Each run ends in status 5, or 1 while the input is read, with nothing printed; or in the answer, as where a list that is
+    done could not be made smaller. At the end the answer comes."""
     given, text = row(name)
 
     def judge(status, out, lines):
-        if '!' not in lines:
-            return hold((status, out, ''.join(lines).encode()), 0, text)
+        if '!' not in lines or status == 0:
+            return hold((status, out, ''.join(it for it in lines if it != '!').encode()), 0, text)
         hold((status, out, lines[-1].encode() + b'\n'), status if status in (1, 5) else 5)
 
     return refused_in_turn(shim, program, given, judge)
 
 
-def sweep_of_calls(shim, program, way, given, status_wanted, text):
-    """Each run ends in the refusal of the very call whose growth was refused, or in the answer."""
-
-    def judge(status, out, lines):
-        called = [it for it in lines if it in CALLS or it == '!']
-        if '!' not in lines:
-            at, wanted, printed = None, status_wanted, text
-        else:
-            at = called[called.index('!') - 1]
-            # a request that came back is handed in again
-            wanted, printed = (6 if status_wanted == 0 else status_wanted, text) if at == 'citation' else (5, None)
-            if at == 'free':
-                raise Failed('a call that takes no memory was refused some')
-            if wanted == 5 and called[-1] != '!':
-                raise Failed('refused in %s, it went on: %s' % (at, called))
-        if status != wanted:
-            raise Failed('status %d, and not %d (%s)' % (status, wanted, ', '.join(lines[-4:])))
-        if printed is not None and out != printed:
-            raise Failed(difference(printed, out))
-        # what was answered before is a beginning: only calls for citations by themselves print between calls
-        if printed is None and not text.startswith(out):
-            raise Failed('%r was printed' % out)
-
-    return refused_in_turn(shim, program, way.encode() + b'\n' + given, judge)
-
-
 def sweeps(program):
     """The sweeps, each with its name; or none, and why."""
-    refusals = os.path.join(os.path.dirname(program), '../../refusals/out/refusals')
-    if not os.access(refusals, os.X_OK):
-        return [], 'crates/refusals is not built'
     folder = tempfile.mkdtemp()
     shim = compiled(folder)
     if not shim:
         return [], 'no C compiler is here'
     made = [('growths of %s' % it, sweep_of_program, shim, program, it) for it in SWEPT]
-    for way in ('finish', 'finish_counted'):
-        for name in SWEPT:
-            made.append(('growths of %s: %s' % (way, name), sweep_of_calls, shim, refusals, way, row(name)[0], 0, row(name)[1]))
-        for name, status in REFUSED.items():
-            given = read(HERE + '/' + name + '.json')
-            made.append(('growths of %s: %s' % (way, name), sweep_of_calls, shim, refusals, way, given, status, b''))
-    given, text = row('rows/offset_and_order')
-    for way, printed in (('run', text), ('standalone_citation', ALONE), ('free', b'')):
-        made.append(('growths of %s' % way, sweep_of_calls, shim, refusals, way, given, 0, printed))
     return made, None
 
 
@@ -501,7 +458,7 @@ def tried(name, call, *given):
     """What failed, and how, or nothing."""
     try:
         count = call(*given)
-        if call in (sweep_of_program, sweep_of_calls):
+        if call is sweep_of_program:
             GROWTHS.append(count)
         return None
     except Failed as error:
