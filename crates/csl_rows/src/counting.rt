@@ -3,24 +3,21 @@ ghost use Rattle.std.specs.Prelude.{IfOk};
 ghost use Rattle.csl_base.specs.Ring.{HasNoRing};
 ghost use Rattle.csl_writing.specs.ContextSource.{context_source};
 
-use crate::reading::{Told, tells};
+use crate::account::{taken, tells};
+use csl_base::element::{LayoutRenderingElement, TextTarget};
 use csl_base::entry::{Chunk, ChunkKind, ChunkedString, Date, EntryLike, Person, PlainEntry};
 use csl_base::seq::Seq;
 use csl_base::style::IndependentStyle;
 use csl_base::taxonomy::{DateVariable, NameVariable, NumberVariable, StandardVariable};
 use csl_base::text::Text;
-use csl_driver::driver::BibliographyDriver;
-use csl_driver::item::CitationItem;
-use csl_driver::request::{BibliographyRequest, CitationRequest};
+use csl_driver::request::BibliographyRequest;
+use csl_driver::state::DisambiguateState;
 use csl_writing::counter::Renders;
 use csl_writing::lookup::StyleContext;
 use csl_writing::properties::CiteProperties;
-use document_reading::document::value_of;
-use document_styles::styles::{NamedStyle, styles_of};
-use row_styles::styles::entry;
+use row_styles::styles::{author_date, entry, no_affixes, no_formatting, text_element};
 use std::alloc::{AllocError, Global};
 use std::cell::Cell;
-use std::convert::Infallible;
 use std::test::Fail;
 
 /// An entry that counts how often it is asked for its title.
@@ -90,10 +87,18 @@ fn titled(alloc: Global, key: &str) -> Result<Counting, AllocError> {
 }
 
 /// A style of titles, years and their letters, without a bibliography.
-fn titles_and_years(alloc: Global) -> Result<Vec<NamedStyle>, Fail> {
-    let text = r#"{"styles":{"s":{"citation":{"elements":[{"kind":"text","variable":"title"},
-{"kind":"date","variable":"issued"}],"add_year_suffix":true}}}}"#;
-    Ok(styles_of(alloc, &value_of(alloc, text)?)?)
+fn titles_and_years(alloc: Global) -> Result<IndependentStyle, AllocError> {
+    let mut style = author_date(alloc)?;
+    let year = LayoutRenderingElement::Date {
+        variable: DateVariable::Issued,
+        affixes: no_affixes(),
+        formatting: no_formatting(),
+        display: None,
+    };
+    let title = text_element(TextTarget::Standard(StandardVariable::Title));
+    style.citation.layout.elements = vec![in alloc; title, year]?;
+    style.citation.disambiguate_add_year_suffix = true;
+    Ok(style)
 }
 
 /// The style without locales.
@@ -125,54 +130,20 @@ fn asked_once(alloc: Global, style: &IndependentStyle) -> Result<u64, Fail> {
     Ok(cited.titles.get())
 }
 
-/// A driver of plain cites.
-type Driver<'a, T> = BibliographyDriver<'a, T, Infallible>;
-
-/// Takes a request that cites the entry.
-fn take<'a, T: EntryLike>(
-    alloc: Global,
-    driver: &mut Driver<'a, T>,
-    style: &'a IndependentStyle,
-    cited: &'a T,
-) -> Result<(), Fail> {
-    let items = vec![in alloc; CitationItem::with_entry(cited)]?;
-    if driver
-        .citation(CitationRequest::from_items(items, style, &[]))
-        .is_err()
-    {
-        return Err(Fail::new("the request was refused"));
-    }
-    Ok(())
-}
-
-/// A driver that has taken requests for these.
-pub(crate) fn taken<'a, T: EntryLike>(
-    alloc: Global,
-    style: &'a IndependentStyle,
-    cited: &[&'a T],
-) -> Result<Driver<'a, T>, Fail> {
-    let mut driver: Driver<'a, T> = BibliographyDriver::new(alloc);
-    for each in cited {
-        take(alloc, &mut driver, style, *each)?;
-    }
-    Ok(driver)
-}
-
 #[test]
 fn renders_on_another_counter(rt: HostRuntime) -> Result<(), Fail> {
-    let styles = titles_and_years(rt.alloc())?;
-    let style = &styles.as_slice().first().ok_or("no style")?.style;
-    let (a, b) = (titled(rt.alloc(), "a")?, titled(rt.alloc(), "b")?);
-    let driver = taken(rt.alloc(), style, &[&a, &b, &a])?;
-    let (_answer, account) = driver.finish_counted(BibliographyRequest::new(style, None, &[]))?;
-    let told = Told {
-        renders: 9,
-        rounds: 1,
-        states: "a b ",
-        numbers: &[0, 1],
-    };
-    assert!(rt; tells(rt.alloc(), &account, &told)?);
+    let style = titles_and_years(rt.alloc())?;
+    let asked = asked_once(rt.alloc(), &style)?;
+    let entries = [titled(rt.alloc(), "a")?, titled(rt.alloc(), "b")?];
+    let driver = taken(rt.alloc(), &style, &entries, &[0, 1, 0])?;
+    let (_answer, account) = driver.finish_counted(BibliographyRequest::new(&style, None, &[]))?;
+    let states = [
+        DisambiguateState::YearSuffix(0),
+        DisambiguateState::YearSuffix(1),
+    ];
+    assert!(rt; tells(&account, 9, 1, &states, &[0, 1]));
+    let [a, b] = &entries;
     let all = a.titles.get().wrapping_add(b.titles.get());
-    assert!(rt; all == asked_once(rt.alloc(), style)?.wrapping_mul(9));
+    assert!(rt; all == asked.wrapping_mul(9));
     Ok(())
 }

@@ -2,15 +2,13 @@
 #![tactic(auto)]
 
 #[cfg(test)]
+mod account;
+#[cfg(test)]
 mod counting;
 #[cfg(test)]
-mod equality;
-#[cfg(test)]
-mod passes;
+mod finish;
 pub mod paths;
 #[cfg(test)]
 mod prepared;
 #[cfg(test)]
-mod reading;
-#[cfg(test)]
-mod rows;
+mod standalone;

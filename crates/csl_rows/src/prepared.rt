@@ -1,31 +1,98 @@
-//! Prepared styles: a request that is made of one is equal to one that is made of the style.
+//! Requests of prepared styles: they are equal to those of the styles, and have the same answers.
 use csl_base::entry::PlainEntry;
+use csl_base::style::IndependentStyle;
+use csl_driver::driver::BibliographyDriver;
+use csl_driver::item::CitationItem;
+use csl_driver::rendered::Rendered;
 use csl_driver::request::{BibliographyRequest, CitationRequest};
 use csl_driver::sound::SoundStyle;
 use csl_driver::terms::TermTables;
-use row_styles::styles::{numeric, numeric_with_macros};
+use row_styles::styles::{entry, numeric, numeric_with_macros};
+use std::alloc::{AllocError, Global};
 use std::convert::Infallible;
 use std::test::Fail;
+
+type Request<'a> = CitationRequest<'a, PlainEntry, Infallible>;
+
+fn cite<'a>(
+    alloc: Global,
+    style: &'a IndependentStyle,
+    cited: &'a PlainEntry,
+) -> Result<Request<'a>, AllocError> {
+    let items = vec![in alloc; CitationItem::with_entry(cited)]?;
+    Ok(CitationRequest::new(items, style, None, &[], None))
+}
+
+fn cite_prepared<'a, 's: 'a>(
+    alloc: Global,
+    sound: &'a SoundStyle<'s>,
+    files: &'a TermTables<'s>,
+    cited: &'a PlainEntry,
+) -> Result<Request<'a>, AllocError> {
+    let items = vec![in alloc; CitationItem::with_entry(cited)]?;
+    Ok(CitationRequest::of_sound(items, sound, None, files, None))
+}
+
+fn prepared<'a>(alloc: Global, style: &'a IndependentStyle) -> Result<SoundStyle<'a>, Fail> {
+    match SoundStyle::new(alloc, style)? {
+        Ok(sound) => Ok(sound),
+        Err(_) => Err(Fail::new("the style has a ring")),
+    }
+}
+
+/// The answer to one request.
+fn answer<'a>(
+    alloc: Global,
+    request: Request<'a>,
+    wanted: BibliographyRequest<'a, 'a, PlainEntry>,
+) -> Result<Rendered, Fail> {
+    let mut driver = BibliographyDriver::new(alloc);
+    match driver.citation(request) {
+        Ok(()) => Ok(driver.finish(wanted)?),
+        Err(_refused) => Err(Fail::new("the request was refused")),
+    }
+}
+
+/// The answer to a cite and for a bibliography in a style.
+fn answer_unprepared<'a>(
+    alloc: Global,
+    style: &'a IndependentStyle,
+    cited: &'a PlainEntry,
+) -> Result<Rendered, Fail> {
+    let wanted = BibliographyRequest::new(style, None, &[]);
+    answer(alloc, cite(alloc, style, cited)?, wanted)
+}
+
+/// The same in a prepared style.
+fn answer_prepared<'a, 's: 'a>(
+    alloc: Global,
+    sound: &'a SoundStyle<'s>,
+    files: &'a TermTables<'s>,
+    cited: &'a PlainEntry,
+) -> Result<Rendered, Fail> {
+    let wanted = BibliographyRequest::of_sound(sound, None, files, None);
+    answer(alloc, cite_prepared(alloc, sound, files, cited)?, wanted)
+}
+
+#[test]
+fn prepared_answers_alike(rt: HostRuntime) -> Result<(), Fail> {
+    let style = numeric(rt.alloc())?;
+    let cited = entry(rt.alloc(), "a")?;
+    let sound = prepared(rt.alloc(), &style)?;
+    let files = TermTables::new(rt.alloc(), &[])?;
+    let answered = answer_prepared(rt.alloc(), &sound, &files, &cited)?;
+    assert!(rt; answered == answer_unprepared(rt.alloc(), &style, &cited)?);
+    Ok(())
+}
 
 #[test]
 fn prepared_requests_are_equal(rt: HostRuntime) -> Result<(), Fail> {
     let style = numeric(rt.alloc())?;
-    let Ok(sound) = SoundStyle::new(rt.alloc(), &style)? else {
-        return Err(Fail::new("the style has a ring"));
-    };
+    let cited = entry(rt.alloc(), "a")?;
+    let sound = prepared(rt.alloc(), &style)?;
     let files = TermTables::new(rt.alloc(), &[])?;
-    let request: CitationRequest<'_, PlainEntry, Infallible> = CitationRequest::of_sound(
-        Vec::new(rt.alloc()),
-        &sound,
-        None,
-        &files,
-        None,
-    );
-    assert!(rt; request == CitationRequest::from_items(Vec::new(rt.alloc()), &style, &[]));
-    let wanted: BibliographyRequest<'_, '_, PlainEntry> = BibliographyRequest::of_sound(
-        &sound, None, &files, None,
-    );
-    assert!(rt; wanted == BibliographyRequest::new(&style, None, &[]));
+    let request = cite_prepared(rt.alloc(), &sound, &files, &cited)?;
+    assert!(rt; request == cite(rt.alloc(), &style, &cited)?);
     Ok(())
 }
 

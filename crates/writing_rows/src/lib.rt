@@ -1,19 +1,11 @@
-//! Tests of what stands below the driver: entries and trees, stacks, rings, cites and contexts by themselves.
+//! Tests of what stands between `csl_base` and the driver.
 #![tactic(auto)]
 
 #[cfg(test)]
 mod cites;
 #[cfg(test)]
-mod context;
-#[cfg(test)]
-mod entries;
-#[cfg(test)]
-mod places;
-#[cfg(test)]
-mod rings;
+mod lookup;
 #[cfg(test)]
 mod small;
 #[cfg(test)]
-mod stacks;
-#[cfg(test)]
-mod trees;
+mod writing;

@@ -1,0 +1,326 @@
+//! The whole answer, as far as no document tells it: entries that are equal at two places, rings by
+//! their places, note numbers, marks, and equality of what goes in and comes out.
+use csl_base::elem::{ElemChildren, ElemMeta};
+use csl_base::entry::PlainEntry;
+use csl_base::style::{IndependentStyle, StyleClass};
+use csl_driver::driver::BibliographyDriver;
+use csl_driver::error::{DriverError, RingPlace};
+use csl_driver::item::CitationItem;
+use csl_driver::laws::{
+    ambiguous_stand_together, answer_equality_decides, answers_copy_equal,
+    bibliography_holds_each_once, choose_and_suffix_go_on, item_equality_decides, items_copy_equal,
+    name_marks_go_on, numbers_have_no_gaps, properties_equality_decides, request_equality_decides,
+    suffixes_count_entries, wanted_equality_decides,
+};
+use csl_driver::rendered::Rendered;
+use csl_driver::request::{BibliographyRequest, CitationRequest, Order};
+use csl_writing::purpose::CitePurpose;
+use row_styles::styles::{entry, numeric, numeric_with_macros, value_style};
+use std::alloc::{AllocError, Global};
+use std::convert::Infallible;
+use std::test::Fail;
+
+type Item<'a> = CitationItem<'a, PlainEntry, Infallible>;
+
+type Request<'a> = CitationRequest<'a, PlainEntry, Infallible>;
+
+type Driver<'a> = BibliographyDriver<'a, PlainEntry, Infallible>;
+
+fn entries_of(alloc: Global, keys: &[&str]) -> Result<Vec<PlainEntry>, AllocError> {
+    let mut entries = Vec::new(alloc);
+    for key in keys {
+        entries.push(entry(alloc, *key)?)?;
+    }
+    Ok(entries)
+}
+
+/// A request that cites the entry, which may be hidden.
+fn cite<'a>(
+    alloc: Global,
+    style: &'a IndependentStyle,
+    cited: &'a PlainEntry,
+    hidden: bool,
+) -> Result<Request<'a>, AllocError> {
+    let mut items: Vec<Item<'a>> = Vec::new(alloc);
+    items.push(CitationItem::new(cited, None, None, hidden, None))?;
+    Ok(CitationRequest::from_items(items, style, &[]))
+}
+
+fn take<'a>(driver: &mut Driver<'a>, request: Request<'a>) -> Result<(), Fail> {
+    match driver.citation(request) {
+        Ok(()) => Ok(()),
+        Err(_refused) => Err(Fail::new("the request was refused")),
+    }
+}
+
+/// A driver that has taken a request for each of the entries.
+fn driver_of<'a>(
+    alloc: Global,
+    style: &'a IndependentStyle,
+    entries: &'a [PlainEntry],
+) -> Result<Driver<'a>, Fail> {
+    let mut driver: Driver<'a> = BibliographyDriver::new(alloc);
+    for each in entries {
+        take(&mut driver, cite(alloc, style, each, false)?)?;
+    }
+    Ok(driver)
+}
+
+fn push_plain(text: &mut String, tree: &ElemChildren) -> Result<(), AllocError> {
+    tree.write_plain(text)?;
+    text.push_str("\n")
+}
+
+/// The citations as plain text, a line each, and then for each item its key and its content.
+fn lines(alloc: Global, rendered: &Rendered) -> Result<String, AllocError> {
+    let mut text = String::new(alloc);
+    for each in rendered.citations.as_slice() {
+        push_plain(&mut text, &each.citation)?;
+    }
+    if let Some(bibliography) = &rendered.bibliography {
+        for item in bibliography.items.as_slice() {
+            text.push_str(item.key.as_str())?;
+            text.push_str(" ")?;
+            push_plain(&mut text, &item.content)?;
+        }
+    }
+    Ok(text)
+}
+
+#[test]
+fn laws() {
+    bibliography_holds_each_once::<PlainEntry>();
+    numbers_have_no_gaps::<PlainEntry>();
+    items_copy_equal::<PlainEntry, Infallible>();
+    item_equality_decides::<PlainEntry, Infallible>();
+    request_equality_decides::<PlainEntry, Infallible>();
+    wanted_equality_decides::<PlainEntry>();
+    properties_equality_decides::<Infallible>();
+    name_marks_go_on::<PlainEntry, Infallible>();
+    ambiguous_stand_together::<PlainEntry, Infallible>();
+    choose_and_suffix_go_on::<PlainEntry, Infallible>();
+    suffixes_count_entries::<PlainEntry, Infallible>();
+    answers_copy_equal();
+    answer_equality_decides();
+}
+
+/// The answer to a request for each of the keys.
+fn numbered(alloc: Global, keys: &[&str]) -> Result<Rendered, Fail> {
+    let style = numeric(alloc)?;
+    let entries = entries_of(alloc, keys)?;
+    let driver = driver_of(alloc, &style, &entries)?;
+    Ok(driver.finish(wanted(&style))?)
+}
+
+#[test]
+fn equal_entries_are_one(rt: HostRuntime) -> Result<(), Fail> {
+    let rendered = numbered(rt.alloc(), &["a", "a"])?;
+    assert!(rt; lines(rt.alloc(), &rendered)?.as_str() == "[1]\n[1]\na [1]\n");
+    Ok(())
+}
+
+#[test]
+fn a_copy_is_equal(rt: HostRuntime) -> Result<(), Fail> {
+    let rendered = numbered(rt.alloc(), &["a"])?;
+    assert!(rt; rendered.clone()? == rendered);
+    Ok(())
+}
+
+/// A request for the bibliography of the style.
+fn wanted<'a>(style: &'a IndependentStyle) -> BibliographyRequest<'a, 'a, PlainEntry> {
+    BibliographyRequest::new(style, None, &[])
+}
+
+/// Why the bibliography in the style is refused, if it is.
+fn refusal<'a>(
+    driver: Driver<'a>,
+    style: &'a IndependentStyle,
+) -> Result<Option<DriverError>, Fail> {
+    match driver.finish(wanted(style)) {
+        Ok(_) => Ok(None),
+        Err(error) => Ok(Some(error)),
+    }
+}
+
+/// Why a run whose requests are in these styles is refused, at an offset that is too great.
+fn ring<'a>(
+    alloc: Global,
+    cited: &'a PlainEntry,
+    styles: &[&'a IndependentStyle],
+    bibliography: &'a IndependentStyle,
+) -> Result<Option<DriverError>, Fail> {
+    let mut driver: Driver<'a> = BibliographyDriver::new(alloc);
+    for style in styles {
+        take(&mut driver, cite(alloc, *style, cited, false)?)?;
+    }
+    refusal(driver.with_citation_number_offset(usize::MAX), bibliography)
+}
+
+fn ring_at(place: RingPlace) -> Option<DriverError> {
+    Some(DriverError::MacroRing {
+        place,
+        macro_idx: 0,
+    })
+}
+
+/// Why a run of one request in a style of these macros is refused, with the bibliography in it too.
+fn own_ring(alloc: Global, macros: &[(&str, &str)]) -> Result<Option<DriverError>, Fail> {
+    let cited = entry(alloc, "a")?;
+    let style = numeric_with_macros(alloc, macros)?;
+    ring(alloc, &cited, &[&style], &style)
+}
+
+#[test]
+fn macro_ring(rt: HostRuntime) -> Result<(), Fail> {
+    let first = ring_at(RingPlace::Request(0));
+    assert!(rt; own_ring(rt.alloc(), &[("p", "q"), ("q", "p")])? == first);
+    assert!(rt; own_ring(rt.alloc(), &[("p", "p")])? == first);
+    Ok(())
+}
+
+/// Why a bibliography in a style of these macros is refused, with no request.
+fn bibliography_ring(alloc: Global, macros: &[(&str, &str)]) -> Result<Option<DriverError>, Fail> {
+    let style = numeric_with_macros(alloc, macros)?;
+    let driver: Driver = BibliographyDriver::new(alloc);
+    refusal(driver.with_citation_number_offset(usize::MAX), &style)
+}
+
+#[test]
+fn ring_of_the_bibliography(rt: HostRuntime) -> Result<(), Fail> {
+    let refused = bibliography_ring(rt.alloc(), &[("p", "q"), ("q", "p")])?;
+    assert!(rt; refused == ring_at(RingPlace::Bibliography));
+    Ok(())
+}
+
+#[test]
+fn first_macro_ring(rt: HostRuntime) -> Result<(), Fail> {
+    let cited = entry(rt.alloc(), "a")?;
+    let sound = numeric_with_macros(rt.alloc(), &[("p", "q"), ("q", "z")])?;
+    let own = numeric_with_macros(rt.alloc(), &[("p", "p")])?;
+    let second = ring_at(RingPlace::Request(1));
+    assert!(rt; ring(rt.alloc(), &cited, &[&sound, &own], &own)? == second);
+    Ok(())
+}
+
+#[test]
+fn no_ring(rt: HostRuntime) -> Result<(), Fail> {
+    let refused = own_ring(rt.alloc(), &[("p", "q"), ("q", "z")])?;
+    assert!(rt; refused == Some(DriverError::NumberOverflow));
+    Ok(())
+}
+
+/// A driver that has taken one request with the note number 7.
+fn noting<'a>(
+    alloc: Global,
+    style: &'a IndependentStyle,
+    cited: &'a PlainEntry,
+) -> Result<Driver<'a>, Fail> {
+    let items: Vec<Item<'a>> = vec![in alloc; CitationItem::with_entry(cited)]?;
+    let mut driver: Driver<'a> = BibliographyDriver::new(alloc);
+    take(
+        &mut driver,
+        CitationRequest::new(items, style, None, &[], Some(7)),
+    )?;
+    Ok(driver)
+}
+
+/// The answer to that.
+fn noted(alloc: Global, class: StyleClass, written: &str) -> Result<Rendered, Fail> {
+    let style = value_style(alloc, class, written)?;
+    let cited = entry(alloc, "a")?;
+    let driver = noting(alloc, &style, &cited)?;
+    Ok(driver.finish(wanted(&style))?)
+}
+
+#[test]
+fn note_numbers_are_kept_in_notes_alone(rt: HostRuntime) -> Result<(), Fail> {
+    for (class, number) in [(StyleClass::Note, Some(7)), (StyleClass::InText, None)] {
+        let rendered = noted(rt.alloc(), class, "T")?;
+        let citation = rendered.citations.as_slice().first().ok_or("no citation")?;
+        assert!(rt; citation.note_number == number);
+    }
+    Ok(())
+}
+
+#[test]
+fn cites_are_marked_with_their_places(rt: HostRuntime) -> Result<(), Fail> {
+    let rendered = noted(rt.alloc(), StyleClass::Note, "T")?;
+    assert!(rt; rendered.bibliography.is_none());
+    let citation = rendered.citations.as_slice().first().ok_or("no citation")?;
+    assert!(rt; citation.citation.find_meta(&ElemMeta::Entry(0)).is_some());
+    Ok(())
+}
+
+#[test]
+fn items_are_equal_where_their_parts_are(rt: HostRuntime) -> Result<(), Fail> {
+    let entries = entries_of(rt.alloc(), &["a", "b", "a"])?;
+    let [a, b, same] = entries.as_slice() else {
+        return Err(Fail::new("not three entries"));
+    };
+    let item: Item = CitationItem::with_entry(a);
+    assert!(rt; item == CitationItem::with_entry(same));
+    assert!(rt; item != CitationItem::with_entry(b));
+    assert!(rt; item != CitationItem::with_entry(a).kind(CitePurpose::Year));
+    Ok(())
+}
+
+#[test]
+fn items_are_copied(rt: HostRuntime) -> Result<(), Fail> {
+    let a = entry(rt.alloc(), "a")?;
+    let item: Item = CitationItem::with_entry(&a);
+    assert!(rt; item.clone()? == item);
+    Ok(())
+}
+
+#[test]
+fn requests_are_equal_where_their_parts_are(rt: HostRuntime) -> Result<(), Fail> {
+    let alloc = rt.alloc();
+    let style = numeric(alloc)?;
+    let entries = entries_of(alloc, &["a", "a"])?;
+    let [a, same] = entries.as_slice() else {
+        return Err(Fail::new("not two entries"));
+    };
+    let request = cite(alloc, &style, a, false)?;
+    assert!(rt; request == cite(alloc, &style, same, false)?);
+    assert!(rt; request != cite(alloc, &style, a, true)?);
+    Ok(())
+}
+
+#[test]
+fn orders_are_equal_where_their_entries_are(rt: HostRuntime) -> Result<(), Fail> {
+    let entries = entries_of(rt.alloc(), &["a", "b", "a"])?;
+    let [a, b, same] = entries.as_slice() else {
+        return Err(Fail::new("not three entries"));
+    };
+    assert!(rt; Order(&[a, b]) == Order(&[same, b]));
+    assert!(rt; Order(&[a]) != Order(&[b]));
+    Ok(())
+}
+
+/// Whether requests for the bibliographies of two styles are equal.
+fn is_wanted_alike<'a>(style: &'a IndependentStyle, other: &'a IndependentStyle) -> bool {
+    wanted(style) == wanted(other)
+}
+
+#[test]
+fn requests_for_a_bibliography_are_compared(rt: HostRuntime) -> Result<(), Fail> {
+    let numbers = numeric(rt.alloc())?;
+    let plain = value_style(rt.alloc(), StyleClass::Note, "T")?;
+    assert!(rt; is_wanted_alike(&numbers, &numbers));
+    assert!(rt; !is_wanted_alike(&numbers, &plain));
+    Ok(())
+}
+
+#[test]
+fn answers_are_equal_where_their_parts_are(rt: HostRuntime) -> Result<(), Fail> {
+    let answer = noted(rt.alloc(), StyleClass::Note, "T")?;
+    for (class, written, equal) in [
+        (StyleClass::Note, "T", true),
+        (StyleClass::InText, "T", false),
+        (StyleClass::Note, "U", false),
+    ] {
+        let other = noted(rt.alloc(), class, written)?;
+        assert!(rt; (answer == other) == equal);
+    }
+    Ok(())
+}
