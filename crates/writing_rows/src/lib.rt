@@ -1,11 +1,19 @@
-//! Tests of what stands between `csl_base` and the driver.
+//! Tests of what stands below the driver: entries and trees, stacks, rings, cites and contexts by themselves.
 #![tactic(auto)]
 
 #[cfg(test)]
 mod cites;
 #[cfg(test)]
-mod lookup;
+mod context;
+#[cfg(test)]
+mod entries;
+#[cfg(test)]
+mod places;
+#[cfg(test)]
+mod rings;
 #[cfg(test)]
 mod small;
 #[cfg(test)]
-mod writing;
+mod stacks;
+#[cfg(test)]
+mod trees;

@@ -14,6 +14,19 @@ use std::alloc::{AllocError, Global};
 use std::test::Fail;
 
 #[test]
+fn laws() {
+    suffixes_differ();
+    states_have_a_greatest();
+    states_go_on();
+    usage_counts_once();
+    macros_unfold();
+    suffixes_unfold();
+    defaults_are_none();
+    copies_are_equal::<u32>();
+    equality_decides::<u32>();
+}
+
+#[test]
 fn years(rt: HostRuntime) -> Result<(), Fail> {
     let rows = [
         (2021, false, "2021"),
@@ -29,74 +42,53 @@ fn years(rt: HostRuntime) -> Result<(), Fail> {
     ];
     for (year, short, want) in rows {
         let mut text = String::new(rt.alloc());
-        assert!(rt; write_year(year, short, &mut text, "AD", "BC").is_ok());
-        assert!(rt; text.as_str() == want);
+        assert!(rt;
+            write_year(year, short, &mut text, "AD", "BC").is_ok() && text.as_str() == want
+        );
     }
     Ok(())
 }
 
 #[test]
 fn letters(rt: HostRuntime) -> Result<(), Fail> {
-    suffixes_differ();
     for (suffix, want) in [(0, "a"), (25, "z"), (26, "aa"), (27, "ab")] {
-        let text = letters_of_suffix(rt.alloc(), suffix)?;
-        assert!(rt; text.as_str() == want);
+        assert!(rt; letters_of_suffix(rt.alloc(), suffix)?.as_str() == want);
     }
     Ok(())
 }
 
 #[test]
 fn small_values(rt: HostRuntime) {
-    states_have_a_greatest();
-    states_go_on();
-    usage_counts_once();
-    macros_unfold();
-    suffixes_unfold();
-    defaults_are_none();
-    assert!(rt; DisambiguateState::default() == DisambiguateState::None);
-    assert!(rt; IdentifierUsage::default().label().number() == IdentifierUsage::Mixed);
     let state = DisambiguateState::Choose.max(DisambiguateState::YearSuffix(3));
     assert!(rt; state == DisambiguateState::YearSuffix(3));
+    assert!(rt;
+        DisambiguateState::default() == DisambiguateState::None
+            && IdentifierUsage::default().label().number() == IdentifierUsage::Mixed
+    );
+    assert!(rt;
+        Brackets::Square.left() == Some('[')
+            && Brackets::Square.right() == Some(']')
+            && Brackets::None.left() == None
+    );
+}
+
+/// The properties of a cite that points at this payload.
+fn located(alloc: Global, payload: u32) -> Result<CiteProperties<'static, u32>, AllocError> {
+    let payload = TransparentLocator::new(alloc, payload)?;
+    let locator = SpecificLocator(Locator::Page, LocatorPayload::Transparent(payload.clone()?));
+    let locator = SpecificLocator(locator.0, locator.1.clone()?);
+    Ok(CiteProperties::for_sorting(Some(locator.clone()?), 2))
 }
 
 #[test]
-fn brackets(rt: HostRuntime) {
-    assert!(rt; Brackets::Square.left() == Some('['));
-    assert!(rt; Brackets::Square.right() == Some(']'));
-    assert!(rt; Brackets::None.left() == None);
-}
-
-fn located(alloc: Global) -> Result<CiteProperties<'static, u32>, AllocError> {
-    let payload = LocatorPayload::Transparent(TransparentLocator::new(alloc, 7u32)?);
-    let locator = SpecificLocator(Locator::Page, payload);
-    Ok(CiteProperties::for_sorting(Some(locator), 2))
-}
-
-#[test]
-fn properties_are_copied(rt: HostRuntime) -> Result<(), Fail> {
-    copies_are_equal::<u32>();
-    let properties = located(rt.alloc())?;
-    assert!(rt; properties.clone()? == properties);
-    Ok(())
-}
-
-#[test]
-fn a_bibliography_has_no_locators(rt: HostRuntime) -> Result<(), Fail> {
-    let properties = located(rt.alloc())?;
-    let without = properties.clone()?.speculative.for_bibliography();
-    assert!(rt; without.locator.is_none());
-    assert!(rt; !(without == properties.speculative));
-    Ok(())
-}
-
-#[test]
-fn locators_are_equal_where_their_payloads_are(rt: HostRuntime) -> Result<(), Fail> {
-    equality_decides::<u32>();
-    let one = TransparentLocator::new(rt.alloc(), 7u32)?;
-    for (payload, equal) in [(7u32, true), (8u32, false)] {
-        let other = TransparentLocator::new(rt.alloc(), payload)?;
-        assert!(rt; (one == other) == equal);
+fn properties_are_compared(rt: HostRuntime) -> Result<(), Fail> {
+    let properties = located(rt.alloc(), 7)?;
+    for (payload, equal) in [(7, true), (8, false)] {
+        assert!(rt; (located(rt.alloc(), payload)? == properties) == equal);
     }
+    let without = properties.clone()?.speculative.for_bibliography();
+    assert!(rt; without.locator.is_none() && !(without == properties.speculative));
+    assert!(rt; DisambiguateState::Choose.clone()? == DisambiguateState::Choose);
     Ok(())
 }
 
