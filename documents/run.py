@@ -2,8 +2,8 @@
 """run.py PROGRAM: runs a built cite_run on each document of this folder and of examples/, side by side, and compares
 standard output, exit status and the line on standard error. Then it tries what only a process can show, holds the
 documents to docs/document.schema.json, compares PROGRAM with model/ on random documents, and holds the model to what
-the documents must print. Where a C compiler is there, it refuses each growth of memory of PROGRAM in turn (refuse.c), on
-some documents.
+the documents must print. Where a C compiler is there, it refuses each growth of memory in turn (refuse.c), in PROGRAM and
+in crates/refusals, which is looked for beside it (../../refusals/out/refusals) and names each call before it is made.
 run.py PROGRAM FOLDER..: runs it on the documents of these folders, and does nothing else.
 
 A document is NAME.json. NAME.txt is what it must print; where the status isn't 0, NAME.status has it, and nothing is
@@ -382,6 +382,12 @@ SWEPT = [
     'bibliography/author_substitution',
     'collapsing/year_collapse_of_suffixes',
 ]
+# Those that have a refusal for an answer, with its status.
+REFUSED = {'rows/ring_of_two_macros': 3, 'rows/number_overflow': 4}
+# A citation by itself has the number 0, which is printed as 1.
+ALONE = b'[1]\n' * 4
+# Calls of crates/refusals, which it names before it makes them; the status is 5 where one is refused, but for `citation`.
+CALLS = ['read', 'prepare', 'citation', 'finish', 'finish_counted', 'standalone_citation', 'run', 'free']
 MOST_GROWTHS = 100000
 
 
@@ -425,14 +431,68 @@ def sweep_of_program(shim, program, name):
     return refused_in_turn(shim, program, given, judge)
 
 
+def held_call(called, status, out, text, status_wanted):
+    """What a run of crates/refusals must end in: the refusal of the call whose growth was refused, or the answer."""
+    at = called[called.index('!') - 1] if '!' in called else None
+    if at == 'free':
+        raise Failed('a call that takes no memory was refused some')
+    if at == 'citation' and status_wanted == 0:
+        # the request that came back was handed in again
+        wanted, printed = 6, text
+    elif at is None or at == 'citation':
+        wanted, printed = status_wanted, text
+    elif status == status_wanted and out == text:
+        # as where a list that is done could not be made smaller
+        return
+    else:
+        wanted, printed = 5, None
+        if called[-1] != '!':
+            raise Failed('refused in %s, it went on: %s' % (at, called))
+    if status != wanted:
+        raise Failed('status %d, and not %d (%s)' % (status, wanted, ', '.join(called[-4:])))
+    if printed is not None and out != printed:
+        raise Failed(difference(printed, out))
+    # only calls for citations by themselves print before others
+    if printed is None and not (text.startswith(out) if at == 'standalone_citation' or 'standalone_citation' in called else not out):
+        raise Failed('%r was printed' % out)
+
+
+def sweep_of_calls(shim, program, way, given, status_wanted, text):
+    """Each run ends in the refusal of the very call whose growth was refused, or in the answer."""
+
+    def judge(status, out, lines):
+        called = [it for it in lines if it in CALLS or it == '!']
+        held_call(called, status, out, text, status_wanted)
+
+    return refused_in_turn(shim, program, way.encode() + b'\n' + given, judge)
+
+
+def sweeps_of_calls(shim, program):
+    made = []
+    for way in ('finish', 'finish_counted'):
+        for name in SWEPT:
+            given, text = row(name)
+            made.append(('growths of %s: %s' % (way, name), sweep_of_calls, shim, program, way, given, 0, text))
+        for name, status in REFUSED.items():
+            given = read(HERE + '/' + name + '.json')
+            made.append(('growths of %s: %s' % (way, name), sweep_of_calls, shim, program, way, given, status, b''))
+    given, text = row('rows/offset_and_order')
+    for way, printed in (('run', text), ('standalone_citation', ALONE), ('free', b'')):
+        made.append(('growths of %s' % way, sweep_of_calls, shim, program, way, given, 0, printed))
+    return made
+
+
 def sweeps(program):
     """The sweeps, each with its name; or none, and why."""
+    refusals = os.path.join(os.path.dirname(program), '../../refusals/out/refusals')
+    if not os.access(refusals, os.X_OK):
+        return [], 'crates/refusals is not built'
     folder = tempfile.mkdtemp()
     shim = compiled(folder)
     if not shim:
         return [], 'no C compiler is here'
     made = [('growths of %s' % it, sweep_of_program, shim, program, it) for it in SWEPT]
-    return made, None
+    return made + sweeps_of_calls(shim, refusals), None
 
 
 def model(program):
@@ -458,7 +518,7 @@ def tried(name, call, *given):
     """What failed, and how, or nothing."""
     try:
         count = call(*given)
-        if call is sweep_of_program:
+        if call in (sweep_of_program, sweep_of_calls):
             GROWTHS.append(count)
         return None
     except Failed as error:

@@ -1,0 +1,260 @@
+//! A document's requests, handed to the driver one by one.
+
+use crate::free::calls_without_memory;
+use cite_document::error::RunError;
+use cite_document::running::run;
+use csl_base::entry::PlainEntry;
+use csl_driver::driver::BibliographyDriver;
+use csl_driver::error::{CitationRefused, DriverError};
+use csl_driver::rendered::{Rendered, RenderedBibliography};
+use csl_driver::request::{BibliographyRequest, CitationRequest, Order};
+use csl_driver::standalone::standalone_citation;
+use csl_driver::terms::TermTables;
+use document_reading::document::{Asked, asked_in, top_of, utf8_text, value_of};
+use document_reading::entries::entries_of;
+use document_reading::finders::found_styles;
+use document_reading::requests::{copied_code, driver_request};
+use document_styles::locales::locales_at;
+use document_styles::styles::styles_of;
+use std::alloc::{AllocError, Global};
+use std::convert::Infallible;
+
+/// How many bytes the text of a document takes at most that is written into memory.
+const ROOM: usize = 65_536;
+
+/// By which calls a document is answered.
+#[derive(Clone, Copy)]
+pub enum How {
+    Finish,
+    FinishCounted,
+    /// Each request by `standalone_citation`.
+    Alone,
+    /// By none: calls that take no memory are made.
+    Free,
+}
+
+/// What was seen of the calls.
+#[derive(Clone, Copy)]
+pub enum Seen {
+    /// Each was answered.
+    Answer,
+    /// Each was answered, after a refused request was handed in again.
+    AnswerAtLast,
+    /// Something that may never be.
+    Amiss(&'static str),
+}
+
+type Driver<'e> = BibliographyDriver<'e, PlainEntry, Infallible>;
+
+/// Hands in a request, and once more where it comes back; tells whether it did.
+fn take<'e>(
+    driver: &mut Driver<'e>,
+    request: CitationRequest<'e, PlainEntry, Infallible>,
+) -> Result<bool, RunError> {
+    match driver.citation(request) {
+        Ok(()) => Ok(false),
+        Err(refused) => {
+            let CitationRefused { request } = refused;
+            match driver.citation(request) {
+                Ok(()) => Ok(true),
+                Err(_) => Err(RunError::OutOfMemory),
+            }
+        }
+    }
+}
+
+/// Hands in all requests; tells whether one came back.
+fn take_all<'e, 'f: 'e>(
+    rt: &(impl Print + Eprint + AllocGlobal),
+    driver: &mut Driver<'e>,
+    asked: &'e Asked<'f>,
+    files: &'e TermTables<'f>,
+) -> Result<bool, RunError> {
+    let mut came_back = false;
+    for request in &asked.requests {
+        let _ = eprintln!(rt; "prepare");
+        let made = driver_request(rt.alloc(), request, files)?;
+        let _ = eprintln!(rt; "citation");
+        came_back |= take(driver, made)?;
+    }
+    Ok(came_back)
+}
+
+fn refusal(error: DriverError) -> RunError {
+    match error {
+        DriverError::MacroRing { place, macro_idx } => RunError::MacroRing { place, macro_idx },
+        DriverError::NumberOverflow => RunError::NumberOverflow,
+        DriverError::OutOfMemory(_) => RunError::OutOfMemory,
+    }
+}
+
+/// What the driver is asked of the bibliography.
+fn bibliography_request<'o, 'e>(
+    alloc: Global,
+    asked: &'o Asked<'e>,
+    files: &'o TermTables<'e>,
+) -> Result<BibliographyRequest<'o, 'e, PlainEntry>, AllocError> {
+    let locale = copied_code(alloc, &asked.wanted.locale)?;
+    let order = match &asked.wanted.order {
+        Some(entries) => Some(Order(entries.as_slice())),
+        None => None,
+    };
+    match asked.wanted.style.sound() {
+        Some(sound) => Ok(BibliographyRequest::of_sound(sound, locale, files, order)),
+        None => {
+            let style = asked.wanted.style.style;
+            Ok(BibliographyRequest::ordered(style, locale, files.locales(), order))
+        }
+    }
+}
+
+fn print_items(rt: &impl Print, bibliography: &RenderedBibliography) {
+    let _ = println!(rt; "");
+    for item in bibliography.items.as_slice() {
+        let _ = print!(rt; "{}\t", item.key.as_str());
+        if let Some(field) = &item.first_field {
+            let _ = print!(rt; "{field}");
+        }
+        let _ = println!(rt; "{}", item.content);
+    }
+}
+
+fn print_answer(rt: &impl Print, rendered: &Rendered) {
+    for each in rendered.citations.as_slice() {
+        let _ = println!(rt; "{}", each.citation);
+    }
+    if let Some(bibliography) = &rendered.bibliography {
+        print_items(rt, bibliography);
+    }
+}
+
+/// Hands in all requests and the bibliography's, and prints the answer.
+fn answer_all<'e, 'f: 'e>(
+    rt: &(impl Print + Eprint + AllocGlobal),
+    asked: &'e Asked<'f>,
+    files: &'e TermTables<'f>,
+    is_counted: bool,
+) -> Result<Seen, RunError> {
+    let alloc = rt.alloc();
+    let mut driver = Driver::new(alloc).with_citation_number_offset(asked.offset);
+    let came_back = take_all(rt, &mut driver, asked, files)?;
+    let _ = eprintln!(rt; "prepare");
+    let request = bibliography_request(alloc, asked, files)?;
+    let rendered = finished(rt, driver, request, is_counted)?;
+    print_answer(rt, &rendered);
+    if came_back {
+        Ok(Seen::AnswerAtLast)
+    } else {
+        Ok(Seen::Answer)
+    }
+}
+
+fn finished<'e>(
+    rt: &impl Eprint,
+    driver: Driver<'e>,
+    request: BibliographyRequest<'_, 'e, PlainEntry>,
+    is_counted: bool,
+) -> Result<Rendered, RunError> {
+    if is_counted {
+        let _ = eprintln!(rt; "finish_counted");
+        return match driver.finish_counted(request) {
+            Ok((rendered, _account)) => Ok(rendered),
+            Err(error) => Err(refusal(error)),
+        };
+    }
+    let _ = eprintln!(rt; "finish");
+    match driver.finish(request) {
+        Ok(rendered) => Ok(rendered),
+        Err(error) => Err(refusal(error)),
+    }
+}
+
+/// Answers each request by itself.
+fn answer_alone<'e, 'f: 'e>(
+    rt: &(impl Print + Eprint + AllocGlobal),
+    asked: &'e Asked<'f>,
+    files: &'e TermTables<'f>,
+) -> Result<Seen, RunError> {
+    for request in &asked.requests {
+        let _ = eprintln!(rt; "prepare");
+        let made = driver_request(rt.alloc(), request, files)?;
+        let _ = eprintln!(rt; "standalone_citation");
+        match standalone_citation(rt.alloc(), made) {
+            Ok(tree) => {
+                let _ = println!(rt; "{tree}");
+            }
+            Err(error) => return Err(refusal(error)),
+        }
+    }
+    Ok(Seen::Answer)
+}
+
+/// Makes calls that take no memory, of the first request.
+fn call_free(
+    rt: &(impl Print + Eprint + AllocGlobal),
+    asked: &Asked<'_>,
+    files: &TermTables<'_>,
+) -> Result<Seen, RunError> {
+    let alloc = rt.alloc();
+    let Some(first) = asked.requests.as_slice().first() else {
+        return Err(RunError::Document);
+    };
+    let made = driver_request(alloc, first, files)?;
+    let style = made.style();
+    let tree = match standalone_citation(alloc, made) {
+        Ok(tree) => tree,
+        Err(error) => return Err(refusal(error)),
+    };
+    let room = Vec::with_capacity(alloc, 1)?;
+    let Some(cite) = first.items.as_slice().first() else {
+        return Err(RunError::Document);
+    };
+    let _ = eprintln!(rt; "free");
+    if calls_without_memory(alloc, style, cite.entry, room, tree) {
+        Ok(Seen::Answer)
+    } else {
+        Ok(Seen::Amiss("a call that takes no memory gave what it may not"))
+    }
+}
+
+/// Does what is asked with the document.
+pub fn answered(
+    rt: &(impl Print + Eprint + AllocGlobal),
+    document: &str,
+    how: How,
+) -> Result<Seen, RunError> {
+    let alloc = rt.alloc();
+    let _ = eprintln!(rt; "prepare");
+    let value = value_of(alloc, document)?;
+    let object = top_of(&value)?;
+    let styles = styles_of(alloc, object)?;
+    let locales = locales_at(alloc, object, "locales")?;
+    let entries = entries_of(alloc, object)?;
+    let found = found_styles(alloc, &styles, object)?;
+    let asked = asked_in(alloc, &found, &entries, &locales, object)?;
+    let files = TermTables::new(alloc, asked.locales)?;
+    match how {
+        How::Finish => answer_all(rt, &asked, &files, false),
+        How::FinishCounted => answer_all(rt, &asked, &files, true),
+        How::Alone => answer_alone(rt, &asked, &files),
+        How::Free => call_free(rt, &asked, &files),
+    }
+}
+
+/// Answers the document by `run`, into memory that is there.
+pub fn written_out(
+    rt: &(impl Print + Eprint + AllocGlobal),
+    document: &str,
+) -> Result<Seen, RunError> {
+    let alloc = rt.alloc();
+    let _ = eprintln!(rt; "prepare");
+    let mut out: Vec<u8> = Vec::with_capacity(alloc, ROOM)?;
+    let _ = eprintln!(rt; "run");
+    let result = run(alloc, document.as_bytes(), &mut out);
+    if result.is_err() && !out.is_empty() {
+        return Ok(Seen::Amiss("something was written"));
+    }
+    result?;
+    let _ = print!(rt; "{}", utf8_text(&out)?);
+    Ok(Seen::Answer)
+}

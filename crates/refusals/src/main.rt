@@ -1,0 +1,54 @@
+//! Answers a document call by call, for runs in which one growth of memory is refused.
+//!
+//! The first line of standard input says what is done, and the document follows. Before each call its
+//! name is written to standard error, and at the end a line that says what was seen; the exit status
+//! tells that too. What was answered goes to standard output.
+#![tactic(auto)]
+
+mod calls;
+mod free;
+
+use calls::{How, Seen, answered, written_out};
+use cite_document::error::RunError;
+use cite_document::input::read_input;
+use document_reading::document::utf8_text;
+use std::process::ExitCode;
+
+/// Does what the first line says with the document behind it.
+fn answer(rt: &(impl Input + Print + Eprint + AllocGlobal)) -> Result<Seen, RunError> {
+    let _ = eprintln!(rt; "read");
+    let bytes = read_input(rt.alloc(), &mut rt.reader())?;
+    let text = utf8_text(&bytes)?;
+    let Some((asked, document)) = text.split_once('\n') else {
+        return Err(RunError::Document);
+    };
+    match asked {
+        "finish" => answered(rt, document, How::Finish),
+        "finish_counted" => answered(rt, document, How::FinishCounted),
+        "standalone_citation" => answered(rt, document, How::Alone),
+        "free" => answered(rt, document, How::Free),
+        "run" => written_out(rt, document),
+        _ => Err(RunError::Document),
+    }
+}
+
+fn main(rt: HostRuntime) -> ExitCode {
+    match answer(&rt) {
+        Ok(Seen::Answer) => {
+            let _ = eprintln!(rt; "the answer");
+            ExitCode::SUCCESS
+        }
+        Ok(Seen::AnswerAtLast) => {
+            let _ = eprintln!(rt; "the answer, after a request was handed in again");
+            ExitCode::from(6)
+        }
+        Ok(Seen::Amiss(what)) => {
+            let _ = eprintln!(rt; "amiss: {what}");
+            ExitCode::from(7)
+        }
+        Err(error) => {
+            let _ = eprintln!(rt; "{error}");
+            ExitCode::from(error.status())
+        }
+    }
+}
