@@ -201,6 +201,19 @@ def without_text(n):
     return document(citing([NAMES, YEAR], add_year_suffix=True), [{"key": key} for key in keys], [[key] for key in keys])
 
 
+def chained(n):
+    """n requests, each of an entry that shows its publisher, or its title where it is chosen, in as many rounds as mark:
+    each round chooses one entry, which reads as the next from then on, so there are n - 1."""
+    publishers = [1, *range(1, n)]
+    titles = [0, *range(2, n + 1)]
+    entries = [
+        {"key": key, "publisher": f"X{publishers[i]}", "title": f"X{titles[i]}"} for i, key in enumerate(keys_of(n))
+    ]
+    chosen = {"if": ["disambiguate"], "children": [{"kind": "text", "variable": "title"}]}
+    choose = {"kind": "choose", "branches": [chosen], "else": [{"kind": "text", "variable": "publisher"}]}
+    return document(citing([choose]), entries, [[entry["key"]] for entry in entries], rounds="full")
+
+
 def interleaved(n):
     """One request of n cites, of n / 4 authors by turns."""
     authors = max(n // 4, 1)
@@ -294,7 +307,7 @@ KINDS = {
     for kind in (
         numeric, all_distinct, one_entry, one_request, handed_order, macros, author_date,
         ambiguous_pairs, one_author, one_family, without_text, interleaved, collapsing,
-        one_text, last_person_differs, greatest_distance, whole_author_date, whole_numeric, whole_notes,
+        one_text, last_person_differs, greatest_distance, whole_author_date, whole_numeric, whole_notes, chained,
         few_macros, many_macros, requests_and_macros, requests_and_terms, macro_chain, macro_calls,
     )
 }

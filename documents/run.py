@@ -2,16 +2,19 @@
 """run.py PROGRAM: runs a built cite_run on each document of this folder and of examples/, side by side, and compares
 standard output, exit status and the line on standard error. Then it tries what only a process can show, holds the
 documents to docs/document.schema.json, compares PROGRAM with model/ on random documents, and holds the model to what
-the documents must print. Where a C compiler is there, it refuses each growth of memory in turn (refuse.c), in PROGRAM and
-in crates/refusals, which is looked for beside it (../../refusals/out/refusals) and names each call before it is made.
+the documents must print. It has crates/call_by_call, which is looked for beside it (../../call_by_call/out/call_by_call),
+answer the documents by the public calls: each by `finish` or, where it says so, by `finish_full`; and where there is a
+NAME.account, by `finish_counted` or `finish_full` once more, of which the account is printed, or why there is none; and where
+there is a NAME.alone, each request by `standalone_citation`. Where a C compiler is there, it refuses each growth of memory in
+turn (refuse.c), in both programs.
 run.py PROGRAM FOLDER..: runs it on the documents of these folders, and does nothing else.
 
 A document is NAME.json. NAME.txt is what it must print; where the status isn't 0, NAME.status has it, and nothing is
 printed. What is expected was worked out by hand from the rules, never taken from the program. The folders:
 rows/ whole runs; layouts/ each kind of element; words/ locales, terms, quotes and punctuation; purposes/ what cites are
 written for; keywords/ each name of a variable, term, form and so on; parts/ each kind of object with all its keys;
-disambiguation/, grouping/, collapsing/ and bibliography/ how cites and items work together (each with a README.md that
-tells why a document prints what it does); hostile/ depth; refused/ what the program and the schema refuse;
+disambiguation/, rounds/, grouping/, collapsing/ and bibliography/ how cites and items work together, alone/ citations that
+stand for themselves (each with a README.md that tells why a document prints what it does); hostile/ depth; refused/ what the program and the schema refuse;
 beyond_schema/ what the program alone refuses.
 The last line is 'N passed, M failed', and the exit status is 1 where a test failed."""
 import difflib
@@ -120,7 +123,7 @@ def strays():
     """Files of the folders that belong to no document."""
     for base in documents():
         wanted(base)
-    known = {base + ending for base in documents() for ending in ('.json', '.txt', '.status')}
+    known = {base + ending for base in documents() for ending in ('.json', '.txt', '.status', '.account', '.alone')}
     folders = {os.path.dirname(base) for base in documents()}
     lost = [it.path for folder in folders for it in os.scandir(folder) if it.path not in known and it.name != 'README.md']
     if lost:
@@ -153,6 +156,45 @@ def validator_of_schema():
     made = json.loads(read(ROOT + '/docs/document.schema.json'))
     Draft202012Validator.check_schema(made)
     return Draft202012Validator(made)
+
+
+# Documents, call by call
+
+
+def program_of_calls(program):
+    """crates/call_by_call, beside the program, or None where it isn't built."""
+    found = os.path.join(os.path.dirname(program), '../../call_by_call/out/call_by_call')
+    return found if os.access(found, os.X_OK) else None
+
+
+def is_full(base):
+    """Whether a document asks for rounds until none marks."""
+    return json.loads(read(base + '.json')).get('rounds') == 'full'
+
+
+def by_calls(calls, way, base, status, text):
+    """The program of calls ends with the status and prints the text."""
+    got = ended(calls, way.encode() + b'\n' + read(base + '.json'))
+    if got[0] != status:
+        raise Failed('status %d, and not %d' % (got[0], status))
+    if got[1] != text:
+        raise Failed(difference(text, got[1]))
+
+
+def call_by_call(calls, bases):
+    """What the program of calls is to do with the documents that are of their form."""
+    made = []
+    for base in bases:
+        status, text = wanted(base)
+        if status == 2:
+            continue
+        call = 'finish_full' if is_full(base) else 'finish'
+        made.append(('%s: %s' % (call, name_of(base)), by_calls, calls, call, base, status, text))
+        if os.path.isfile(base + '.account'):
+            made.append(('account: ' + name_of(base), by_calls, calls, 'account', base, status, read(base + '.account')))
+        if os.path.isfile(base + '.alone'):
+            made.append(('standalone: ' + name_of(base), by_calls, calls, 'standalone_citation', base, 0, read(base + '.alone')))
+    return made
 
 
 # What only a process can show
@@ -382,12 +424,14 @@ SWEPT = [
     'bibliography/author_substitution',
     'collapsing/year_collapse_of_suffixes',
 ]
+# Those by `finish_full`.
+SWEPT_FULL = ['rounds/no_round', 'rounds/suffix_by_entry', 'rounds/group_that_waits', 'rounds/names_that_do_not_help']
 # Those that have a refusal for an answer, with its status.
 REFUSED = {'rows/ring_of_two_macros': 3, 'rows/number_overflow': 4}
 # A citation by itself has the number 0, which is printed as 1.
 ALONE = b'[1]\n' * 4
-# Calls of crates/refusals, which it names before it makes them; the status is 5 where one is refused, but for `citation`.
-CALLS = ['read', 'prepare', 'citation', 'finish', 'finish_counted', 'standalone_citation', 'run', 'free']
+# Calls of crates/call_by_call, which it names before it makes them; the status is 5 where one is refused, but for `citation`.
+CALLS = ['read', 'prepare', 'citation', 'finish', 'finish_counted', 'finish_full', 'standalone_citation', 'run', 'free']
 MOST_GROWTHS = 100000
 
 
@@ -432,7 +476,7 @@ def sweep_of_program(shim, program, name):
 
 
 def held_call(called, status, out, text, status_wanted):
-    """What a run of crates/refusals must end in: the refusal of the call whose growth was refused, or the answer."""
+    """What a run of crates/call_by_call must end in: the refusal of the call whose growth was refused, or the answer."""
     at = called[called.index('!') - 1] if '!' in called else None
     if at == 'free':
         raise Failed('a call that takes no memory was refused some')
@@ -469,8 +513,8 @@ def sweep_of_calls(shim, program, way, given, status_wanted, text):
 
 def sweeps_of_calls(shim, program):
     made = []
-    for way in ('finish', 'finish_counted'):
-        for name in SWEPT:
+    for way, names in (('finish', SWEPT), ('finish_counted', SWEPT), ('finish_full', SWEPT_FULL)):
+        for name in names:
             given, text = row(name)
             made.append(('growths of %s: %s' % (way, name), sweep_of_calls, shim, program, way, given, 0, text))
         for name, status in REFUSED.items():
@@ -482,17 +526,14 @@ def sweeps_of_calls(shim, program):
     return made
 
 
-def sweeps(program):
+def sweeps(program, calls):
     """The sweeps, each with its name; or none, and why."""
-    refusals = os.path.join(os.path.dirname(program), '../../refusals/out/refusals')
-    if not os.access(refusals, os.X_OK):
-        return [], 'crates/refusals is not built'
     folder = tempfile.mkdtemp()
     shim = compiled(folder)
     if not shim:
         return [], 'no C compiler is here'
     made = [('growths of %s' % it, sweep_of_program, shim, program, it) for it in SWEPT]
-    return made + sweeps_of_calls(shim, refusals), None
+    return made + sweeps_of_calls(shim, calls), None
 
 
 def model(program):
@@ -512,6 +553,11 @@ def worked(folder):
 
 
 GROWTHS = []
+NO_CALLS = 'crates/call_by_call is not built'
+
+
+def not_built():
+    raise Failed(NO_CALLS)
 
 
 def tried(name, call, *given):
@@ -564,8 +610,13 @@ def main():
     bases = documents()
     tests = [('model: %d random documents' % RANDOM_DOCUMENTS, model, program)]
     tests += [('process: ' + it.__name__.replace('_', ' '), it, program) for it in reversed(PROCESSES)]
-    swept, why_not = sweeps(program)
+    calls = program_of_calls(program)
+    swept, why_not = sweeps(program, calls) if calls else ([], NO_CALLS)
     tests += swept
+    if calls:
+        tests += call_by_call(calls, bases)
+    else:
+        tests.append(('crates/call_by_call', not_built))
     tests += [(name_of(it), document, program, it) for it in bases]
     tests += [('model: ' + name_of(it), worked, it) for it in [*folders_of(HERE), ROOT + '/examples']]
     tests.append(('files of the folders', strays))

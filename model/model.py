@@ -107,7 +107,8 @@ class Document:
         for cite in flat:
             self.look_first(cite)
         first_style = self.styles[self.requests[0]['style']]
-        self.table = all_rounds(flat, first_style, self.look_again, self.events)
+        full = self.document.get('rounds', 'three') == 'full'
+        self.table = all_rounds(flat, first_style, self.look_again, self.events, full)
         if not reaches(self.stage, 'grouping'):
             return rows
         rows = [grouped(row, self.events) for row in rows]

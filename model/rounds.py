@@ -1,4 +1,5 @@
-"""Disambiguation: ambiguous groups, the marks of names, of choose and of suffixes, and at most three rounds.
+"""Disambiguation: ambiguous groups, the marks of names, of choose and of suffixes, and the rounds: three at most, or
+as many as mark.
 
 States stand in a table by entry; an entry without one there has none.
 """
@@ -146,8 +147,8 @@ class Round:
         return [(key, suffix_state(n)) for n, key in enumerate(dict.fromkeys(cite.key for cite in group))]
 
     def marks(self):
-        """Each marked entry with the greatest of its marks. Names are tried for every group; choose, then suffixes,
-        only for the first group that can be marked at all."""
+        """The marks of a round of three. Names are tried for every group; choose, then suffixes, only for the first
+        group that can be marked at all."""
         marks = []
         for group in self.groups():
             self.events['ambiguous group'] += 1
@@ -160,6 +161,29 @@ class Round:
                     found = self.suffix_marks(group)
                     self.events['marks of suffix'] += len(found)
             marks += found
+        return marks
+
+    def counting_marks(self):
+        """The marks of a round of as many as mark. A mark counts only where it is greater than the state of its entry.
+        Each group is tried by names, then choose, then suffixes, for marks that count, unless an entry of it has one
+        from a group before it: then it waits."""
+        marks, marked = [], set()
+        for group in self.groups():
+            self.events['ambiguous group'] += 1
+            if any(cite.key in marked for cite in group):
+                self.events['group that waits'] += 1
+                continue
+            for name, way in (('names', self.name_marks), ('choose', self.choose_marks), ('suffix', self.suffix_marks)):
+                found = [(key, state) for key, state in way(group) if state > self.table.get(key, NO_STATE)]
+                self.events['marks of ' + name] += len(found)
+                if found:
+                    break
+            marks += found
+            marked.update(key for key, _ in found)
+        return marks
+
+    def greatest(self, marks):
+        """Each marked entry with the greatest of its marks."""
         answer = {}
         for key, state in marks:
             self.events['entry marked twice, differently'] += answer.get(key, state) != state
@@ -167,12 +191,14 @@ class Round:
         return answer
 
 
-def all_rounds(cites, first_style, render, events):
-    """The table of states after the rounds. `render(cite, state)` gives the tree of a cite in a state at its first
+def all_rounds(cites, first_style, render, events, full):
+    """The table of states after the rounds, of which there are three at most, or as many as mark where they are
+    `full`. `render(cite, state)` gives the tree of a cite in a state at its first
     properties; exactly the cites of marked entries are rendered again."""
     table, count, kinds = {}, 0, set()
-    while count < ROUNDS:
-        marks = Round(cites, table, first_style, events).marks()
+    while full or count < ROUNDS:
+        this = Round(cites, table, first_style, events)
+        marks = this.greatest(this.counting_marks() if full else this.marks())
         if not marks:
             break
         count += 1
@@ -181,7 +207,7 @@ def all_rounds(cites, first_style, render, events):
         for cite in cites:
             if cite.key in marks:
                 cite.show(render(cite, marks[cite.key]))
-    events['documents of %d rounds' % count] += 1
+    events['documents of %s rounds' % (count if count <= ROUNDS else 'more')] += 1
     for kind, name in ((1, 'names'), (2, 'choose'), (3, 'suffix')):
         events['documents marked by ' + name] += kind in kinds
         events['final states of ' + name] += sum(state[0] == kind for state in table.values())

@@ -9,7 +9,6 @@ use Rattle.std.specs.contracts.prelude.InfalliblePartialEq.TheImpl as infallible
 use Rattle.csl_driver.specs.Answer.{Asked, rendered}
 use Rattle.csl_entries.specs.Entries.{distinct}
 use Rattle.csl_passes.specs.Request.{Request, Wanted, cited, with_places}
-use Rattle.csl_rounds.specs.declared.mode.RoundMode.{RoundMode}
 use Rattle.csl_driver.specs.Rings.{NoRingAtAll, IsFirstRingOf, Overflows}
 use Rattle.csl_driver.specs.declared.error.RingPlace.{RingPlace}
 use Rattle.csl_assembly.specs.declared.rendered.Rendered.{Rendered}
@@ -37,9 +36,9 @@ wanted_of d = record { style = d.style; locale = d.locale; locales = d.locales; 
 abbrev pub asked_by : Document → Asked PlainEntry Infallible
 asked_by d = record { wanted = wanted_of d; requests = accepted d.requests; offset = d.offset }
 
--- the whole answer to a document
+-- the whole answer to a document: that of as many rounds as it says
 abbrev pub answer : Document → Rendered
-answer d = rendered same_entry same_payload plain_answers RoundMode.Three (asked_by d)
+answer d = rendered same_entry same_payload plain_answers d.rounds (asked_by d)
 
 -- the first ring of a document's styles: the style's place, and that of its first macro on a ring
 abbrev pub HasFirstRing : RingPlace → ℕ → Document → Type 0

@@ -1,9 +1,15 @@
 //! The program's work, over any writer.
-ghost use Rattle.std.specs.Prelude.{◌≡◌, ◌++◌, ℕ, None, Some, map, option_map, OnOk, IfOk, IfErr, IsErrOf};
+ghost use Rattle.std.specs.Prelude.{◌≡◌, ◌+◌, ◌<◌, ◌^◌, ◌++◌, ℕ, None, Some, length, map, option_map, OnOk, IfOk, IfErr, IsErrOf};
 ghost use Rattle.std.specs.Io.KnownBytes.{Appends, Keeps};
 ghost use Rattle.serde_json.specs.View.{view};
+ghost use Rattle.csl_base.specs.PlainEntry.{plain_answers};
 ghost use Rattle.csl_base.specs.StyleView.{locale_view};
+ghost use Rattle.csl_driver.specs.Answer.{rendered};
+ghost use Rattle.csl_driver.specs.AskedView.{asked_of};
 ghost use Rattle.csl_driver.specs.DriverView.{driver_view};
+ghost use Rattle.csl_driver.specs.Rings.{NoRingAtAll, Refuses};
+ghost use Rattle.csl_entries.specs.Entries.{distinct};
+ghost use Rattle.csl_passes.specs.Request.{cited};
 ghost use Rattle.csl_passes.specs.RequestView.{entries_view, order_view, wanted_view};
 ghost use Rattle.csl_driver.specs.declared.error.RingPlace.{RingPlace};
 ghost use Rattle.csl_styles.specs.TablesView.{locales_of};
@@ -14,7 +20,7 @@ ghost use Rattle.document_reading.specs.Entries.{entry_named};
 ghost use Rattle.document_styles.specs.NamedStyleView.{named_styles_view};
 ghost use Rattle.cite_document.specs.Print.{json_text, print};
 ghost use Rattle.document_styles.specs.Styles.{style_named};
-ghost use Rattle.cite_document.specs.Run.{accepted, answer, wanted_of, Answers, HasAnswer, HasFirstRing, HasTooLargeNumbers, IsDocumentThat, Prints};
+ghost use Rattle.cite_document.specs.Run.{accepted, answer, wanted_of, Answers, HasAnswer, HasFirstRing, HasTooLargeNumbers, IsDocumentThat, Prints, same_entry, same_payload};
 
 use crate::error::RunError;
 use crate::printing::print_rendered;
@@ -26,6 +32,7 @@ use csl_driver::error::DriverError;
 use csl_driver::rendered::Rendered;
 use csl_driver::request::{BibliographyRequest, Order};
 use csl_driver::terms::TermTables;
+use csl_rounds::mode::RoundMode;
 use document_reading::document::{Asked, asked_in, top_of, utf8_text, value_of};
 use document_reading::entries::entries_of;
 use document_reading::finders::found_styles;
@@ -101,6 +108,26 @@ fn bibliography_request<'o, 'e>(
     }
 }
 
+/// What the driver answers in these rounds: `finish` in three, and `finish_full` in as many as mark.
+fn answer_in<'e>(
+    driver: BibliographyDriver<'e, PlainEntry, Infallible>,
+    request: BibliographyRequest<'_, 'e, PlainEntry>,
+    rounds: RoundMode,
+) -> Result<Rendered, DriverError>
+    ensures ok { IfOk result (λ r. r ≡ rendered same_entry same_payload plain_answers rounds (asked_of driver.entry request.entry)) }
+    ensures ringless { OnOk result (NoRingAtAll (driver_view driver.entry).requests (wanted_view request.entry).style) }
+    ensures fits { OnOk result ((driver_view driver.entry).offset + length (distinct same_entry (cited (driver_view driver.entry).requests)) < 2 ^ 64) }
+    ensures refused { IfErr result (Refuses same_entry (driver_view driver.entry).requests (wanted_view request.entry).style (driver_view driver.entry).offset) }
+{
+    match rounds {
+        RoundMode::Three => driver.finish(request),
+        RoundMode::Full => {
+            let (rendered, _account) = driver.finish_full(request)?;
+            Ok(rendered)
+        }
+    }
+}
+
 /// The answer to what a document asks for.
 fn answer_asked<'r>(alloc: Global, asked: &'r Asked<'_>) -> Result<Rendered, RunError>
     ensures { Answers result (Some (document_view asked.now)) }
@@ -108,7 +135,7 @@ fn answer_asked<'r>(alloc: Global, asked: &'r Asked<'_>) -> Result<Rendered, Run
     let files = TermTables::new(alloc, asked.locales)?;
     let driver = filled_driver(alloc, &asked.requests, &files, asked.offset)?;
     let request = bibliography_request(alloc, asked, &files)?;
-    match driver.finish(request) {
+    match answer_in(driver, request, asked.rounds) {
         Ok(rendered) => Ok(rendered),
         Err(DriverError::MacroRing { place, macro_idx }) => {
             Err(RunError::MacroRing { place, macro_idx })

@@ -3,21 +3,22 @@ ghost use Rattle.std.specs.Prelude.{IfOk};
 ghost use Rattle.csl_base.specs.Ring.{HasNoRing};
 ghost use Rattle.csl_writing.specs.ContextSource.{context_source};
 
-use crate::account::{taken, tells};
 use csl_base::element::{LayoutRenderingElement, TextTarget};
 use csl_base::entry::{Chunk, ChunkKind, ChunkedString, Date, EntryLike, Person, PlainEntry};
 use csl_base::seq::Seq;
 use csl_base::style::IndependentStyle;
 use csl_base::taxonomy::{DateVariable, NameVariable, NumberVariable, StandardVariable};
 use csl_base::text::Text;
-use csl_driver::request::BibliographyRequest;
-use csl_driver::state::DisambiguateState;
+use csl_driver::driver::BibliographyDriver;
+use csl_driver::item::CitationItem;
+use csl_driver::request::{BibliographyRequest, CitationRequest};
 use csl_writing::counter::Renders;
 use csl_writing::lookup::StyleContext;
 use csl_writing::properties::CiteProperties;
 use row_styles::styles::{author_date, entry, no_affixes, no_formatting, text_element};
 use std::alloc::{AllocError, Global};
 use std::cell::Cell;
+use std::convert::Infallible;
 use std::test::Fail;
 
 /// An entry that counts how often it is asked for its title.
@@ -111,6 +112,25 @@ fn ringless<'a>(alloc: Global, style: &'a IndependentStyle) -> Result<StyleConte
     }
 }
 
+/// A driver of plain cites.
+type Driver<'a> = BibliographyDriver<'a, Counting, Infallible>;
+
+/// Takes a request that cites the entry.
+fn take<'a>(
+    alloc: Global,
+    driver: &mut Driver<'a>,
+    style: &'a IndependentStyle,
+    cited: &'a Counting,
+) -> Result<(), Fail> {
+    let items: Vec<CitationItem<'a, Counting, Infallible>> = vec![in alloc;
+        CitationItem::with_entry(cited),
+    ]?;
+    match driver.citation(CitationRequest::from_items(items, style, &[])) {
+        Ok(()) => Ok(()),
+        Err(_refused) => Err(Fail::new("the request was refused")),
+    }
+}
+
 /// How often one cite asks for the title.
 fn asked_once(alloc: Global, style: &IndependentStyle) -> Result<u64, Fail> {
     let cited = titled(alloc, "a")?;
@@ -130,20 +150,27 @@ fn asked_once(alloc: Global, style: &IndependentStyle) -> Result<u64, Fail> {
     Ok(cited.titles.get())
 }
 
+/// The renders of a run that cites the first entry, the second, and the first again.
+fn renders_of<'a>(
+    alloc: Global,
+    style: &'a IndependentStyle,
+    a: &'a Counting,
+    b: &'a Counting,
+) -> Result<u128, Fail> {
+    let mut driver: Driver<'a> = BibliographyDriver::new(alloc);
+    for cited in [a, b, a] {
+        take(alloc, &mut driver, style, cited)?;
+    }
+    let (_answer, account) = driver.finish_counted(BibliographyRequest::new(style, None, &[]))?;
+    Ok(account.renders)
+}
+
 #[test]
 fn renders_on_another_counter(rt: HostRuntime) -> Result<(), Fail> {
     let style = titles_and_years(rt.alloc())?;
     let asked = asked_once(rt.alloc(), &style)?;
-    let entries = [titled(rt.alloc(), "a")?, titled(rt.alloc(), "b")?];
-    let driver = taken(rt.alloc(), &style, &entries, &[0, 1, 0])?;
-    let (_answer, account) = driver.finish_counted(BibliographyRequest::new(&style, None, &[]))?;
-    let states = [
-        DisambiguateState::YearSuffix(0),
-        DisambiguateState::YearSuffix(1),
-    ];
-    assert!(rt; tells(&account, 9, 1, &states, &[0, 1]));
-    let [a, b] = &entries;
-    let all = a.titles.get().wrapping_add(b.titles.get());
-    assert!(rt; all == asked.wrapping_mul(9));
+    let (a, b) = (titled(rt.alloc(), "a")?, titled(rt.alloc(), "b")?);
+    assert!(rt; renders_of(rt.alloc(), &style, &a, &b)? == 9);
+    assert!(rt; a.titles.get().wrapping_add(b.titles.get()) == asked.wrapping_mul(9));
     Ok(())
 }

@@ -1,10 +1,9 @@
-//! The whole answer, as far as no document tells it: entries that are equal at two places, rings by
-//! their places, note numbers, marks, and equality of what goes in and comes out.
+//! The whole answer, as far as no document tells it: entries that are equal at two places, note numbers,
+//! marks, and equality of what goes in and comes out.
 use csl_base::elem::{ElemChildren, ElemMeta};
 use csl_base::entry::PlainEntry;
 use csl_base::style::{IndependentStyle, StyleClass};
 use csl_driver::driver::BibliographyDriver;
-use csl_driver::error::{DriverError, RingPlace};
 use csl_driver::item::CitationItem;
 use csl_driver::laws::{
     ambiguous_stand_together, answer_equality_decides, answers_copy_equal,
@@ -15,7 +14,7 @@ use csl_driver::laws::{
 use csl_driver::rendered::Rendered;
 use csl_driver::request::{BibliographyRequest, CitationRequest, Order};
 use csl_writing::purpose::CitePurpose;
-use row_styles::styles::{entry, numeric, numeric_with_macros, value_style};
+use row_styles::styles::{entry, numeric, value_style};
 use std::alloc::{AllocError, Global};
 use std::convert::Infallible;
 use std::test::Fail;
@@ -129,84 +128,6 @@ fn a_copy_is_equal(rt: HostRuntime) -> Result<(), Fail> {
 /// A request for the bibliography of the style.
 fn wanted<'a>(style: &'a IndependentStyle) -> BibliographyRequest<'a, 'a, PlainEntry> {
     BibliographyRequest::new(style, None, &[])
-}
-
-/// Why the bibliography in the style is refused, if it is.
-fn refusal<'a>(
-    driver: Driver<'a>,
-    style: &'a IndependentStyle,
-) -> Result<Option<DriverError>, Fail> {
-    match driver.finish(wanted(style)) {
-        Ok(_) => Ok(None),
-        Err(error) => Ok(Some(error)),
-    }
-}
-
-/// Why a run whose requests are in these styles is refused, at an offset that is too great.
-fn ring<'a>(
-    alloc: Global,
-    cited: &'a PlainEntry,
-    styles: &[&'a IndependentStyle],
-    bibliography: &'a IndependentStyle,
-) -> Result<Option<DriverError>, Fail> {
-    let mut driver: Driver<'a> = BibliographyDriver::new(alloc);
-    for style in styles {
-        take(&mut driver, cite(alloc, *style, cited, false)?)?;
-    }
-    refusal(driver.with_citation_number_offset(usize::MAX), bibliography)
-}
-
-fn ring_at(place: RingPlace) -> Option<DriverError> {
-    Some(DriverError::MacroRing {
-        place,
-        macro_idx: 0,
-    })
-}
-
-/// Why a run of one request in a style of these macros is refused, with the bibliography in it too.
-fn own_ring(alloc: Global, macros: &[(&str, &str)]) -> Result<Option<DriverError>, Fail> {
-    let cited = entry(alloc, "a")?;
-    let style = numeric_with_macros(alloc, macros)?;
-    ring(alloc, &cited, &[&style], &style)
-}
-
-#[test]
-fn macro_ring(rt: HostRuntime) -> Result<(), Fail> {
-    let first = ring_at(RingPlace::Request(0));
-    assert!(rt; own_ring(rt.alloc(), &[("p", "q"), ("q", "p")])? == first);
-    assert!(rt; own_ring(rt.alloc(), &[("p", "p")])? == first);
-    Ok(())
-}
-
-/// Why a bibliography in a style of these macros is refused, with no request.
-fn bibliography_ring(alloc: Global, macros: &[(&str, &str)]) -> Result<Option<DriverError>, Fail> {
-    let style = numeric_with_macros(alloc, macros)?;
-    let driver: Driver = BibliographyDriver::new(alloc);
-    refusal(driver.with_citation_number_offset(usize::MAX), &style)
-}
-
-#[test]
-fn ring_of_the_bibliography(rt: HostRuntime) -> Result<(), Fail> {
-    let refused = bibliography_ring(rt.alloc(), &[("p", "q"), ("q", "p")])?;
-    assert!(rt; refused == ring_at(RingPlace::Bibliography));
-    Ok(())
-}
-
-#[test]
-fn first_macro_ring(rt: HostRuntime) -> Result<(), Fail> {
-    let cited = entry(rt.alloc(), "a")?;
-    let sound = numeric_with_macros(rt.alloc(), &[("p", "q"), ("q", "z")])?;
-    let own = numeric_with_macros(rt.alloc(), &[("p", "p")])?;
-    let second = ring_at(RingPlace::Request(1));
-    assert!(rt; ring(rt.alloc(), &cited, &[&sound, &own], &own)? == second);
-    Ok(())
-}
-
-#[test]
-fn no_ring(rt: HostRuntime) -> Result<(), Fail> {
-    let refused = own_ring(rt.alloc(), &[("p", "q"), ("q", "z")])?;
-    assert!(rt; refused == Some(DriverError::NumberOverflow));
-    Ok(())
 }
 
 /// A driver that has taken one request with the note number 7.

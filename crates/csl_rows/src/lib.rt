@@ -2,13 +2,9 @@
 #![tactic(auto)]
 
 #[cfg(test)]
-mod account;
-#[cfg(test)]
 mod counting;
 #[cfg(test)]
 mod finish;
 pub mod paths;
 #[cfg(test)]
 mod prepared;
-#[cfg(test)]
-mod standalone;

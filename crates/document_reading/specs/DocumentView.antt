@@ -15,4 +15,5 @@ document_view a = record {
   locales = map locale_view a.locales.now;
   order = (asked_bibliography_view a.wanted).2;
   offset = a.offset;
+  rounds = a.rounds;
 }

@@ -16,10 +16,14 @@ use crate::found::FoundStyle;
 use crate::requests::{AskedRequest, Wanted, requests_of, wanted_of};
 use csl_base::entry::PlainEntry;
 use csl_base::locale::Locale;
+use csl_rounds::mode::RoundMode;
 use document_words::error::ReadError;
-use document_words::words::{number_or, object_with, required};
+use document_words::words::{name_or, number_or, object_with, required};
 use serde_json::Value;
 use std::alloc::Global;
+
+/// In how many rounds cites are told apart.
+const ROUNDS: &[(&str, RoundMode)] = &[("three", RoundMode::Three), ("full", RoundMode::Full)];
 
 /// What the document asks for.
 #[derive(Drop)]
@@ -30,6 +34,7 @@ pub struct Asked<'e> {
     pub locales: &'e [Locale],
     /// The number of the first entry.
     pub offset: usize,
+    pub rounds: RoundMode,
 }
 
 /// The text that the bytes are, which have to be UTF-8.
@@ -71,6 +76,7 @@ pub fn top_of(value: &Value) -> Result<&Value, ReadError>
             "requests",
             "bibliography",
             "offset",
+            "rounds",
         ],
         value,
     )
@@ -90,11 +96,13 @@ fn asked_of<'e>(
     let requests = requests_of(alloc, styles, entries, locales, object)?;
     let wanted = wanted_of(alloc, styles, entries, required(object, "bibliography")?)?;
     let offset = number_or(object, "offset", 0)?;
+    let rounds = name_or(ROUNDS, object, "rounds", RoundMode::Three)?;
     Ok(Asked {
         requests,
         wanted,
         locales,
         offset,
+        rounds,
     })
 }
 

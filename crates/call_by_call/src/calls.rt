@@ -1,15 +1,18 @@
 //! A document's requests, handed to the driver one by one.
 
+use crate::account::{print_account, print_refusal};
 use crate::free::calls_without_memory;
 use cite_document::error::RunError;
 use cite_document::running::run;
 use csl_base::entry::PlainEntry;
+use csl_driver::account::Account;
 use csl_driver::driver::BibliographyDriver;
 use csl_driver::error::{CitationRefused, DriverError};
 use csl_driver::rendered::{Rendered, RenderedBibliography};
 use csl_driver::request::{BibliographyRequest, CitationRequest, Order};
 use csl_driver::standalone::standalone_citation;
 use csl_driver::terms::TermTables;
+use csl_rounds::mode::RoundMode;
 use document_reading::document::{Asked, asked_in, top_of, utf8_text, value_of};
 use document_reading::entries::entries_of;
 use document_reading::finders::found_styles;
@@ -27,6 +30,9 @@ const ROOM: usize = 65_536;
 pub enum How {
     Finish,
     FinishCounted,
+    FinishFull,
+    /// By `finish_full` or `finish_counted`, as the document says; what is printed is the account.
+    Account,
     /// Each request by `standalone_citation`.
     Alone,
     /// By none: calls that take no memory are made.
@@ -128,44 +134,92 @@ fn print_answer(rt: &impl Print, rendered: &Rendered) {
     }
 }
 
-/// Hands in all requests and the bibliography's, and prints the answer.
+/// The answer and its account, by the call for so many rounds.
+fn counted<'e>(
+    rt: &impl Eprint,
+    driver: Driver<'e>,
+    request: BibliographyRequest<'_, 'e, PlainEntry>,
+    rounds: RoundMode,
+) -> Result<(Rendered, Account<'e, PlainEntry>), DriverError> {
+    match rounds {
+        RoundMode::Three => {
+            let _ = eprintln!(rt; "finish_counted");
+            driver.finish_counted(request)
+        }
+        RoundMode::Full => {
+            let _ = eprintln!(rt; "finish_full");
+            driver.finish_full(request)
+        }
+    }
+}
+
+/// Prints the answer.
+fn print_finished<'e>(
+    rt: &(impl Print + Eprint),
+    driver: Driver<'e>,
+    request: BibliographyRequest<'_, 'e, PlainEntry>,
+    how: How,
+) -> Result<(), DriverError> {
+    let rendered = match how {
+        How::FinishCounted => {
+            let (rendered, _account) = counted(rt, driver, request, RoundMode::Three)?;
+            rendered
+        }
+        How::FinishFull => {
+            let (rendered, _account) = counted(rt, driver, request, RoundMode::Full)?;
+            rendered
+        }
+        _ => {
+            let _ = eprintln!(rt; "finish");
+            driver.finish(request)?
+        }
+    };
+    print_answer(rt, &rendered);
+    Ok(())
+}
+
+/// Prints what the answer cost, or why there is none.
+fn print_counted<'e>(
+    rt: &(impl Print + Eprint),
+    driver: Driver<'e>,
+    request: BibliographyRequest<'_, 'e, PlainEntry>,
+    rounds: RoundMode,
+) -> Result<(), DriverError> {
+    match counted(rt, driver, request, rounds) {
+        Ok((_rendered, account)) => {
+            print_account(rt, &account);
+            Ok(())
+        }
+        Err(error) => {
+            print_refusal(rt, &error);
+            Err(error)
+        }
+    }
+}
+
+/// Hands in all requests and the bibliography's, and prints what is asked for.
 fn answer_all<'e, 'f: 'e>(
     rt: &(impl Print + Eprint + AllocGlobal),
     asked: &'e Asked<'f>,
     files: &'e TermTables<'f>,
-    is_counted: bool,
+    how: How,
 ) -> Result<Seen, RunError> {
     let alloc = rt.alloc();
     let mut driver = Driver::new(alloc).with_citation_number_offset(asked.offset);
     let came_back = take_all(rt, &mut driver, asked, files)?;
     let _ = eprintln!(rt; "prepare");
     let request = bibliography_request(alloc, asked, files)?;
-    let rendered = finished(rt, driver, request, is_counted)?;
-    print_answer(rt, &rendered);
+    let finished = match how {
+        How::Account => print_counted(rt, driver, request, asked.rounds),
+        _ => print_finished(rt, driver, request, how),
+    };
+    if let Err(error) = finished {
+        return Err(refusal(error));
+    }
     if came_back {
         Ok(Seen::AnswerAtLast)
     } else {
         Ok(Seen::Answer)
-    }
-}
-
-fn finished<'e>(
-    rt: &impl Eprint,
-    driver: Driver<'e>,
-    request: BibliographyRequest<'_, 'e, PlainEntry>,
-    is_counted: bool,
-) -> Result<Rendered, RunError> {
-    if is_counted {
-        let _ = eprintln!(rt; "finish_counted");
-        return match driver.finish_counted(request) {
-            Ok((rendered, _account)) => Ok(rendered),
-            Err(error) => Err(refusal(error)),
-        };
-    }
-    let _ = eprintln!(rt; "finish");
-    match driver.finish(request) {
-        Ok(rendered) => Ok(rendered),
-        Err(error) => Err(refusal(error)),
     }
 }
 
@@ -234,10 +288,9 @@ pub fn answered(
     let asked = asked_in(alloc, &found, &entries, &locales, object)?;
     let files = TermTables::new(alloc, asked.locales)?;
     match how {
-        How::Finish => answer_all(rt, &asked, &files, false),
-        How::FinishCounted => answer_all(rt, &asked, &files, true),
         How::Alone => answer_alone(rt, &asked, &files),
         How::Free => call_free(rt, &asked, &files),
+        _ => answer_all(rt, &asked, &files, how),
     }
 }
 

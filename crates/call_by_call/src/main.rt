@@ -1,10 +1,13 @@
-//! Answers a document call by call, for runs in which one growth of memory is refused.
+//! Answers a document call by call, for what no document shows: what an answer cost and by what its
+//! entries are told apart, where a ring stands, citations by themselves, and runs in which one growth of
+//! memory is refused.
 //!
 //! The first line of standard input says what is done, and the document follows. Before each call its
 //! name is written to standard error, and at the end a line that says what was seen; the exit status
 //! tells that too. What was answered goes to standard output.
 #![tactic(auto)]
 
+mod account;
 mod calls;
 mod free;
 
@@ -25,6 +28,8 @@ fn answer(rt: &(impl Input + Print + Eprint + AllocGlobal)) -> Result<Seen, RunE
     match asked {
         "finish" => answered(rt, document, How::Finish),
         "finish_counted" => answered(rt, document, How::FinishCounted),
+        "finish_full" => answered(rt, document, How::FinishFull),
+        "account" => answered(rt, document, How::Account),
         "standalone_citation" => answered(rt, document, How::Alone),
         "free" => answered(rt, document, How::Free),
         "run" => written_out(rt, document),

@@ -1,0 +1,72 @@
+//! What an answer cost, and why there is none, in words.
+
+use csl_base::entry::{EntryLike, PlainEntry};
+use csl_base::names::DisambiguatedNameForm;
+use csl_driver::account::Account;
+use csl_driver::error::{DriverError, RingPlace};
+use csl_driver::state::DisambiguateState;
+
+fn form_word(form: DisambiguatedNameForm) -> &'static str {
+    match form {
+        DisambiguatedNameForm::Count => "counted",
+        DisambiguatedNameForm::Short => "family",
+        DisambiguatedNameForm::LongInitialized => "initials",
+        DisambiguatedNameForm::LongFull => "given",
+    }
+}
+
+/// Prints by what an entry is told apart.
+fn print_state(rt: &impl Print, state: &DisambiguateState) {
+    match state {
+        DisambiguateState::None => {
+            let _ = print!(rt; "nothing");
+        }
+        DisambiguateState::NameDisambiguation(names) => {
+            let _ = print!(rt; "names");
+            for form in names.forms.as_slice() {
+                let _ = print!(rt; " {}", form_word(*form));
+            }
+        }
+        DisambiguateState::Choose => {
+            let _ = print!(rt; "choose");
+        }
+        DisambiguateState::YearSuffix(suffix) => {
+            let _ = print!(rt; "suffix {suffix}");
+        }
+    }
+}
+
+/// Prints the renderings and the rounds, and of each entry its key, its number and by what it is told
+/// apart.
+pub fn print_account(rt: &impl Print, account: &Account<'_, PlainEntry>) {
+    let _ = println!(rt; "renders {}, rounds {}", account.renders, account.rounds);
+    for (place, entry) in account.entries.iter().enumerate() {
+        if let (Some(number), Some(state)) = (account.numbers.get(place), account.states.get(place)) {
+            let _ = print!(rt; "{}: {number}, ", entry.key());
+            print_state(rt, state);
+            let _ = println!(rt; "");
+        }
+    }
+}
+
+/// Prints why there is no answer, but for want of memory.
+pub fn print_refusal(rt: &impl Print, error: &DriverError) {
+    match error {
+        DriverError::MacroRing {
+            place: RingPlace::Request(request),
+            macro_idx,
+        } => {
+            let _ = println!(rt; "ring of macro {macro_idx} in the style of request {request}");
+        }
+        DriverError::MacroRing {
+            place: RingPlace::Bibliography,
+            macro_idx,
+        } => {
+            let _ = println!(rt; "ring of macro {macro_idx} in the style of the bibliography");
+        }
+        DriverError::NumberOverflow => {
+            let _ = println!(rt; "number overflow");
+        }
+        DriverError::OutOfMemory(_) => {}
+    }
+}
