@@ -197,6 +197,21 @@ def call_by_call(calls, bases):
     return made
 
 
+def failing_writer(calls):
+    """`run` over a writer that takes n bytes and then fails, for each n: what went out is a beginning of the text."""
+    base = HERE + '/rows/offset_and_order'
+    _, text = wanted(base)
+    for count in range(len(text) + 1):
+        by_calls(calls, str(count), base, 0 if count == len(text) else 1, text[:count])
+
+
+def slow_reader(calls):
+    """`read_input` over a reader that gives a byte at each read, and one that fails at its end."""
+    base = HERE + '/rows/offset_and_order'
+    by_calls(calls, 'slow', base, 0, read(base + '.json'))
+    by_calls(calls, 'slow and failing', base, 1, b'')
+
+
 # What only a process can show
 
 
@@ -615,6 +630,7 @@ def main():
     tests += swept
     if calls:
         tests += call_by_call(calls, bases)
+        tests += [('process: ' + it.__name__.replace('_', ' '), it, calls) for it in (failing_writer, slow_reader)]
     else:
         tests.append(('crates/call_by_call', not_built))
     tests += [(name_of(it), document, program, it) for it in bases]

@@ -2,7 +2,9 @@
 
 use crate::account::{print_account, print_refusal};
 use crate::free::calls_without_memory;
+use crate::streams::{Failing, Slow};
 use cite_document::error::RunError;
+use cite_document::input::read_input;
 use cite_document::running::run;
 use csl_base::entry::PlainEntry;
 use csl_driver::account::Account;
@@ -309,5 +311,37 @@ pub fn written_out(
     }
     result?;
     let _ = print!(rt; "{}", utf8_text(&out)?);
+    Ok(Seen::Answer)
+}
+
+/// Answers the document by `run`, over a writer that fails behind so many bytes, and prints what went out.
+pub fn written_until(
+    rt: &(impl Print + AllocGlobal),
+    document: &str,
+    left: usize,
+) -> Result<Seen, RunError> {
+    let mut out = Failing {
+        left,
+        got: Vec::new(rt.alloc()),
+    };
+    let result = run(rt.alloc(), document.as_bytes(), &mut out);
+    let Failing { left: _, got } = out;
+    let _ = print!(rt; "{}", utf8_text(&got)?);
+    result?;
+    Ok(Seen::Answer)
+}
+
+/// Reads the document a byte at each read, to its end or to a failure there, and prints what was read.
+pub fn read_slowly(
+    rt: &(impl Print + AllocGlobal),
+    document: &str,
+    fails: bool,
+) -> Result<Seen, RunError> {
+    let mut reader = Slow {
+        rest: document.as_bytes(),
+        fails,
+    };
+    let bytes = read_input(rt.alloc(), &mut reader)?;
+    let _ = print!(rt; "{}", utf8_text(&bytes)?);
     Ok(Seen::Answer)
 }

@@ -1,17 +1,19 @@
 //! Answers a document call by call, for what no document shows: what an answer cost and by what its
-//! entries are told apart, where a ring stands, citations by themselves, and runs in which one growth of
-//! memory is refused.
+//! entries are told apart, where a ring stands, citations by themselves, writers and readers that fail, and
+//! runs in which one growth of memory is refused.
 //!
-//! The first line of standard input says what is done, and the document follows. Before each call its
-//! name is written to standard error, and at the end a line that says what was seen; the exit status
-//! tells that too. What was answered goes to standard output.
+//! The first line of standard input says what is done (a number: `run`, over a writer that fails behind so
+//! many bytes), and the document follows. Before each call its name is written to standard error, and at the
+//! end a line that says what was seen; the exit status tells that too. What was answered goes to standard
+//! output.
 #![tactic(auto)]
 
 mod account;
 mod calls;
 mod free;
+mod streams;
 
-use calls::{How, Seen, answered, written_out};
+use calls::{How, Seen, answered, read_slowly, written_out, written_until};
 use cite_document::error::RunError;
 use cite_document::input::read_input;
 use document_reading::document::utf8_text;
@@ -33,7 +35,12 @@ fn answer(rt: &(impl Input + Print + Eprint + AllocGlobal)) -> Result<Seen, RunE
         "standalone_citation" => answered(rt, document, How::Alone),
         "free" => answered(rt, document, How::Free),
         "run" => written_out(rt, document),
-        _ => Err(RunError::Document),
+        "slow" => read_slowly(rt, document, false),
+        "slow and failing" => read_slowly(rt, document, true),
+        _ => match asked.parse::<usize>() {
+            Ok(count) => written_until(rt, document, count),
+            Err(_) => Err(RunError::Document),
+        },
     }
 }
 
