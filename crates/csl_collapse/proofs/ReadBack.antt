@@ -301,7 +301,7 @@ module _ {E P : Type 0} (citation : CitationValue) (to_suffixes : Bool) (cites :
       (untouched (year_collapsed citation to_suffixes cites) (λ c. c.properties.speculative.citation_number) (λ k c. (year-keeps k c).number) cites)
 
 -- by whatever collapse a style asks for
-all-read-back : {E P : Type 0} (collapse : Option Collapse) (citation : CitationValue) (cites : List (ItemRender E P)) → CanBeReadBack cites (collapsed_cites collapse citation cites) collapse
+pub all-read-back : {E P : Type 0} (collapse : Option Collapse) (citation : CitationValue) (cites : List (ItemRender E P)) → CanBeReadBack cites (collapsed_cites collapse citation cites) collapse
 all-read-back None citation cites = none-hid None cites cites (λ k. refl) refl
 all-read-back (Some CitationNumber) citation cites = read-back (after_collapse citation) cites (Some CitationNumber) refl
 all-read-back (Some Year) citation cites = years citation false cites (Some Year)

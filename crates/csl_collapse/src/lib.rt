@@ -2,5 +2,6 @@
 #![tactic(auto)]
 
 pub mod collapse;
+pub mod laws;
 mod numbers;
 mod years;

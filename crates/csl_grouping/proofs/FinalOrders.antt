@@ -6,8 +6,8 @@ use Rattle.std.specs.Option.{option_or}
 use Rattle.std.proofs.lemmas.List.Sorted.{IsPermutation-refl}
 use Rattle.std.proofs.lemmas.Result.{on_ok_weaker}
 use Rattle.csl_base.specs.Style.{CitationValue}
-use Rattle.csl_passes.specs.Renders.{ItemRender}
-use Rattle.csl_grouping.specs.Blocks.{final_order, group_delimiter, grouped_cites, is_grouped}
+use Rattle.csl_passes.specs.Renders.{CiteRender, ItemRender}
+use Rattle.csl_grouping.specs.Blocks.{final_order, group_delimiter, grouped, grouped_cites, is_grouped}
 use Rattle.csl_grouping.specs.FinalOrder.{HasFinalOrder}
 use Rattle.csl_grouping.specs.Laws.{bare}
 use Rattle.csl_grouping.proofs.Kept.{places-seen}
@@ -32,6 +32,13 @@ module _ {E P : Type 0} where
     equal_names_are_adjacent = λ e. absurd (true≢false (sym e));
     else_nothing_changes = λ e. refl;
   }
+
+  pub grouped-ordered : (render : CiteRender E P) → HasFinalOrder (is_grouped render.request.style.citation) render.items (grouped render).items
+  grouped-ordered render = by (is_grouped render.request.style.citation)
+    where
+      by : (b : Bool) → HasFinalOrder b render.items (if b then record render { items = grouped_cites (group_delimiter render.request.style.citation) render.items } else render).items
+      by true = in-blocks (group_delimiter render.request.style.citation) render.items
+      by false = as-it-was render.items
 
   -- where the style gives a delimiter of groups, and a call brings the cites together
   pub brought-together : {V F : Type 0} (r : Result V F) (citation : CitationValue) (delimiter : List ℕ) (cites after : List (ItemRender E P))
