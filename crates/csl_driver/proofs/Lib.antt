@@ -10,3 +10,4 @@ pub mod Whole
 pub mod Sizes
 pub mod ListedCount
 pub mod ByEntries
+pub mod KeptLaws

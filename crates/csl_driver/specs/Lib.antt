@@ -7,6 +7,7 @@ pub mod AreCitesOf
 pub mod StandaloneCitation
 pub mod Rings
 pub mod Account
+pub mod AnswerLaws
 pub mod Promised
 pub mod AskedView
 pub mod AreSettled

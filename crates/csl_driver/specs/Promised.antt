@@ -4,6 +4,7 @@ use Rattle.csl_assembly.specs.declared.rendered.Rendered.{Rendered}
 use Rattle.csl_base.specs.Answers.{Answers}
 use Rattle.csl_driver.specs.Account.{cost, final_state, marking}
 use Rattle.csl_driver.specs.Answer.{Asked, final_number, rendered}
+use Rattle.csl_driver.specs.AnswerLaws.{KeepsLaws}
 use Rattle.csl_driver.specs.declared.account.Account.{Account}
 use Rattle.csl_entries.specs.Entries.{distinct}
 use Rattle.csl_passes.specs.Request.{cited}
@@ -19,3 +20,5 @@ pub record IsAnswer {E P : Type 0} (eq : E → E → Bool) (payload_eq : P → P
   pub entries : map (λ e. e.now) r.1.entries.items ≡ distinct eq (cited asked.requests)
   pub states : r.1.states.items ≡ map (final_state eq payload_eq answers mode asked) (distinct eq (cited asked.requests))
   pub numbers : r.1.numbers.items ≡ map (final_number eq payload_eq answers mode asked) (distinct eq (cited asked.requests))
+  -- what holds of every answer
+  pub laws : KeepsLaws eq payload_eq answers mode asked

@@ -27,6 +27,7 @@ use crate::bibliography::wanted_bibliography;
 use crate::cited::Cited;
 use crate::driver::{BibliographyDriver, discard};
 use crate::error::DriverError;
+use crate::laws::answers_keep_laws;
 use crate::rings::refuse_rings;
 use csl_assembly::citation::{citation_tree, has_no_purpose};
 use csl_assembly::rendered::{Rendered, RenderedCitation};
@@ -299,6 +300,7 @@ fn counted_answer<'a, T: EntryLike, P: Eq + Drop>(
         &mut renders,
     )?;
     let account = account_of(alloc, cited, settled, &renders)?;
+    answers_keep_laws::<T, P>();
     Ok((rendered, account))
 }
 

@@ -1,11 +1,31 @@
-//! Laws of what goes in and comes out, and of how cites are told apart, passed on.
+//! Laws of what goes in and comes out, of how cites are told apart, and of every answer.
+ghost use Rattle.csl_driver.specs.Answer.{Asked};
+ghost use Rattle.csl_driver.specs.AnswerLaws.{KeepsLaws};
+ghost use Rattle.csl_rounds.specs.declared.mode.RoundMode.{RoundMode};
+
 pub use csl_ambiguity::laws::{
     ambiguous_stand_together, choose_and_suffix_go_on, suffixes_count_entries,
 };
 pub use csl_assembly::laws::{answer_equality_decides, answers_copy_equal};
+pub use csl_collapse::laws::collapsed_can_be_read_back;
 pub use csl_entries::laws::{bibliography_holds_each_once, numbers_have_no_gaps};
+pub use csl_grouping::laws::{final_order_laws, grouped_in_final_order};
 pub use csl_name_marks::laws::name_marks_go_on;
 pub use csl_passes::laws::{
     item_equality_decides, items_copy_equal, properties_equality_decides, request_equality_decides,
     wanted_equality_decides,
 };
+
+use csl_base::entry::EntryLike;
+
+/// A law of every answer, whatever is asked: the entries that are cited have the numbers from the offset on,
+/// each once; the cites of each request have a final order; and what collapsing hid of a request without
+/// purposes can be read back.
+pub fn answers_keep_laws<T: EntryLike, P: Eq>()
+    ensures { (mode : RoundMode) (asked : Asked T P) → KeepsLaws T.eq P.eq T.answers mode asked }
+{
+    bibliography_holds_each_once::<T>();
+    numbers_have_no_gaps::<T>();
+    grouped_in_final_order::<T, P>();
+    collapsed_can_be_read_back::<T, P>();
+}

@@ -38,4 +38,5 @@ returns g c =
       numbers = account.numbers
           ∙ numbers-of eq g.met.T.Eq.laws table.entries once (final_number eq peq answers mode asked) _ settled.long settled.numbers
           ∙ ap (λ t. map (final_number eq peq answers mode asked) t.entries) is;
+      laws = c.answers_keep_laws.ensures mode asked;
     }
