@@ -9,3 +9,9 @@ pub mod Twice
 pub mod Rerendered
 pub mod Marked
 pub mod InRounds
+pub mod Runs
+pub mod Told
+pub mod GoneOn
+pub mod Left
+pub mod MarkKinds
+pub mod Ranked
