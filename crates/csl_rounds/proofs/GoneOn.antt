@@ -52,7 +52,14 @@ module _ (one : GreaterIsOne) (Q : DisambiguateState → Type 0) where
   greatest-known (t ∷ ts) s all e = subst Q (some-inj (fold greater t ts) s e) (of-all t ts (All-head Q t ts all) (All-tail Q t ts all))
 
 module _ {E P : Type 0} (eq : E → E → Bool) (laws : AreMarkLaws E P eq) (renders : List (CiteRender E P)) where
-  -- the mark stands at a cite of an ambiguous group, whose state goes on to it
+  -- the mark stands at a cite of the group, whose state goes on to it
+  pub record GoesIn (group : List Place) (mark : Mark) : Type 0 where
+    pub cite : Member E P
+    pub stands_there : member_at renders mark.0 ≡ Some cite
+    pub goes_on : GoesOnTo (state_of cite) mark.1
+    pub among : Contains (members renders group) cite
+
+  -- at one of an ambiguous group
   pub record GoesFrom (mark : Mark) : Type 0 where
     pub cite : Member E P
     pub stands_there : member_at renders mark.0 ≡ Some cite
@@ -61,36 +68,47 @@ module _ {E P : Type 0} (eq : E → E → Bool) (laws : AreMarkLaws E P eq) (ren
     pub is_group : Contains (ambiguous_groups eq renders) group
     pub among : Contains (members renders group) cite
 
-  abbrev IsGroup : List Place → Type 0
+  abbrev pub IsGroup : List Place → Type 0
   IsGroup g = Contains (ambiguous_groups eq renders) g × HaveNoSuffix (members renders g)
 
   pub are-groups : All IsGroup (ambiguous_groups eq renders)
   are-groups = λ k d w. (All-contains_itself (ambiguous_groups eq renders) k d w, laws.without_suffix renders k d w)
 
-  from-name : (g : List Place) → IsGroup g → (m : Mark) → IsNameMark renders g m → GoesFrom m
-  from-name g h m n =
+  from-name : (g : List Place) (m : Mark) → IsNameMark renders g m → GoesIn g m
+  from-name g m n =
       let own : Member E P = record { place = m.0; item = n.cite.1; style = n.cite.0.style } in
       let there : member_at renders m.0 ≡ Some own = ap (option_map (λ cite. record { place = m.0; item = cite.1; style = cite.0.style })) n.stands_there in
-      record { cite = own; stands_there = there; goes_on = n.goes_on; group = g; is_group = h.0; among = in-members renders g m.0 own n.in_group there }
+      record { cite = own; stands_there = there; goes_on = n.goes_on; among = in-members renders g m.0 own n.in_group there }
 
-  from-member : (g : List Place) → IsGroup g → (m : Mark) → IsMarkOf (members renders g) m → GoesFrom m
-  from-member g h m n = record {
+  from-member : (g : List Place) (m : Mark) → IsMarkOf (members renders g) m → GoesIn g m
+  from-member g m n = record {
     cite = n.cite;
     stands_there = ap (member_at renders) n.stands_there ∙ All-contains (IsThere renders) (members renders g) n.cite (members-there renders g) n.among;
     goes_on = n.goes_on;
-    group = g;
-    is_group = h.0;
     among = n.among;
   }
 
+  pub names-in : (g : List Place) → IsGroup g → All (GoesIn g) (name_marks renders g)
+  names-in g h = All-weaker (IsNameMark renders g) (GoesIn g) (from-name g) (name_marks renders g) (laws.names renders g)
+
+  pub choice-in : (g : List Place) → IsGroup g → All (GoesIn g) (by_choice eq renders g)
+  choice-in g h = All-weaker (IsMarkOf (members renders g)) (GoesIn g) (from-member g) (by_choice eq renders g) (laws.choose (members renders g) h.1)
+
+  pub suffixes-in : (dated : Bool) (g : List Place) → IsGroup g → All (GoesIn g) (by_suffix eq renders dated g)
+  suffixes-in dated g h = All-weaker (IsMarkOf (members renders g)) (GoesIn g) (from-member g) (by_suffix eq renders dated g) (laws.suffix (members renders g) dated h.1)
+
+  from-in : (g : List Place) → IsGroup g → (ms : List Mark) → All (GoesIn g) ms → All GoesFrom ms
+  from-in g h ms all =
+      All-weaker (GoesIn g) GoesFrom (λ m i. record { cite = i.cite; stands_there = i.stands_there; goes_on = i.goes_on; group = g; is_group = h.0; among = i.among }) ms all
+
   names-go : (g : List Place) → IsGroup g → All GoesFrom (name_marks renders g)
-  names-go g h = All-weaker (IsNameMark renders g) GoesFrom (from-name g h) (name_marks renders g) (laws.names renders g)
+  names-go g h = from-in g h (name_marks renders g) (names-in g h)
 
   choice-goes : (g : List Place) → IsGroup g → All GoesFrom (by_choice eq renders g)
-  choice-goes g h = All-weaker (IsMarkOf (members renders g)) GoesFrom (from-member g h) (by_choice eq renders g) (laws.choose (members renders g) h.1)
+  choice-goes g h = from-in g h (by_choice eq renders g) (choice-in g h)
 
   suffixes-go : (dated : Bool) (g : List Place) → IsGroup g → All GoesFrom (by_suffix eq renders dated g)
-  suffixes-go dated g h = All-weaker (IsMarkOf (members renders g)) GoesFrom (from-member g h) (by_suffix eq renders dated g) (laws.suffix (members renders g) dated h.1)
+  suffixes-go dated g h = from-in g h (by_suffix eq renders dated g) (suffixes-in dated g h)
 
   counting-goes : (way : List Place → List Mark) → ((g : List Place) → IsGroup g → All GoesFrom (way g)) → (g : List Place) → IsGroup g → All GoesFrom (counting renders way g)
   counting-goes way h g i = All-filter (counts renders) GoesFrom (way g) (h g i)

@@ -15,3 +15,6 @@ pub mod GoneOn
 pub mod Left
 pub mod MarkKinds
 pub mod Ranked
+pub mod Numbered
+pub mod SuffixWalk
+pub mod Suffixes

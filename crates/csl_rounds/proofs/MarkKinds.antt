@@ -125,6 +125,30 @@ module _ {E P : Type 0} (renders : List (CiteRender E P)) where
       names-after found (steps found greatest) (step found greatest)
       (all-kept (λ p. ⊤) IsOwn (named_cite_at renders) (λ p x u e. own-found p x e) group (λ k d h. tt))
 
+  abbrev pub Named : Mark → Type 0
+  Named m = kind_of m.1 ≡ 1
+
+  kinds-after : (group : List NamedCite) (is : List ℕ) (own : NamedCite → Option ℕ) → All Named (marks_after group is own)
+  kinds-after group [] own = All-nil Named
+  kinds-after group (i ∷ is) own = all-kept (λ x. ⊤) Named (λ x. mark group (i ∷ is) x (own x)) at group (λ k d w. tt)
+    where
+      at : (x : NamedCite) (m : Mark) → ⊤ → mark group (i ∷ is) x (own x) ≡ Some m → Named m
+      at x m u e = by x.start e
+        where
+          of_start : NameDisambiguationProperties → Mark
+          of_start from = (x.place, NameDisambiguation (record { forms = fold (after_step group x (own x)) from.forms (i ∷ is) }))
+
+          by : (q : Option NameDisambiguationProperties) → option_map of_start q ≡ Some m → Named m
+          by None g = cc
+          by (Some from) g = subst Named (some-inj (of_start from) m g) refl
+
+  pub names-named : (group : List Place) → All Named (name_marks renders group)
+  unfolding name_marks
+  names-named group =
+      let found = named_cites renders group in
+      let greatest = greatest_step (first_adds_names renders) found in
+      kinds-after found (steps found greatest) (step found greatest)
+
   module _ (eq : E → E → Bool) where
     abbrev pub Chosen : Mark → Type 0
     Chosen m = m.1 ≡ Choose

@@ -1,5 +1,5 @@
 -- In mode full each round that marks raises the state of some entry, so rounds come to an end.
-use Rattle.std.proofs.Common.{◌≡◌, inl, inr, ℕ, zero, suc, ◌+◌, ◌*◌, ◌≤◌, ◌<◌, Bool, true, false, cond, ◌||◌, Option, Some, None, List, [], ◌∷◌, length, map, filter, refl, ap, sym, subst, ◌∙◌, true≢false, arith}
+use Rattle.std.proofs.Common.{◌≡◌, inl, inr, ℕ, suc, ◌+◌, ◌*◌, ◌≤◌, ◌<◌, Bool, true, false, cond, ◌||◌, Option, Some, None, List, [], ◌∷◌, length, map, filter, refl, ap, sym, subst, ◌∙◌, true≢false, arith}
 use Rattle.std.specs.Prelude.{All, Contains, flat_map, max, sum_by, unwrap_or}
 use Rattle.std.specs.List.{list_any}
 use Rattle.std.specs.Option.{option_map_or, option_or}
@@ -33,6 +33,7 @@ use Rattle.csl_rounds.proofs.GoneOn.{Alike, AreMarkLaws, GoesFrom, alike-next, a
 use Rattle.csl_rounds.proofs.Kept.{full-kept}
 use Rattle.csl_rounds.proofs.Left.{nothing-left, three-ends}
 use Rattle.csl_rounds.proofs.MarkKinds.{ByNames, Chosen, IsByNames, Suffixed, by-choice, by-names, by-suffix}
+use Rattle.csl_rounds.proofs.Numbered.{any-in}
 use Rattle.csl_rounds.proofs.Runs.{all-left, all-passed, all-right, final, run-bounded}
 use Rattle.csl_rounds.proofs.Told.{item-known}
 use Rattle.csl_rounds.proofs.Twice.{same-entry}
@@ -58,15 +59,6 @@ module _ {X : Type 0} (f g : X → ℕ) (q : X → Bool) (up : (x : X) → f x �
           let one : f x ≤ g x = up x in
           let others : sum_by f xs < sum_by g xs = more h in
           omega (arith, sum_by-cons f x xs, sum_by-cons g x xs)
-
-any-in : {X : Type 0} (q : X → Bool) (xs : List X) (x : X) → Contains xs x → q x ≡ true → list_any q xs ≡ true
-any-in q [] x (k, w, e) h = absurd (omega (arith, w))
-any-in q (y ∷ ys) x (zero, w, e) h = ap (λ b. b || list_any q ys) (ap q e ∙ h)
-any-in q (y ∷ ys) x (suc k, w, e) h = by (q y) (any-in q ys x (k, omega (arith, w), e) h)
-  where
-    by : (b : Bool) → list_any q ys ≡ true → b || list_any q ys ≡ true
-    by true more = refl
-    by false more = more
 
 all-below : {X : Type 0} (f : X → ℕ) (n : ℕ) (xs : List X) → greatest_number (map f xs) ≤ n → All (λ x. f x ≤ n) xs
 all-below f n [] h = All-nil (λ x. f x ≤ n)

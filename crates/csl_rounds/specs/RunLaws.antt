@@ -1,16 +1,18 @@
 -- Laws of the whole run: what holds of the states of entries, from the first table to the last.
-use Rattle.std.specs.Prelude.{◌≡◌, ℕ, ◌<◌, ⊤, All, Bool, true, false, List, [], ◌∷◌, None, flat_map, length, take, unwrap_or}
-use Rattle.std.specs.List.{AllAdjacentBelow}
+use Rattle.std.specs.Prelude.{◌≡◌, ℕ, ◌<◌, ⊤, All, AllPairs, Bool, true, false, Contains, List, [], ◌∷◌, None, Some, flat_map, length, map, take, unwrap_or}
+use Rattle.std.specs.List.{AllAdjacentBelow, enumerate_from}
 use Rattle.csl_ambiguity.specs.Ambiguity.{ambiguous_groups}
 use Rattle.csl_ambiguity.specs.MarkLaws.{AreAmbiguous}
 use Rattle.csl_ambiguity.specs.Members.{Member, entry_of, members}
-use Rattle.csl_ambiguity.specs.SuffixMarks.{adds_suffix, shows_dates}
+use Rattle.csl_ambiguity.specs.SuffixMarks.{adds_suffix, shows_dates, suffix_marks}
 use Rattle.csl_base.specs.Answers.{Answers}
+use Rattle.csl_entries.specs.Entries.{distinct}
 use Rattle.csl_lookup.specs.GoingOn.{GoesOnTo}
 use Rattle.csl_lookup.specs.declared.state.DisambiguateState.{DisambiguateState}
+use Rattle.csl_lookup.specs.declared.state.DisambiguateState.TheVariants.{YearSuffix}
 use Rattle.csl_name_marks.specs.NameMarks.{name_marks}
 use Rattle.csl_passes.specs.Renders.{CiteRender, Place}
-use Rattle.csl_rounds.specs.RoundMarks.{Mark, all_ways, by_choice, by_suffix, counting}
+use Rattle.csl_rounds.specs.RoundMarks.{Mark, all_ways, by_choice, by_suffix, counting, marks_by_group}
 use Rattle.csl_rounds.specs.Rounds.{Table, at_table}
 use Rattle.csl_rounds.specs.Tables.{last_states, rounds, tables}
 use Rattle.csl_rounds.specs.declared.mode.RoundMode.{RoundMode}
@@ -55,6 +57,20 @@ module _ {E P : Type 0} (mode : RoundMode) (eq : E → E → Bool) (answers : E 
     pub rendered : All (λ t. All (λ i. i.properties.speculative.disambiguation ≡ told_by t i.entry) (flat_map (λ c. c.items) (shown_at t))) run
     -- from each table to the next the state of each entry goes on
     pub on : AllAdjacentBelow (λ t next. (e : E) → GoesOnTo (told_by t e) (told_by next e)) run (length run)
+
+  -- the group was given suffixes at this table
+  abbrev pub GotSuffixes : Table E → List Place → Type 0
+  GotSuffixes t group = Contains (marks_by_group mode eq answers (shown_at t)) (group, suffix_marks eq (members (shown_at t) group))
+
+  -- suffixes stay
+  pub record SuffixesStay : Type 0 where
+    -- an entry with a suffix has it in all later tables, and is in no ambiguous group
+    pub stay : AllPairs (λ t later. (e : E) (n : ℕ) → t e ≡ Some (YearSuffix n) → later e ≡ Some (YearSuffix n)) run
+    pub apart : All (λ t. (e : E) (n : ℕ) → t e ≡ Some (YearSuffix n) → IsInNoGroup eq (shown_at t) e) run
+    -- in a group that was given suffixes the distinct entries have 0, 1, 2 and on in the next table, in the order of their first cites
+    pub in_order : AllAdjacentBelow
+        (λ t next. (group : List Place) → GotSuffixes t group → All (λ p. next p.1 ≡ Some (YearSuffix p.0)) (enumerate_from 0 (distinct eq (map entry_of (members (shown_at t) group)))))
+        run (length run)
 
   abbrev pub last_shown : List (CiteRender E P)
   last_shown = shown_at (last_states mode eq answers firsts)

@@ -1,7 +1,7 @@
 //! Laws of the whole run, for every document, in both modes.
 ghost use Rattle.std.specs.Prelude.{List};
 ghost use Rattle.csl_passes.specs.Renders.{CiteRender};
-ghost use Rattle.csl_rounds.specs.RunLaws.{AreBegun, NothingLeft, StatesGoOn};
+ghost use Rattle.csl_rounds.specs.RunLaws.{AreBegun, NothingLeft, StatesGoOn, SuffixesStay};
 ghost use Rattle.csl_rounds.specs.declared.mode.RoundMode.{RoundMode};
 
 use csl_base::entry::EntryLike;
@@ -31,4 +31,18 @@ pub fn nothing_is_left<T: EntryLike, P>()
     csl_name_marks::laws::name_marks_go_on::<T, P>();
     csl_ambiguity::laws::ambiguous_stand_together::<T, P>();
     csl_ambiguity::laws::choose_and_suffix_go_on::<T, P>();
+}
+
+/// A law: suffixes stay. An entry with a suffix has it in all later tables, and is in no ambiguous group; and in a
+/// group that was given suffixes the distinct entries have 0, 1, 2 and on in the next table, in the order of their
+/// first cites there.
+pub fn suffixes_stay<T: EntryLike, P>()
+    ensures { (mode : RoundMode) (firsts : List (CiteRender T P)) → AreBegun firsts → SuffixesStay mode T.eq T.answers firsts }
+{
+    csl_lookup::laws::states_go_on();
+    csl_entries::laws::bibliography_holds_each_once::<T>();
+    csl_name_marks::laws::name_marks_go_on::<T, P>();
+    csl_ambiguity::laws::ambiguous_stand_together::<T, P>();
+    csl_ambiguity::laws::choose_and_suffix_go_on::<T, P>();
+    csl_ambiguity::laws::suffixes_count_entries::<T, P>();
 }
