@@ -107,7 +107,7 @@ module _ {E P : Type 0} (eq : E → E → Bool) (answers : E → Answers) (rende
   abbrev IsBare : Member E P → Type 0
   IsBare m = IsThere renders m × (may_get_suffix (state_of m) ≡ true)
 
-  suffixes-count : (dated : Bool) (g : List Place) → HaveNoSuffix (members renders g) → All (λ m. counts renders m ≡ true) (by_suffix eq renders dated g)
+  pub suffixes-count : (dated : Bool) (g : List Place) → HaveNoSuffix (members renders g) → All (λ m. counts renders m ≡ true) (by_suffix eq renders dated g)
   suffixes-count dated g bare = by (dated && adds_suffix ms)
     where
       ms : List (Member E P)

@@ -18,3 +18,5 @@ pub mod Ranked
 pub mod Numbered
 pub mod SuffixWalk
 pub mod Suffixes
+pub mod SuffixGroups
+pub mod FirstUntold

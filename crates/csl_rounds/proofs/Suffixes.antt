@@ -19,7 +19,7 @@ use Rattle.csl_name_marks.specs.NameMarks.{name_marks}
 use Rattle.csl_passes.specs.Renders.{CiteRender, Place}
 use Rattle.csl_rounds.specs.RoundMarks.{Mark, all_ways, by_choice, by_suffix, cites, counting, counts, has_any, marks_by_group, or_others, round_marks}
 use Rattle.csl_rounds.specs.Rounds.{Table, at_table, mark_of, no_states}
-use Rattle.csl_rounds.specs.RunLaws.{AreBegun, GotSuffixes, IsInNoGroup, SuffixesStay}
+use Rattle.csl_rounds.specs.RunLaws.{AreBegun, GetsSuffixes, IsInNoGroup, SuffixesStay}
 use Rattle.csl_rounds.specs.Tables.{marked_at, most_rounds, tables}
 use Rattle.csl_rounds.specs.declared.mode.RoundMode.{RoundMode}
 use Rattle.csl_rounds.proofs.GoneOn.{Alike, AreMarkLaws, GoesIn, all-alike, alike-next, are-groups, are-steps, choice-in, cites-is, goes_on, member-told, names-in, next, state-goes, suffixes-in}
@@ -27,6 +27,7 @@ use Rattle.csl_rounds.proofs.Kept.{all-chosen, all-distinct}
 use Rattle.csl_rounds.proofs.MarkKinds.{Named, names-named}
 use Rattle.csl_rounds.proofs.Numbered.{IsBelow, all-numbered, any-in, any-map, in-filter, in-map, none-in, numbered-map, some-in, top-greatest}
 use Rattle.csl_rounds.proofs.Runs.{all-passed, run-neighbours, run-pairs}
+use Rattle.csl_rounds.proofs.SuffixGroups.{own-suffixes}
 use Rattle.csl_rounds.proofs.SuffixWalk.{full-walked, three-walked}
 use Rattle.csl_rounds.proofs.Told.{IsThere, members-there}
 
@@ -234,12 +235,15 @@ module _ {E P : Type 0} (mode : RoundMode) (eq : E → E → Bool) (answers : E 
 
   abbrev InOrder : Table E → Table E → Type 0
   InOrder t later =
-      (group : List Place) → GotSuffixes mode eq answers firsts t group → All (λ p. later p.1 ≡ Some (YearSuffix p.0)) (enumerate_from 0 (distinct eq (map entry_of (members (at t) group))))
+      (group : List Place) → GetsSuffixes mode eq answers firsts t group → All (λ p. later p.1 ≡ Some (YearSuffix p.0)) (enumerate_from 0 (distinct eq (map entry_of (members (at t) group))))
 
   in-order : (t : Table E) → InOrder t (after t)
-  in-order t group got =
+  in-order t group gets =
+      let same : gets.own ≡ suffix_marks eq (members (at t) group) =
+      own-suffixes eq (at t) answers (laws.without_suffix (at t)) mode group gets.own gets.are_own gets.mark gets.one_of_them (ap kind_of gets.is_suffix) in
       All-weaker (λ p. marked_at mode eq answers firsts t p.1 ≡ Some (YearSuffix p.0)) (λ p. after t p.1 ≡ Some (YearSuffix p.0)) (λ p e. ap (λ o. option_or o (t p.1)) e)
-      (enumerate_from 0 (distinct eq (map entry_of (members (at t) group)))) (suffixes-in-order eq laws more (at t) answers group mode got)
+      (enumerate_from 0 (distinct eq (map entry_of (members (at t) group))))
+      (suffixes-in-order eq laws more (at t) answers group mode (subst (λ own. Contains (marks_by_group mode eq answers (at t)) (group, own)) same gets.are_own))
 
   pub suffixes-stay : SuffixesStay mode eq answers firsts
   suffixes-stay = record {

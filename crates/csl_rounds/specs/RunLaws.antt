@@ -4,7 +4,7 @@ use Rattle.std.specs.List.{AllAdjacentBelow, enumerate_from}
 use Rattle.csl_ambiguity.specs.Ambiguity.{ambiguous_groups}
 use Rattle.csl_ambiguity.specs.MarkLaws.{AreAmbiguous}
 use Rattle.csl_ambiguity.specs.Members.{Member, entry_of, members}
-use Rattle.csl_ambiguity.specs.SuffixMarks.{adds_suffix, shows_dates, suffix_marks}
+use Rattle.csl_ambiguity.specs.SuffixMarks.{adds_suffix, shows_dates}
 use Rattle.csl_base.specs.Answers.{Answers}
 use Rattle.csl_entries.specs.Entries.{distinct}
 use Rattle.csl_lookup.specs.GoingOn.{GoesOnTo}
@@ -58,18 +58,23 @@ module _ {E P : Type 0} (mode : RoundMode) (eq : E → E → Bool) (answers : E 
     -- from each table to the next the state of each entry goes on
     pub on : AllAdjacentBelow (λ t next. (e : E) → GoesOnTo (told_by t e) (told_by next e)) run (length run)
 
-  -- the group was given suffixes at this table
-  abbrev pub GotSuffixes : Table E → List Place → Type 0
-  GotSuffixes t group = Contains (marks_by_group mode eq answers (shown_at t)) (group, suffix_marks eq (members (shown_at t) group))
+  -- at this table the group gets marks of which one is a suffix
+  pub record GetsSuffixes (t : Table E) (group : List Place) : Type 0 where
+    pub own : List Mark
+    pub are_own : Contains (marks_by_group mode eq answers (shown_at t)) (group, own)
+    pub mark : Mark
+    pub suffix : ℕ
+    pub one_of_them : Contains own mark
+    pub is_suffix : mark.1 ≡ YearSuffix suffix
 
   -- suffixes stay
   pub record SuffixesStay : Type 0 where
     -- an entry with a suffix has it in all later tables, and is in no ambiguous group
     pub stay : AllPairs (λ t later. (e : E) (n : ℕ) → t e ≡ Some (YearSuffix n) → later e ≡ Some (YearSuffix n)) run
     pub apart : All (λ t. (e : E) (n : ℕ) → t e ≡ Some (YearSuffix n) → IsInNoGroup eq (shown_at t) e) run
-    -- in a group that was given suffixes the distinct entries have 0, 1, 2 and on in the next table, in the order of their first cites
+    -- in a group that gets suffixes the distinct entries have 0, 1, 2 and on in the next table, in the order of their first cites
     pub in_order : AllAdjacentBelow
-        (λ t next. (group : List Place) → GotSuffixes t group → All (λ p. next p.1 ≡ Some (YearSuffix p.0)) (enumerate_from 0 (distinct eq (map entry_of (members (shown_at t) group)))))
+        (λ t next. (group : List Place) → GetsSuffixes t group → All (λ p. next p.1 ≡ Some (YearSuffix p.0)) (enumerate_from 0 (distinct eq (map entry_of (members (shown_at t) group)))))
         run (length run)
 
   abbrev pub last_shown : List (CiteRender E P)
@@ -83,3 +88,9 @@ module _ {E P : Type 0} (mode : RoundMode) (eq : E → E → Bool) (answers : E 
     pub none_left : HaveEnded mode (rounds mode eq answers firsts) → All (λ group. ways eq answers mode last_shown group ≡ []) (ambiguous_groups eq last_shown)
     -- and where dates are shown, two ambiguous cites are of styles that add no suffixes
     pub told_apart : HaveEnded mode (rounds mode eq answers firsts) → shows_dates answers last_shown ≡ true → (a b : Member E P) → AreAmbiguous eq last_shown a b → adds_suffix (a ∷ b ∷ []) ≡ false
+
+  -- all of these
+  pub record IsLawful : Type 0 where
+    pub go_on : StatesGoOn
+    pub stay : SuffixesStay
+    pub left : NothingLeft

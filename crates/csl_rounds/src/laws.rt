@@ -1,7 +1,10 @@
 //! Laws of the whole run, for every document, in both modes.
 ghost use Rattle.std.specs.Prelude.{List};
 ghost use Rattle.csl_passes.specs.Renders.{CiteRender};
-ghost use Rattle.csl_rounds.specs.RunLaws.{AreBegun, NothingLeft, StatesGoOn, SuffixesStay};
+ghost use Rattle.csl_passes.specs.Request.{Request};
+ghost use Rattle.csl_passes.specs.declared.first.FirstProperties.{FirstProperties};
+ghost use Rattle.csl_rounds.specs.FirstRenders.{first_renders};
+ghost use Rattle.csl_rounds.specs.RunLaws.{AreBegun, IsLawful, NothingLeft, StatesGoOn, SuffixesStay};
 ghost use Rattle.csl_rounds.specs.declared.mode.RoundMode.{RoundMode};
 
 use csl_base::entry::EntryLike;
@@ -45,4 +48,13 @@ pub fn suffixes_stay<T: EntryLike, P>()
     csl_ambiguity::laws::ambiguous_stand_together::<T, P>();
     csl_ambiguity::laws::choose_and_suffix_go_on::<T, P>();
     csl_ambiguity::laws::suffixes_count_entries::<T, P>();
+}
+
+/// All of these laws hold of each run that begins with first renders.
+pub fn runs_are_lawful<T: EntryLike, P>()
+    ensures { (mode : RoundMode) (requests : List (Request T P)) (firsts : List (List FirstProperties)) → IsLawful mode T.eq T.answers (first_renders T.answers requests firsts) }
+{
+    states_go_on::<T, P>();
+    suffixes_stay::<T, P>();
+    nothing_is_left::<T, P>();
 }
