@@ -9,3 +9,14 @@ pub mod Twice
 pub mod Rerendered
 pub mod Marked
 pub mod InRounds
+pub mod Runs
+pub mod Told
+pub mod GoneOn
+pub mod Left
+pub mod MarkKinds
+pub mod Ranked
+pub mod Numbered
+pub mod SuffixWalk
+pub mod Suffixes
+pub mod SuffixGroups
+pub mod FirstUntold

@@ -5,3 +5,4 @@ pub mod Tables
 pub mod AfterRounds
 pub mod Gathered
 pub mod Rerenders
+pub mod RunLaws

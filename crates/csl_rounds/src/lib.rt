@@ -3,6 +3,7 @@
 
 pub mod contexts;
 pub mod first_renders;
+pub mod laws;
 mod marks;
 pub mod mode;
 mod rerender;

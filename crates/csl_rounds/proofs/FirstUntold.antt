@@ -1,0 +1,24 @@
+-- At first no cite is told apart.
+use Rattle.std.proofs.Common.{◌≡◌, List, [], ◌∷◌, map, refl}
+use Rattle.std.specs.Prelude.{All, flat_map, zip}
+use Rattle.std.proofs.lemmas.List.Elements.{All-append, All-map, All-nil}
+use Rattle.csl_base.specs.Answers.{Answers}
+use Rattle.csl_lookup.specs.declared.state.DisambiguateState.{DisambiguateState}
+use Rattle.csl_passes.specs.Renders.{ItemRender}
+use Rattle.csl_passes.specs.Request.{Request}
+use Rattle.csl_passes.specs.declared.first.FirstProperties.{FirstProperties}
+use Rattle.csl_rounds.specs.FirstRenders.{first_render, first_renders, first_renders_of}
+use Rattle.csl_rounds.specs.RunLaws.{AreBegun}
+
+module _ {E P : Type 0} (answers : E → Answers) where
+  abbrev IsUntold : ItemRender E P → Type 0
+  IsUntold i = i.properties.speculative.disambiguation ≡ DisambiguateState.None
+
+  rows-untold : (ps : List (Request E P × List FirstProperties)) → AreBegun (map (λ r. first_renders_of answers r.0 r.1) ps)
+  rows-untold [] = All-nil IsUntold
+  rows-untold (p ∷ ps) =
+      All-append IsUntold (first_renders_of answers p.0 p.1).items (flat_map (λ c. c.items) (map (λ r. first_renders_of answers r.0 r.1) ps))
+      (All-map IsUntold (λ c. first_render answers p.0 c.0 c.1) (zip p.0.cites p.1) (λ k d w. refl)) (rows-untold ps)
+
+  pub first-untold : (requests : List (Request E P)) (firsts : List (List FirstProperties)) → AreBegun (first_renders answers requests firsts)
+  first-untold requests firsts = rows-untold (zip requests firsts)

@@ -1,0 +1,15 @@
+use Rattle.csl_rounds.proofs.GoneOn.{states-go-on}
+use Rattle.csl_rounds.proofs.laws.states_go_on.Goals as goal
+
+pub returns : goal.returns
+returns g c = λ mode firsts begun. states-go-on mode g.T.PartialEq.eq g.T.EntryLike.answers firsts
+    (record {
+      equal = g.met.T.Eq.laws;
+      goes = c.states_go_on.ensures.on_and_on;
+      one = c.states_go_on.ensures.greater_is_one;
+      names = c.name_marks_go_on.ensures;
+      without_suffix = c.ambiguous_stand_together.ensures.without_suffix;
+      choose = c.choose_and_suffix_go_on.ensures.choose;
+      suffix = c.choose_and_suffix_go_on.ensures.suffix;
+    })
+    begun
