@@ -2,6 +2,7 @@ pub mod Pairs
 pub mod FirstSteps
 pub mod Halves
 pub mod Walk
+pub mod Counted
 pub mod Raising
 pub mod Placed
 pub mod Kept
@@ -9,3 +10,10 @@ pub mod Twice
 pub mod Rerendered
 pub mod Marked
 pub mod InRounds
+pub mod Ranks
+pub mod NameSizes
+pub mod Higher
+pub mod RankSums
+pub mod Begun
+pub mod FullRounds
+pub mod FullMarks
