@@ -22,7 +22,7 @@ use Rattle.csl_writing.specs.Counted.{counted_times}
 pub three-not-full : RoundMode.Three ≡ RoundMode.Full → ⊥
 three-not-full e = cc
 
-one-more : (k : ℕ) → min (min k (2 ^ 128 - 1) + 1) (2 ^ 128 - 1) ≡ min (k + 1) (2 ^ 128 - 1)
+pub one-more : (k : ℕ) → min (min k (2 ^ 128 - 1) + 1) (2 ^ 128 - 1) ≡ min (k + 1) (2 ^ 128 - 1)
 one-more k = omega arith
 
 module _ {E P : Type 0} (mode : RoundMode) (eq : E → E → Bool) (answers : E → Answers) (firsts : List (CiteRender E P)) where
@@ -34,7 +34,7 @@ module _ {E P : Type 0} (mode : RoundMode) (eq : E → E → Bool) (answers : E 
   last_of t = t ∷ []
 
   -- a round that marks, and one that doesn't
-  from-yes : (n : ℕ) (t : Table E) → has_any (marks_at mode eq answers firsts t) ≡ true
+  pub from-yes : (n : ℕ) (t : Table E) → has_any (marks_at mode eq answers firsts t) ≡ true
       → tables_from mode eq answers firsts (suc n) t ≡ t ∷ tables_from mode eq answers firsts n (with_marks (marked_at mode eq answers firsts t) t)
   unfolding tables_from
   from-yes n t h = rw h refl
@@ -67,6 +67,11 @@ module _ {E P : Type 0} (mode : RoundMode) (eq : E → E → Bool) (answers : E 
         ap (map (marked_at mode eq answers firsts))
         (sym (take-append_seam done (t ∷ [])) ∙ ap (take (length done)) all ∙ ap (λ n. take n (tables mode eq answers firsts)) rounds-done)
 
+  -- the renders after a round are those at the next table
+  pub renders-after : (now new : List (CiteRender E P)) (t : Table E) → now ≡ at_table answers t firsts → new ≡ at_table answers (marks_on now) now
+      → new ≡ at_table answers (with_marks (marked_at mode eq answers firsts t) t) firsts
+  renders-after now new t here again = again ∙ ap (λ rs. at_table answers (marks_on rs) rs) here ∙ twice answers (marked_at mode eq answers firsts t) t firsts
+
   module _ (es : List E) (old : ℕ) where
     -- k rounds have marked
     pub record InRounds (k : ℕ) (now : List (CiteRender E P)) (states : List (Option DisambiguateState)) (marked count : ℕ) : Type 0 where
@@ -79,7 +84,7 @@ module _ {E P : Type 0} (mode : RoundMode) (eq : E → E → Bool) (answers : E 
       pub marked_is : marked ≡ min k (2 ^ 128 - 1)
       pub counted : count ≡ counted_times (rerenders (entries_cited firsts) (map (marked_at mode eq answers firsts) done)) old
 
-    pub begun : (states : List (Option DisambiguateState)) (n : ℕ) → states ≡ replicate n None → n ≡ length es → InRounds 0 firsts states 0 old
+    unfoldable pub begun : (states : List (Option DisambiguateState)) (n : ℕ) → states ≡ replicate n None → n ≡ length es → InRounds 0 firsts states 0 old
     begun states n none same = record {
       table = no_states;
       done = [];
@@ -124,7 +129,7 @@ module _ {E P : Type 0} (mode : RoundMode) (eq : E → E → Bool) (answers : E 
         start = at_table answers so.table firsts
 
         -- a round that marks
-        pub one-round : k < most_rounds mode eq firsts → (next : ℕ) → has_any (round_marks mode eq answers now) ≡ true → next ≡ min (marked + 1) (2 ^ 128 - 1)
+        unfoldable pub one-round : k < most_rounds mode eq firsts → (next : ℕ) → has_any (round_marks mode eq answers now) ≡ true → next ≡ min (marked + 1) (2 ^ 128 - 1)
             → InRounds (k + 1) new given next total
         one-round within next any one =
             let left : most_rounds mode eq firsts - k ≡ suc (most_rounds mode eq firsts - (k + 1)) = omega (arith, within) in
@@ -133,7 +138,7 @@ module _ {E P : Type 0} (mode : RoundMode) (eq : E → E → Bool) (answers : E 
             record {
               table = with_marks table so.table;
               done = so.done ++ so.table ∷ [];
-              renders = again ∙ ap (λ rs. at_table answers (marks_on rs) rs) so.renders ∙ twice answers table so.table firsts;
+              renders = renders-after now new so.table so.renders again;
               all = append_assoc so.done (so.table ∷ []) _
                   ∙ ap (λ ts. so.done ++ ts)
                   (sym (from-yes (most_rounds mode eq firsts - (k + 1)) so.table yes) ∙ ap (λ n. tables_from mode eq answers firsts n so.table) (sym left)) ∙ so.all;

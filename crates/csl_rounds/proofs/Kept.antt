@@ -1,7 +1,7 @@
 -- What a round needs: its marks stand at cites, and what is known of the renders holds after it too.
 use Rattle.std.proofs.Common.{◌≡◌, ℕ, Bool, true, false, cond, not, ◌&&◌, Option, Some, None, List, [], ◌∷◌, ◌++◌, map, filter, refl, ap, subst, ◌∙◌}
 use Rattle.std.specs.Prelude.{⊤, All, find, fold, is_some, option_map}
-use Rattle.std.specs.List.{filter_map, flat_map}
+use Rattle.std.specs.List.{filter_map}
 use Rattle.std.proofs.lemmas.List.Elements.{All-append, All-cons, All-filter, All-head, All-map, All-nil, All-tail}
 use Rattle.csl_ambiguity.specs.Ambiguity.{ambiguous_groups}
 use Rattle.csl_ambiguity.specs.ChooseMarks.{asks, chosen, may_be_chosen}
@@ -162,6 +162,14 @@ module _ {E P : Type 0} (renders : List (CiteRender E P)) where
   -- those of a group that count stand too
   counting-stand : (way : List Place → List Mark) → ((g : List Place) → Marks-stand (way g)) → (g : List Place) → Marks-stand (counting renders way g)
   counting-stand way h g = All-filter (counts renders) (λ m. IsPlace renders m.0) (way g) (h g)
+
+  -- the marks of a group that count, in any way
+  pub ways-stand : (eq : E → E → Bool) (dated : Bool) (g : List Place)
+      → Marks-stand (all_ways (counting renders (name_marks renders)) (counting renders (by_choice eq renders)) (counting renders (by_suffix eq renders dated)) g)
+  ways-stand eq dated g =
+      ways-kept AnyGroup (λ m. IsPlace renders m.0) (counting renders (name_marks renders)) (counting renders (by_choice eq renders)) (counting renders (by_suffix eq renders dated))
+      (λ g h. counting-stand (name_marks renders) names-stand g) (λ g h. counting-stand (by_choice eq renders) (choice-stands eq) g)
+      (λ g h. counting-stand (by_suffix eq renders dated) (suffixes-stand eq dated) g) g tt
 
   -- the marks of a round stand at cites
   pub marks-stand : (mode : RoundMode) (eq : E → E → Bool) (answers : E → Answers) → All (λ m. IsPlace renders m.0) (round_marks mode eq answers renders)

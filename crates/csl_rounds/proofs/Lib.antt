@@ -2,6 +2,7 @@ pub mod Pairs
 pub mod FirstSteps
 pub mod Halves
 pub mod Walk
+pub mod Counted
 pub mod Raising
 pub mod Placed
 pub mod Kept
@@ -20,3 +21,10 @@ pub mod SuffixWalk
 pub mod Suffixes
 pub mod SuffixGroups
 pub mod FirstUntold
+pub mod Ranks
+pub mod NameSizes
+pub mod Higher
+pub mod RankSums
+pub mod Begun
+pub mod FullRounds
+pub mod FullMarks

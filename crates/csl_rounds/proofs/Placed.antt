@@ -1,14 +1,14 @@
 -- The states of entries by their places are those of the entries.
-use Rattle.std.proofs.Common.{◌≡◌, ℕ, zero, suc, ◌+◌, ◌<◌, Bool, true, false, cond, not, Option, Some, None, List, [], ◌∷◌, length, map, filter, get_or, refl, ap, sym, subst, ◌∙◌, arith}
+use Rattle.std.proofs.Common.{◌≡◌, ℕ, zero, suc, ◌+◌, ◌<◌, Bool, true, false, cond, not, ◌||◌, Option, Some, None, List, [], ◌∷◌, length, map, filter, get_or, refl, ap, sym, subst, ◌∙◌, arith}
 use Rattle.std.specs.Prelude.{All, IsSome, nat_eq, option_map, slice_get}
 use Rattle.std.specs.Cmp.{IsEquivalence}
-use Rattle.std.specs.List.{enumerate_from}
+use Rattle.std.specs.List.{enumerate_from, list_any}
 use Rattle.std.specs.Option.{option_and_then, option_map_or}
 use Rattle.std.proofs.lemmas.Bool.{false≢true}
 use Rattle.std.proofs.lemmas.Bool.Decides.{nat_tests}
 use Rattle.std.proofs.lemmas.List.Elements.{All-head, All-tail, All-get_or, All-nil, All-cons}
 use Rattle.std.proofs.Math.ListN.{length-map}
-use Rattle.csl_ambiguity.specs.Members.{Member, entry_of}
+use Rattle.csl_ambiguity.specs.Members.{Member, entry_of, member_at}
 use Rattle.csl_base.specs.Answers.{Answers}
 use Rattle.csl_entries.specs.Entries.{place}
 use Rattle.csl_lookup.specs.declared.state.DisambiguateState.{DisambiguateState}
@@ -16,7 +16,7 @@ use Rattle.csl_passes.specs.Places.{IsPlace}
 use Rattle.csl_passes.specs.Renders.{CiteRender, ItemRender, Place}
 use Rattle.csl_passes.specs.Request.{Request}
 use Rattle.csl_rounds.specs.Gathered.{AreGreatest, IsPlaced, by_places, cite_again, document_again, entry_place, greatest_at, request_again}
-use Rattle.csl_rounds.specs.RoundMarks.{Mark, cites, greatest}
+use Rattle.csl_rounds.specs.RoundMarks.{Mark, cites, greatest, waits}
 use Rattle.csl_rounds.specs.Rounds.{at_table, mark_of, request_at, with_any}
 
 -- the same place is an equal entry
@@ -81,6 +81,10 @@ same-kept Q p q h (x ∷ xs) all =
     ap (λ b. cond b (x ∷ filter p xs) (filter p xs)) (h x (All-head Q x xs all))
     ∙ ap (λ ys. cond (q x) (x ∷ ys) ys) (same-kept Q p q h xs (All-tail Q x xs all))
 
+same-any : {X : Type 0} (Q : X → Type 0) (p q : X → Bool) → ((x : X) → Q x → p x ≡ q x) → (xs : List X) → All Q xs → list_any p xs ≡ list_any q xs
+same-any Q p q h [] all = refl
+same-any Q p q h (x ∷ xs) all = λ i. h x (All-head Q x xs all) i || same-any Q p q h xs (All-tail Q x xs all) i
+
 module _ {E P : Type 0} (eq : E → E → Bool) (es : List E) (places : List (List ℕ)) (renders : List (CiteRender E P)) where
   abbrev pub row : CiteRender E P → List ℕ
   row c = map (λ i. place eq i.entry es) c.items
@@ -123,6 +127,12 @@ module _ {E P : Type 0} (eq : E → E → Bool) (es : List E) (places : List (Li
           below = All-get_or (λ p. p < length es) (get_or places at.0 []) at.1 0 cites (All-get_or (λ ps. All (λ p. p < length es) ps) places at.0 [] requests listed);
         }
 
+    -- the places of cites are known
+    pub group-placed : (group : List Place) → All (IsPlace renders) group → All (IsPlaced places (length es)) group
+    group-placed [] h = All-nil (IsPlaced places (length es))
+    group-placed (p ∷ ps) h =
+        All-cons (IsPlaced places (length es)) p ps (is-placed p (stands p (All-head (IsPlace renders) p ps h))) (group-placed ps (All-tail (IsPlace renders) p ps h))
+
     -- the marks of cites have places
     pub are-placed : (marks : List Mark) → All (λ m. IsPlace renders m.0) marks → All (λ m. IsPlaced places (length es) m.0) marks
     are-placed [] h = All-nil (λ m. IsPlaced places (length es) m.0)
@@ -152,6 +162,26 @@ module _ {E P : Type 0} (eq : E → E → Bool) (es : List E) (places : List (Li
       marks-at marks h e =
           ap (λ ms. greatest (map (λ m. m.1) ms))
           (same-kept (λ m. IsPlace renders m.0) (λ m. nat_eq (entry_place places m.0) (place eq e es)) (λ m. cites eq renders e m.0) (agree e) marks h)
+
+      -- the flags of entries tell whether a group waits
+      module _ (marks : List Mark) (there : All (λ m. IsPlace renders m.0) marks) (flags : List Bool)
+          (told : (p : ℕ) → p < length es → get_or flags p false ≡ list_any (λ m. nat_eq (entry_place places m.0) p) marks) where
+        flag-at : (at : Place) (s : Stands at) → get_or flags (entry_place places at) false ≡ list_any (λ m. cites eq renders s.item.entry m.0) marks
+        flag-at at s =
+            told (entry_place places at) (is-placed at s).below ∙ ap (λ n. list_any (λ m. nat_eq (entry_place places m.0) n) marks) (entry-at at s)
+            ∙ same-any (λ m. IsPlace renders m.0) (λ m. nat_eq (entry_place places m.0) (place eq s.item.entry es)) (λ m. cites eq renders s.item.entry m.0) (agree s.item.entry) marks there
+
+        member-of : (at : Place) (s : Stands at) → member_at renders at ≡ Some (record { place = at; item = s.item; style = s.cite.request.style })
+        member-of at s =
+            ap (option_map (λ cite. record { place = at; item = cite.1; style = cite.0.style }))
+            (ap (λ o. option_and_then (λ cite. option_map (λ item. (cite.request, item)) (slice_get cite.items at.1)) o) s.request
+            ∙ ap (λ o. option_map (λ item. (s.cite.request, item)) o) s.here)
+
+        pub waits-alike : (group : List Place) → All (IsPlace renders) group → list_any (λ p. get_or flags (entry_place places p) false) group ≡ waits eq renders marks group
+        waits-alike [] h = refl
+        waits-alike (at ∷ group) h =
+            let s : Stands at = stands at (All-head (IsPlace renders) at group h) in
+            rw (member-of at s) (λ i. flag-at at s i || waits-alike group (All-tail (IsPlace renders) at group h) i)
 
       module _ (answers : E → Answers) (marks : List Mark) (there : All (λ m. IsPlace renders m.0) marks) (states : List (Option DisambiguateState)) (great : AreGreatest places marks (length es) states) where
         abbrev table : E → Option DisambiguateState

@@ -6,8 +6,8 @@ use Rattle.csl_passes.specs.Renders.{CiteRender, Place}
 use Rattle.csl_ambiguity.specs.SuffixMarks.{shows_dates}
 use Rattle.csl_base.specs.Answers.{Answers}
 use Rattle.csl_name_marks.specs.NameMarks.{name_marks}
-use Rattle.csl_rounds.specs.Gathered.{with_group}
-use Rattle.csl_rounds.specs.RoundMarks.{Mark, MarkedGroups, by_choice, by_suffix, by_three, has_any, marked_groups, marks_of, or_others, round_marks}
+use Rattle.csl_rounds.specs.Gathered.{with_counting, with_group}
+use Rattle.csl_rounds.specs.RoundMarks.{Mark, MarkedGroups, all_ways, by_choice, by_full, by_suffix, by_three, counting, has_any, marked_groups, marks_of, or_others, round_marks, waits}
 use Rattle.csl_rounds.specs.declared.mode.RoundMode.{RoundMode}
 
 module _ (n c s : List Place → List Mark) where
@@ -34,6 +34,15 @@ module _ (n c s : List Place → List Mark) where
   gathered [] = refl
   gathered (g ∷ gs) = stands g gs (n g) (c g) (s g) (gathered gs)
 
+  -- each group that doesn't wait is tried in all ways
+  module _ (w : List Mark → List Place → Bool) where
+    pub gathered-full : (marks : List Mark) (groups : List (List Place))
+        → fold (λ ms g. ms ++ cond (w ms g) [] (all_ways n c s g)) marks groups ≡ marks ++ marks_of (by_full n c s w marks groups)
+    gathered-full marks [] = sym (append-nil marks)
+    gathered-full marks (g ∷ gs) =
+        let own : List Mark = cond (w marks g) [] (all_ways n c s g) in
+        gathered-full (marks ++ own) gs ∙ append_assoc marks own (marks_of (by_full n c s w (marks ++ own) gs))
+
 module _ {E P : Type 0} (eq : E → E → Bool) (answers : E → Answers) (rs : List (CiteRender E P)) (dated : Bool) (groups : List (List Place)) (d : dated ≡ shows_dates answers rs)
     (f : groups ≡ ambiguous_groups eq rs) where
   round-of : (mode : RoundMode) → marks_of (marked_groups eq rs dated mode groups) ≡ round_marks mode eq answers rs
@@ -42,6 +51,10 @@ module _ {E P : Type 0} (eq : E → E → Bool) (answers : E → Answers) (rs : 
 
   pub three-is : fold (with_group eq dated rs) [] groups ≡ round_marks RoundMode.Three eq answers rs
   three-is = gathered (name_marks rs) (by_choice eq rs) (by_suffix eq rs dated) groups ∙ round-of RoundMode.Three
+
+  pub full-is : fold (with_counting eq dated rs) [] groups ≡ round_marks RoundMode.Full eq answers rs
+  full-is =
+      gathered-full (counting rs (name_marks rs)) (counting rs (by_choice eq rs)) (counting rs (by_suffix eq rs dated)) (waits eq rs) [] groups ∙ round-of RoundMode.Full
 
 pub all-taken : {X : Type 0} (xs : List X) (k : ℕ) → length xs ≤ k → take k xs ≡ xs
 all-taken [] zero h = refl

@@ -1,6 +1,6 @@
 -- For the code: marks gathered group by group, and put in by the places of entries.
-use Rattle.std.specs.Prelude.{◌≡◌, ◌<◌, ℕ, Bool, List, [], ◌++◌, Option, Some, None, filter, is_some, length, map, nat_eq, slice_index, slice_index_or}
-use Rattle.std.specs.List.{enumerate_from}
+use Rattle.std.specs.Prelude.{◌≡◌, ◌<◌, ◌||◌, ℕ, All, Bool, false, List, [], ◌++◌, Option, Some, None, filter, is_some, length, map, nat_eq, slice_index, slice_index_or, if◌then◌else◌}
+use Rattle.std.specs.List.{enumerate_from, flat_map, list_any}
 use Rattle.std.specs.Option.{option_or}
 use Rattle.csl_base.specs.Answers.{Answers}
 use Rattle.csl_lookup.specs.States.{greater}
@@ -8,14 +8,26 @@ use Rattle.csl_lookup.specs.declared.state.DisambiguateState.{DisambiguateState}
 use Rattle.csl_name_marks.specs.NameMarks.{name_marks}
 use Rattle.csl_passes.specs.Renders.{CiteRender, ItemRender, Place}
 use Rattle.csl_passes.specs.Request.{Request}
-use Rattle.csl_rounds.specs.RoundMarks.{Mark, by_choice, by_suffix, greatest, or_others}
+use Rattle.csl_rounds.specs.RoundMarks.{Mark, all_ways, by_choice, by_suffix, counting, greatest, or_others, waits}
 use Rattle.csl_rounds.specs.Rounds.{with_any}
+
+-- no cite is told apart yet
+abbrev pub AreBegun : {E P : Type 0} → List (CiteRender E P) → Type 0
+AreBegun renders = All (λ i. i.properties.speculative.disambiguation ≡ DisambiguateState.None) (flat_map (λ c. c.items) renders)
 
 module _ {E P : Type 0} (eq : E → E → Bool) (dated : Bool) (renders : List (CiteRender E P)) where
   -- the marks of the groups so far, and those of one more
   abbrev pub with_group : List Mark → List Place → List Mark
   with_group marks group =
       or_others (or_others (marks ++ name_marks renders group) (by_choice eq renders group)) (by_suffix eq renders dated group)
+
+  -- the marks of a group that count, in the first way that gives any
+  abbrev pub counting_ways : List Place → List Mark
+  counting_ways = all_ways (counting renders (name_marks renders)) (counting renders (by_choice eq renders)) (counting renders (by_suffix eq renders dated))
+
+  -- in mode full: the marks so far, and those of a group that doesn't wait
+  abbrev pub with_counting : List Mark → List Place → List Mark
+  with_counting marks group = marks ++ (if waits eq renders marks group then [] else counting_ways group)
 
 -- the greater of a mark and the state before it
 abbrev pub raised : Option DisambiguateState → DisambiguateState → Option DisambiguateState
@@ -40,6 +52,11 @@ greatest_at places marks p = greatest (map (λ m. m.1) (filter (λ m. nat_eq (en
 pub record AreGreatest (places : List (List ℕ)) (marks : List Mark) (count : ℕ) (states : List (Option DisambiguateState)) : Type 0 where
   pub long : length states ≡ count
   pub at : (p : ℕ) → p < count → slice_index_or states p None ≡ greatest_at places marks p
+
+-- of the entries by their places, those that were marked before are, and those of these marks
+abbrev pub AreMarked : List (List ℕ) → List Mark → List Bool → List Bool → Type 0
+AreMarked places marks old new =
+    (p : ℕ) → p < length old → slice_index_or new p false ≡ (slice_index_or old p false || list_any (λ m. nat_eq (entry_place places m.0) p) marks)
 
 -- how many of these places have a state
 abbrev pub with_states : List (Option DisambiguateState) → List ℕ → ℕ

@@ -2,6 +2,7 @@
 #![tactic(auto)]
 
 pub mod contexts;
+mod counting;
 pub mod first_renders;
 pub mod laws;
 mod marks;

@@ -5,13 +5,15 @@ ghost use Rattle.csl_entries.specs.Entries.{place};
 ghost use Rattle.csl_entries.specs.TableView.{table_view};
 ghost use Rattle.csl_passes.specs.RendersView.{renders_view};
 ghost use Rattle.csl_rounds.specs.AfterRounds.{AreAfterRounds};
+ghost use Rattle.csl_rounds.specs.Gathered.{AreBegun};
 ghost use Rattle.csl_rounds.specs.Rerenders.{AreStatesOf, marked_among};
 ghost use Rattle.csl_rounds.specs.RoundMarks.{has_any, round_marks};
 ghost use Rattle.csl_rounds.specs.Rounds.{Table, at_table, entries_cited, mark_of, with_marks};
 ghost use Rattle.csl_rounds.specs.declared.mode.RoundMode.{RoundMode};
 ghost use Rattle.csl_writing.specs.Counted.{counted_times};
 
-use crate::marks::marks_of_three;
+use crate::marks::round_marks;
+use crate::mode::RoundMode;
 use crate::rerender::render_marked;
 use crate::states::{greatest_marks, no_states, put_before};
 use csl_base::entry::EntryLike;
@@ -37,6 +39,7 @@ fn run_round<'a, T: EntryLike, P>(
     alloc: Global,
     renders: &mut [SpeculativeCiteRender<'_, 'a, T, P>],
     table: &EntryTable<'a, T>,
+    mode: RoundMode,
     states: &mut [Option<DisambiguateState>],
     counter: &mut Renders,
 ) -> Result<bool, AllocError>
@@ -44,15 +47,15 @@ fn run_round<'a, T: EntryLike, P>(
     requires placed { (table_view table.now).places ≡ map (λ c. map (λ i. place T.eq i.entry (table_view table.now).entries) c.items) (renders_view renders.old) }
     requires listed { All (λ ps. All (λ p. p < length (table_view table.now).entries) ps) (table_view table.now).places }
     requires long { length states.old ≡ length (table_view table.now).entries }
-    ensures again { IfOk result (λ again. again ≡ has_any (round_marks RoundMode.Three T.eq T.answers (renders_view renders.old))) }
+    ensures again { IfOk result (λ again. again ≡ has_any (round_marks mode T.eq T.answers (renders_view renders.old))) }
     ensures marked { OnOk result (renders_view renders.new
-        ≡ at_table T.answers (mark_of T.eq (renders_view renders.old) (round_marks RoundMode.Three T.eq T.answers (renders_view renders.old))) (renders_view renders.old)) }
+        ≡ at_table T.answers (mark_of T.eq (renders_view renders.old) (round_marks mode T.eq T.answers (renders_view renders.old))) (renders_view renders.old)) }
     ensures states { OnOk result ((known : Table T) → AreStatesOf T.eq (table_view table.now).entries known states.old
-        → AreStatesOf T.eq (table_view table.now).entries (with_marks (mark_of T.eq (renders_view renders.old) (round_marks RoundMode.Three T.eq T.answers (renders_view renders.old))) known) states.new) }
+        → AreStatesOf T.eq (table_view table.now).entries (with_marks (mark_of T.eq (renders_view renders.old) (round_marks mode T.eq T.answers (renders_view renders.old))) known) states.new) }
     ensures counted { OnOk result (counter.new ≡ counted_times (marked_among (entries_cited (renders_view renders.old))
-        (mark_of T.eq (renders_view renders.old) (round_marks RoundMode.Three T.eq T.answers (renders_view renders.old)))) counter.old) }
+        (mark_of T.eq (renders_view renders.old) (round_marks mode T.eq T.answers (renders_view renders.old)))) counter.old) }
 {
-    let marks = marks_of_three(alloc, renders)?;
+    let marks = round_marks(alloc, renders, table, mode)?;
     if marks.is_empty() {
         return Ok(false);
     }
@@ -62,22 +65,8 @@ fn run_round<'a, T: EntryLike, P>(
     Ok(true)
 }
 
-/// Tells cites apart that read alike and cite different entries (CSL 1.0.2, disambiguation), in three
-/// rounds at most.
-///
-/// In a round each ambiguous group is marked by names. The first group that can be marked in any way
-/// gets, where it has no marks by names, choose marks, or suffixes where it has none of these either.
-/// An entry with marks gets the greatest of them as its state, and each of its cites is rendered again
-/// with it, for its purpose and with no verdict. A round without marks is the last. Each rendering is
-/// counted: one in each round that marks for each cite whose entry it marks.
-///
-/// `renders` has the first renders, its items in the order of their requests; `table` has the place of
-/// each one's entry. No style may have macros that call each other in a ring.
-///
-/// # Errors
-///
-/// Where memory is refused. Then the renders are of no further use.
-pub fn disambiguate<'a, T: EntryLike, P>(
+/// At most three rounds. One without marks is the last.
+fn three_rounds<'a, T: EntryLike, P>(
     alloc: Global,
     renders: &mut [SpeculativeCiteRender<'_, 'a, T, P>],
     table: &EntryTable<'a, T>,
@@ -94,10 +83,88 @@ pub fn disambiguate<'a, T: EntryLike, P>(
         states: no_states(alloc, table.len())?,
     };
     for _round in 0..3usize {
-        if !run_round(alloc, renders, table, &mut rounds.states, counter)? {
+        if !run_round(
+            alloc,
+            renders,
+            table,
+            RoundMode::Three,
+            &mut rounds.states,
+            counter,
+        )? {
             return Ok(rounds);
         }
         rounds.marked = rounds.marked.saturating_add(1);
     }
     Ok(rounds)
+}
+
+/// Rounds until one has no marks that count.
+fn all_rounds<'a, T: EntryLike, P>(
+    alloc: Global,
+    renders: &mut [SpeculativeCiteRender<'_, 'a, T, P>],
+    table: &EntryTable<'a, T>,
+    counter: &mut Renders,
+) -> Result<Rounds, AllocError>
+    requires no_ring { All (λ c. HasNoRing c.request.style.macros) (renders_view renders.old) }
+    requires placed { (table_view table.now).places ≡ map (λ c. map (λ i. place T.eq i.entry (table_view table.now).entries) c.items) (renders_view renders.old) }
+    requires listed { All (λ ps. All (λ p. p < length (table_view table.now).entries) ps) (table_view table.now).places }
+    requires begun { AreBegun (renders_view renders.old) }
+    ensures { IfOk result (λ r. AreAfterRounds RoundMode.Full T.eq T.answers (renders_view renders.old) (table_view table.now).entries counter.old
+        (renders_view renders.new) r.states.items r.marked counter.new) }
+{
+    let mut rounds = Rounds {
+        marked: 0,
+        states: no_states(alloc, table.len())?,
+    };
+    while run_round(
+        alloc,
+        renders,
+        table,
+        RoundMode::Full,
+        &mut rounds.states,
+        counter,
+    )? {
+        rounds.marked = rounds.marked.saturating_add(1);
+    }
+    Ok(rounds)
+}
+
+/// Tells cites apart that read alike and cite different entries (CSL 1.0.2, disambiguation), in rounds.
+///
+/// In mode three there are three rounds at most. Each ambiguous group is marked by names. The first group
+/// that can be marked in any way gets, where it has no marks by names, choose marks, or suffixes where it
+/// has none of these either. In mode full rounds go on until none marks. A mark counts only where it is
+/// greater than the state of its entry. Each ambiguous group gets the marks by names that count, or else the
+/// choose marks that count, or else the suffixes that count; but a group waits for the next round where an
+/// entry of it has a mark from an earlier group.
+///
+/// An entry with marks gets the greatest of them as its state, and each of its cites is rendered again
+/// with it, for its purpose and with no verdict. A round without marks is the last. Each rendering is
+/// counted: one in each round that marks for each cite whose entry it marks.
+///
+/// `renders` has the first renders, its items in the order of their requests; `table` has the place of
+/// each one's entry. No style may have macros that call each other in a ring. In mode full no cite may be
+/// told apart already.
+///
+/// # Errors
+///
+/// Where memory is refused. Then the renders are of no further use.
+pub fn disambiguate<'a, T: EntryLike, P>(
+    alloc: Global,
+    renders: &mut [SpeculativeCiteRender<'_, 'a, T, P>],
+    table: &EntryTable<'a, T>,
+    mode: RoundMode,
+    counter: &mut Renders,
+) -> Result<Rounds, AllocError>
+    requires no_ring { All (λ c. HasNoRing c.request.style.macros) (renders_view renders.old) }
+    requires placed { (table_view table.now).places ≡ map (λ c. map (λ i. place T.eq i.entry (table_view table.now).entries) c.items) (renders_view renders.old) }
+    requires listed { All (λ ps. All (λ p. p < length (table_view table.now).entries) ps) (table_view table.now).places }
+    requires begun { mode ≡ RoundMode.Full → AreBegun (renders_view renders.old) }
+    ensures { IfOk result (λ r. AreAfterRounds mode T.eq T.answers (renders_view renders.old) (table_view table.now).entries counter.old
+        (renders_view renders.new) r.states.items r.marked counter.new) }
+{
+    match mode {
+        RoundMode::Three => three_rounds(alloc, renders, table, counter),
+        RoundMode::Full => all_rounds(alloc, renders, table, counter),
+    }
 }

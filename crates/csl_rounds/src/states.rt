@@ -32,7 +32,7 @@ fn raise(state: &mut Option<DisambiguateState>, mark: DisambiguateState)
 }
 
 /// The place of the entry that is cited at a place.
-fn entry_place(places: &[Vec<usize>], at: (usize, usize), count: usize) -> usize
+pub(crate) fn entry_place(places: &[Vec<usize>], at: (usize, usize), count: usize) -> usize
     requires placed { IsPlaced (map (λ ps. ps.items) places.now) count at }
     ensures { result ≡ entry_place (map (λ ps. ps.items) places.now) at }
 {

@@ -3,7 +3,6 @@ use Rattle.csl_entries.specs.TableView.{table_view}
 use Rattle.csl_passes.specs.RendersView.{renders_view}
 use Rattle.csl_rounds.specs.Gathered.{put_before}
 use Rattle.csl_rounds.specs.Rounds.{entries_cited}
-use Rattle.csl_rounds.specs.declared.mode.RoundMode.{RoundMode}
 use Rattle.csl_rounds.proofs.Marked.{any-tested, as-long, empty-counted, empty-round, empty-states, nothing-marked, round-counted, round-done, round-placed, round-states, round-within}
 use Rattle.csl_rounds.proofs.rounds.run_round.Goals as goal
 
@@ -29,7 +28,7 @@ returns-then-is_empty-clause-counted g c =
 
 pub greatest_marks-requires : goal.greatest_marks-requires
 greatest_marks-requires g c = record {
-  placed = round-placed RoundMode.Three g.T.PartialEq.eq g.T.EntryLike.answers (table_view c.args.table.now).entries (renders_view c.args.renders.now) (table_view c.args.table.now).places c.requires.placed c.requires.listed
+  placed = round-placed c.args.mode g.T.PartialEq.eq g.T.EntryLike.answers (table_view c.args.table.now).entries (renders_view c.args.renders.now) (table_view c.args.table.now).places c.requires.placed c.requires.listed
       (map (λ ps. ps.items) c.places.result.now) c.len.result c.in_ok-marks.marks.items c.places.ensures c.len.ensures c.in_ok-marks.ensures;
 }
 
@@ -39,19 +38,19 @@ render_marked-requires-clause-placed g c =
 
 pub render_marked-requires-clause-within : goal.render_marked-requires-clause-within
 render_marked-requires-clause-within g c =
-    round-within RoundMode.Three g.T.PartialEq.eq g.T.EntryLike.answers (table_view c.args.table.now).entries (renders_view c.args.renders.now) (table_view c.args.table.now).places c.requires.placed c.requires.listed
+    round-within c.args.mode g.T.PartialEq.eq g.T.EntryLike.answers (table_view c.args.table.now).entries (renders_view c.args.renders.now) (table_view c.args.table.now).places c.requires.placed c.requires.listed
     (λ ps. ps.items) c.places-2.result.now (length c.deref.result.now) c.places-2.ensures (ap length c.deref.ensures.value ∙ c.in_ok-marked.ensures.long ∙ c.len.ensures)
 
 pub returns-clause-marked : goal.returns-clause-marked
 returns-clause-marked g c =
     c.in_ok-render_marked.ensures.again
-    ∙ round-done RoundMode.Three g.T.PartialEq.eq g.T.EntryLike.answers (table_view c.args.table.now).entries (renders_view c.args.renders.now) (table_view c.args.table.now).places c.requires.placed c.requires.listed g.met.T.Eq.laws
+    ∙ round-done c.args.mode g.T.PartialEq.eq g.T.EntryLike.answers (table_view c.args.table.now).entries (renders_view c.args.renders.now) (table_view c.args.table.now).places c.requires.placed c.requires.listed g.met.T.Eq.laws
     (map (λ ps. ps.items) c.places.result.now) (map (λ ps. ps.items) c.places-2.result.now) c.len.result c.in_ok-marks.marks.items c.in_ok-marked.marked.items c.deref.result.now
     c.places.ensures c.places-2.ensures c.len.ensures c.in_ok-marks.ensures c.deref.ensures.value c.in_ok-marked.ensures
 
 pub returns-clause-states : goal.returns-clause-states
 returns-clause-states g c = λ known.
-    round-states RoundMode.Three g.T.PartialEq.eq g.T.EntryLike.answers (table_view c.args.table.now).entries (renders_view c.args.renders.now) (table_view c.args.table.now).places c.requires.placed c.requires.listed g.met.T.Eq.laws
+    round-states c.args.mode g.T.PartialEq.eq g.T.EntryLike.answers (table_view c.args.table.now).entries (renders_view c.args.renders.now) (table_view c.args.table.now).places c.requires.placed c.requires.listed g.met.T.Eq.laws
     (map (λ ps. ps.items) c.places.result.now) (map (λ ps. ps.items) c.places-2.result.now) c.len.result c.in_ok-marks.marks.items c.in_ok-marked.marked.items c.deref.result.now
     c.places.ensures c.places-2.ensures c.len.ensures c.in_ok-marks.ensures c.deref.ensures.value c.in_ok-marked.ensures
     known c.args.states.now c.put_before.new.kept
@@ -59,7 +58,7 @@ returns-clause-states g c = λ known.
 
 pub returns-clause-counted : goal.returns-clause-counted
 returns-clause-counted g c =
-    round-counted RoundMode.Three g.T.PartialEq.eq g.T.EntryLike.answers (table_view c.args.table.now).entries (renders_view c.args.renders.now) (table_view c.args.table.now).places c.requires.placed c.requires.listed g.met.T.Eq.laws
+    round-counted c.args.mode g.T.PartialEq.eq g.T.EntryLike.answers (table_view c.args.table.now).entries (renders_view c.args.renders.now) (table_view c.args.table.now).places c.requires.placed c.requires.listed g.met.T.Eq.laws
     (map (λ ps. ps.items) c.places.result.now) (map (λ ps. ps.items) c.places-2.result.now) c.len.result c.in_ok-marks.marks.items c.in_ok-marked.marked.items c.deref.result.now
     c.places.ensures c.places-2.ensures c.len.ensures c.in_ok-marks.ensures c.deref.ensures.value c.in_ok-marked.ensures
     (λ ps. ps.items) c.places-2.result.now c.args.counter.now c.render_marked.new.counter c.places-2.ensures c.in_ok-render_marked.ensures.counted

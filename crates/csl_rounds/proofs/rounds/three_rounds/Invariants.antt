@@ -6,7 +6,7 @@ use Rattle.csl_entries.specs.TableView.{table_view}
 use Rattle.csl_passes.specs.RendersView.{renders_view}
 use Rattle.csl_rounds.specs.declared.mode.RoundMode.{RoundMode}
 use Rattle.csl_rounds.proofs.InRounds.{InRounds}
-use Rattle.csl_rounds.proofs.rounds.disambiguate.Given as goal
+use Rattle.csl_rounds.proofs.rounds.three_rounds.Given as goal
 
 abbrev pub invariant-loop-round : goal.invariant-loop-round
 invariant-loop-round g l = record {

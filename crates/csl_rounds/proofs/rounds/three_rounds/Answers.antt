@@ -6,7 +6,7 @@ use Rattle.csl_rounds.specs.Rounds.{with_marks}
 use Rattle.csl_rounds.specs.declared.mode.RoundMode.{RoundMode}
 use Rattle.csl_rounds.proofs.InRounds.{begun, last-round, marks_on, no-round-left, one-round, put-back, three-not-full}
 use Rattle.csl_rounds.proofs.Marked.{places-after, rings-after}
-use Rattle.csl_rounds.proofs.rounds.disambiguate.Goals as goal
+use Rattle.csl_rounds.proofs.rounds.three_rounds.Goals as goal
 
 abbrev three : RoundMode
 three = RoundMode.Three
