@@ -1,4 +1,4 @@
--- The laws of numbers, final orders and runs hold of every answer.
+-- The laws of states, numbers, final orders and runs hold of every answer.
 use Rattle.std.proofs.Common.{◌≡◌, ℕ, Bool, true, false, List, [], ◌∷◌, Option, None, Some, length, map, refl, sym, ◌∙◌, true≢false}
 use Rattle.std.specs.Prelude.{All, if◌then◌else◌}
 use Rattle.std.specs.Cmp.{IsEquivalence}
@@ -19,7 +19,11 @@ use Rattle.csl_entries.proofs.Distinct.{is_in-distinct}
 use Rattle.csl_grouping.specs.Blocks.{grouped}
 use Rattle.csl_passes.specs.Renders.{CiteRender}
 use Rattle.csl_passes.specs.Request.{Request, cited}
+use Rattle.csl_passes.specs.declared.first.FirstProperties.{FirstProperties}
 use Rattle.csl_positions.specs.FinalProperties.{cited_finally}
+use Rattle.csl_positions.specs.FirstProperties.{first_properties}
+use Rattle.csl_rounds.specs.FirstRenders.{first_renders}
+use Rattle.csl_rounds.specs.RunLaws.{IsLawful}
 use Rattle.csl_rounds.specs.Tables.{disambiguated}
 use Rattle.csl_rounds.specs.declared.mode.RoundMode.{RoundMode}
 
@@ -63,9 +67,11 @@ module _ {E P : Type 0} (eq : E → E → Bool) (laws : IsEquivalence eq) (each_
         ordered-stand eq laws answers payload_eq (number eq asked.offset (entries_listed eq asked.wanted asked.requests)) asked.requests (table_of eq asked.requests) refl firsts refl mode
         (disambiguated mode eq answers firsts) (in_final_order eq payload_eq answers mode asked) refl refl
 
-    pub keeps-laws : ((c : CiteRender E P) → IsBroughtTogether c) → ((c : CiteRender E P) → CanBeReadBack c.items (collapsed c).items c.request.style.citation.collapse)
+    pub keeps-laws : ((m : RoundMode) (requests : List (Request E P)) (first : List (List FirstProperties)) → IsLawful m eq answers (first_renders answers requests first))
+        → ((c : CiteRender E P) → IsBroughtTogether c) → ((c : CiteRender E P) → CanBeReadBack c.items (collapsed c).items c.request.style.citation.collapse)
         → KeepsLaws eq payload_eq answers mode asked
-    keeps-laws brought drawn = record {
+    keeps-laws lawful brought drawn = record {
+      rounds = lawful mode asked.requests (first_properties eq payload_eq (number eq asked.offset (entries_listed eq asked.wanted asked.requests)) asked.requests);
       numbers = by-order asked.offset (order_in_use asked.wanted) asked.requests (in_final_order eq payload_eq answers mode asked)
           (λ e. ordered.same e ∙ is_in-distinct eq laws e (cited asked.requests));
       final_orders = everywhere IsBroughtTogether brought (disambiguated mode eq answers (rendered_first eq payload_eq answers asked));

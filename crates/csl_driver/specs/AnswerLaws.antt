@@ -1,4 +1,4 @@
--- What a caller may rely on of numbers, final orders and runs, without reading any layout.
+-- What a caller may rely on of states, numbers, final orders and runs, without reading any layout.
 use Rattle.std.specs.Prelude.{◌≡◌, ℕ, All, Bool, true, List, length, map}
 use Rattle.std.specs.List.{range_with_len}
 use Rattle.csl_assembly.specs.CitationTree.{has_no_purpose}
@@ -11,6 +11,7 @@ use Rattle.csl_grouping.specs.Blocks.{grouped, is_grouped}
 use Rattle.csl_grouping.specs.FinalOrder.{HasFinalOrder}
 use Rattle.csl_passes.specs.Renders.{CiteRender}
 use Rattle.csl_passes.specs.Request.{cited}
+use Rattle.csl_rounds.specs.RunLaws.{IsLawful}
 use Rattle.csl_rounds.specs.Tables.{disambiguated}
 use Rattle.csl_rounds.specs.declared.mode.RoundMode.{RoundMode}
 
@@ -32,6 +33,8 @@ abbrev pub IsReadBack : {E P : Type 0} → CiteRender E P → Type 0
 IsReadBack c = has_no_purpose c.items ≡ true → CanBeReadBack c.items (drawn_together c).items c.request.style.citation.collapse
 
 pub record KeepsLaws {E P : Type 0} (eq : E → E → Bool) (payload_eq : P → P → Bool) (answers : E → Answers) (mode : RoundMode) (asked : Asked E P) : Type 0 where
+  -- states go on from table to table, suffixes stay, and nothing is left
+  pub rounds : IsLawful mode eq answers (rendered_first eq payload_eq answers asked)
   pub numbers : HaveNumbersOnce eq asked.offset (cited asked.requests) (final_number eq payload_eq answers mode asked)
   pub final_orders : All IsBroughtTogether (disambiguated mode eq answers (rendered_first eq payload_eq answers asked))
   pub runs : All IsReadBack (in_the_end eq payload_eq answers mode asked)

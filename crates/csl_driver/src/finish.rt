@@ -42,6 +42,7 @@ use csl_passes::request::{BibliographyRequest, CitationRequest, Order};
 use csl_positions::final_order::{final_listing, set_final_properties};
 use csl_positions::first::first_properties;
 use csl_rounds::first_renders::{discard_renders, first_renders};
+use csl_rounds::mode::RoundMode;
 use csl_rounds::rounds::{Rounds, disambiguate};
 use csl_writing::counter::Renders;
 use std::alloc::{AllocError, Global};
@@ -168,6 +169,7 @@ fn settle_cites<'a, T: EntryLike, P: Eq>(
     alloc: Global,
     requests: &[CitationRequest<'a, T, P>],
     wanted: &BibliographyRequest<'_, 'a, T>,
+    mode: RoundMode,
     cited: &Cited<'a, T>,
     cites: &mut [SpeculativeCiteRender<'_, 'a, T, P>],
     renders: &mut Renders,
@@ -175,12 +177,12 @@ fn settle_cites<'a, T: EntryLike, P: Eq>(
     requires no_ring { NoRingIn (requests_view requests.now) }
     requires known { IsCitedBy T.eq (requests_view requests.now) (order_in_use (wanted_view wanted.now)) cited.now }
     requires first { renders_view cites.old ≡ rendered_first T.eq P.eq T.answers (asked_view requests.now cited.now.offset wanted.now) }
-    ensures in_the_end { OnOk result (renders_view cites.new ≡ in_the_end T.eq P.eq T.answers RoundMode.Three (asked_view requests.now cited.now.offset wanted.now)) }
+    ensures in_the_end { OnOk result (renders_view cites.new ≡ in_the_end T.eq P.eq T.answers mode (asked_view requests.now cited.now.offset wanted.now)) }
     ensures stand { OnOk result (AreCitesOf T.eq (table_view cited.now.table) (requests_view requests.now) (renders_view cites.new)) }
-    ensures settled { IfOk result (AreSettled T.eq P.eq T.answers RoundMode.Three (asked_view requests.now cited.now.offset wanted.now) (table_view cited.now.table).entries) }
-    ensures counted { OnOk result (renders.new ≡ counted_times (rerendered T.eq P.eq T.answers RoundMode.Three (asked_view requests.now cited.now.offset wanted.now)) renders.old) }
+    ensures settled { IfOk result (AreSettled T.eq P.eq T.answers mode (asked_view requests.now cited.now.offset wanted.now) (table_view cited.now.table).entries) }
+    ensures counted { OnOk result (renders.new ≡ counted_times (rerendered T.eq P.eq T.answers mode (asked_view requests.now cited.now.offset wanted.now)) renders.old) }
 {
-    let rounds = disambiguate(alloc, cites, &cited.table, renders)?;
+    let rounds = disambiguate(alloc, cites, &cited.table, mode, renders)?;
     group_all(alloc, cites)?;
     let numbers = final_numbers(alloc, requests, wanted, cited, cites)?;
     set_final_properties(cites, &cited.table, &numbers);
@@ -230,6 +232,7 @@ fn settled_answer<'a, T: EntryLike, P: Eq + Drop>(
     alloc: Global,
     requests: &[CitationRequest<'a, T, P>],
     wanted: &BibliographyRequest<'_, 'a, T>,
+    mode: RoundMode,
     cited: &Cited<'a, T>,
     cites: &mut [SpeculativeCiteRender<'_, 'a, T, P>],
     renders: &mut Renders,
@@ -237,12 +240,12 @@ fn settled_answer<'a, T: EntryLike, P: Eq + Drop>(
     requires no_ring { NoRingAtAll (requests_view requests.now) (style_view wanted.now.style.now) }
     requires known { IsCitedBy T.eq (requests_view requests.now) (order_in_use (wanted_view wanted.now)) cited.now }
     requires first { renders_view cites.old ≡ rendered_first T.eq P.eq T.answers (asked_view requests.now cited.now.offset wanted.now) }
-    ensures rendered { IfOk result (λ r. r.0 ≡ rendered T.eq P.eq T.answers RoundMode.Three (asked_view requests.now cited.now.offset wanted.now)) }
-    ensures settled { IfOk result (λ r. AreSettled T.eq P.eq T.answers RoundMode.Three (asked_view requests.now cited.now.offset wanted.now) (table_view cited.now.table).entries r.1) }
+    ensures rendered { IfOk result (λ r. r.0 ≡ rendered T.eq P.eq T.answers mode (asked_view requests.now cited.now.offset wanted.now)) }
+    ensures settled { IfOk result (λ r. AreSettled T.eq P.eq T.answers mode (asked_view requests.now cited.now.offset wanted.now) (table_view cited.now.table).entries r.1) }
     ensures counted { OnOk result (renders.new
-        ≡ counted_times (length (cites_of (requests_view requests.now)) + (listed_count T.eq (wanted_view wanted.now) (requests_view requests.now) + rerendered T.eq P.eq T.answers RoundMode.Three (asked_view requests.now cited.now.offset wanted.now))) renders.old) }
+        ≡ counted_times (length (cites_of (requests_view requests.now)) + (listed_count T.eq (wanted_view wanted.now) (requests_view requests.now) + rerendered T.eq P.eq T.answers mode (asked_view requests.now cited.now.offset wanted.now))) renders.old) }
 {
-    let settled = settle_cites(alloc, requests, wanted, cited, cites, renders)?;
+    let settled = settle_cites(alloc, requests, wanted, mode, cited, cites, renders)?;
     let bibliography = wanted_bibliography(alloc, requests, wanted, cited, cites, renders)?;
     draw_together(cites);
     let citations = rendered_citations(alloc, cites, renders)?;
@@ -283,11 +286,12 @@ fn counted_answer<'a, T: EntryLike, P: Eq + Drop>(
     alloc: Global,
     requests: &[CitationRequest<'a, T, P>],
     wanted: &BibliographyRequest<'_, 'a, T>,
+    mode: RoundMode,
     cited: &Cited<'a, T>,
 ) -> Result<(Rendered, Account<'a, T>), AllocError>
     requires no_ring { NoRingAtAll (requests_view requests.now) (style_view wanted.now.style.now) }
     requires known { IsCitedBy T.eq (requests_view requests.now) (order_in_use (wanted_view wanted.now)) cited.now }
-    ensures { IfOk result (IsAnswer T.eq P.eq T.answers RoundMode.Three (asked_view requests.now cited.now.offset wanted.now)) }
+    ensures { IfOk result (IsAnswer T.eq P.eq T.answers mode (asked_view requests.now cited.now.offset wanted.now)) }
 {
     let mut renders = Renders::new();
     let mut cites = rendered_first(alloc, requests, wanted, cited, &mut renders)?;
@@ -295,6 +299,7 @@ fn counted_answer<'a, T: EntryLike, P: Eq + Drop>(
         alloc,
         requests,
         wanted,
+        mode,
         cited,
         &mut cites.renders,
         &mut renders,
@@ -309,20 +314,38 @@ fn checked_answer<'a, T: EntryLike, P: Eq + Drop>(
     alloc: Global,
     requests: &[CitationRequest<'a, T, P>],
     wanted: &BibliographyRequest<'_, 'a, T>,
+    mode: RoundMode,
     offset: usize,
 ) -> Result<(Rendered, Account<'a, T>), DriverError>
-    ensures answer { IfOk result (IsAnswer T.eq P.eq T.answers RoundMode.Three (asked_view requests.now offset wanted.now)) }
+    ensures answer { IfOk result (IsAnswer T.eq P.eq T.answers mode (asked_view requests.now offset wanted.now)) }
     ensures ringless { OnOk result (NoRingAtAll (requests_view requests.now) (style_view wanted.now.style.now)) }
     ensures fits { OnOk result (offset + length (distinct T.eq (cited (requests_view requests.now))) < 2 ^ 64) }
     ensures refused { IfErr result (Refuses T.eq (requests_view requests.now) (style_view wanted.now.style.now) offset) }
 {
     refuse_rings(alloc, requests, wanted)?;
     let cited = cited_by(alloc, requests, wanted, offset)?;
-    let answer = counted_answer(alloc, requests, wanted, &cited)?;
+    let answer = counted_answer(alloc, requests, wanted, mode, &cited)?;
     Ok(answer)
 }
 
 impl<'a, T: EntryLike, P: Eq + Drop> BibliographyDriver<'a, T, P> {
+    /// Answers all requests, and gives the account, with so many rounds.
+    fn answered(
+        self,
+        request: BibliographyRequest<'_, 'a, T>,
+        mode: RoundMode,
+    ) -> Result<(Rendered, Account<'a, T>), DriverError>
+        ensures answer { IfOk result (IsAnswer T.eq P.eq T.answers mode (asked_of self.entry request.entry)) }
+        ensures ringless { OnOk result (NoRingAtAll (driver_view self.entry).requests (style_view request.entry.style.now)) }
+        ensures fits { OnOk result ((driver_view self.entry).offset + length (distinct T.eq (cited (driver_view self.entry).requests)) < 2 ^ 64) }
+        ensures refused { IfErr result (Refuses T.eq (driver_view self.entry).requests (style_view request.entry.style.now) (driver_view self.entry).offset) }
+    {
+        let (citations, offset, alloc) = self.into_parts();
+        let result = checked_answer(alloc, &citations, &request, mode, offset);
+        discard(citations);
+        result
+    }
+
     /// Answers all requests: a citation for each, and the bibliography, where its style has one.
     ///
     /// Cites that read alike are told apart, cites of one author are grouped, and runs of numbers and years
@@ -364,9 +387,25 @@ impl<'a, T: EntryLike, P: Eq + Drop> BibliographyDriver<'a, T, P> {
         ensures fits { OnOk result ((driver_view self.entry).offset + length (distinct T.eq (cited (driver_view self.entry).requests)) < 2 ^ 64) }
         ensures refused { IfErr result (Refuses T.eq (driver_view self.entry).requests (style_view request.entry.style.now) (driver_view self.entry).offset) }
     {
-        let (citations, offset, alloc) = self.into_parts();
-        let result = checked_answer(alloc, &citations, &request, offset);
-        discard(citations);
-        result
+        self.answered(request, RoundMode::Three)
+    }
+
+    /// Answers all requests, as `finish_counted` does, but for the rounds in which cites are told apart:
+    /// these go on until none marks. In a round each ambiguous group is tried in all ways, and a mark counts
+    /// only where it is greater than the state of its entry; a group waits for the next round where an entry
+    /// of it was marked in this one.
+    ///
+    /// # Errors
+    /// Those of `finish`.
+    pub fn finish_full(
+        self,
+        request: BibliographyRequest<'_, 'a, T>,
+    ) -> Result<(Rendered, Account<'a, T>), DriverError>
+        ensures answer { IfOk result (IsAnswer T.eq P.eq T.answers RoundMode.Full (asked_of self.entry request.entry)) }
+        ensures ringless { OnOk result (NoRingAtAll (driver_view self.entry).requests (style_view request.entry.style.now)) }
+        ensures fits { OnOk result ((driver_view self.entry).offset + length (distinct T.eq (cited (driver_view self.entry).requests)) < 2 ^ 64) }
+        ensures refused { IfErr result (Refuses T.eq (driver_view self.entry).requests (style_view request.entry.style.now) (driver_view self.entry).offset) }
+    {
+        self.answered(request, RoundMode::Full)
     }
 }

@@ -15,15 +15,17 @@ pub use csl_passes::laws::{
     item_equality_decides, items_copy_equal, properties_equality_decides, request_equality_decides,
     wanted_equality_decides,
 };
+pub use csl_rounds::laws::runs_are_lawful;
 
 use csl_base::entry::EntryLike;
 
-/// A law of every answer, whatever is asked: the entries that are cited have the numbers from the offset on,
-/// each once; the cites of each request have a final order; and what collapsing hid of a request without
-/// purposes can be read back.
+/// A law of every answer, whatever is asked: states go on from table to table, suffixes stay, and nothing is
+/// left; the entries that are cited have the numbers from the offset on, each once; the cites of each request
+/// have a final order; and what collapsing hid of a request without purposes can be read back.
 pub fn answers_keep_laws<T: EntryLike, P: Eq>()
     ensures { (mode : RoundMode) (asked : Asked T P) → KeepsLaws T.eq P.eq T.answers mode asked }
 {
+    runs_are_lawful::<T, P>();
     bibliography_holds_each_once::<T>();
     numbers_have_no_gaps::<T>();
     grouped_in_final_order::<T, P>();

@@ -7,8 +7,8 @@ use Rattle.csl_base.specs.Answers.{Answers}
 use Rattle.csl_lookup.specs.GoingOn.{rank}
 use Rattle.csl_lookup.specs.declared.state.DisambiguateState.{DisambiguateState}
 use Rattle.csl_passes.specs.Renders.{CiteRender}
+use Rattle.csl_rounds.specs.FirstRenders.{AreBegun}
 use Rattle.csl_rounds.specs.AfterRounds.{AreAfterRounds}
-use Rattle.csl_rounds.specs.Gathered.{AreBegun}
 use Rattle.csl_rounds.specs.Rerenders.{AreStatesOf, marked_among}
 use Rattle.csl_rounds.specs.RoundMarks.{has_any, round_marks}
 use Rattle.csl_rounds.specs.Rounds.{at_table, entries_cited, with_marks}

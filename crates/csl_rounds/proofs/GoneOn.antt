@@ -16,9 +16,10 @@ use Rattle.csl_lookup.specs.declared.state.DisambiguateState.{DisambiguateState}
 use Rattle.csl_name_marks.specs.MarkLaws.{IsNameMark, NameMarksGoOn}
 use Rattle.csl_name_marks.specs.NameMarks.{name_marks}
 use Rattle.csl_passes.specs.Renders.{CiteRender, Place}
+use Rattle.csl_rounds.specs.FirstRenders.{AreBegun}
 use Rattle.csl_rounds.specs.RoundMarks.{Mark, by_choice, by_suffix, cites, counting, counts, greatest, has_any, round_marks, waits}
 use Rattle.csl_rounds.specs.Rounds.{Table, at_table, mark_of, no_states, with_marks}
-use Rattle.csl_rounds.specs.RunLaws.{AreBegun, StatesGoOn, told_by}
+use Rattle.csl_rounds.specs.RunLaws.{StatesGoOn, told_by}
 use Rattle.csl_rounds.specs.Tables.{marked_at, marks_at, most_rounds, tables, tables_from}
 use Rattle.csl_rounds.specs.declared.mode.RoundMode.{RoundMode}
 use Rattle.csl_rounds.proofs.Kept.{full-kept, three-kept}

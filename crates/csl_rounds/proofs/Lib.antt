@@ -20,7 +20,6 @@ pub mod Numbered
 pub mod SuffixWalk
 pub mod Suffixes
 pub mod SuffixGroups
-pub mod FirstUntold
 pub mod Ranks
 pub mod NameSizes
 pub mod Higher

@@ -21,7 +21,7 @@ use Rattle.csl_name_marks.specs.NamedCites.{greatest as greatest_number}
 use Rattle.csl_passes.specs.Places.{IsPlace, cite_at}
 use Rattle.csl_passes.specs.Renders.{CiteRender, ItemRender, Place}
 use Rattle.csl_passes.specs.Request.{Request}
-use Rattle.csl_rounds.specs.Gathered.{AreBegun}
+use Rattle.csl_rounds.specs.FirstRenders.{AreBegun}
 use Rattle.csl_rounds.specs.RoundMarks.{Mark, cites, greatest, has_any}
 use Rattle.csl_rounds.specs.Rounds.{Table, at_table, entries_cited, no_states, request_at, with_any, with_marks}
 use Rattle.csl_rounds.specs.Tables.{form_count, marked_at, marks_at, most_forms, most_rounds}

@@ -24,9 +24,10 @@ use Rattle.csl_name_marks.specs.NameMarks.{name_marks}
 use Rattle.csl_name_marks.specs.NamedCites.{greatest as greatest_number, start}
 use Rattle.csl_passes.specs.Renders.{CiteRender, ItemRender, Place}
 use Rattle.csl_passes.specs.Request.{Request}
+use Rattle.csl_rounds.specs.FirstRenders.{AreBegun}
 use Rattle.csl_rounds.specs.RoundMarks.{Mark, by_choice, by_suffix, cites, counting, counts, greatest, has_any, raises, round_marks, waits}
 use Rattle.csl_rounds.specs.Rounds.{Table, at_table, entries_cited, no_states, with_any}
-use Rattle.csl_rounds.specs.RunLaws.{AreBegun, NothingLeft, told_by}
+use Rattle.csl_rounds.specs.RunLaws.{NothingLeft, told_by}
 use Rattle.csl_rounds.specs.Tables.{form_count, last_states, marked_at, marks_at, most_forms, most_rounds}
 use Rattle.csl_rounds.specs.declared.mode.RoundMode.{RoundMode}
 use Rattle.csl_rounds.proofs.GoneOn.{Alike, AreMarkLaws, GoesFrom, alike-next, are-steps, cites-is, goes-next, goes_on, greatest-known, marks-go, marks-of, member-told, next}

@@ -17,9 +17,10 @@ use Rattle.csl_lookup.specs.declared.state.DisambiguateState.{DisambiguateState}
 use Rattle.csl_lookup.specs.declared.state.DisambiguateState.TheVariants.{YearSuffix}
 use Rattle.csl_name_marks.specs.NameMarks.{name_marks}
 use Rattle.csl_passes.specs.Renders.{CiteRender, Place}
+use Rattle.csl_rounds.specs.FirstRenders.{AreBegun}
 use Rattle.csl_rounds.specs.RoundMarks.{Mark, all_ways, by_choice, by_suffix, cites, counting, counts, has_any, marks_by_group, or_others, round_marks}
 use Rattle.csl_rounds.specs.Rounds.{Table, at_table, mark_of, no_states}
-use Rattle.csl_rounds.specs.RunLaws.{AreBegun, GetsSuffixes, IsInNoGroup, SuffixesStay}
+use Rattle.csl_rounds.specs.RunLaws.{GetsSuffixes, IsInNoGroup, SuffixesStay}
 use Rattle.csl_rounds.specs.Tables.{marked_at, most_rounds, tables}
 use Rattle.csl_rounds.specs.declared.mode.RoundMode.{RoundMode}
 use Rattle.csl_rounds.proofs.GoneOn.{Alike, AreMarkLaws, GoesIn, all-alike, alike-next, are-groups, are-steps, choice-in, cites-is, goes_on, member-told, names-in, next, state-goes, suffixes-in}

@@ -9,8 +9,9 @@ use Rattle.csl_lookup.specs.declared.state.DisambiguateState.{DisambiguateState}
 use Rattle.csl_passes.specs.Places.{cite_at}
 use Rattle.csl_passes.specs.Renders.{CiteRender, ItemRender, Place}
 use Rattle.csl_passes.specs.Request.{Request}
+use Rattle.csl_rounds.specs.FirstRenders.{AreBegun}
 use Rattle.csl_rounds.specs.Rounds.{Table, at_table, with_any}
-use Rattle.csl_rounds.specs.RunLaws.{AreBegun, told_by}
+use Rattle.csl_rounds.specs.RunLaws.{told_by}
 use Rattle.csl_rounds.proofs.Runs.{all-at, all-left, all-right, all-row}
 
 some-inj : {X : Type 0} (x y : X) → Some x ≡ Some y → x ≡ y

@@ -1,8 +1,9 @@
 -- The first renders of cites, before any of them is told apart from others.
-use Rattle.std.specs.Prelude.{◌≡◌, List, None, length, map, zip}
+use Rattle.std.specs.Prelude.{◌≡◌, All, List, None, flat_map, length, map, zip}
 use Rattle.csl_base.specs.Answers.{Answers}
 use Rattle.csl_lookup.specs.NoProperties.{speculated}
 use Rattle.csl_lookup.specs.Properties.{Properties}
+use Rattle.csl_lookup.specs.declared.state.DisambiguateState.{DisambiguateState}
 use Rattle.csl_lookup.specs.declared.state.IdentifierUsage.{IdentifierUsage}
 use Rattle.csl_passes.specs.Renders.{CiteRender, ItemRender}
 use Rattle.csl_passes.specs.Request.{RequestedCite, Request, source_of}
@@ -52,3 +53,7 @@ module _ {E P : Type 0} (answers : E → Answers) where
   -- those of all requests
   abbrev pub first_renders : List (Request E P) → List (List FirstProperties) → List (CiteRender E P)
   first_renders requests firsts = map (λ r. first_renders_of r.0 r.1) (zip requests firsts)
+
+-- no cite is told apart yet
+abbrev pub AreBegun : {E P : Type 0} → List (CiteRender E P) → Type 0
+AreBegun renders = All (λ i. i.properties.speculative.disambiguation ≡ DisambiguateState.None) (flat_map (λ c. c.items) renders)

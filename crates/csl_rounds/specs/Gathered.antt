@@ -11,10 +11,6 @@ use Rattle.csl_passes.specs.Request.{Request}
 use Rattle.csl_rounds.specs.RoundMarks.{Mark, all_ways, by_choice, by_suffix, counting, greatest, or_others, waits}
 use Rattle.csl_rounds.specs.Rounds.{with_any}
 
--- no cite is told apart yet
-abbrev pub AreBegun : {E P : Type 0} → List (CiteRender E P) → Type 0
-AreBegun renders = All (λ i. i.properties.speculative.disambiguation ≡ DisambiguateState.None) (flat_map (λ c. c.items) renders)
-
 module _ {E P : Type 0} (eq : E → E → Bool) (dated : Bool) (renders : List (CiteRender E P)) where
   -- the marks of the groups so far, and those of one more
   abbrev pub with_group : List Mark → List Place → List Mark

@@ -17,10 +17,6 @@ use Rattle.csl_rounds.specs.Rounds.{Table, at_table}
 use Rattle.csl_rounds.specs.Tables.{last_states, rounds, tables}
 use Rattle.csl_rounds.specs.declared.mode.RoundMode.{RoundMode}
 
--- no cite is told apart yet
-abbrev pub AreBegun : {E P : Type 0} → List (CiteRender E P) → Type 0
-AreBegun renders = All (λ i. i.properties.speculative.disambiguation ≡ DisambiguateState.None) (flat_map (λ c. c.items) renders)
-
 -- by what means a table tells an entry apart
 abbrev pub told_by : {E : Type 0} → Table E → E → DisambiguateState
 told_by table e = unwrap_or (table e) DisambiguateState.None

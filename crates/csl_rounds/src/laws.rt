@@ -3,8 +3,8 @@ ghost use Rattle.std.specs.Prelude.{List};
 ghost use Rattle.csl_passes.specs.Renders.{CiteRender};
 ghost use Rattle.csl_passes.specs.Request.{Request};
 ghost use Rattle.csl_passes.specs.declared.first.FirstProperties.{FirstProperties};
-ghost use Rattle.csl_rounds.specs.FirstRenders.{first_renders};
-ghost use Rattle.csl_rounds.specs.RunLaws.{AreBegun, IsLawful, NothingLeft, StatesGoOn, SuffixesStay};
+ghost use Rattle.csl_rounds.specs.FirstRenders.{AreBegun, first_renders};
+ghost use Rattle.csl_rounds.specs.RunLaws.{IsLawful, NothingLeft, StatesGoOn, SuffixesStay};
 ghost use Rattle.csl_rounds.specs.declared.mode.RoundMode.{RoundMode};
 
 use csl_base::entry::EntryLike;

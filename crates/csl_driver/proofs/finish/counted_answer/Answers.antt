@@ -9,7 +9,6 @@ use Rattle.csl_entries.specs.TableView.{table_view}
 use Rattle.csl_passes.specs.Request.{cites_of}
 use Rattle.csl_rounds.specs.Tables.{last_states}
 use Rattle.csl_writing.specs.Counted.{counted_times}
-use Rattle.csl_rounds.specs.declared.mode.RoundMode.{RoundMode}
 use Rattle.csl_driver.proofs.finish.counted_answer.Goals as goal
 
 pub returns : goal.returns
@@ -17,7 +16,7 @@ returns g c =
     let eq = g.T.PartialEq.eq in
     let peq = g.P.PartialEq.eq in
     let answers = g.T.EntryLike.answers in
-    let mode = RoundMode.Three in
+    let mode = c.args.mode in
     let asked = asked_view c.args.requests.now c.args.cited.now.offset c.args.wanted.now in
     let table = table_view c.args.cited.now.table in
     let once = table-once eq g.met.T.Eq.laws asked.requests table c.requires.known.table in

@@ -4,7 +4,7 @@ use Rattle.csl_base.specs.Ring.{HasNoRing}
 use Rattle.csl_entries.specs.Entries.{place}
 use Rattle.csl_entries.specs.TableView.{table_view}
 use Rattle.csl_passes.specs.RendersView.{renders_view}
-use Rattle.csl_rounds.specs.Gathered.{AreBegun}
+use Rattle.csl_rounds.specs.FirstRenders.{AreBegun}
 use Rattle.csl_rounds.specs.Rounds.{entries_cited}
 use Rattle.csl_rounds.specs.Tables.{most_forms}
 use Rattle.csl_rounds.proofs.FullRounds.{InFull, ranks_of}

@@ -3,8 +3,7 @@ use Rattle.csl_base.specs.StyleView.{style_view}
 use Rattle.csl_driver.specs.Promised.{IsAnswer}
 use Rattle.csl_driver.specs.Rings.{NoRingAtAll, Refuses}
 use Rattle.csl_passes.specs.RequestView.{requests_view, wanted_view}
-use Rattle.csl_rounds.specs.declared.mode.RoundMode.{RoundMode}
-use Rattle.csl_driver.proofs.driver.BibliographyDriver.finish_counted.Goals as goal
+use Rattle.csl_driver.proofs.driver.BibliographyDriver.answered.Goals as goal
 
 moved : {A B : Type 0} (Q : A → B → Type 0) (a a' : A) (b b' : B) → a ≡ a' → b ≡ b' → Q a b → Q a' b'
 moved Q a a' b b' e f h = subst (λ x. Q x b') e (subst (λ y. Q a y) f h)
@@ -13,7 +12,7 @@ moved Q a a' b b' e f h = subst (λ x. Q x b') e (subst (λ y. Q a y) f h)
 pub returns-clause-answer : goal.returns-clause-answer
 returns-clause-answer g c =
     moved (λ requests offset. IfOk c.checked_answer-result.result
-    (IsAnswer g.T.PartialEq.eq g.P.PartialEq.eq g.T.EntryLike.answers RoundMode.Three (record { wanted = wanted_view c.args.request; requests = requests; offset = offset })))
+    (IsAnswer g.T.PartialEq.eq g.P.PartialEq.eq g.T.EntryLike.answers c.args.mode (record { wanted = wanted_view c.args.request; requests = requests; offset = offset })))
     _ _ _ _ (ap requests_view c.deref.ensures.value ∙ c.into_parts-citations.ensures.requests) c.into_parts-citations.ensures.offset c.checked_answer-result.ensures.answer
 
 pub returns-clause-ringless : goal.returns-clause-ringless
