@@ -17,7 +17,7 @@ use Rattle.csl_name_marks.specs.NameMarks.{name_marks}
 use Rattle.csl_passes.specs.Renders.{CiteRender, Place}
 use Rattle.csl_rounds.specs.RoundMarks.{Mark, all_ways, by_choice, by_full, by_suffix, by_three, counting, counts, greatest, has_any, marks_of, or_others, raises, round_marks, waits}
 use Rattle.csl_rounds.specs.Rounds.{Table, at_table, mark_of, no_states}
-use Rattle.csl_rounds.specs.RunLaws.{HaveEnded, IsInNoGroup, NothingLeft, ways}
+use Rattle.csl_rounds.specs.RunLaws.{EndByThemselves, IsInNoGroup, NothingLeft, ways}
 use Rattle.csl_rounds.specs.Tables.{last_states, marks_at, most_rounds, rounds, tables}
 use Rattle.csl_rounds.specs.declared.mode.RoundMode.{RoundMode}
 use Rattle.csl_rounds.proofs.GoneOn.{AreMarkLaws, GoesFrom, are-steps, goes_on, next, own-marks}
@@ -176,8 +176,8 @@ module _ {E P : Type 0} (mode : RoundMode) (eq : E → E → Bool) (answers : E 
       (run-last (goes_on mode eq answers firsts) (next mode eq answers firsts) (λ t. IsInNoGroup eq (at t) e) (λ t. t e ≡ None)
       (λ t none apart go. ap (λ o. option_or o (t e)) (unmarked eq laws (at t) e apart mode answers) ∙ none) no_states (most_rounds mode eq firsts) no_states refl)
 
-  module _ (together : AmbiguousStandTogether eq (at (last_states mode eq answers firsts))) (ends : HaveEnded mode (rounds mode eq answers firsts) → has_any (marks_at mode eq answers firsts (last_states mode eq answers firsts)) ≡ false) where
-    none-left : HaveEnded mode (rounds mode eq answers firsts) → All (λ g. ways eq answers mode (at (last_states mode eq answers firsts)) g ≡ []) (ambiguous_groups eq (at (last_states mode eq answers firsts)))
+  module _ (together : AmbiguousStandTogether eq (at (last_states mode eq answers firsts))) (ends : EndByThemselves mode (rounds mode eq answers firsts) → has_any (marks_at mode eq answers firsts (last_states mode eq answers firsts)) ≡ false) where
+    none-left : EndByThemselves mode (rounds mode eq answers firsts) → All (λ g. ways eq answers mode (at (last_states mode eq answers firsts)) g ≡ []) (ambiguous_groups eq (at (last_states mode eq answers firsts)))
     none-left ended = all-done eq answers (at (last_states mode eq answers firsts)) mode (ends ended)
 
     pub nothing-left : NothingLeft mode eq answers firsts
@@ -188,7 +188,7 @@ module _ {E P : Type 0} (mode : RoundMode) (eq : E → E → Bool) (answers : E 
     }
 
 -- in mode three they ended where fewer than three marked
-pub three-ends : {E P : Type 0} (eq : E → E → Bool) (answers : E → Answers) (firsts : List (CiteRender E P)) → HaveEnded RoundMode.Three (rounds RoundMode.Three eq answers firsts)
+pub three-ends : {E P : Type 0} (eq : E → E → Bool) (answers : E → Answers) (firsts : List (CiteRender E P)) → EndByThemselves RoundMode.Three (rounds RoundMode.Three eq answers firsts)
     → has_any (marks_at RoundMode.Three eq answers firsts (last_states RoundMode.Three eq answers firsts)) ≡ false
 three-ends eq answers firsts h =
     subst (λ ts. length ts - 1 < 3 → goes_on RoundMode.Three eq answers firsts (final ts no_states) ≡ false) (are-steps RoundMode.Three eq answers firsts)

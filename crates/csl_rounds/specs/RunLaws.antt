@@ -22,9 +22,9 @@ abbrev pub told_by : {E : Type 0} → Table E → E → DisambiguateState
 told_by table e = unwrap_or (table e) DisambiguateState.None
 
 -- so many rounds marked that they came to an end by themselves: in mode three fewer than three, in mode full any number
-abbrev pub HaveEnded : RoundMode → ℕ → Type 0
-HaveEnded RoundMode.Three marked = marked < 3
-HaveEnded RoundMode.Full marked = ⊤
+abbrev pub EndByThemselves : RoundMode → ℕ → Type 0
+EndByThemselves RoundMode.Three marked = marked < 3
+EndByThemselves RoundMode.Full marked = ⊤
 
 module _ {E P : Type 0} (eq : E → E → Bool) where
   -- no cite of an ambiguous group cites an entry equal to e
@@ -81,9 +81,9 @@ module _ {E P : Type 0} (mode : RoundMode) (eq : E → E → Bool) (answers : E 
     -- an entry that is in no ambiguous group of a table but the last has no state in the last one
     pub only_ambiguous : (e : E) → All (λ t. IsInNoGroup eq (shown_at t) e) (take (rounds mode eq answers firsts) run) → last_states mode eq answers firsts e ≡ None
     -- where the rounds came to an end, no group of the last table can be marked in any way
-    pub none_left : HaveEnded mode (rounds mode eq answers firsts) → All (λ group. ways eq answers mode last_shown group ≡ []) (ambiguous_groups eq last_shown)
+    pub none_left : EndByThemselves mode (rounds mode eq answers firsts) → All (λ group. ways eq answers mode last_shown group ≡ []) (ambiguous_groups eq last_shown)
     -- and where dates are shown, two ambiguous cites are of styles that add no suffixes
-    pub told_apart : HaveEnded mode (rounds mode eq answers firsts) → shows_dates answers last_shown ≡ true → (a b : Member E P) → AreAmbiguous eq last_shown a b → adds_suffix (a ∷ b ∷ []) ≡ false
+    pub told_apart : EndByThemselves mode (rounds mode eq answers firsts) → shows_dates answers last_shown ≡ true → (a b : Member E P) → AreAmbiguous eq last_shown a b → adds_suffix (a ∷ b ∷ []) ≡ false
 
   -- all of these
   pub record IsLawful : Type 0 where
