@@ -7,6 +7,7 @@ pub use csl_ambiguity::laws::{
     ambiguous_stand_together, choose_and_suffix_go_on, suffixes_count_entries,
 };
 pub use csl_assembly::laws::{answer_equality_decides, answers_copy_equal};
+use csl_base::entry::EntryLike;
 pub use csl_collapse::laws::collapsed_can_be_read_back;
 pub use csl_entries::laws::{bibliography_holds_each_once, numbers_have_no_gaps};
 pub use csl_grouping::laws::{final_order_laws, grouped_in_final_order};
@@ -16,8 +17,6 @@ pub use csl_passes::laws::{
     wanted_equality_decides,
 };
 pub use csl_rounds::laws::runs_are_lawful;
-
-use csl_base::entry::EntryLike;
 
 /// A law of every answer, whatever is asked: states go on from table to table, suffixes stay, and nothing is
 /// left; the entries that are cited have the numbers from the offset on, each once; the cites of each request

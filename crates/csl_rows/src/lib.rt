@@ -1,6 +1,7 @@
 //! Tests of the driver, and the public paths of the crates that users know.
 #![tactic(auto)]
 
+pub mod clients;
 #[cfg(test)]
 mod counting;
 #[cfg(test)]

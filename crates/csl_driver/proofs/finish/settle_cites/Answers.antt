@@ -11,12 +11,10 @@ use Rattle.csl_passes.specs.RequestView.{requests_view, wanted_view}
 use Rattle.csl_positions.specs.FinalProperties.{with_final_properties}
 use Rattle.csl_positions.specs.FirstProperties.{numbered_by}
 use Rattle.csl_positions.specs.FirstProperties.{first_properties}
-use Rattle.csl_rounds.specs.FirstRenders.{first_renders}
-use Rattle.csl_rounds.specs.Gathered.{AreBegun}
+use Rattle.csl_rounds.specs.FirstRenders.{AreBegun, first_renders}
 use Rattle.csl_rounds.specs.Rerenders.{AreStatesOf, rerenders}
 use Rattle.csl_rounds.specs.Rounds.{entries_cited}
-use Rattle.csl_rounds.specs.RoundMarks.{has_any}
-use Rattle.csl_rounds.specs.Tables.{disambiguated, last_states, marks_at, round_tables, rounds}
+use Rattle.csl_rounds.specs.Tables.{disambiguated, last_states, round_tables, rounds}
 use Rattle.csl_rounds.specs.declared.mode.RoundMode.{RoundMode}
 use Rattle.csl_writing.specs.Counted.{counted_times}
 use Rattle.csl_rounds.proofs.Begun.{first-begun}
