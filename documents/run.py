@@ -268,6 +268,15 @@ def inside_many_lists(program):
         hold(ended(program, b'[' * depth + one_cite()[0] + b']' * depth), 2)
 
 
+def lines_of_the_readme(_program):
+    """What README.md shows of a program over the driver are lines of crates/first_citation."""
+    shown = read(ROOT + '/README.md').decode().split('```rust\n')[1].split('```')[0].split('\n')
+    there = read(ROOT + '/crates/first_citation/src/main.rt').decode().split('\n')
+    lost = [it for it in shown if it not in ('', '..') and it not in there]
+    if lost:
+        raise Failed('not of the program: %s' % lost)
+
+
 def cut_after_each_byte(program):
     """Only the whole document, with or without the line feed at its end, is one."""
     whole, text = row('rows/offset_and_order')
@@ -418,6 +427,7 @@ PROCESSES = [
     inside_many_lists,
     bytes_that_are_no_text,
     cut_after_each_byte,
+    lines_of_the_readme,
 ]
 
 
