@@ -41,7 +41,10 @@ fn print_state(rt: &impl Print, state: &DisambiguateState) {
 pub fn print_account(rt: &impl Print, account: &Account<'_, PlainEntry>) {
     let _ = println!(rt; "renders {}, rounds {}", account.renders, account.rounds);
     for (place, entry) in account.entries.iter().enumerate() {
-        if let (Some(number), Some(state)) = (account.numbers.get(place), account.states.get(place)) {
+        if let (Some(number), Some(state)) = (
+            account.numbers.get(place),
+            account.states.get(place),
+        ) {
             let _ = print!(rt; "{}: {number}, ", entry.key());
             print_state(rt, state);
             let _ = println!(rt; "");

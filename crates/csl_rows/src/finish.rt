@@ -8,9 +8,8 @@ use csl_driver::item::CitationItem;
 use csl_driver::laws::{
     ambiguous_stand_together, answer_equality_decides, answers_copy_equal, answers_keep_laws,
     bibliography_holds_each_once, choose_and_suffix_go_on, final_order_laws, item_equality_decides,
-    items_copy_equal,
-    name_marks_go_on, numbers_have_no_gaps, properties_equality_decides, request_equality_decides,
-    suffixes_count_entries, wanted_equality_decides,
+    items_copy_equal, name_marks_go_on, numbers_have_no_gaps, properties_equality_decides,
+    request_equality_decides, suffixes_count_entries, wanted_equality_decides,
 };
 use csl_driver::rendered::Rendered;
 use csl_driver::request::{BibliographyRequest, CitationRequest, Order};
