@@ -1,6 +1,6 @@
 -- The first renders of cites aren't told apart.
 use Rattle.std.proofs.Common.{◌≡◌, List, [], ◌∷◌, map, refl}
-use Rattle.std.specs.Prelude.{All, flat_map, zip}
+use Rattle.std.specs.Prelude.{flat_map, zip}
 use Rattle.std.proofs.lemmas.List.Elements.{All-append, All-map, All-nil}
 use Rattle.csl_base.specs.Answers.{Answers}
 use Rattle.csl_lookup.specs.declared.state.DisambiguateState.{DisambiguateState}

@@ -1,6 +1,6 @@
 -- For the code: marks gathered group by group, and put in by the places of entries.
-use Rattle.std.specs.Prelude.{◌≡◌, ◌<◌, ◌||◌, ℕ, All, Bool, false, List, [], ◌++◌, Option, Some, None, filter, is_some, length, map, nat_eq, slice_index, slice_index_or, if◌then◌else◌}
-use Rattle.std.specs.List.{enumerate_from, flat_map, list_any}
+use Rattle.std.specs.Prelude.{◌≡◌, ◌<◌, ◌||◌, ℕ, Bool, false, List, [], ◌++◌, Option, Some, None, filter, is_some, length, map, nat_eq, slice_index, slice_index_or, if◌then◌else◌}
+use Rattle.std.specs.List.{enumerate_from, list_any}
 use Rattle.std.specs.Option.{option_or}
 use Rattle.csl_base.specs.Answers.{Answers}
 use Rattle.csl_lookup.specs.States.{greater}

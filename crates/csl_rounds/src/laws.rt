@@ -29,8 +29,6 @@ pub fn nothing_is_left<T: EntryLike, P>()
     ensures { (mode : RoundMode) (firsts : List (CiteRender T P)) → AreBegun firsts → NothingLeft mode T.eq T.answers firsts }
 {
     csl_lookup::laws::states_go_on();
-    csl_lookup::laws::states_have_a_greatest();
-    csl_entries::laws::bibliography_holds_each_once::<T>();
     csl_name_marks::laws::name_marks_go_on::<T, P>();
     csl_ambiguity::laws::ambiguous_stand_together::<T, P>();
     csl_ambiguity::laws::choose_and_suffix_go_on::<T, P>();

@@ -1,4 +1,3 @@
-use Rattle.std.proofs.Common.{None}
 use Rattle.csl_rounds.proofs.Ranked.{nothing-is-left}
 use Rattle.csl_rounds.proofs.laws.nothing_is_left.Goals as goal
 
@@ -12,10 +11,5 @@ returns g c = λ mode firsts begun. nothing-is-left mode g.T.PartialEq.eq g.T.En
       without_suffix = c.ambiguous_stand_together.ensures.without_suffix;
       choose = c.choose_and_suffix_go_on.ensures.choose;
       suffix = c.choose_and_suffix_go_on.ensures.suffix;
-    })
-    (record {
-      farther = c.states_go_on.ensures.farther;
-      self = c.states_have_a_greatest.ensures.in_order.self;
-      all_in = λ es e. (c.bibliography_holds_each_once.ensures None es).same e;
     })
     c.ambiguous_stand_together.ensures.together begun
