@@ -5,9 +5,10 @@ use Rattle.csl_ambiguity.specs.Members.{Member}
 use Rattle.csl_ambiguity.specs.SuffixMarks.{adds_suffix, shows_dates}
 use Rattle.csl_base.specs.Answers.{Answers}
 use Rattle.csl_driver.specs.Answer.{Asked, final_number, in_the_end, rendered_first}
-use Rattle.csl_driver.specs.AnswerLaws.{HaveNumbersOnce, IsReadBack}
+use Rattle.csl_driver.specs.AnswerLaws.{HaveNumbersOnce, IsBroughtTogether, IsReadBack}
 use Rattle.csl_passes.specs.Request.{cited}
-use Rattle.csl_rounds.specs.RunLaws.{last_shown}
+use Rattle.csl_rounds.specs.RunLaws.{StatesGoOn, SuffixesStay, last_shown}
+use Rattle.csl_rounds.specs.Tables.{disambiguated}
 use Rattle.csl_rounds.specs.declared.mode.RoundMode.{RoundMode}
 
 module _ {E P : Type 0} (eq : E → E → Bool) (payload_eq : P → P → Bool) (answers : E → Answers) (asked : Asked E P) where
@@ -22,3 +23,9 @@ module _ {E P : Type 0} (eq : E → E → Bool) (payload_eq : P → P → Bool) 
   CanBeNumbered =
       HaveNumbersOnce eq asked.offset (cited asked.requests) (final_number eq payload_eq answers RoundMode.Three asked)
       × All IsReadBack (in_the_end eq payload_eq answers RoundMode.Three asked)
+
+  -- what a round told of an entry is never taken back, and the cites of each request have a final order
+  abbrev pub IsSteady : RoundMode → Type 0
+  IsSteady mode =
+      let firsts = rendered_first eq payload_eq answers asked in
+      StatesGoOn mode eq answers firsts × SuffixesStay mode eq answers firsts × All IsBroughtTogether (disambiguated mode eq answers firsts)

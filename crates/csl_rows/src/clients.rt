@@ -1,7 +1,8 @@
 //! Callers that rely on what is promised of an answer, and on nothing else.
 ghost use Rattle.std.specs.Prelude.{OnOk};
 ghost use Rattle.csl_driver.specs.AskedView.{asked_of};
-ghost use Rattle.csl_rows.specs.Clients.{AreToldApart, CanBeNumbered};
+ghost use Rattle.csl_rounds.specs.declared.mode.RoundMode.{RoundMode};
+ghost use Rattle.csl_rows.specs.Clients.{AreToldApart, CanBeNumbered, IsSteady};
 
 use csl_base::entry::EntryLike;
 use csl_driver::driver::BibliographyDriver;
@@ -33,6 +34,20 @@ pub fn numbered<'a, T: EntryLike, P: Eq + Drop>(
     request: BibliographyRequest<'_, 'a, T>,
 ) -> Result<Rendered, DriverError>
     ensures { OnOk result (CanBeNumbered T.eq P.eq T.answers (asked_of driver.entry request.entry)) }
+{
+    let (rendered, _account) = driver.finish_counted(request)?;
+    Ok(rendered)
+}
+
+/// The answer, in which nothing that a round told of an entry was taken back.
+///
+/// # Errors
+/// Those of `finish_counted`.
+pub fn steady<'a, T: EntryLike, P: Eq + Drop>(
+    driver: BibliographyDriver<'a, T, P>,
+    request: BibliographyRequest<'_, 'a, T>,
+) -> Result<Rendered, DriverError>
+    ensures { OnOk result (IsSteady T.eq P.eq T.answers (asked_of driver.entry request.entry) RoundMode.Three) }
 {
     let (rendered, _account) = driver.finish_counted(request)?;
     Ok(rendered)
