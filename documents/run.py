@@ -194,7 +194,8 @@ def call_by_call(calls, bases):
             made.append(('account: ' + name_of(base), by_calls, calls, 'account', base, status, read(base + '.account')))
         if os.path.isfile(base + '.alone'):
             made.append(('standalone: ' + name_of(base), by_calls, calls, 'standalone_citation', base, 0, read(base + '.alone')))
-    return made
+    ring = HERE + '/rows/ring_of_one_macro'
+    return [*made, ('standalone: ' + name_of(ring), by_calls, calls, 'standalone_citation', ring, 3, b'')]
 
 
 def failing_writer(calls):
