@@ -4,8 +4,10 @@ standard output, exit status and the line on standard error. Then it tries what 
 documents to docs/document.schema.json, compares PROGRAM with model/ on random documents, and holds the model to what
 the documents must print. It has crates/call_by_call, which is looked for beside it (../../call_by_call/out/call_by_call),
 answer the documents by the public calls: each by `finish` or, where it says so, by `finish_full`; and where there is a
-NAME.account, by `finish_counted` or `finish_full` once more, of which the account is printed, or why there is none; and where
-there is a NAME.alone, each request by `standalone_citation`. Where a C compiler is there, it refuses each growth of memory in
+NAME.account, by `finish_counted` or `finish_full` once more, of which the account is printed, or why there is none; where
+there is a NAME.alone, each request by `standalone_citation`; where there is a NAME.passes, by the passes themselves, on cites
+that are written without a driver; and where there is a NAME.equality, it is told which requests are equal to the first, and whether that
+for the bibliography is one for its style alone. Where a C compiler is there, it refuses each growth of memory in
 turn (refuse.c), in both programs.
 run.py PROGRAM FOLDER..: runs it on the documents of these folders, and does nothing else.
 
@@ -14,7 +16,7 @@ printed. What is expected was worked out by hand from the rules, never taken fro
 rows/ whole runs; layouts/ each kind of element; words/ locales, terms, quotes and punctuation; purposes/ what cites are
 written for; keywords/ each name of a variable, term, form and so on; parts/ each kind of object with all its keys;
 disambiguation/, rounds/, grouping/, collapsing/ and bibliography/ how cites and items work together, alone/ citations that
-stand for themselves (each with a README.md that tells why a document prints what it does); hostile/ depth; refused/ what the program and the schema refuse;
+stand for themselves, equality/ requests that are equal and others (each with a README.md that tells why a document prints what it does); hostile/ depth; refused/ what the program and the schema refuse;
 beyond_schema/ what the program alone refuses.
 The last line is 'N passed, M failed', and the exit status is 1 where a test failed."""
 import difflib
@@ -39,6 +41,8 @@ LINES = {
     4: b'cite_run: number overflow\n',
     5: b'cite_run: out of memory\n',
 }
+# The files of a document.
+ENDINGS = ('.json', '.txt', '.status', '.account', '.alone', '.passes', '.equality')
 SECONDS = 60
 RANDOM_DOCUMENTS = 2000
 
@@ -123,7 +127,7 @@ def strays():
     """Files of the folders that belong to no document."""
     for base in documents():
         wanted(base)
-    known = {base + ending for base in documents() for ending in ('.json', '.txt', '.status', '.account', '.alone')}
+    known = {base + ending for base in documents() for ending in ENDINGS}
     folders = {os.path.dirname(base) for base in documents()}
     lost = [it.path for folder in folders for it in os.scandir(folder) if it.path not in known and it.name != 'README.md']
     if lost:
@@ -194,6 +198,10 @@ def call_by_call(calls, bases):
             made.append(('account: ' + name_of(base), by_calls, calls, 'account', base, status, read(base + '.account')))
         if os.path.isfile(base + '.alone'):
             made.append(('standalone: ' + name_of(base), by_calls, calls, 'standalone_citation', base, 0, read(base + '.alone')))
+        if os.path.isfile(base + '.equality'):
+            made.append(('equality: ' + name_of(base), by_calls, calls, 'equality', base, 0, read(base + '.equality')))
+        if os.path.isfile(base + '.passes'):
+            made.append(('passes: ' + name_of(base), by_calls, calls, 'passes', base, 0, read(base + '.passes')))
     ring = HERE + '/rows/ring_of_one_macro'
     return [*made, ('standalone: ' + name_of(ring), by_calls, calls, 'standalone_citation', ring, 3, b'')]
 
@@ -452,12 +460,24 @@ SWEPT = [
 ]
 # Those by `finish_full`.
 SWEPT_FULL = ['rounds/no_round', 'rounds/suffix_by_entry', 'rounds/group_that_waits', 'rounds/names_that_do_not_help']
+# Those on which the passes are called by themselves.
+SWEPT_PASSES = [
+    'disambiguation/suffix_by_entry',
+    'disambiguation/added_names',
+    'disambiguation/choose',
+    'grouping/blocks',
+    'bibliography/author_substitution',
+]
 # Those that have a refusal for an answer, with its status.
 REFUSED = {'rows/ring_of_two_macros': 3, 'rows/number_overflow': 4}
 # A citation by itself has the number 0, which is printed as 1.
 ALONE = b'[1]\n' * 4
 # Calls of crates/call_by_call, which it names before it makes them; the status is 5 where one is refused, but for `citation`.
-CALLS = ['read', 'prepare', 'citation', 'finish', 'finish_counted', 'finish_full', 'standalone_citation', 'run', 'free']
+PASSES = ['find_ambiguous_sets', 'disambiguate_names', 'disambiguate_with_choose', 'disambiguate_year_suffix']
+PASSES += ['group_cites', 'substitute_subsequent_authors']
+CALLS = ['read', 'prepare', 'citation', 'finish', 'finish_counted', 'finish_full', 'standalone_citation', 'run', 'free', *PASSES]
+# Those that print before others are called.
+PRINT = ['standalone_citation', *PASSES]
 MOST_GROWTHS = 100000
 
 
@@ -522,8 +542,7 @@ def held_call(called, status, out, text, status_wanted):
         raise Failed('status %d, and not %d (%s)' % (status, wanted, ', '.join(called[-4:])))
     if printed is not None and out != printed:
         raise Failed(difference(printed, out))
-    # only calls for citations by themselves print before others
-    if printed is None and not (text.startswith(out) if at == 'standalone_citation' or 'standalone_citation' in called else not out):
+    if printed is None and not (text.startswith(out) if any(it in called for it in PRINT) else not out):
         raise Failed('%r was printed' % out)
 
 
@@ -546,6 +565,9 @@ def sweeps_of_calls(shim, program):
         for name, status in REFUSED.items():
             given = read(HERE + '/' + name + '.json')
             made.append(('growths of %s: %s' % (way, name), sweep_of_calls, shim, program, way, given, status, b''))
+    for name in SWEPT_PASSES:
+        given, text = read(HERE + '/' + name + '.json'), read(HERE + '/' + name + '.passes')
+        made.append(('growths of passes: ' + name, sweep_of_calls, shim, program, 'passes', given, 0, text))
     given, text = row('rows/offset_and_order')
     for way, printed in (('run', text), ('standalone_citation', ALONE), ('free', b'')):
         made.append(('growths of %s' % way, sweep_of_calls, shim, program, way, given, 0, printed))

@@ -16,7 +16,7 @@ fn form_word(form: DisambiguatedNameForm) -> &'static str {
 }
 
 /// Prints by what an entry is told apart.
-fn print_state(rt: &impl Print, state: &DisambiguateState) {
+pub(crate) fn print_state(rt: &impl Print, state: &DisambiguateState) {
     match state {
         DisambiguateState::None => {
             let _ = print!(rt; "nothing");

@@ -1,7 +1,9 @@
 //! A document's requests, handed to the driver one by one.
 
 use crate::account::{print_account, print_refusal};
+use crate::equality::{print_requests, print_wanted, properties_differ};
 use crate::free::calls_without_memory;
+use crate::passes::by_passes;
 use crate::streams::{Failing, Slow};
 use cite_document::error::RunError;
 use cite_document::input::read_input;
@@ -37,6 +39,10 @@ pub enum How {
     Account,
     /// Each request by `standalone_citation`.
     Alone,
+    /// By none: the passes are called by themselves.
+    Passes,
+    /// By none: what is asked is compared.
+    Equality,
     /// By none: calls that take no memory are made.
     Free,
 }
@@ -273,6 +279,46 @@ fn call_free(
     }
 }
 
+/// The requests of a document.
+fn requests_of<'e, 'f: 'e>(
+    alloc: Global,
+    asked: &'e Asked<'f>,
+    files: &'e TermTables<'f>,
+) -> Result<Vec<CitationRequest<'e, PlainEntry, Infallible>>, RunError> {
+    let mut requests = Vec::new(alloc);
+    for request in &asked.requests {
+        requests.push(driver_request(alloc, request, files)?)?;
+    }
+    Ok(requests)
+}
+
+/// Compares the requests with the first one, and that for the bibliography with one for its style alone.
+fn compare<'e, 'f: 'e>(
+    rt: &(impl Print + AllocGlobal),
+    asked: &'e Asked<'f>,
+    files: &'e TermTables<'f>,
+) -> Result<Seen, RunError> {
+    let requests = requests_of(rt.alloc(), asked, files)?;
+    print_requests(rt, &requests);
+    let wanted = bibliography_request(rt.alloc(), asked, files)?;
+    print_wanted(rt, &wanted);
+    if properties_differ() {
+        Ok(Seen::Answer)
+    } else {
+        Ok(Seen::Amiss("properties are compared without a field of theirs"))
+    }
+}
+
+/// Calls the passes by themselves.
+fn call_passes<'e, 'f: 'e>(
+    rt: &(impl Print + Eprint + AllocGlobal),
+    asked: &'e Asked<'f>,
+    files: &'e TermTables<'f>,
+) -> Result<Seen, RunError> {
+    let requests = requests_of(rt.alloc(), asked, files)?;
+    by_passes(rt, &requests)
+}
+
 /// Does what is asked with the document.
 pub fn answered(
     rt: &(impl Print + Eprint + AllocGlobal),
@@ -291,6 +337,8 @@ pub fn answered(
     let files = TermTables::new(alloc, asked.locales)?;
     match how {
         How::Alone => answer_alone(rt, &asked, &files),
+        How::Passes => call_passes(rt, &asked, &files),
+        How::Equality => compare(rt, &asked, &files),
         How::Free => call_free(rt, &asked, &files),
         _ => answer_all(rt, &asked, &files, how),
     }

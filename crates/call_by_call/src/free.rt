@@ -17,8 +17,8 @@ use std::convert::Infallible;
 
 type Item<'e> = CitationItem<'e, PlainEntry, Infallible>;
 
-/// Requests and what they are made of; tells whether each is as it was made. The list has room for one
-/// item.
+/// Requests and what they are made of, with their public fields written once more; tells whether each is as
+/// it was made. The list has room for one item.
 fn requests<'e>(
     alloc: Global,
     style: &'e IndependentStyle,
@@ -31,14 +31,21 @@ fn requests<'e>(
     if items.push(item).is_err() {
         return false;
     }
-    let request = CitationRequest::from_items(items, style, &[]);
+    let mut request = CitationRequest::from_items(items, style, &[]);
+    request.locale = None;
+    request.locale_files = &[];
     let context = StyleContext::of_locales(request.source());
     let is_named = !context.locale().is_empty() && !context.punctuation_in_quotes();
-    let wanted: BibliographyRequest<PlainEntry> = BibliographyRequest::new(style, None, &[]);
+    let mut wanted: BibliographyRequest<PlainEntry> = BibliographyRequest::new(style, None, &[]);
+    wanted.style = style;
+    wanted.locale = None;
+    wanted.locale_files = &[];
+    wanted.order = None;
     let driver: BibliographyDriver<PlainEntry, Infallible> = BibliographyDriver::new(
         alloc,
     ).with_citation_number_offset(2);
     let _unused = driver;
+    request.items = Vec::new(alloc);
     is_first && is_named && wanted.style.macros.len() == request.style().macros.len()
 }
 

@@ -1,6 +1,6 @@
 //! Answers a document call by call, for what no document shows: what an answer cost and by what its
-//! entries are told apart, where a ring stands, citations by themselves, writers and readers that fail, and
-//! runs in which one growth of memory is refused.
+//! entries are told apart, where a ring stands, citations and passes by themselves, writers and readers that
+//! fail, and runs in which one growth of memory is refused.
 //!
 //! The first line of standard input says what is done (a number: `run`, over a writer that fails behind so
 //! many bytes), and the document follows. Before each call its name is written to standard error, and at the
@@ -10,7 +10,9 @@
 
 mod account;
 mod calls;
+mod equality;
 mod free;
+mod passes;
 mod streams;
 
 use calls::{How, Seen, answered, read_slowly, written_out, written_until};
@@ -33,6 +35,8 @@ fn answer(rt: &(impl Input + Print + Eprint + AllocGlobal)) -> Result<Seen, RunE
         "finish_full" => answered(rt, document, How::FinishFull),
         "account" => answered(rt, document, How::Account),
         "standalone_citation" => answered(rt, document, How::Alone),
+        "passes" => answered(rt, document, How::Passes),
+        "equality" => answered(rt, document, How::Equality),
         "free" => answered(rt, document, How::Free),
         "run" => written_out(rt, document),
         "slow" => read_slowly(rt, document, false),

@@ -1,0 +1,110 @@
+//! Requests and properties, compared: they differ by each of their fields.
+
+use csl_base::entry::PlainEntry;
+use csl_base::taxonomy::Locator;
+use csl_driver::locator::{LocatorPayload, SpecificLocator};
+use csl_driver::properties::{CertainCiteProperties, CiteProperties, SpeculativeCiteProperties};
+use csl_driver::request::{BibliographyRequest, CitationRequest};
+use csl_driver::state::{DisambiguateState, IbidState, IdentifierUsage};
+use std::convert::Infallible;
+
+type Request<'e> = CitationRequest<'e, PlainEntry, Infallible>;
+type Speculative = SpeculativeCiteProperties<'static, Infallible>;
+
+/// Whether what holds of a cite for certain differs by each of its fields.
+fn certain_differ() -> bool {
+    let base = CertainCiteProperties::default();
+    let noted = CertainCiteProperties {
+        note_number: Some(1),
+        ..base
+    };
+    let first_noted = CertainCiteProperties {
+        first_note_number: Some(1),
+        ..base
+    };
+    let near = CertainCiteProperties {
+        is_near_note: true,
+        ..base
+    };
+    let first = CertainCiteProperties {
+        is_first: true,
+        ..base
+    };
+    let second = CertainCiteProperties {
+        initial_idx: 1,
+        ..base
+    };
+    base != noted && base != first_noted && base != near && base != first && base != second
+}
+
+/// What may change of a cite with this locator, number and position.
+fn speculative(
+    locator: Option<SpecificLocator<'static, Infallible>>,
+    citation_number: usize,
+    ibid: IbidState,
+) -> Speculative {
+    SpeculativeCiteProperties::speculate(locator, citation_number, ibid)
+}
+
+/// A cite that is told apart by the test of `disambiguate`.
+fn chosen() -> Speculative {
+    SpeculativeCiteProperties {
+        disambiguation: DisambiguateState::Choose,
+        ..speculative(None, 0, IbidState::Different)
+    }
+}
+
+/// A cite that has written its number.
+fn numbered() -> Speculative {
+    SpeculativeCiteProperties {
+        identifier_usage: IdentifierUsage::OnlyCitationNumber,
+        ..speculative(None, 0, IbidState::Different)
+    }
+}
+
+/// Whether what may change of a cite differs by each of its fields.
+fn speculative_differ() -> bool {
+    let base = speculative(None, 0, IbidState::Different);
+    let page = SpecificLocator(Locator::Page, LocatorPayload::Str("7"));
+    base == speculative(None, 0, IbidState::Different)
+        && base != speculative(Some(page), 0, IbidState::Different)
+        && base != speculative(None, 1, IbidState::Different)
+        && base != speculative(None, 0, IbidState::Ibid)
+        && base != chosen()
+        && base != numbered()
+}
+
+/// Whether properties differ by each of their two parts.
+fn parts_differ() -> bool {
+    let base: CiteProperties<'_, Infallible> = CiteProperties::for_sorting(None, 0);
+    let mut other: CiteProperties<'_, Infallible> = CiteProperties::for_sorting(None, 0);
+    if base != other {
+        return false;
+    }
+    other.certain.is_first = true;
+    base != other && base != CiteProperties::for_sorting(None, 1)
+}
+
+/// Whether the properties of cites differ by each of their fields.
+pub fn properties_differ() -> bool {
+    certain_differ() && speculative_differ() && parts_differ()
+}
+
+fn word(equal: bool) -> &'static str {
+    if equal { "equal" } else { "other" }
+}
+
+/// Prints of each request but the first whether it is equal to that.
+pub fn print_requests(rt: &impl Print, requests: &[Request<'_>]) {
+    if let Some((first, others)) = requests.split_first() {
+        for request in others {
+            let _ = println!(rt; "request: {}", word(request == first));
+        }
+    }
+}
+
+/// Prints whether what is asked of the bibliography is its style alone.
+pub fn print_wanted(rt: &impl Print, wanted: &BibliographyRequest<'_, '_, PlainEntry>) {
+    let plain = BibliographyRequest::new(wanted.style, None, &[]);
+    let _ = println!(rt; "bibliography: {}", word(*wanted == plain));
+}

@@ -1,0 +1,278 @@
+//! The passes by themselves, on the cites of a document as they are written without a driver.
+ghost use Rattle.std.specs.Prelude.{All, IfOk};
+ghost use Rattle.csl_base.specs.Ring.{HasNoRing};
+ghost use Rattle.csl_passes.specs.Places.{AreDistinct, IsPlace};
+ghost use Rattle.csl_passes.specs.RendersView.{renders_view};
+ghost use Rattle.csl_writing.specs.ContextSource.{context_source};
+
+use crate::account::print_state;
+use crate::calls::Seen;
+use cite_document::error::RunError;
+use csl_base::elem::ElemChildren;
+use csl_base::entry::{EntryLike, PlainEntry};
+use csl_base::style::{Bibliography, IndependentStyle};
+use csl_driver::counter::Renders;
+use csl_driver::item::CitationItem;
+use csl_driver::lookup::StyleContext;
+use csl_driver::passes::{
+    AmbiguousGroup, Marks, SpeculativeCiteRender, SpeculativeItemRender, collapse_items,
+    disambiguate_names, disambiguate_with_choose, disambiguate_year_suffix, find_ambiguous_sets,
+    group_cites, substitute_subsequent_authors,
+};
+use csl_driver::properties::CiteProperties;
+use csl_driver::request::CitationRequest;
+use std::alloc::{AllocError, Global};
+use std::convert::Infallible;
+
+type Item<'e> = CitationItem<'e, PlainEntry, Infallible>;
+type Request<'e> = CitationRequest<'e, PlainEntry, Infallible>;
+type Cite<'e> = SpeculativeItemRender<'e, PlainEntry, Infallible>;
+type Cites<'r, 'e> = SpeculativeCiteRender<'r, 'e, PlainEntry, Infallible>;
+
+/// The style without locales.
+fn ringless<'a>(
+    alloc: Global,
+    style: &'a IndependentStyle,
+) -> Result<StyleContext<'a>, RunError>
+    ensures { IfOk result (λ context. HasNoRing (context_source context).style.macros) }
+{
+    match style.ring(alloc)? {
+        Some(_) => Err(RunError::Document),
+        None => Ok(StyleContext::new(style, None, &[])),
+    }
+}
+
+/// A cite of the item's entry.
+fn written<'e>(
+    alloc: Global,
+    context: &StyleContext<'_>,
+    item: &Item<'e>,
+) -> Result<Cite<'e>, AllocError>
+    requires no_ring { HasNoRing (context_source context.now).style.macros }
+{
+    let cite_props = CiteProperties::for_sorting(None, 0);
+    let cite = context.do_citation(
+        alloc,
+        item.entry,
+        &cite_props,
+        None,
+        None,
+        None,
+        None,
+        &mut Renders::new(),
+    )?;
+    Ok(SpeculativeItemRender {
+        rendered: cite.children,
+        entry: item.entry,
+        cite_props,
+        checked_disambiguate: cite.checked_disambiguate,
+        first_name: cite.first_name,
+        delim_override: None,
+        group_idx: None,
+        locator: None,
+        hidden: item.hidden,
+        locale: None,
+        purpose: None,
+        collapse_verdict: None,
+    })
+}
+
+/// The cites of a request.
+fn written_of<'r, 'e>(alloc: Global, request: &'r Request<'e>) -> Result<Cites<'r, 'e>, RunError> {
+    let context = ringless(alloc, request.style())?;
+    let mut items = Vec::new(alloc);
+    for item in &request.items {
+        items.push(written(alloc, &context, item)?)?;
+    }
+    Ok(SpeculativeCiteRender { items, request })
+}
+
+/// The cites of all requests.
+fn all_written<'r, 'e>(
+    alloc: Global,
+    requests: &'r [Request<'e>],
+) -> Result<Vec<Cites<'r, 'e>>, RunError> {
+    let mut cites = Vec::new(alloc);
+    for request in requests {
+        cites.push(written_of(alloc, request)?)?;
+    }
+    Ok(cites)
+}
+
+fn print_places(rt: &impl Print, group: &AmbiguousGroup) {
+    let _ = print!(rt; "group");
+    for (request, cite) in group.as_slice() {
+        let _ = print!(rt; " {request}.{cite}");
+    }
+    let _ = println!(rt; "");
+}
+
+fn print_marks(rt: &impl Print, pass: &str, marks: &Marks) {
+    let _ = print!(rt; "{pass}:");
+    for (place, state) in marks.as_slice() {
+        let _ = print!(rt; " {}.{} ", place.0, place.1);
+        print_state(rt, state);
+    }
+    let _ = println!(rt; "");
+}
+
+/// Prints the marks of a group by each pass.
+fn mark_group(
+    rt: &(impl Print + Eprint + AllocGlobal),
+    cites: &[Cites<'_, '_>],
+    group: &AmbiguousGroup,
+) -> Result<(), AllocError>
+    requires exist { All (IsPlace (renders_view cites.now)) group.now.items }
+    requires distinct { AreDistinct group.now.items }
+{
+    print_places(rt, group);
+    let _ = eprintln!(rt; "disambiguate_names");
+    let names = disambiguate_names(rt.alloc(), cites, group)?;
+    print_marks(rt, "names", &names);
+    let _ = eprintln!(rt; "disambiguate_with_choose");
+    let choices = disambiguate_with_choose(rt.alloc(), cites, group)?;
+    print_marks(rt, "choose", &choices);
+    let _ = eprintln!(rt; "disambiguate_year_suffix");
+    let suffixes = disambiguate_year_suffix(rt.alloc(), cites, group)?;
+    print_marks(rt, "suffixes", &suffixes);
+    Ok(())
+}
+
+/// Prints the ambiguous groups, and their marks.
+fn mark_all(
+    rt: &(impl Print + Eprint + AllocGlobal),
+    cites: &[Cites<'_, '_>],
+) -> Result<(), AllocError> {
+    let _ = eprintln!(rt; "find_ambiguous_sets");
+    let groups = find_ambiguous_sets(rt.alloc(), cites)?;
+    for group in &groups {
+        mark_group(rt, cites, group)?;
+    }
+    Ok(())
+}
+
+/// Whether two cites are equal in all that grouping may change, and cite equal entries.
+fn is_same(cite: &Cite<'_>, other: &Cite<'_>) -> bool {
+    *cite.entry == *other.entry
+        && cite.rendered == other.rendered
+        && cite.cite_props == other.cite_props
+        && cite.first_name == other.first_name
+        && cite.delim_override == other.delim_override
+        && cite.group_idx == other.group_idx
+        && cite.hidden == other.hidden
+}
+
+/// Whether the cites of two requests are.
+fn are_same(cites: &[Cite<'_>], others: &[Cite<'_>]) -> bool {
+    if cites.len() != others.len() {
+        return false;
+    }
+    for (k, cite) in cites.iter().enumerate() {
+        if !is_same(cite, &others[k]) {
+            return false;
+        }
+    }
+    true
+}
+
+fn print_cite(rt: &impl Print, cite: &Cite<'_>) {
+    if let Some(block) = cite.group_idx {
+        let _ = print!(rt; "block {block} ");
+    }
+    if let Some(delimiter) = cite.delim_override {
+        let _ = print!(rt; "behind `{delimiter}` ");
+    }
+    let _ = println!(rt; "{}{}", if cite.hidden { "hidden " } else { "" }, cite.rendered);
+}
+
+/// Groups and collapses the cites of a request, and prints them; tells whether those of a refused call are
+/// as others that were made alike.
+fn group_one(
+    rt: &(impl Print + Eprint + AllocGlobal),
+    cites: &mut Cites<'_, '_>,
+    alike: &Cites<'_, '_>,
+) -> Result<bool, RunError> {
+    let _ = eprintln!(rt; "group_cites");
+    if group_cites(rt.alloc(), cites).is_err() {
+        if are_same(&cites.items, &alike.items) {
+            return Err(RunError::OutOfMemory);
+        }
+        return Ok(false);
+    }
+    collapse_items(cites);
+    for cite in &cites.items {
+        print_cite(rt, cite);
+    }
+    Ok(true)
+}
+
+/// The items of a bibliography.
+fn items_of(
+    alloc: Global,
+    request: &Request<'_>,
+) -> Result<Vec<(ElemChildren, String)>, RunError> {
+    let context = ringless(alloc, request.style())?;
+    let properties: CiteProperties<'_, Infallible> = CiteProperties::for_sorting(None, 0);
+    let mut renders = Renders::new();
+    let mut items = Vec::new(alloc);
+    for item in &request.items {
+        let tree = context.bibliography(alloc, item.entry, &properties, None, None, &mut renders)?;
+        if let Some(tree) = tree {
+            items.push((tree, String::from_str(alloc, item.entry.key())?))?;
+        }
+    }
+    Ok(items)
+}
+
+/// Substitutes repeated authors of the items, and prints these.
+fn substitute(
+    rt: &(impl Print + Eprint + AllocGlobal),
+    request: &Request<'_>,
+    bibliography: &Bibliography,
+) -> Result<(), RunError> {
+    let mut items = items_of(rt.alloc(), request)?;
+    let _ = eprintln!(rt; "substitute_subsequent_authors");
+    substitute_subsequent_authors(
+        rt.alloc(),
+        bibliography.subsequent_author_substitute.as_deref(),
+        bibliography.subsequent_author_substitute_rule,
+        &mut items,
+    )?;
+    for (tree, key) in &items {
+        let _ = println!(rt; "{key}\t{tree}");
+    }
+    Ok(())
+}
+
+/// Makes the calls of each request that change it.
+fn change_each(
+    rt: &(impl Print + Eprint + AllocGlobal),
+    cites: &mut [Cites<'_, '_>],
+    alike: &[Cites<'_, '_>],
+) -> Result<bool, RunError> {
+    for r in 0..cites.len() {
+        if r < alike.len() && !group_one(rt, &mut cites[r], &alike[r])? {
+            return Ok(false);
+        }
+    }
+    Ok(true)
+}
+
+/// Calls the passes on the cites of these requests, and prints what they give.
+pub fn by_passes(
+    rt: &(impl Print + Eprint + AllocGlobal),
+    requests: &[Request<'_>],
+) -> Result<Seen, RunError> {
+    let mut cites = all_written(rt.alloc(), requests)?;
+    let alike = all_written(rt.alloc(), requests)?;
+    mark_all(rt, &cites)?;
+    if !change_each(rt, &mut cites, &alike)? {
+        return Ok(Seen::Amiss("a refused request isn't as it was"));
+    }
+    for request in requests {
+        if let Some(bibliography) = &request.style().bibliography {
+            substitute(rt, request, bibliography)?;
+        }
+    }
+    Ok(Seen::Answer)
+}
