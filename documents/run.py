@@ -6,8 +6,9 @@ the documents must print. It has crates/call_by_call, which is looked for beside
 answer the documents by the public calls: each by `finish` or, where it says so, by `finish_full`; and where there is a
 NAME.account, by `finish_counted` or `finish_full` once more, of which the account is printed, or why there is none; where
 there is a NAME.alone, each request by `standalone_citation`; where there is a NAME.passes, by the passes themselves, on cites
-that are written without a driver; and where there is a NAME.equality, it is told which requests are equal to the first, and whether that
-for the bibliography is one for its style alone. Where a C compiler is there, it refuses each growth of memory in
+that are written without a driver; where there is a NAME.equality, it is told which requests are equal to the first, and whether that
+for the bibliography is one for its style alone; and where there is a NAME.context, what calls of a writing context give in its style. A
+copy of each answer has to be equal to it. Where a C compiler is there, it refuses each growth of memory in
 turn (refuse.c), in both programs.
 run.py PROGRAM FOLDER..: runs it on the documents of these folders, and does nothing else.
 
@@ -42,7 +43,7 @@ LINES = {
     5: b'cite_run: out of memory\n',
 }
 # The files of a document.
-ENDINGS = ('.json', '.txt', '.status', '.account', '.alone', '.passes', '.equality')
+ENDINGS = ('.json', '.txt', '.status', '.account', '.alone', '.passes', '.equality', '.context')
 SECONDS = 60
 RANDOM_DOCUMENTS = 2000
 
@@ -198,10 +199,11 @@ def call_by_call(calls, bases):
             made.append(('account: ' + name_of(base), by_calls, calls, 'account', base, status, read(base + '.account')))
         if os.path.isfile(base + '.alone'):
             made.append(('standalone: ' + name_of(base), by_calls, calls, 'standalone_citation', base, 0, read(base + '.alone')))
-        if os.path.isfile(base + '.equality'):
-            made.append(('equality: ' + name_of(base), by_calls, calls, 'equality', base, 0, read(base + '.equality')))
-        if os.path.isfile(base + '.passes'):
-            made.append(('passes: ' + name_of(base), by_calls, calls, 'passes', base, 0, read(base + '.passes')))
+        for way in ('passes', 'equality', 'context'):
+            if os.path.isfile(base + '.' + way):
+                made.append((way + ': ' + name_of(base), by_calls, calls, way, base, 0, read(base + '.' + way)))
+        if status == 0:
+            made.append(('copies: ' + name_of(base), by_calls, calls, 'copies', base, 0, b'copy: equal\n'))
     ring = HERE + '/rows/ring_of_one_macro'
     return [*made, ('standalone: ' + name_of(ring), by_calls, calls, 'standalone_citation', ring, 3, b'')]
 
@@ -475,9 +477,9 @@ ALONE = b'[1]\n' * 4
 # Calls of crates/call_by_call, which it names before it makes them; the status is 5 where one is refused, but for `citation`.
 PASSES = ['find_ambiguous_sets', 'disambiguate_names', 'disambiguate_with_choose', 'disambiguate_year_suffix']
 PASSES += ['group_cites', 'substitute_subsequent_authors']
-CALLS = ['read', 'prepare', 'citation', 'finish', 'finish_counted', 'finish_full', 'standalone_citation', 'run', 'free', *PASSES]
+CALLS = ['read', 'prepare', 'citation', 'finish', 'finish_counted', 'finish_full', 'standalone_citation', 'run', 'free', 'clone', 'context', *PASSES]
 # Those that print before others are called.
-PRINT = ['standalone_citation', *PASSES]
+PRINT = ['standalone_citation', 'context', *PASSES]
 MOST_GROWTHS = 100000
 
 
@@ -568,8 +570,10 @@ def sweeps_of_calls(shim, program):
     for name in SWEPT_PASSES:
         given, text = read(HERE + '/' + name + '.json'), read(HERE + '/' + name + '.passes')
         made.append(('growths of passes: ' + name, sweep_of_calls, shim, program, 'passes', given, 0, text))
+    given, text = read(HERE + '/words/calls_of_a_context.json'), read(HERE + '/words/calls_of_a_context.context')
+    made.append(('growths of context', sweep_of_calls, shim, program, 'context', given, 0, text))
     given, text = row('rows/offset_and_order')
-    for way, printed in (('run', text), ('standalone_citation', ALONE), ('free', b'')):
+    for way, printed in (('run', text), ('copies', b'copy: equal\n'), ('standalone_citation', ALONE), ('free', b'')):
         made.append(('growths of %s' % way, sweep_of_calls, shim, program, way, given, 0, printed))
     return made
 

@@ -1,7 +1,8 @@
 //! A document's requests, handed to the driver one by one.
 
 use crate::account::{print_account, print_refusal};
-use crate::equality::{print_requests, print_wanted, properties_differ};
+use crate::contexts::print_contexts;
+use crate::equality::{print_copies, print_requests, print_wanted, properties_differ, word};
 use crate::free::calls_without_memory;
 use crate::passes::by_passes;
 use crate::streams::{Failing, Slow};
@@ -43,6 +44,10 @@ pub enum How {
     Passes,
     /// By none: what is asked is compared.
     Equality,
+    /// By `finish`; what is printed is whether a copy of the answer is equal to it.
+    Copies,
+    /// By none: calls of a writing context are made.
+    Context,
     /// By none: calls that take no memory are made.
     Free,
 }
@@ -186,6 +191,20 @@ fn print_finished<'e>(
     Ok(())
 }
 
+/// Prints whether a copy of the answer is equal to it.
+fn print_copied<'e>(
+    rt: &(impl Print + Eprint),
+    driver: Driver<'e>,
+    request: BibliographyRequest<'_, 'e, PlainEntry>,
+) -> Result<(), DriverError> {
+    let _ = eprintln!(rt; "finish");
+    let rendered = driver.finish(request)?;
+    let _ = eprintln!(rt; "clone");
+    let copy = rendered.clone()?;
+    let _ = println!(rt; "copy: {}", word(copy == rendered));
+    Ok(())
+}
+
 /// Prints what the answer cost, or why there is none.
 fn print_counted<'e>(
     rt: &(impl Print + Eprint),
@@ -219,6 +238,7 @@ fn answer_all<'e, 'f: 'e>(
     let request = bibliography_request(alloc, asked, files)?;
     let finished = match how {
         How::Account => print_counted(rt, driver, request, asked.rounds),
+        How::Copies => print_copied(rt, driver, request),
         _ => print_finished(rt, driver, request, how),
     };
     if let Err(error) = finished {
@@ -299,6 +319,7 @@ fn compare<'e, 'f: 'e>(
     files: &'e TermTables<'f>,
 ) -> Result<Seen, RunError> {
     let requests = requests_of(rt.alloc(), asked, files)?;
+    print_copies(rt, &requests)?;
     print_requests(rt, &requests);
     let wanted = bibliography_request(rt.alloc(), asked, files)?;
     print_wanted(rt, &wanted);
@@ -339,6 +360,10 @@ pub fn answered(
         How::Alone => answer_alone(rt, &asked, &files),
         How::Passes => call_passes(rt, &asked, &files),
         How::Equality => compare(rt, &asked, &files),
+        How::Context => {
+            print_contexts(rt, asked.wanted.style.style, asked.locales)?;
+            Ok(Seen::Answer)
+        }
         How::Free => call_free(rt, &asked, &files),
         _ => answer_all(rt, &asked, &files, how),
     }

@@ -6,9 +6,11 @@ use csl_driver::locator::{LocatorPayload, SpecificLocator};
 use csl_driver::properties::{CertainCiteProperties, CiteProperties, SpeculativeCiteProperties};
 use csl_driver::request::{BibliographyRequest, CitationRequest};
 use csl_driver::state::{DisambiguateState, IbidState, IdentifierUsage};
+use std::alloc::AllocError;
 use std::convert::Infallible;
 
 type Request<'e> = CitationRequest<'e, PlainEntry, Infallible>;
+
 type Speculative = SpeculativeCiteProperties<'static, Infallible>;
 
 /// Whether what holds of a cite for certain differs by each of its fields.
@@ -90,15 +92,34 @@ pub fn properties_differ() -> bool {
     certain_differ() && speculative_differ() && parts_differ()
 }
 
-fn word(equal: bool) -> &'static str {
+/// A word for whether two things are equal.
+pub fn word(equal: bool) -> &'static str {
     if equal { "equal" } else { "other" }
+}
+
+/// Whether copies of the cites are equal to them.
+fn are_copied(request: &Request<'_>) -> Result<bool, AllocError> {
+    for item in &request.items {
+        if item.clone()? != *item {
+            return Ok(false);
+        }
+    }
+    Ok(true)
+}
+
+/// Prints whether copies of the cites of each request are equal to them.
+pub fn print_copies(rt: &impl Print, requests: &[Request<'_>]) -> Result<(), AllocError> {
+    for request in requests {
+        let _ = println!(rt; "copies: {}", word(are_copied(request)?));
+    }
+    Ok(())
 }
 
 /// Prints of each request but the first whether it is equal to that.
 pub fn print_requests(rt: &impl Print, requests: &[Request<'_>]) {
     if let Some((first, others)) = requests.split_first() {
         for request in others {
-            let _ = println!(rt; "request: {}", word(request == first));
+            let _ = println!(rt; "request: {}", word(*request == *first));
         }
     }
 }

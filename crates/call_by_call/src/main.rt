@@ -10,6 +10,7 @@
 
 mod account;
 mod calls;
+mod contexts;
 mod equality;
 mod free;
 mod passes;
@@ -36,7 +37,9 @@ fn answer(rt: &(impl Input + Print + Eprint + AllocGlobal)) -> Result<Seen, RunE
         "account" => answered(rt, document, How::Account),
         "standalone_citation" => answered(rt, document, How::Alone),
         "passes" => answered(rt, document, How::Passes),
+        "context" => answered(rt, document, How::Context),
         "equality" => answered(rt, document, How::Equality),
+        "copies" => answered(rt, document, How::Copies),
         "free" => answered(rt, document, How::Free),
         "run" => written_out(rt, document),
         "slow" => read_slowly(rt, document, false),

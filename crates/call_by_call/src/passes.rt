@@ -25,15 +25,15 @@ use std::alloc::{AllocError, Global};
 use std::convert::Infallible;
 
 type Item<'e> = CitationItem<'e, PlainEntry, Infallible>;
+
 type Request<'e> = CitationRequest<'e, PlainEntry, Infallible>;
+
 type Cite<'e> = SpeculativeItemRender<'e, PlainEntry, Infallible>;
+
 type Cites<'r, 'e> = SpeculativeCiteRender<'r, 'e, PlainEntry, Infallible>;
 
 /// The style without locales.
-fn ringless<'a>(
-    alloc: Global,
-    style: &'a IndependentStyle,
-) -> Result<StyleContext<'a>, RunError>
+fn ringless<'a>(alloc: Global, style: &'a IndependentStyle) -> Result<StyleContext<'a>, RunError>
     ensures { IfOk result (λ context. HasNoRing (context_source context).style.macros) }
 {
     match style.ring(alloc)? {
@@ -101,17 +101,17 @@ fn all_written<'r, 'e>(
 
 fn print_places(rt: &impl Print, group: &AmbiguousGroup) {
     let _ = print!(rt; "group");
-    for (request, cite) in group.as_slice() {
-        let _ = print!(rt; " {request}.{cite}");
+    for place in group {
+        let _ = print!(rt; " {}.{}", place.0, place.1);
     }
     let _ = println!(rt; "");
 }
 
 fn print_marks(rt: &impl Print, pass: &str, marks: &Marks) {
     let _ = print!(rt; "{pass}:");
-    for (place, state) in marks.as_slice() {
-        let _ = print!(rt; " {}.{} ", place.0, place.1);
-        print_state(rt, state);
+    for mark in marks {
+        let _ = print!(rt; " {}.{} ", mark.0.0, mark.0.1);
+        print_state(rt, &mark.1);
     }
     let _ = println!(rt; "");
 }
@@ -182,7 +182,10 @@ fn print_cite(rt: &impl Print, cite: &Cite<'_>) {
     if let Some(delimiter) = cite.delim_override {
         let _ = print!(rt; "behind `{delimiter}` ");
     }
-    let _ = println!(rt; "{}{}", if cite.hidden { "hidden " } else { "" }, cite.rendered);
+    if cite.hidden {
+        let _ = print!(rt; "hidden ");
+    }
+    let _ = println!(rt; "{}", cite.rendered);
 }
 
 /// Groups and collapses the cites of a request, and prints them; tells whether those of a refused call are
@@ -207,10 +210,7 @@ fn group_one(
 }
 
 /// The items of a bibliography.
-fn items_of(
-    alloc: Global,
-    request: &Request<'_>,
-) -> Result<Vec<(ElemChildren, String)>, RunError> {
+fn items_of(alloc: Global, request: &Request<'_>) -> Result<Vec<(ElemChildren, String)>, RunError> {
     let context = ringless(alloc, request.style())?;
     let properties: CiteProperties<'_, Infallible> = CiteProperties::for_sorting(None, 0);
     let mut renders = Renders::new();
@@ -238,8 +238,8 @@ fn substitute(
         bibliography.subsequent_author_substitute_rule,
         &mut items,
     )?;
-    for (tree, key) in &items {
-        let _ = println!(rt; "{key}\t{tree}");
+    for item in &items {
+        let _ = println!(rt; "{}\t{}", item.1, item.0);
     }
     Ok(())
 }

@@ -1,5 +1,5 @@
-//! The whole answer, as far as no document tells it: entries that are equal at two places, note numbers,
-//! marks, and equality of what goes in and comes out.
+//! The whole answer, as far as no document tells it: entries that are equal at two places, note numbers and
+//! marks; and its laws.
 use csl_base::elem::{ElemChildren, ElemMeta};
 use csl_base::entry::PlainEntry;
 use csl_base::style::{IndependentStyle, StyleClass};
@@ -12,8 +12,7 @@ use csl_driver::laws::{
     request_equality_decides, suffixes_count_entries, wanted_equality_decides,
 };
 use csl_driver::rendered::Rendered;
-use csl_driver::request::{BibliographyRequest, CitationRequest, Order};
-use csl_writing::purpose::CitePurpose;
+use csl_driver::request::{BibliographyRequest, CitationRequest};
 use row_styles::styles::{entry, numeric, value_style};
 use std::alloc::{AllocError, Global};
 use std::convert::Infallible;
@@ -33,15 +32,13 @@ fn entries_of(alloc: Global, keys: &[&str]) -> Result<Vec<PlainEntry>, AllocErro
     Ok(entries)
 }
 
-/// A request that cites the entry, which may be hidden.
+/// A request that cites the entry.
 fn cite<'a>(
     alloc: Global,
     style: &'a IndependentStyle,
     cited: &'a PlainEntry,
-    hidden: bool,
 ) -> Result<Request<'a>, AllocError> {
-    let mut items: Vec<Item<'a>> = Vec::new(alloc);
-    items.push(CitationItem::new(cited, None, None, hidden, None))?;
+    let items: Vec<Item<'a>> = vec![in alloc; CitationItem::with_entry(cited)]?;
     Ok(CitationRequest::from_items(items, style, &[]))
 }
 
@@ -60,7 +57,7 @@ fn driver_of<'a>(
 ) -> Result<Driver<'a>, Fail> {
     let mut driver: Driver<'a> = BibliographyDriver::new(alloc);
     for each in entries {
-        take(&mut driver, cite(alloc, style, each, false)?)?;
+        take(&mut driver, cite(alloc, style, each)?)?;
     }
     Ok(driver)
 }
@@ -120,13 +117,6 @@ fn equal_entries_are_one(rt: HostRuntime) -> Result<(), Fail> {
     Ok(())
 }
 
-#[test]
-fn a_copy_is_equal(rt: HostRuntime) -> Result<(), Fail> {
-    let rendered = numbered(rt.alloc(), &["a"])?;
-    assert!(rt; rendered.clone()? == rendered);
-    Ok(())
-}
-
 /// A request for the bibliography of the style.
 fn wanted<'a>(style: &'a IndependentStyle) -> BibliographyRequest<'a, 'a, PlainEntry> {
     BibliographyRequest::new(style, None, &[])
@@ -148,8 +138,8 @@ fn noting<'a>(
 }
 
 /// The answer to that.
-fn noted(alloc: Global, class: StyleClass, written: &str) -> Result<Rendered, Fail> {
-    let style = value_style(alloc, class, written)?;
+fn noted(alloc: Global, class: StyleClass) -> Result<Rendered, Fail> {
+    let style = value_style(alloc, class, "T")?;
     let cited = entry(alloc, "a")?;
     let driver = noting(alloc, &style, &cited)?;
     Ok(driver.finish(wanted(&style))?)
@@ -158,7 +148,7 @@ fn noted(alloc: Global, class: StyleClass, written: &str) -> Result<Rendered, Fa
 #[test]
 fn note_numbers_are_kept_in_notes_alone(rt: HostRuntime) -> Result<(), Fail> {
     for (class, number) in [(StyleClass::Note, Some(7)), (StyleClass::InText, None)] {
-        let rendered = noted(rt.alloc(), class, "T")?;
+        let rendered = noted(rt.alloc(), class)?;
         let citation = rendered.citations.as_slice().first().ok_or("no citation")?;
         assert!(rt; citation.note_number == number);
     }
@@ -167,83 +157,9 @@ fn note_numbers_are_kept_in_notes_alone(rt: HostRuntime) -> Result<(), Fail> {
 
 #[test]
 fn cites_are_marked_with_their_places(rt: HostRuntime) -> Result<(), Fail> {
-    let rendered = noted(rt.alloc(), StyleClass::Note, "T")?;
+    let rendered = noted(rt.alloc(), StyleClass::Note)?;
     assert!(rt; rendered.bibliography.is_none());
     let citation = rendered.citations.as_slice().first().ok_or("no citation")?;
     assert!(rt; citation.citation.find_meta(&ElemMeta::Entry(0)).is_some());
-    Ok(())
-}
-
-#[test]
-fn items_are_equal_where_their_parts_are(rt: HostRuntime) -> Result<(), Fail> {
-    let entries = entries_of(rt.alloc(), &["a", "b", "a"])?;
-    let [a, b, same] = entries.as_slice() else {
-        return Err(Fail::new("not three entries"));
-    };
-    let item: Item = CitationItem::with_entry(a);
-    assert!(rt; item == CitationItem::with_entry(same));
-    assert!(rt; item != CitationItem::with_entry(b));
-    assert!(rt; item != CitationItem::with_entry(a).kind(CitePurpose::Year));
-    Ok(())
-}
-
-#[test]
-fn items_are_copied(rt: HostRuntime) -> Result<(), Fail> {
-    let a = entry(rt.alloc(), "a")?;
-    let item: Item = CitationItem::with_entry(&a);
-    assert!(rt; item.clone()? == item);
-    Ok(())
-}
-
-#[test]
-fn requests_are_equal_where_their_parts_are(rt: HostRuntime) -> Result<(), Fail> {
-    let alloc = rt.alloc();
-    let style = numeric(alloc)?;
-    let entries = entries_of(alloc, &["a", "a"])?;
-    let [a, same] = entries.as_slice() else {
-        return Err(Fail::new("not two entries"));
-    };
-    let request = cite(alloc, &style, a, false)?;
-    assert!(rt; request == cite(alloc, &style, same, false)?);
-    assert!(rt; request != cite(alloc, &style, a, true)?);
-    Ok(())
-}
-
-#[test]
-fn orders_are_equal_where_their_entries_are(rt: HostRuntime) -> Result<(), Fail> {
-    let entries = entries_of(rt.alloc(), &["a", "b", "a"])?;
-    let [a, b, same] = entries.as_slice() else {
-        return Err(Fail::new("not three entries"));
-    };
-    assert!(rt; Order(&[a, b]) == Order(&[same, b]));
-    assert!(rt; Order(&[a]) != Order(&[b]));
-    Ok(())
-}
-
-/// Whether requests for the bibliographies of two styles are equal.
-fn is_wanted_alike<'a>(style: &'a IndependentStyle, other: &'a IndependentStyle) -> bool {
-    wanted(style) == wanted(other)
-}
-
-#[test]
-fn requests_for_a_bibliography_are_compared(rt: HostRuntime) -> Result<(), Fail> {
-    let numbers = numeric(rt.alloc())?;
-    let plain = value_style(rt.alloc(), StyleClass::Note, "T")?;
-    assert!(rt; is_wanted_alike(&numbers, &numbers));
-    assert!(rt; !is_wanted_alike(&numbers, &plain));
-    Ok(())
-}
-
-#[test]
-fn answers_are_equal_where_their_parts_are(rt: HostRuntime) -> Result<(), Fail> {
-    let answer = noted(rt.alloc(), StyleClass::Note, "T")?;
-    for (class, written, equal) in [
-        (StyleClass::Note, "T", true),
-        (StyleClass::InText, "T", false),
-        (StyleClass::Note, "U", false),
-    ] {
-        let other = noted(rt.alloc(), class, written)?;
-        assert!(rt; (answer == other) == equal);
-    }
     Ok(())
 }

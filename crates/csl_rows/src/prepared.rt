@@ -1,4 +1,4 @@
-//! Requests of prepared styles: they are equal to those of the styles, and have the same answers.
+//! Requests of a prepared style have the answers of those of the style.
 use csl_base::entry::PlainEntry;
 use csl_base::style::IndependentStyle;
 use csl_driver::driver::BibliographyDriver;
@@ -7,7 +7,7 @@ use csl_driver::rendered::Rendered;
 use csl_driver::request::{BibliographyRequest, CitationRequest};
 use csl_driver::sound::SoundStyle;
 use csl_driver::terms::TermTables;
-use row_styles::styles::{entry, numeric, numeric_with_macros};
+use row_styles::styles::{entry, numeric};
 use std::alloc::{AllocError, Global};
 use std::convert::Infallible;
 use std::test::Fail;
@@ -83,27 +83,4 @@ fn prepared_answers_alike(rt: HostRuntime) -> Result<(), Fail> {
     let answered = answer_prepared(rt.alloc(), &sound, &files, &cited)?;
     assert!(rt; answered == answer_unprepared(rt.alloc(), &style, &cited)?);
     Ok(())
-}
-
-#[test]
-fn prepared_requests_are_equal(rt: HostRuntime) -> Result<(), Fail> {
-    let style = numeric(rt.alloc())?;
-    let cited = entry(rt.alloc(), "a")?;
-    let sound = prepared(rt.alloc(), &style)?;
-    let files = TermTables::new(rt.alloc(), &[])?;
-    let request = cite_prepared(rt.alloc(), &sound, &files, &cited)?;
-    assert!(rt; request == cite(rt.alloc(), &style, &cited)?);
-    Ok(())
-}
-
-#[test]
-fn a_ring_is_not_prepared(rt: HostRuntime) -> Result<(), Fail> {
-    let style = numeric_with_macros(rt.alloc(), &[("a", "p"), ("p", "q"), ("q", "p")])?;
-    match SoundStyle::new(rt.alloc(), &style)? {
-        Ok(_) => Err(Fail::new("the style has a ring")),
-        Err(place) => {
-            assert!(rt; place == 1);
-            Ok(())
-        }
-    }
 }

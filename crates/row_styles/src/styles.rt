@@ -1,8 +1,8 @@
 //! Styles and entries that the tests use.
 use csl_base::element::{
-    Affixes, CslMacro, InheritableNameOptions, LayoutRenderingElement, NameForm, TextTarget,
+    Affixes, InheritableNameOptions, LayoutRenderingElement, NameForm, TextTarget,
 };
-use csl_base::entry::{Date, Person, PlainEntry};
+use csl_base::entry::PlainEntry;
 use csl_base::formatting::{FontStyle, StyleFormatting};
 use csl_base::seq::Seq;
 use csl_base::style::{
@@ -61,11 +61,6 @@ pub fn value(alloc: Global, value: &str) -> Result<LayoutRenderingElement, Alloc
     Ok(text_element(TextTarget::Value(String::from_str(alloc, value)?)))
 }
 
-/// A text element that calls the macro of this name.
-pub fn call(alloc: Global, name: &str) -> Result<LayoutRenderingElement, AllocError> {
-    Ok(text_element(TextTarget::Macro(String::from_str(alloc, name)?)))
-}
-
 /// The children, with this delimiter between them.
 pub fn group(
     alloc: Global,
@@ -81,31 +76,6 @@ pub fn group(
     })
 }
 
-/// A macro that calls one.
-fn macro_of(alloc: Global, name: &str, called: &str) -> Result<CslMacro, AllocError> {
-    let children = vec![in alloc; call(alloc, called)?]?;
-    Ok(CslMacro {
-        name: String::from_str(alloc, name)?,
-        children,
-    })
-}
-
-fn macros_of(alloc: Global, rows: &[(&str, &str)]) -> Result<Vec<CslMacro>, AllocError> {
-    let mut macros = Vec::new(alloc);
-    for row in rows {
-        macros.push(macro_of(alloc, row.0, row.1)?)?;
-    }
-    Ok(macros)
-}
-
-/// The numeric style with these macros: each name, and the name that it calls.
-pub fn numeric_with_macros(
-    alloc: Global,
-    macros: &[(&str, &str)],
-) -> Result<IndependentStyle, AllocError> {
-    numeric_of(alloc, macros_of(alloc, macros)?)
-}
-
 /// A style of this class that writes this text in italics, with the suffix `.` and no bibliography.
 pub fn value_style(
     alloc: Global,
@@ -113,7 +83,7 @@ pub fn value_style(
     written: &str,
 ) -> Result<IndependentStyle, AllocError> {
     let citation = citation_of(italic_layout(alloc, written)?, None, None);
-    Ok(style_of(alloc, class, Vec::new(alloc), citation, None))
+    Ok(style_of(alloc, class, citation, None))
 }
 
 fn italic_layout(alloc: Global, written: &str) -> Result<Layout, AllocError> {
@@ -184,7 +154,7 @@ pub fn writing(
 
 fn in_text(alloc: Global, layout: Layout) -> IndependentStyle {
     let citation = citation_of(layout, None, None);
-    style_of(alloc, StyleClass::InText, Vec::new(alloc), citation, None)
+    style_of(alloc, StyleClass::InText, citation, None)
 }
 
 /// Authors, years and original years.
@@ -267,7 +237,6 @@ pub fn bibliography_of(layout: Layout) -> Bibliography {
 fn style_of(
     alloc: Global,
     class: StyleClass,
-    macros: Vec<CslMacro>,
     citation: Citation,
     bibliography: Option<Bibliography>,
 ) -> IndependentStyle {
@@ -281,7 +250,7 @@ fn style_of(
         },
         default_locale: None,
         locale: Vec::new(alloc),
-        macros,
+        macros: Vec::new(alloc),
         citation,
         bibliography,
     }
@@ -289,14 +258,9 @@ fn style_of(
 
 /// An in-text style of citation numbers in brackets, whose bibliography writes them so too.
 pub fn numeric(alloc: Global) -> Result<IndependentStyle, AllocError> {
-    numeric_of(alloc, Vec::new(alloc))
-}
-
-fn numeric_of(alloc: Global, macros: Vec<CslMacro>) -> Result<IndependentStyle, AllocError> {
     let citation = numeric_citation(alloc)?;
     let bibliography = Some(numeric_bibliography(alloc)?);
-    let class = StyleClass::InText;
-    Ok(style_of(alloc, class, macros, citation, bibliography))
+    Ok(style_of(alloc, StyleClass::InText, citation, bibliography))
 }
 
 fn numeric_citation(alloc: Global) -> Result<Citation, AllocError> {
@@ -320,55 +284,12 @@ fn numeric_bibliography(alloc: Global) -> Result<Bibliography, AllocError> {
 
 /// An entry that has a key alone.
 pub fn entry(alloc: Global, key: &str) -> Result<PlainEntry, AllocError> {
-    new_entry(alloc, key, Vec::new(alloc), Vec::new(alloc))
-}
-
-fn new_entry(
-    alloc: Global,
-    key: &str,
-    names: Vec<(NameVariable, Seq<Person>)>,
-    dates: Vec<(DateVariable, Date)>,
-) -> Result<PlainEntry, AllocError> {
     Ok(PlainEntry {
         key: Text::new(String::from_str(alloc, key)?),
         label: None,
-        names: Seq::new(names),
-        dates: Seq::new(dates),
+        names: Seq::new(Vec::new(alloc)),
+        dates: Seq::new(Vec::new(alloc)),
         texts: Seq::new(Vec::new(alloc)),
         numbers: Seq::new(Vec::new(alloc)),
     })
-}
-
-fn person(alloc: Global, name: &str) -> Result<Person, AllocError> {
-    Ok(Person {
-        name: Text::new(String::from_str(alloc, name)?),
-        given_name: None,
-    })
-}
-
-fn persons(alloc: Global, names: &[&str]) -> Result<Vec<Person>, AllocError> {
-    let mut persons = Vec::new(alloc);
-    for name in names {
-        persons.push(person(alloc, *name)?)?;
-    }
-    Ok(persons)
-}
-
-fn names_of(
-    alloc: Global,
-    authors: &[&str],
-) -> Result<Vec<(NameVariable, Seq<Person>)>, AllocError> {
-    let persons = Seq::new(persons(alloc, authors)?);
-    Ok(vec![in alloc; (NameVariable::Author, persons)]?)
-}
-
-/// An entry of these authors.
-pub fn written_by(alloc: Global, authors: &[&str]) -> Result<PlainEntry, AllocError> {
-    new_entry(alloc, "", names_of(alloc, authors)?, Vec::new(alloc))
-}
-
-/// An entry of one author, issued in a year.
-pub fn dated(alloc: Global, author: &str, year: i32) -> Result<PlainEntry, AllocError> {
-    let dates = vec![in alloc; (DateVariable::Issued, Date { year })]?;
-    new_entry(alloc, "", names_of(alloc, &[author])?, dates)
 }

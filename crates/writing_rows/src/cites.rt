@@ -1,5 +1,4 @@
-//! Calls that render a cite or an item, by themselves: cites in a state and cut by a verdict, pieces of
-//! other kinds, marks of a caller's own locators.
+//! A cite by itself, with pieces of other kinds and a mark for a caller's own locator.
 ghost use Rattle.std.specs.Prelude.{IfOk};
 ghost use Rattle.csl_base.specs.Ring.{HasNoRing};
 ghost use Rattle.csl_writing.specs.ContextSource.{context_source};
@@ -15,12 +14,8 @@ use csl_writing::cite::Cite;
 use csl_writing::counter::Renders;
 use csl_writing::locator::{LocatorPayload, SpecificLocator, TransparentLocator};
 use csl_writing::lookup::StyleContext;
-use csl_writing::properties::{CertainCiteProperties, CiteProperties, SpeculativeCiteProperties};
-use csl_writing::state::{CollapseVerdict, DisambiguateState, IbidState, IdentifierUsage};
-use row_styles::styles::{
-    author_date, bibliography_of, dated, entry, layout_of, no_affixes, number, numeric,
-    text_element, writing,
-};
+use csl_writing::properties::CiteProperties;
+use row_styles::styles::{entry, no_affixes, number, text_element, writing};
 use std::alloc::{AllocError, Global};
 use std::test::Fail;
 
@@ -42,106 +37,19 @@ fn cite(
     style: &IndependentStyle,
     cited: &PlainEntry,
     properties: &Properties<'_>,
-    verdict: Option<CollapseVerdict>,
-    renders: &mut Renders,
 ) -> Result<Cite, Fail> {
     let context = ringless(alloc, style)?;
-    Ok(context.do_citation(alloc, cited, properties, None, None, None, verdict, renders)?)
-}
-
-/// The number of renderings after a cite of the greatest number, which notes that it wrote its number.
-fn number_cite(alloc: Global, renders: &mut Renders) -> Result<u128, Fail> {
-    let style = numeric(alloc)?;
-    let cited = entry(alloc, "a")?;
-    let properties = CiteProperties::for_sorting(None, usize::MAX);
-    let cite = cite(alloc, &style, &cited, &properties, None, renders)?;
-    let text = cite.children.to_string(alloc)?;
-    if cite.identifier_usage == IdentifierUsage::OnlyCitationNumber
-        && text.as_str() == "18446744073709551616"
-    {
-        Ok(renders.count())
-    } else {
-        Err(Fail::new("another cite"))
-    }
-}
-
-#[test]
-fn cites_count(rt: HostRuntime) -> Result<(), Fail> {
     let mut renders = Renders::new();
-    for _ in 0..7 {
-        let _count = number_cite(rt.alloc(), &mut renders)?;
-    }
-    assert!(rt; number_cite(rt.alloc(), &mut renders)? == 8);
-    Ok(())
-}
-
-/// The properties of a cite whose entry has the second suffix and the number 4, and wrote its number alone.
-fn second() -> Properties<'static> {
-    let speculative = SpeculativeCiteProperties {
-        locator: None,
-        citation_number: 4,
-        ibid: IbidState::Different,
-        disambiguation: DisambiguateState::YearSuffix(1),
-        identifier_usage: IdentifierUsage::OnlyCitationNumber,
-    };
-    CiteProperties {
-        certain: CertainCiteProperties::default(),
-        speculative,
-    }
-}
-
-/// A style of authors and years, whose bibliography writes labels.
-fn labelling(alloc: Global) -> Result<IndependentStyle, AllocError> {
-    let mut style = author_date(alloc)?;
-    let label = text_element(TextTarget::Standard(StandardVariable::CitationLabel));
-    style.bibliography = Some(bibliography_of(layout_of(alloc, label)?));
-    Ok(style)
-}
-
-/// The cite of that by each call: cut to its suffix, whole, its year alone, and its item.
-fn by_each_call(alloc: Global, style: &IndependentStyle) -> Result<String, Fail> {
-    let cited = dated(alloc, "Doe", 1999)?;
-    let mut renders = Renders::new();
-    let verdict = Some(CollapseVerdict::YearSuffix);
-    let cut = cite(alloc, style, &cited, &second(), verdict, &mut renders)?;
-    let mut text = cut.children.to_string(alloc)?;
-    push_others(alloc, style, &cited, &mut text)?;
-    Ok(text)
-}
-
-fn push_others(
-    alloc: Global,
-    style: &IndependentStyle,
-    cited: &PlainEntry,
-    text: &mut String,
-) -> Result<(), Fail> {
-    let context = ringless(alloc, style)?;
-    let properties = second();
-    let mut renders = Renders::new();
-    let whole = context.citation(
+    Ok(context.do_citation(
         alloc,
         cited,
-        &properties,
+        properties,
         None,
         None,
         None,
         None,
         &mut renders,
-    )?;
-    whole.write_plain(text)?;
-    let year = context.date_replacement(alloc, cited, &properties, None, None, &mut renders)?;
-    year.write_plain(text)?;
-    if let Some(item) = context.bibliography(alloc, cited, &properties, None, None, &mut renders)? {
-        item.write_plain(text)?;
-    }
-    Ok(())
-}
-
-#[test]
-fn each_call_renders(rt: HostRuntime) -> Result<(), Fail> {
-    let style = labelling(rt.alloc())?;
-    assert!(rt; by_each_call(rt.alloc(), &style)?.as_str() == "bDoe 1999b19995");
-    Ok(())
+    )?)
 }
 
 /// The properties of a cite at place 3 with a locator of the caller's own.
@@ -186,14 +94,7 @@ fn located(alloc: Global) -> Result<Cite, Fail> {
     let style = locating(alloc)?;
     let cited = titled(alloc)?;
     let properties = supplement(alloc)?;
-    cite(
-        alloc,
-        &style,
-        &cited,
-        &properties,
-        None,
-        &mut Renders::new(),
-    )
+    cite(alloc, &style, &cited, &properties)
 }
 
 /// The pieces of a text are written together, a formula as markup, and the caller's own locator is a mark.

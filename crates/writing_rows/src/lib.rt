@@ -1,19 +1,13 @@
-//! Tests of what stands below the driver: entries and trees, stacks, rings, cites and contexts by themselves.
+//! Tests of what stands below the driver, as far as no document tells it.
 #![tactic(auto)]
 
 #[cfg(test)]
 mod cites;
 #[cfg(test)]
-mod context;
-#[cfg(test)]
 mod entries;
 #[cfg(test)]
 mod places;
 #[cfg(test)]
-mod rings;
-#[cfg(test)]
 mod small;
 #[cfg(test)]
 mod stacks;
-#[cfg(test)]
-mod trees;

@@ -1,4 +1,9 @@
 //! Small values: years, letters, brackets, states, properties.
+use csl_base::equality::equality_laws;
+use csl_base::first_names::first_names_laws;
+use csl_base::last_text::last_text_laws;
+use csl_base::names::forms_are_in_order;
+use csl_base::simplify::simplify_laws;
 use csl_base::taxonomy::Locator;
 use csl_writing::brackets::Brackets;
 use csl_writing::laws::{
@@ -15,6 +20,11 @@ use std::test::Fail;
 
 #[test]
 fn laws() {
+    forms_are_in_order();
+    last_text_laws();
+    first_names_laws();
+    simplify_laws();
+    equality_laws();
     suffixes_differ();
     states_have_a_greatest();
     states_go_on();

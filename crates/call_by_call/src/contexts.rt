@@ -1,0 +1,206 @@
+//! Calls of a writing context: what each writes, and that what is pushed comes off again.
+ghost use Rattle.std.specs.Prelude.{◌≡◌, IfOk, length};
+ghost use Rattle.csl_context.specs.WritingState.{state};
+
+use csl_base::elem::ElemChildren;
+use csl_base::element::{Affixes, InheritableNameOptions};
+use csl_base::entry::{Chunk, ChunkKind, ChunkedString};
+use csl_base::formatting::{Display, FontStyle, StyleFormatting};
+use csl_base::locale::{Locale, LocaleCode};
+use csl_base::seq::Seq;
+use csl_base::style::IndependentStyle;
+use csl_base::taxonomy::{OtherTerm, Term, TermForm};
+use csl_base::text::Text;
+use csl_driver::context::Context;
+use csl_driver::lookup::StyleContext;
+use csl_driver::properties::CiteProperties;
+use csl_driver::writing::WritingContext;
+use std::alloc::{AllocError, Global};
+use std::convert::Infallible;
+use std::fmt::Write;
+
+/// What is written under a style: its name options are the entry too, as nothing asks for one.
+type Writing<'a> = Context<'a, InheritableNameOptions, Infallible>;
+
+fn begin<'a>(alloc: Global, style: &'a IndependentStyle) -> Result<Writing<'a>, AllocError>
+    ensures formats { IfOk result (λ context. length (state context.writing).formats ≡ 1) }
+    ensures options { IfOk result (λ context. length (state context.writing).name_options ≡ 1) }
+{
+    let options = &style.settings.options;
+    let properties = CiteProperties::for_sorting(None, 0);
+    StyleContext::new(style, None, &[]).ctx(alloc, options, properties, options)
+}
+
+/// A formula.
+fn formula(alloc: Global) -> Result<ChunkedString, AllocError> {
+    let chunk = Chunk {
+        value: Text::new(String::from_str(alloc, "x")?),
+        kind: ChunkKind::Math,
+    };
+    Ok(ChunkedString(Seq::new(vec![in alloc; chunk]?)))
+}
+
+/// A text, a formula, a link and a mark.
+fn marked(
+    alloc: Global,
+    style: &IndependentStyle,
+    formula: &ChunkedString,
+    url: String,
+) -> Result<ElemChildren, AllocError> {
+    let mut context = begin(alloc, style)?;
+    context.push_str("A")?;
+    context.push_chunked(formula)?;
+    context.push_link(formula, url)?;
+    context.push_transparent(2)?;
+    context.writing.flush()
+}
+
+fn affixes(alloc: Global, prefix: &str, suffix: &str) -> Result<Affixes, AllocError> {
+    Ok(Affixes {
+        prefix: Some(String::from_str(alloc, prefix)?),
+        suffix: Some(String::from_str(alloc, suffix)?),
+    })
+}
+
+/// The text in these affixes.
+fn in_affixes(
+    alloc: Global,
+    style: &IndependentStyle,
+    affixes: &Affixes,
+    text: &str,
+) -> Result<ElemChildren, AllocError> {
+    let mut context = begin(alloc, style)?;
+    let prefix = context.writing.apply_prefix(affixes)?;
+    context.push_str(text)?;
+    context.apply_suffix(affixes, prefix)?;
+    context.writing.flush()
+}
+
+/// Whether what follows a prefix of one space is content, where its periods are stripped.
+fn stripped_behind_a_space(alloc: Global, style: &IndependentStyle) -> Result<bool, AllocError> {
+    let affixes = affixes(alloc, " ", "")?;
+    let mut context = begin(alloc, style)?;
+    let prefix = context.writing.apply_prefix(&affixes)?;
+    context.may_strip_periods(true);
+    context.push_str(".é")?;
+    context.stop_stripping_periods();
+    context.writing.has_content_since(&prefix)
+}
+
+/// A text in quotes, and a space behind it that is there already.
+fn quoted(alloc: Global, style: &IndependentStyle) -> Result<ElemChildren, AllocError> {
+    let mut context = begin(alloc, style)?;
+    context.push_quotes()?;
+    context.push_str("X")?;
+    context.pop_quotes()?;
+    context.may_pull_punctuation();
+    context.push_str(",\u{a0}")?;
+    context.ensure_space()?;
+    context.writing.flush()
+}
+
+/// Writes under name options and a delimiter of its own.
+fn in_stacks(alloc: Global, style: &IndependentStyle) -> Result<ElemChildren, AllocError> {
+    let mut context = begin(alloc, style)?;
+    let delimiter = context.writing.push_delimiter(Some("; "))?;
+    context
+        .writing
+        .push_name_options(&style.citation.name_options)?;
+    context.push_str("A")?;
+    context.writing.pop_name_options();
+    context.writing.pop_delimiter(delimiter);
+    context.writing.flush()
+}
+
+fn italic() -> StyleFormatting {
+    StyleFormatting {
+        font_style: Some(FontStyle::Italic),
+        font_weight: None,
+    }
+}
+
+/// Changes the formatting, and goes back.
+fn in_formats(alloc: Global, style: &IndependentStyle) -> Result<(), AllocError> {
+    let mut context = begin(alloc, style)?;
+    let format = context.writing.push_format(italic())?;
+    context.push_str("A")?;
+    context.writing.pop_format(format)
+}
+
+/// An element that is closed, and one that is dropped.
+fn in_elements(alloc: Global, style: &IndependentStyle) -> Result<(), AllocError> {
+    let mut writing = WritingContext::new(alloc, &style.settings.options)?;
+    let kept = writing.push_elem(italic())?;
+    writing.commit_elem(kept, Some(Display::Block), None)?;
+    let dropped = writing.push_elem(italic())?;
+    writing.discard_elem(dropped)
+}
+
+/// A term, and a number that is written into the context.
+fn print_term(rt: &(impl Print + AllocGlobal), style: &IndependentStyle) -> Result<(), AllocError> {
+    let mut context = begin(rt.alloc(), style)?;
+    let quote = Term::Other(OtherTerm::OpenQuote);
+    if let Some(words) = context.term(quote, TermForm::Short, false) {
+        let _ = println!(rt; "term: {words}");
+    }
+    if write!(context, "{}", 7).is_err() {
+        return Err(AllocError);
+    }
+    let tree = context.writing.flush()?;
+    let _ = println!(rt; "number: {tree}");
+    Ok(())
+}
+
+fn language<'l>(locale: &'l Locale) -> Option<&'l str> {
+    match &locale.lang {
+        Some(code) => Some(code.0.as_str()),
+        None => None,
+    }
+}
+
+/// The first language that is found in the files for a locale.
+fn print_language(
+    rt: &(impl Print + AllocGlobal),
+    style: &IndependentStyle,
+    files: &[Locale],
+) -> Result<(), AllocError> {
+    let asked = LocaleCode(String::from_str(rt.alloc(), "de-AT")?);
+    let context = StyleContext::new(style, Some(&asked), files);
+    if let Some(found) = context.lookup_locale(|locale| language(locale)) {
+        let _ = println!(rt; "language of {}: {found}", context.locale());
+    }
+    Ok(())
+}
+
+/// Prints what is written in affixes.
+fn print_affixes(
+    rt: &(impl Print + AllocGlobal),
+    style: &IndependentStyle,
+) -> Result<(), AllocError> {
+    for (prefix, text) in [("(", "A"), ("(", ""), (". ", ".")] {
+        let affixes = affixes(rt.alloc(), prefix, ")")?;
+        let tree = in_affixes(rt.alloc(), style, &affixes, text)?;
+        let _ = println!(rt; "affixes: {tree}");
+    }
+    Ok(())
+}
+
+/// Makes the calls of a context in this style, and prints what they give.
+pub fn print_contexts(
+    rt: &(impl Print + Eprint + AllocGlobal),
+    style: &IndependentStyle,
+    files: &[Locale],
+) -> Result<(), AllocError> {
+    let alloc = rt.alloc();
+    let (formula, url) = (formula(alloc)?, String::from_str(alloc, "u")?);
+    let _ = eprintln!(rt; "context");
+    let _ = println!(rt; "children: {}", marked(alloc, style, &formula, url)?);
+    print_affixes(rt, style)?;
+    let _ = println!(rt; "content: {}", stripped_behind_a_space(alloc, style)?);
+    let _ = println!(rt; "quoted: {}", quoted(alloc, style)?);
+    let _ = println!(rt; "stacks: {}", in_stacks(alloc, style)?);
+    in_formats(alloc, style)?;
+    in_elements(alloc, style)?;
+    print_term(rt, style)?;
+    print_language(rt, style, files)
+}
