@@ -81,6 +81,24 @@ fn marks_of_others<T: EntryLike, P>(
     Ok(marks)
 }
 
+/// The marks of the cites at these places.
+fn choose_marks<T: EntryLike, P>(
+    alloc: Global,
+    renders: &[SpeculativeCiteRender<'_, '_, T, P>],
+    group: &[(usize, usize)],
+) -> Result<Marks, AllocError>
+    requires exist { All (IsPlace (renders_view renders.now)) group.now }
+    ensures { IfOk result (λ v. v.items ≡ choose_marks T.eq (members (renders_view renders.now) group.now)) }
+{
+    if !may_be_chosen(renders, group) {
+        return Ok(Vec::new(alloc));
+    }
+    match first_asking(renders, group) {
+        Some(spared) => marks_of_others(alloc, renders, group, spared),
+        None => Ok(Vec::new(alloc)),
+    }
+}
+
 /// The choose marks of an ambiguous group: where some cite that tested `disambiguate` is in no state or
 /// in that of names, each cite that tested it is marked, in the order of the group, except those of the
 /// entry of the first such cite. An empty group gives no marks.
@@ -96,11 +114,5 @@ pub fn disambiguate_with_choose<T: EntryLike, P>(
     requires exist { All (IsPlace (renders_view renders.now)) group.now.items }
     ensures { IfOk result (λ v. v.items ≡ choose_marks T.eq (members (renders_view renders.now) group.now.items)) }
 {
-    if !may_be_chosen(renders, group) {
-        return Ok(Vec::new(alloc));
-    }
-    match first_asking(renders, group) {
-        Some(spared) => marks_of_others(alloc, renders, group, spared),
-        None => Ok(Vec::new(alloc)),
-    }
+    choose_marks(alloc, renders, group)
 }
