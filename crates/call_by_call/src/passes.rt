@@ -153,13 +153,14 @@ fn mark_all(
 
 /// Whether two cites are equal in all that grouping may change, and cite equal entries.
 fn is_same(cite: &Cite<'_>, other: &Cite<'_>) -> bool {
-    *cite.entry == *other.entry
-        && cite.rendered == other.rendered
-        && cite.cite_props == other.cite_props
-        && cite.first_name == other.first_name
-        && cite.delim_override == other.delim_override
-        && cite.group_idx == other.group_idx
-        && cite.hidden == other.hidden
+    let entry = *cite.entry == *other.entry;
+    let rendered = cite.rendered == other.rendered;
+    let properties = cite.cite_props == other.cite_props;
+    let first_name = cite.first_name == other.first_name;
+    let delimiter = cite.delim_override == other.delim_override;
+    let block = cite.group_idx == other.group_idx;
+    let hidden = cite.hidden == other.hidden;
+    entry && rendered && properties && first_name && delimiter && block && hidden
 }
 
 /// Whether the cites of two requests are.
