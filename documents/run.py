@@ -474,9 +474,9 @@ SWEPT_PASSES = [
 REFUSED = {'rows/ring_of_two_macros': 3, 'rows/number_overflow': 4}
 # A citation by itself has the number 0, which is printed as 1.
 ALONE = b'[1]\n' * 4
-# Calls of crates/call_by_call, which it names before it makes them; the status is 5 where one is refused, but for `citation`.
 PASSES = ['find_ambiguous_sets', 'disambiguate_names', 'disambiguate_with_choose', 'disambiguate_year_suffix']
 PASSES += ['group_cites', 'substitute_subsequent_authors']
+# Calls of crates/call_by_call, which it names before it makes them; the status is 5 where one is refused, but for `citation`.
 CALLS = ['read', 'prepare', 'citation', 'finish', 'finish_counted', 'finish_full', 'standalone_citation', 'run', 'free', 'clone', 'context', *PASSES]
 # Those that print before others are called.
 PRINT = ['standalone_citation', 'context', *PASSES]
