@@ -477,7 +477,7 @@ ALONE = b'[1]\n' * 4
 PASSES = ['find_ambiguous_sets', 'disambiguate_names', 'disambiguate_with_choose', 'disambiguate_year_suffix']
 PASSES += ['group_cites', 'substitute_subsequent_authors']
 # Calls of crates/call_by_call, which it names before it makes them; the status is 5 where one is refused, but for `citation`.
-CALLS = ['read', 'prepare', 'citation', 'finish', 'finish_counted', 'finish_full', 'standalone_citation', 'run', 'free', 'clone', 'context', *PASSES]
+CALLS = ['read', 'prepare', 'citation', 'finish', 'finish_counted', 'finish_full', 'standalone_citation', 'run', 'free', 'clone', 'context', 'heights', *PASSES]
 # Those that print before others are called.
 PRINT = ['standalone_citation', 'context', *PASSES]
 MOST_GROWTHS = 100000
@@ -573,7 +573,7 @@ def sweeps_of_calls(shim, program):
     given, text = read(HERE + '/words/calls_of_a_context.json'), read(HERE + '/words/calls_of_a_context.context')
     made.append(('growths of context', sweep_of_calls, shim, program, 'context', given, 0, text))
     given, text = row('rows/offset_and_order')
-    for way, printed in (('run', text), ('copies', b'copy: equal\n'), ('standalone_citation', ALONE), ('free', b'')):
+    for way, printed in (('run', text), ('copies', b'copy: equal\n'), ('heights', b''), ('standalone_citation', ALONE), ('free', b'')):
         made.append(('growths of %s' % way, sweep_of_calls, shim, program, way, given, 0, printed))
     return made
 

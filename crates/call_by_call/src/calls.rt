@@ -4,6 +4,7 @@ use crate::account::{print_account, print_refusal};
 use crate::contexts::print_contexts;
 use crate::equality::{print_copies, print_requests, print_wanted, properties_differ, word};
 use crate::free::calls_without_memory;
+use crate::heights::{Ended, keep_heights};
 use crate::passes::by_passes;
 use crate::streams::{Failing, Slow};
 use cite_document::error::RunError;
@@ -48,6 +49,8 @@ pub enum How {
     Copies,
     /// By none: calls of a writing context are made.
     Context,
+    /// By none: calls of a writing context are made, and its heights are compared where one is refused.
+    Heights,
     /// By none: calls that take no memory are made.
     Free,
 }
@@ -340,6 +343,22 @@ fn call_passes<'e, 'f: 'e>(
     by_passes(rt, &requests)
 }
 
+/// Makes calls of a context, in the style of the bibliography, and compares its heights.
+fn call_context(rt: &(impl Eprint + AllocGlobal), asked: &Asked<'_>) -> Result<Seen, RunError> {
+    let entry = match asked.requests.as_slice().first() {
+        Some(request) => request.items.as_slice().first(),
+        None => None,
+    };
+    let Some(cite) = entry else {
+        return Err(RunError::Document);
+    };
+    match keep_heights(rt, asked.wanted.style.style, cite.entry)? {
+        Ok(()) => Ok(Seen::Answer),
+        Err(Ended::Refused) => Err(RunError::OutOfMemory),
+        Err(Ended::OtherHeights) => Ok(Seen::Amiss("a refused call left other heights")),
+    }
+}
+
 /// Does what is asked with the document.
 pub fn answered(
     rt: &(impl Print + Eprint + AllocGlobal),
@@ -364,6 +383,7 @@ pub fn answered(
             print_contexts(rt, asked.wanted.style.style, asked.locales)?;
             Ok(Seen::Answer)
         }
+        How::Heights => call_context(rt, &asked),
         How::Free => call_free(rt, &asked, &files),
         _ => answer_all(rt, &asked, &files, how),
     }

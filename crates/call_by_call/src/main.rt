@@ -13,6 +13,7 @@ mod calls;
 mod contexts;
 mod equality;
 mod free;
+mod heights;
 mod passes;
 mod streams;
 
@@ -38,6 +39,7 @@ fn answer(rt: &(impl Input + Print + Eprint + AllocGlobal)) -> Result<Seen, RunE
         "standalone_citation" => answered(rt, document, How::Alone),
         "passes" => answered(rt, document, How::Passes),
         "context" => answered(rt, document, How::Context),
+        "heights" => answered(rt, document, How::Heights),
         "equality" => answered(rt, document, How::Equality),
         "copies" => answered(rt, document, How::Copies),
         "free" => answered(rt, document, How::Free),

@@ -8,7 +8,7 @@ ghost use Rattle.csl_lookup.specs.declared.state.DisambiguateState.TheVariants.{
 ghost use Rattle.csl_passes.specs.Places.{IsPlace};
 ghost use Rattle.csl_passes.specs.RendersView.{item_view, items_view, renders_view};
 
-use crate::first_cites::{FirstCite, first_cites};
+use crate::first_cites::{FirstOfGroup, first_cites};
 use crate::members::style_at;
 use csl_base::elem::{ElemChildren, ElemMeta};
 use csl_base::entry::EntryLike;
@@ -99,7 +99,7 @@ fn adds_suffix<T, P>(
 }
 
 /// A mark for each of the cites, whose suffix is its place among them.
-fn numbered<T>(alloc: Global, firsts: &[FirstCite<'_, T>]) -> Result<Marks, AllocError>
+fn numbered<T>(alloc: Global, firsts: &[FirstOfGroup<'_, T>]) -> Result<Marks, AllocError>
     ensures { IfOk result (λ v. v.items ≡ map (λ p. (p.1.1, YearSuffix p.0)) (enumerate_from 0 (firsts_view firsts.now))) }
 {
     let mut marks = Vec::with_capacity(alloc, firsts.len())?;
@@ -120,23 +120,6 @@ fn suffix_marks<T: EntryLike, P>(
 {
     let firsts = first_cites(alloc, renders, group)?;
     numbered(alloc, firsts.as_slice())
-}
-
-/// The same, where the document shows dates and the style of one of the cites adds suffixes; else none.
-fn year_suffix_marks<T: EntryLike, P>(
-    alloc: Global,
-    renders: &[SpeculativeCiteRender<'_, '_, T, P>],
-    group: &[(usize, usize)],
-    dated: bool,
-) -> Result<Marks, AllocError>
-    requires exist { All (IsPlace (renders_view renders.now)) group.now }
-    ensures { IfOk result (λ v. v.items ≡ year_suffix_marks T.eq dated (members (renders_view renders.now) group.now)) }
-{
-    if dated && adds_suffix(renders, group) {
-        suffix_marks(alloc, renders, group)
-    } else {
-        Ok(Vec::new(alloc))
-    }
 }
 
 /// The suffix marks of an ambiguous group: one for each entry, at its first cite there. The suffix is
@@ -173,5 +156,9 @@ pub fn disambiguate_dated_year_suffix<T: EntryLike, P>(
     requires exist { All (IsPlace (renders_view renders.now)) group.now.items }
     ensures { IfOk result (λ v. v.items ≡ year_suffix_marks T.eq dated (members (renders_view renders.now) group.now.items)) }
 {
-    year_suffix_marks(alloc, renders, group, dated)
+    if dated && adds_suffix(renders, group) {
+        suffix_marks(alloc, renders, group)
+    } else {
+        Ok(Vec::new(alloc))
+    }
 }

@@ -29,9 +29,9 @@ abbrev pub delimited : Formatting → Shown → List Child
 delimited f c = text_child f c.delimiter ++ c.tree
 
 -- cites one after another, each but the first behind its delimiter
-abbrev pub joined : Formatting → List Shown → List Child
-joined f [] = []
-joined f (c ∷ cs) = c.tree ++ flat_map (delimited f) cs
+abbrev pub joined_cites : Formatting → List Shown → List Child
+joined_cites f [] = []
+joined_cites f (c ∷ cs) = c.tree ++ flat_map (delimited f) cs
 
 -- the text ends with the suffix
 abbrev pub text_ends_with : List ℕ → Option Formatted → Bool
@@ -46,7 +46,7 @@ with_suffix f (Some suffix) cs = if text_ends_with suffix (last_text cs) then cs
 abbrev pub enclosed : Bool → LayoutValue → List Shown → List Child
 enclosed encloses layout cites =
     let f = layout_formatting layout in
-    if encloses then with_suffix f layout.suffix (text_child f layout.prefix ++ joined f cites) else joined f cites
+    if encloses then with_suffix f layout.suffix (text_child f layout.prefix ++ joined_cites f cites) else joined_cites f cites
 
 -- the tree of a citation from its shown cites: nothing where there is none
 abbrev pub assembled : Bool → LayoutValue → List Shown → List Child

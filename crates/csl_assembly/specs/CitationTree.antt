@@ -25,13 +25,13 @@ module _ {E P : Type 0} where
   delimiter_before layout i = option_or i.delimiter_override layout.delimiter
 
   -- a tree as one element, marked with the cite's place in its request
-  abbrev pub marked : ItemRender E P → List Child → List Child
-  marked i tree = elem (kids_of tree) None (Some (Entry i.properties.certain.initial_idx)) ∷ []
+  abbrev pub marked_cite : ItemRender E P → List Child → List Child
+  marked_cite i tree = elem (kids_of tree) None (Some (Entry i.properties.certain.initial_idx)) ∷ []
 
   module _ (answers : E → Answers) where
     -- a cite as it is put into its citation
     abbrev pub shown_cite : Source → LayoutValue → ItemRender E P → Shown
-    shown_cite source layout i = record { delimiter = delimiter_before layout i; tree = marked i (last_tree answers source i) }
+    shown_cite source layout i = record { delimiter = delimiter_before layout i; tree = marked_cite i (last_tree answers source i) }
 
     -- the citation; the layout encloses it where no cite has a purpose
     abbrev pub citation_tree : CiteRender E P → List Child

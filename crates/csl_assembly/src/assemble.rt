@@ -3,7 +3,7 @@ ghost use Rattle.std.specs.Prelude.{◌≡◌, ◌++◌, Some, IfOk, OnOk, if◌
 ghost use Rattle.csl_base.specs.ElementView.{text_view};
 ghost use Rattle.csl_base.specs.StyleView.{layout_view};
 ghost use Rattle.csl_base.specs.Tree.{last_text};
-ghost use Rattle.csl_assembly.specs.Assembly.{assembled, delimited, enclosed, joined, layout_formatting, text_child, text_ends_with, with_suffix};
+ghost use Rattle.csl_assembly.specs.Assembly.{assembled, delimited, enclosed, joined_cites, layout_formatting, text_child, text_ends_with, with_suffix};
 ghost use Rattle.csl_assembly.specs.ShownView.{shown_view, shown_views};
 
 use csl_base::elem::{ElemChild, ElemChildren};
@@ -90,7 +90,7 @@ fn push_cites(
     cites: Vec<ShownCite<'_>>,
     formatting: Formatting,
 ) -> Result<(), AllocError>
-    ensures { OnOk result (tree.new ≡ tree.old ++ joined formatting (shown_views cites.entry.items)) }
+    ensures { OnOk result (tree.new ≡ tree.old ++ joined_cites formatting (shown_views cites.entry.items)) }
 {
     let mut is_first = true;
     for cite in cites {
@@ -130,16 +130,6 @@ fn push_suffix(
     }
 }
 
-/// A text that may be lacking, as a slice.
-pub fn optional_str(text: &Option<String>) -> Option<&str>
-    ensures { option_map (λ t. t.now) result ≡ text_view text.now }
-{
-    match text {
-        Some(text) => Some(text.as_str()),
-        None => None,
-    }
-}
-
 /// An empty tree, with room for so many cites, a text before each, and one behind them.
 fn room_for(alloc: Global, cites: usize) -> Result<ElemChildren, AllocError>
     ensures { IfOk result (λ tree. tree ≡ []) }
@@ -163,7 +153,7 @@ fn enclosed(
         push_cites(alloc, &mut tree, cites, formatting)?;
         return Ok(tree);
     }
-    push_optional_text(alloc, &mut tree, optional_str(&layout.prefix), formatting)?;
+    push_optional_text(alloc, &mut tree, layout.prefix.as_deref(), formatting)?;
     push_cites(alloc, &mut tree, cites, formatting)?;
     push_suffix(alloc, &mut tree, &layout.suffix, formatting)?;
     Ok(tree)

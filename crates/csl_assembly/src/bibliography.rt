@@ -15,7 +15,6 @@ ghost use Rattle.std.specs.List.{find, position_or_len, remove};
 ghost use Rattle.csl_assembly.specs.ChildOf.{child_of};
 ghost use Rattle.csl_assembly.specs.BibliographyItems.{bibliography_of, cites_at, unlocated, with_first_field, written_item};
 
-use crate::assemble::optional_str;
 use crate::rendered::{BibliographyItem, RenderedBibliography};
 use csl_base::elem::{ElemChild, ElemChildren};
 use csl_base::entry::EntryLike;
@@ -175,7 +174,7 @@ pub fn bibliography_of<T: EntryLike, P: Drop>(
     ensures counted { OnOk result (renders.new ≡ counted_times (length firsts.now) renders.old) }
 {
     let mut items = written_items(alloc, wanted, cites, firsts, renders)?;
-    let substitute = optional_str(&bibliography.subsequent_author_substitute);
+    let substitute = bibliography.subsequent_author_substitute.as_deref();
     let rule = bibliography.subsequent_author_substitute_rule;
     substitute_subsequent_authors(alloc, substitute, rule, &mut items)?;
     let aligned = bibliography.second_field_align.is_some();

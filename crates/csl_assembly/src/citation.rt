@@ -6,12 +6,12 @@ ghost use Rattle.csl_passes.specs.Request.{source_of};
 ghost use Rattle.csl_passes.specs.RequestView.{request_view};
 ghost use Rattle.csl_passes.specs.RendersView.{item_view, items_view, render_view};
 ghost use Rattle.csl_writing.specs.ContextSource.{context_source};
-ghost use Rattle.csl_assembly.specs.CitationTree.{citation_tree, delimiter_before, has_no_purpose, marked, shown, shown_cite};
+ghost use Rattle.csl_assembly.specs.CitationTree.{citation_tree, delimiter_before, has_no_purpose, marked_cite, shown, shown_cite};
 ghost use Rattle.csl_assembly.specs.LastTree.{last_tree};
 ghost use Rattle.csl_assembly.specs.ShownView.{shown_views};
 ghost use Rattle.csl_writing.specs.Counted.{counted, counted_times};
 
-use crate::assemble::{ShownCite, assembled, optional_str};
+use crate::assemble::{ShownCite, assembled};
 use crate::last_tree::last_tree;
 use csl_base::elem::{Elem, ElemChild, ElemChildren, ElemMeta};
 use csl_base::entry::EntryLike;
@@ -49,7 +49,7 @@ fn delimiter_before<'a, T, P>(
 ) -> Option<&'a str>
     ensures { option_map (λ d. d.now) result ≡ delimiter_before (layout_view layout.now) (item_view item.now) }
 {
-    item.delim_override.or(optional_str(&layout.delimiter))
+    item.delim_override.or(layout.delimiter.as_deref())
 }
 
 /// The tree of a cite, marked with its place in its request.
@@ -61,7 +61,7 @@ fn marked_cite<T: EntryLike, P: Drop>(
     renders: &mut Renders,
 ) -> Result<ElemChildren, AllocError>
     requires no_ring { HasNoRing (context_source context.now).style.macros }
-    ensures tree { IfOk result (λ tree. tree ≡ marked (item_view item.now) (last_tree T.answers (context_source context.now) (item_view item.now))) }
+    ensures tree { IfOk result (λ tree. tree ≡ marked_cite (item_view item.now) (last_tree T.answers (context_source context.now) (item_view item.now))) }
     ensures counted { OnOk result (renders.new ≡ counted renders.old) }
 {
     let cite = Elem {

@@ -3,7 +3,7 @@ ghost use Rattle.std.specs.Prelude.{◌≡◌, IfOk, OnOk};
 ghost use Rattle.csl_base.specs.Ring.{HasNoRing};
 ghost use Rattle.csl_lookup.specs.PropertiesView.{properties_view};
 ghost use Rattle.csl_passes.specs.RendersView.{item_view};
-ghost use Rattle.csl_assembly.specs.LastTree.{last_properties, last_tree};
+ghost use Rattle.csl_assembly.specs.LastTree.{last_properties, last_tree, tree_for_purpose};
 ghost use Rattle.csl_writing.specs.ContextSource.{context_source};
 ghost use Rattle.csl_writing.specs.Counted.{counted};
 
@@ -12,6 +12,7 @@ use csl_base::entry::EntryLike;
 use csl_base::locale::LocaleCode;
 use csl_lookup::properties::{CiteProperties, SpeculativeCiteProperties};
 use csl_lookup::purpose::CitePurpose;
+use csl_lookup::state::CollapseVerdict;
 use csl_passes::renders::SpeculativeItemRender;
 use csl_writing::counter::Renders;
 use csl_writing::lookup::StyleContext;
@@ -36,12 +37,48 @@ fn last_properties<'a, T, P: Drop>(
     })
 }
 
-/// The tree of a cite in the style of its request: the date text where it is written for the year alone,
-/// else the cite for its purpose and its verdict, by its properties with its own locator. Counts a
-/// rendering.
+/// The tree of a cite of this entry: the date text where it is written for the year alone, else the cite
+/// for its purpose and its verdict. Counts a rendering.
 ///
 /// The two locales are looked at by nothing; the context's own counts. The style may have no macros that
 /// call each other in a ring.
+///
+/// # Errors
+/// Where memory is refused.
+pub fn tree_for_purpose<T: EntryLike, P>(
+    alloc: Global,
+    context: &StyleContext<'_>,
+    entry: &T,
+    properties: &CiteProperties<'_, P>,
+    item_locale: Option<&LocaleCode>,
+    locale: Option<&LocaleCode>,
+    purpose: Option<CitePurpose>,
+    verdict: Option<CollapseVerdict>,
+    renders: &mut Renders,
+) -> Result<ElemChildren, AllocError>
+    requires no_ring { HasNoRing (context_source context.now).style.macros }
+    ensures tree { IfOk result (λ tree. tree ≡ tree_for_purpose (context_source context.now) (T.answers entry.now) (properties_view properties.now) purpose verdict) }
+    ensures counted { OnOk result (renders.new ≡ counted renders.old) }
+{
+    match purpose {
+        Some(CitePurpose::Year) => {
+            context.date_replacement(alloc, entry, properties, item_locale, locale, renders)
+        }
+        purpose => context.citation(
+            alloc,
+            entry,
+            properties,
+            item_locale,
+            locale,
+            purpose,
+            verdict,
+            renders,
+        ),
+    }
+}
+
+/// The tree of a cite in the style of its request, for its purpose, by its properties with its own locator.
+/// Counts a rendering. The style may have no macros that call each other in a ring.
 ///
 /// # Errors
 /// Where memory is refused.
@@ -57,20 +94,15 @@ pub fn last_tree<T: EntryLike, P: Drop>(
     ensures counted { OnOk result (renders.new ≡ counted renders.old) }
 {
     let properties = last_properties(item)?;
-    let item_locale = item.locale.as_ref();
-    match item.purpose {
-        Some(CitePurpose::Year) => {
-            context.date_replacement(alloc, item.entry, &properties, item_locale, locale, renders)
-        }
-        purpose => context.citation(
-            alloc,
-            item.entry,
-            &properties,
-            item_locale,
-            locale,
-            purpose,
-            item.collapse_verdict,
-            renders,
-        ),
-    }
+    tree_for_purpose(
+        alloc,
+        context,
+        item.entry,
+        &properties,
+        item.locale.as_ref(),
+        locale,
+        item.purpose,
+        item.collapse_verdict,
+        renders,
+    )
 }

@@ -1,6 +1,5 @@
 //! Collapsing, by what a style asks for (CSL 1.0.2, cite collapsing).
 ghost use Rattle.std.specs.Prelude.{◌≡◌, option_map};
-ghost use Rattle.csl_base.specs.ElementView.{text_view};
 ghost use Rattle.csl_base.specs.StyleView.{citation_view};
 ghost use Rattle.csl_passes.specs.RendersView.{render_view};
 ghost use Rattle.csl_collapse.specs.Collapsed.{collapsed};
@@ -48,16 +47,6 @@ pub fn collapse_items<T, P>(render: &mut SpeculativeCiteRender<'_, '_, T, P>)
 pub(crate) fn after_collapse(citation: &Citation) -> Option<&str>
     ensures { option_map (λ s. s.now) result ≡ after_collapse (citation_view citation.now) }
 {
-    let layout = optional_str(&citation.layout.delimiter);
-    optional_str(&citation.after_collapse_delimiter).or(layout)
-}
-
-/// A text that may be lacking, as a slice.
-pub(crate) fn optional_str(text: &Option<String>) -> Option<&str>
-    ensures { option_map (λ t. t.now) result ≡ text_view text.now }
-{
-    match text {
-        Some(text) => Some(text.as_str()),
-        None => None,
-    }
+    let layout = citation.layout.delimiter.as_deref();
+    citation.after_collapse_delimiter.as_deref().or(layout)
 }

@@ -6,7 +6,7 @@ ghost use Rattle.csl_collapse.specs.Steps.{is_same, year_step};
 ghost use Rattle.csl_collapse.specs.Stretches.{by_places};
 ghost use Rattle.csl_collapse.specs.YearStretches.{has_later_suffix, year_collapsed};
 
-use crate::collapse::{after_collapse, optional_str};
+use crate::collapse::after_collapse;
 use csl_base::style::Citation;
 use csl_lookup::state::CollapseVerdict;
 use csl_passes::renders::SpeculativeItemRender;
@@ -47,9 +47,9 @@ fn collapse_year<'a, T, P>(
         }
         return;
     }
-    let group = optional_str(&citation.cite_group_delimiter);
+    let group = citation.cite_group_delimiter.as_deref();
     if to_suffixes && has_later_suffix(cite) {
-        cite.delim_override = optional_str(&citation.year_suffix_delimiter).or(group);
+        cite.delim_override = citation.year_suffix_delimiter.as_deref().or(group);
         cite.collapse_verdict = Some(CollapseVerdict::YearSuffix);
     } else {
         cite.delim_override = group;

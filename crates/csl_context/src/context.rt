@@ -9,7 +9,7 @@ ghost use Rattle.csl_context.specs.ContextView.{words_of, locator_of, IsOfSameCi
 
 use crate::token::DisplayLoc;
 use crate::wording;
-use crate::writing::{WritingContext, text_of};
+use crate::writing::WritingContext;
 use csl_base::element::{Affixes, InheritableNameOptions};
 use csl_base::entry::ChunkedString;
 use csl_base::taxonomy::{Term, TermForm};
@@ -213,7 +213,7 @@ impl<'a, T, P> Context<'a, T, P> {
         wording::apply_suffix(
             &self.style,
             &mut self.writing,
-            text_of(&affixes.suffix),
+            affixes.suffix.as_deref(),
             prefix,
         )
     }

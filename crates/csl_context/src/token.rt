@@ -23,3 +23,13 @@ pub struct DelimiterIdx {
     pub(crate) height: usize,
     ghost some_delimiter: { 0 < height },
 }
+
+/// How high the stacks of a context are.
+#[derive(Clone, Copy, PartialEq, Eq)]
+pub struct Heights {
+    /// How many trees are open.
+    pub frames: usize,
+    pub formats: usize,
+    pub delimiters: usize,
+    pub name_options: usize,
+}

@@ -2,7 +2,7 @@
 ghost use Rattle.std.specs.Prelude.{◌≡◌, ◌+◌, ◌<◌, ◌≤◌, OnOk, OnErr, IfOk, length, min, slice_get, Some, false, option_map};
 ghost use Rattle.std.specs.Str.{IsCharBoundary};
 ghost use Rattle.csl_base.specs.ChildView.{child_view};
-ghost use Rattle.csl_base.specs.ElementView.{affixes_view, options_view, text_view};
+ghost use Rattle.csl_base.specs.ElementView.{affixes_view, options_view};
 ghost use Rattle.csl_context.specs.Edits.{edited};
 ghost use Rattle.csl_context.specs.Quotes.{quotes_view};
 ghost use Rattle.std.specs.Bool.{OnTrue};
@@ -18,7 +18,7 @@ use crate::text::{
     ClosingQuotes, add_space, ends_with, has_letter, opens_tight, opens_with_mark, pull,
     push_without_periods,
 };
-use crate::token::{DelimiterIdx, DisplayLoc, FormatIdx};
+use crate::token::{DelimiterIdx, DisplayLoc, FormatIdx, Heights};
 use csl_base::elem::{ElemChild, ElemChildren, ElemMeta};
 use csl_base::element::{Affixes, InheritableNameOptions};
 use csl_base::formatting::{Display, Formatting, StyleFormatting};
@@ -84,6 +84,21 @@ impl<'a> WritingContext<'a> {
             pulling: false,
             stripping: false,
             quote_depth: 0,
+        }
+    }
+
+    /// How high its stacks are.
+    pub fn heights(&self) -> Heights
+        ensures frames { result.frames ≡ length (state self.now).frames }
+        ensures formats { result.formats ≡ length (state self.now).formats }
+        ensures delimiters { result.delimiters ≡ length (state self.now).delimiters }
+        ensures name_options { result.name_options ≡ length (state self.now).name_options }
+    {
+        Heights {
+            frames: self.frames.len(),
+            formats: self.formats.len(),
+            delimiters: self.delimiters.len(),
+            name_options: self.name_options.len(),
         }
     }
 
@@ -441,7 +456,7 @@ impl<'a> WritingContext<'a> {
         ensures same_formats { OnOk result (length (state self.new).formats ≡ length (state self.old).formats) }
         ensures refused { OnErr result (heights (state self.new) ≡ heights (state self.old)) }
     {
-        self.begin_prefix(text_of(&affixes.prefix))
+        self.begin_prefix(affixes.prefix.as_deref())
     }
 
     /// Opens a frame that begins with this text, as it stands; as `apply_prefix`.
@@ -638,14 +653,4 @@ fn asks_nothing(format: StyleFormatting) -> bool
     ensures { result ≡ asks_nothing format }
 {
     format.font_style.is_none() && format.font_weight.is_none()
-}
-
-/// The text, if there is one.
-pub fn text_of(text: &Option<String>) -> Option<&str>
-    ensures { option_map (λ s. s.now) result ≡ text_view text.now }
-{
-    match text {
-        Some(text) => Some(text.as_str()),
-        None => None,
-    }
 }

@@ -15,7 +15,7 @@ use Rattle.csl_entries.proofs.Placing.{all_in, left, right}
 use Rattle.csl_lookup.specs.declared.state.DisambiguateState.{DisambiguateState}
 use Rattle.csl_positions.specs.FirstProperties.{numbered_by}
 use Rattle.csl_rounds.specs.Rerenders.{AreStatesOf}
-use Rattle.csl_rounds.specs.Rounds.{Table}
+use Rattle.csl_rounds.specs.Rounds.{StateTable}
 
 zero-more : (n : ℕ) → 0 + n ≡ n
 zero-more n = omega arith
@@ -74,7 +74,7 @@ module _ {E : Type 0} (eq : E → E → Bool) (laws : IsEquivalence eq) (es : Li
   own f g h = agree f g es (each f g h es (all-cited eq laws es es (λ e. refl)))
 
   -- the states of the entries
-  pub states-of : (table : Table E) (states : List (Option DisambiguateState)) → AreStatesOf eq es table states → map told_by states ≡ map (λ e. told_by (table e)) es
+  pub states-of : (table : StateTable E) (states : List (Option DisambiguateState)) → AreStatesOf eq es table states → map told_by states ≡ map (λ e. told_by (table e)) es
   states-of table states are =
       ap (map told_by) (by-entries states None are.long) ∙ map-map told_by (λ e. get_or states (place eq e es) None) es
       ∙ own (λ e. told_by (get_or states (place eq e es) None)) (λ e. told_by (table e)) (λ e below. ap told_by (are.at e below))

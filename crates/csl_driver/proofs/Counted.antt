@@ -5,7 +5,7 @@ use Rattle.std.specs.List.{range_with_len, slice_index_or}
 use Rattle.std.proofs.Math.ListN.{length-map}
 use Rattle.std.proofs.lemmas.List.FromFn.{length-map-range_with_len}
 use Rattle.std.proofs.lemmas.List.Sums.{prefix_len-le-length}
-use Rattle.csl_driver.specs.Cited.{number_at, numbers_at}
+use Rattle.csl_driver.specs.Cited.{listed_number, numbers_at}
 use Rattle.csl_entries.specs.Entries.{number, place}
 use Rattle.csl_entries.specs.Listed.{IsListingOf, Listed}
 use Rattle.csl_positions.specs.FirstProperties.{numbered_by}
@@ -38,10 +38,10 @@ module _ {E : Type 0} (eq : E → E → Bool) (entries order : List E) (l : List
   -- they are those of the entries in its order
   pub numbered : numbered_by eq (numbers_at l offset (length entries)) entries ≡ number eq offset order
   numbered =
-      funext (λ e. from_start (number_at l offset) (length entries) (place eq e entries) (prefix_len-le-length (λ x. not (eq e x)) entries) ∙ ap (λ n. offset + n) (h.numbered e))
+      funext (λ e. from_start (listed_number l offset) (length entries) (place eq e entries) (prefix_len-le-length (λ x. not (eq e x)) entries) ∙ ap (λ n. offset + n) (h.numbered e))
 
   -- and they fit where those of all entries do
-  pub fits : offset + length entries < 2 ^ 64 → (p : ℕ) → number_at l offset p < 2 ^ 64
+  pub fits : offset + length entries < 2 ^ 64 → (p : ℕ) → listed_number l offset p < 2 ^ 64
   fits small p =
       let counted : length l.order ≡ length entries = ap length (ap (λ (m : Listed). m.order) h.listed) ∙ length-map order (λ e. place eq e entries) ∙ h.count in
       let bound : (e : E) → place eq e order ≤ length l.order = λ e.
@@ -54,13 +54,13 @@ module _ {E : Type 0} (eq : E → E → Bool) (entries order : List E) (l : List
   -- there is one for each entry
   pub enough : (n : ℕ) → n ≤ length (numbers_at l offset n)
   enough n =
-      let shown : length (map (number_at l offset) (range_with_len 0 n)) ≡ n = length-map-range_with_len (number_at l offset) 0 n in
-      let more = length-append (map (number_at l offset) (range_with_len 0 n)) (number_at l offset n ∷ []) in
+      let shown : length (map (listed_number l offset) (range_with_len 0 n)) ≡ n = length-map-range_with_len (listed_number l offset) 0 n in
+      let more = length-append (map (listed_number l offset) (range_with_len 0 n)) (listed_number l offset n ∷ []) in
       omega (arith, shown, more)
 
   -- and one for the next
   pub one-behind : (n : ℕ) → length (numbers_at l offset n) ≡ n + 1
   one-behind n =
-      let shown : length (map (number_at l offset) (range_with_len 0 n)) ≡ n = length-map-range_with_len (number_at l offset) 0 n in
-      let more = length-append (map (number_at l offset) (range_with_len 0 n)) (number_at l offset n ∷ []) in
+      let shown : length (map (listed_number l offset) (range_with_len 0 n)) ≡ n = length-map-range_with_len (listed_number l offset) 0 n in
+      let more = length-append (map (listed_number l offset) (range_with_len 0 n)) (listed_number l offset n ∷ []) in
       omega (arith, shown, more)

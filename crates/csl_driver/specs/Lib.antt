@@ -1,6 +1,5 @@
 pub mod Driver
 pub mod DriverView
-pub mod CiteTree
 pub mod Answer
 pub mod Cited
 pub mod AreCitesOf

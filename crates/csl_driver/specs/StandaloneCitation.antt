@@ -1,12 +1,15 @@
 -- A citation that stands for itself.
-use Rattle.std.specs.Prelude.{ℕ, true, not, List, map, filter, Some, unwrap_or, codes}
+use Rattle.std.specs.Prelude.{ℕ, true, not, List, map, filter, Option, None, Some, unwrap_or, codes}
 use Rattle.csl_base.specs.Style.{LayoutValue}
 use Rattle.csl_base.specs.Answers.{Answers}
 use Rattle.csl_base.specs.Child.{Child}
 use Rattle.csl_base.specs.Tree.{has_content}
 use Rattle.csl_lookup.specs.Lookup.{Source}
+use Rattle.csl_lookup.specs.NoProperties.{nothing_certain, speculated}
+use Rattle.csl_lookup.specs.Properties.{LocatorValue, Properties}
+use Rattle.csl_lookup.specs.declared.state.IbidState.{IbidState}
 use Rattle.csl_assembly.specs.Assembly.{Shown, assembled}
-use Rattle.csl_driver.specs.CiteTree.{properties_of, cite_tree}
+use Rattle.csl_assembly.specs.LastTree.{tree_for_purpose}
 use Rattle.csl_passes.specs.Request.{RequestedCite, Request, source_of}
 
 -- what stands between cites: the layout's delimiter, or else a comma and a space
@@ -17,10 +20,14 @@ lone_delimiter layout = unwrap_or layout.delimiter (codes ", ")
 abbrev pub behind : List ℕ → List Child → Shown
 behind delimiter tree = record { delimiter = Some delimiter; tree = tree }
 
+-- the properties of a cite of which nothing is known but its locator
+abbrev pub lone_properties : {P : Type 0} → Option (LocatorValue P) → Properties P
+lone_properties locator = record { certain = nothing_certain; speculative = speculated locator 0 IbidState.Different }
+
 module _ {E P : Type 0} (answers : E → Answers) where
   -- the tree of a cite that has no number and no place of its own
   abbrev pub lone_tree : Source → RequestedCite E P → List Child
-  lone_tree source c = cite_tree answers source (properties_of c.locator 0 0) c
+  lone_tree source c = tree_for_purpose source (answers c.entry) (lone_properties c.locator) c.purpose None
 
   -- the trees of the cites that aren't hidden and have content
   abbrev pub lone_trees : Source → List (RequestedCite E P) → List (List Child)

@@ -1,5 +1,5 @@
 //! What an answer cost, and how it numbers its entries and tells them apart.
-ghost use Rattle.std.specs.Prelude.{◌≡◌, ◌≤◌, IfOk, length, map, take, unwrap_or};
+ghost use Rattle.std.specs.Prelude.{◌≡◌, IfOk, map};
 ghost use Rattle.csl_driver.specs.Account.{told_by};
 ghost use Rattle.csl_entries.specs.TableView.{table_view};
 
@@ -49,20 +49,4 @@ pub(crate) fn told_states(
         told.push(state.unwrap_or(DisambiguateState::None))?;
     }
     Ok(told)
-}
-
-/// The first of some numbers.
-pub(crate) fn first_numbers(
-    alloc: Global,
-    numbers: &[usize],
-    count: usize,
-) -> Result<Vec<usize>, AllocError>
-    requires enough { count ≤ length numbers.now }
-    ensures { IfOk result (λ v. v.items ≡ take count numbers.now) }
-{
-    let mut firsts = Vec::with_capacity(alloc, count)?;
-    for place in 0..count {
-        firsts.push(numbers[place])?;
-    }
-    Ok(firsts)
 }

@@ -2,7 +2,7 @@
 ghost use Rattle.std.specs.Prelude.{◌≡◌, ◌+◌, ◌<◌, ◌^◌, IfOk, length, ℕ};
 ghost use Rattle.csl_entries.specs.ListingView.{listing_view};
 ghost use Rattle.csl_entries.specs.TableView.{table_view};
-ghost use Rattle.csl_driver.specs.Cited.{number_at, numbers_at};
+ghost use Rattle.csl_driver.specs.Cited.{listed_number, numbers_at};
 
 use csl_base::entry::EntryLike;
 use csl_entries::listing::Listing;
@@ -22,7 +22,7 @@ impl<'a, T: EntryLike> Cited<'a, T> {
     /// The numbers that a listing gives the entries, by their places in the table, and behind them that
     /// which the next entry would have.
     pub(crate) fn numbers(&self, alloc: Global, listing: &Listing) -> Result<Vec<usize>, AllocError>
-        requires fits { (p : ℕ) → number_at (listing_view listing.now) self.now.offset p < 2 ^ 64 }
+        requires fits { (p : ℕ) → listed_number (listing_view listing.now) self.now.offset p < 2 ^ 64 }
         ensures { IfOk result (λ v. v.items
             ≡ numbers_at (listing_view listing.now) self.now.offset (length (table_view self.now.table).entries)) }
     {

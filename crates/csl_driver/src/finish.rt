@@ -22,7 +22,7 @@ ghost use Rattle.csl_positions.specs.FirstProperties.{numbered_by};
 ghost use Rattle.csl_rounds.specs.declared.mode.RoundMode.{RoundMode};
 ghost use Rattle.csl_writing.specs.Counted.{counted_times};
 
-use crate::account::{Account, first_numbers, table_entries, told_states};
+use crate::account::{Account, table_entries, told_states};
 use crate::bibliography::wanted_bibliography;
 use crate::cited::Cited;
 use crate::driver::{BibliographyDriver, discard};
@@ -270,14 +270,18 @@ fn account_of<'a, T: EntryLike>(
     ensures states { IfOk result (λ a. a.states.items ≡ map told_by settled.rounds.states.items) }
     ensures numbers { IfOk result (λ a. a.numbers.items ≡ take (length (table_view cited.now.table).entries) settled.numbers.items) }
 {
-    let Settled { rounds, numbers } = settled;
+    let Settled {
+        rounds,
+        mut numbers,
+    } = settled;
     let marked = rounds.marked;
+    numbers.truncate(cited.table.len());
     Ok(Account {
         renders: renders.count(),
         rounds: marked,
         entries: table_entries(alloc, &cited.table)?,
         states: told_states(alloc, rounds.states)?,
-        numbers: first_numbers(alloc, &numbers, cited.table.len())?,
+        numbers,
     })
 }
 

@@ -17,7 +17,6 @@ pub use csl_writing::{
 pub mod account;
 mod bibliography;
 mod cited;
-mod cites;
 pub mod driver;
 pub mod error;
 mod finish;

@@ -9,10 +9,10 @@ ghost use Rattle.csl_driver.specs.Rings.{RefusesAlone};
 ghost use Rattle.csl_assembly.specs.ShownView.{shown_views};
 ghost use Rattle.csl_driver.specs.StandaloneCitation.{behind, lone_delimiter, lone_tree, lone_trees, standalone};
 
-use crate::cites::{cite_properties, cite_tree};
 use crate::error::{DriverError, RingPlace};
 use csl_assembly::assemble::{ShownCite, assembled};
 use csl_assembly::citation::request_context;
+use csl_assembly::last_tree::tree_for_purpose;
 use csl_base::elem::ElemChildren;
 use csl_base::entry::EntryLike;
 use csl_base::locale::LocaleCode;
@@ -21,6 +21,7 @@ use csl_passes::item::CitationItem;
 use csl_passes::request::CitationRequest;
 use csl_writing::counter::Renders;
 use csl_writing::lookup::StyleContext;
+use csl_writing::properties::CiteProperties;
 use std::alloc::{AllocError, Global};
 
 /// The tree of a cite that has no number and no place of its own.
@@ -34,8 +35,18 @@ fn lone_cite<T: EntryLike, P: Drop>(
     requires no_ring { HasNoRing (context_source context.now).style.macros }
     ensures { IfOk result (λ tree. tree ≡ lone_tree T.answers (context_source context.now) (cite_view item.now)) }
 {
-    let properties = cite_properties(&item.locator, 0, 0)?;
-    cite_tree(alloc, context, locale, item, &properties, renders)
+    let properties = CiteProperties::for_sorting(item.locator.clone()?, 0);
+    tree_for_purpose(
+        alloc,
+        context,
+        item.entry,
+        &properties,
+        item.locale.as_ref(),
+        locale,
+        item.purpose,
+        None,
+        renders,
+    )
 }
 
 /// The trees of the cites that aren't hidden and have content.

@@ -12,7 +12,7 @@ use Rattle.csl_entries.specs.Table.{Table, first_place, places_in, table_of}
 use Rattle.csl_entries.specs.TableView.{table_view}
 use Rattle.csl_passes.specs.Request.{RequestedCite, Request, cited, cites_of, entries_of}
 use Rattle.csl_entries.specs.declared.table.EntryTable.{EntryTable}
-use Rattle.csl_entries.specs.declared.table.FirstCite.{FirstCite}
+use Rattle.csl_entries.specs.declared.first_cite.FirstCite.{FirstCite}
 use Rattle.csl_entries.proofs.Distinct.{all_new_is_distinct}
 use Rattle.csl_entries.proofs.Once.{NoTwoEqual-distinct}
 use Rattle.csl_entries.proofs.Placed.{heads-all_new, map-map, same_entry-laws}
@@ -66,12 +66,12 @@ module _ {E P : Type 0} (eq : E → E → Bool) (laws : IsEquivalence eq) where
       ∙ ap (λ es. entries_of r.cites ++ es) (sym (map-map (λ p. p.0) entry_and_place (cites_of rs)) ∙ firsts-cited rs)
 
   -- the entries that are gathered
-  gathered : (keys : List (FirstCite E)) (rs : List (Request E P)) → firsts_view keys ≡ distinct (same_entry eq) (map entry_and_place (cites_of rs))
+  gathered : (keys : List (FirstCite E ℕ)) (rs : List (Request E P)) → firsts_view keys ≡ distinct (same_entry eq) (map entry_and_place (cites_of rs))
       → entries_in keys ≡ distinct eq (cited rs)
   gathered keys rs h = ap (λ ps. map (λ p. p.0) ps) h ∙ heads-distinct eq laws (map entry_and_place (cites_of rs)) ∙ ap (λ es. distinct eq es) (firsts-cited rs)
 
   -- where an entry was cited first
-  gathered-firsts : (keys : List (FirstCite E)) (rs : List (Request E P)) (e : E) → firsts_view keys ≡ distinct (same_entry eq) (map entry_and_place (cites_of rs))
+  gathered-firsts : (keys : List (FirstCite E ℕ)) (rs : List (Request E P)) (e : E) → firsts_view keys ≡ distinct (same_entry eq) (map entry_and_place (cites_of rs))
       → first_among eq (firsts_view keys) e ≡ first_place eq rs e
   gathered-firsts keys rs e h =
       ap (λ ps. first_among eq ps e) h ∙ ap (λ o. unwrap_or (option_map (λ p. p.1) o) 0)
@@ -126,8 +126,8 @@ gathered-table eq laws xs k view t past added placed =
     (placed ∙ ap (λ l. map (λ r. places_in eq (entries_in keys) r.cites) l) all ∙ ap (λ l. map (λ r. places_in eq l r.cites) rs) es)
 
 -- what stands at a place of it
-pub entry-at : {E : Type 0} (keys : List (FirstCite E)) (k : ℕ) (d : FirstCite E) → k < length (entries_in keys) → slice_get (entries_in keys) k ≡ Some (get_or keys k d).entry.now
+pub entry-at : {E : Type 0} (keys : List (FirstCite E ℕ)) (k : ℕ) (d : FirstCite E ℕ) → k < length (entries_in keys) → slice_get (entries_in keys) k ≡ Some (get_or keys k d).entry.now
 entry-at keys k d within =
-    let entry : FirstCite _ → _ = λ f. f.entry.now in
+    let entry : FirstCite _ _ → _ = λ f. f.entry.now in
     let seen : entries_in keys ≡ map entry keys = map-map (λ p. p.0) (λ f. (f.entry.now, f.place)) keys in
     slice_get-get_or (entries_in keys) k (entry d) within ∙ ap (λ l. Some (get_or l k (entry d))) seen ∙ ap Some (get_or-map entry keys k d)

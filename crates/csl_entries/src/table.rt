@@ -7,57 +7,16 @@ ghost use Rattle.csl_entries.specs.Table.{places_in, table_of};
 ghost use Rattle.csl_entries.specs.TableView.{table_view};
 ghost use Rattle.csl_passes.specs.RequestView.{cite_view, cites_view, requests_view};
 
+use crate::first_cite::FirstCite;
 use csl_base::entry::EntryLike;
 use csl_passes::item::CitationItem;
 use csl_passes::request::CitationRequest;
 use indexmap::IndexSet;
 use std::alloc::{AllocError, Global};
-use std::hash::{Hash, Hasher};
-
-/// The first cite of an entry. Two are equal where their entries are, so a set keeps of the cites of
-/// an entry the one that came first.
-#[derive(Drop)]
-pub(crate) struct FirstCite<'a, T> {
-    pub(crate) entry: &'a T,
-    /// Its place in its request.
-    pub(crate) place: usize,
-}
-
-impl<'a, T: EntryLike> PartialEq for FirstCite<'a, T> {
-    ghost use Rattle.std.specs.Cmp.Rules.{comparing};
-    ghost use Rattle.std.proofs.Common.{rules};
-
-    ghost eq = { λ a b. T.eq a.entry.now b.entry.now };
-
-    ghost laws = { Prim.search (comparing, rules) };
-
-    fn eq(&self, other: &FirstCite<'a, T>) -> bool {
-        *self.entry == *other.entry
-    }
-}
-
-impl<'a, T: EntryLike> Eq for FirstCite<'a, T> {
-    ghost use Rattle.std.proofs.Common.{rules};
-
-    ghost laws = { Prim.search rules };
-}
-
-impl<'a, T: EntryLike> Hash for FirstCite<'a, T> {
-    ghost use Rattle.std.specs.Cmp.Rules.{hashing};
-    ghost use Rattle.std.proofs.Common.{rules};
-
-    ghost hash_input = { λ a. T.hash_input a.entry.now };
-
-    ghost respects_eq = { Prim.search (hashing, rules) };
-
-    fn hash<H: Hasher>(&self, state: &mut H) {
-        self.entry.hash(state);
-    }
-}
 
 /// The place of a cite's entry, which is added where no equal one is there.
 fn place_item<'a, T: EntryLike, P>(
-    firsts: &mut IndexSet<FirstCite<'a, T>>,
+    firsts: &mut IndexSet<FirstCite<'a, T, usize>>,
     item: &CitationItem<'a, T, P>,
 ) -> Result<usize, AllocError>
     ensures added { OnOk result (firsts_view firsts.new.keys ≡ with_new (same_entry T.eq) (firsts_view firsts.old.keys) (entry_and_place (cite_view item.now))) }
@@ -74,7 +33,7 @@ fn place_item<'a, T: EntryLike, P>(
 /// The places of the entries of cites, which are added where no equal ones are there.
 fn place_items<'a, T: EntryLike, P>(
     alloc: Global,
-    firsts: &mut IndexSet<FirstCite<'a, T>>,
+    firsts: &mut IndexSet<FirstCite<'a, T, usize>>,
     items: &[CitationItem<'a, T, P>],
 ) -> Result<Vec<usize>, AllocError>
     ensures added { OnOk result (firsts_view firsts.new.keys
@@ -93,7 +52,7 @@ fn place_items<'a, T: EntryLike, P>(
 /// place of its entry among these.
 #[derive(Drop)]
 pub struct EntryTable<'a, T: EntryLike> {
-    firsts: IndexSet<FirstCite<'a, T>>,
+    firsts: IndexSet<FirstCite<'a, T, usize>>,
     /// By request, and by place in it.
     places: Vec<Vec<usize>>,
 }

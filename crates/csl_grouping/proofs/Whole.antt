@@ -11,7 +11,7 @@ use Rattle.csl_passes.specs.Renders.{ItemRender}
 use Rattle.csl_grouping.specs.BlockKeys.{BlockKey, is_named, key_of, same_key}
 use Rattle.csl_grouping.specs.Blocks.{block, block_index, block_keys, final_order, grouped_cites, in_block, with_group}
 use Rattle.csl_grouping.specs.Moves.{IsPicked}
-use Rattle.csl_grouping.specs.Steps.{all_marked, blocks_of, marked, placed_block, placed_blocks}
+use Rattle.csl_grouping.specs.Steps.{all_marked, blocks_of, marked_in_block, placed_block, placed_blocks}
 use Rattle.csl_grouping.specs.declared.blocks.Placed.{Placed}
 use Rattle.csl_grouping.proofs.Classes.{classes-permuted, numbers}
 use Rattle.csl_grouping.proofs.DistinctKeys.{NoTwoEqual, NoTwoEqual-distinct, kept_out}
@@ -145,7 +145,7 @@ module _ {E P : Type 0} (delimiter : Option (List ℕ)) where
   marked-append [] more [] rest h = refl
   marked-append [] more (c ∷ cs) rest h = absurd (omega arith)
   marked-append (o ∷ os) more [] rest h = absurd (omega arith)
-  marked-append (o ∷ os) more (c ∷ cs) rest h = ap (λ ds. marked delimiter o c ∷ ds) (marked-append os more cs rest (omega arith))
+  marked-append (o ∷ os) more (c ∷ cs) rest h = ap (λ ds. marked_in_block delimiter o c ∷ ds) (marked-append os more cs rest (omega arith))
 
   marked-blocks : (group : BlockKey → Option ℕ) (ws : BlockKey → List (ℕ × ItemRender E P)) (keys : List BlockKey)
       → all_marked delimiter (flat_map (λ key. placed_block (group key) (map (λ w. w.0) (ws key))) keys) (map (λ w. w.1) (flat_map ws keys))

@@ -35,14 +35,14 @@ placed_blocks g [] = []
 placed_blocks g (b ∷ bs) = placed_block (if is_named b.0 then Some g else None) b.1 ++ placed_blocks (if is_named b.0 then g + 1 else g) bs
 
 -- a cite marked as one of its block
-abbrev pub marked : {E P : Type 0} → Option (List ℕ) → Placed → ItemRender E P → ItemRender E P
-marked delimiter placed c = with_group (if placed.follows then delimiter else None) placed.group c
+abbrev pub marked_in_block : {E P : Type 0} → Option (List ℕ) → Placed → ItemRender E P → ItemRender E P
+marked_in_block delimiter placed c = with_group (if placed.follows then delimiter else None) placed.group c
 
 -- cites marked one by one, as far as the list goes
 abbrev pub all_marked : {E P : Type 0} → Option (List ℕ) → List Placed → List (ItemRender E P) → List (ItemRender E P)
 all_marked delimiter [] cs = cs
 all_marked delimiter (o ∷ os) [] = []
-all_marked delimiter (o ∷ os) (c ∷ cs) = marked delimiter o c ∷ all_marked delimiter os cs
+all_marked delimiter (o ∷ os) (c ∷ cs) = marked_in_block delimiter o c ∷ all_marked delimiter os cs
 
 -- the blocks of a request's cites by their keys
 abbrev pub blocks_of : {E P : Type 0} → List (ItemRender E P) → List (BlockKey × List ℕ)

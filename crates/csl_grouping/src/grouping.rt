@@ -1,11 +1,10 @@
 //! Grouping (CSL 1.0.2, cite grouping).
 ghost use Rattle.std.specs.Prelude.{◌≡◌, ◌≤◌, None, Some, if◌then◌else◌, length, map, option_map, IfOk, OnErr, OnOk};
-ghost use Rattle.csl_base.specs.ElementView.{text_view};
 ghost use Rattle.csl_base.specs.StyleView.{citation_view};
 ghost use Rattle.csl_passes.specs.RendersView.{item_view, items_view, render_view};
 ghost use Rattle.csl_grouping.specs.Blocks.{group_delimiter, grouped, grouped_cites, is_grouped};
 ghost use Rattle.csl_grouping.specs.FinalOrder.{HasFinalOrder};
-ghost use Rattle.csl_grouping.specs.Steps.{all_marked, marked};
+ghost use Rattle.csl_grouping.specs.Steps.{all_marked, marked_in_block};
 
 use crate::blocks::{Placed, block_order};
 use crate::moving::{places_below, rearrange};
@@ -43,25 +42,15 @@ pub fn group_cites<T, P>(
 fn delimiter_of_groups(citation: &Citation) -> Option<&str>
     ensures { option_map (λ s. s.now) result ≡ (if is_grouped (citation_view citation.now) then group_delimiter (citation_view citation.now) else None) }
 {
-    match optional_str(&citation.cite_group_delimiter) {
+    match citation.cite_group_delimiter.as_deref() {
         Some(delimiter) => Some(delimiter),
         None => {
             if citation.collapse.is_some() {
-                optional_str(&citation.layout.delimiter)
+                citation.layout.delimiter.as_deref()
             } else {
                 None
             }
         }
-    }
-}
-
-/// A text that may be lacking, as a slice.
-fn optional_str(text: &Option<String>) -> Option<&str>
-    ensures { option_map (λ t. t.now) result ≡ text_view text.now }
-{
-    match text {
-        Some(text) => Some(text.as_str()),
-        None => None,
     }
 }
 
@@ -110,7 +99,7 @@ fn mark_cite<'a, T, P>(
     placed: Placed,
     delimiter: &'a str,
 )
-    ensures { item_view cite.new ≡ marked (Some delimiter.now) placed (item_view cite.old) }
+    ensures { item_view cite.new ≡ marked_in_block (Some delimiter.now) placed (item_view cite.old) }
 {
     cite.delim_override = if placed.follows {
         Some(delimiter)

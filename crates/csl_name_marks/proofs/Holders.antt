@@ -14,7 +14,7 @@ use Rattle.csl_base.specs.EqualEntries.{persons_find}
 use Rattle.csl_base.specs.Finds.{Finds, and-true, both, options_find, texts_find}
 use Rattle.csl_base.specs.declared.entry.Person.{Person}
 use Rattle.csl_passes.specs.Renders.{Place}
-use Rattle.csl_name_marks.specs.ByName.{AreByName, Grows, IsTold, holders, is_other, is_other_held, is_other_named, names_of, same_name, shown, shown_by}
+use Rattle.csl_name_marks.specs.ByName.{AreByName, Grows, IsTold, holders, is_other, is_other_held, is_other_named, names_of, same_name, shown_by_all, shown_by}
 use Rattle.csl_name_marks.specs.Persons.{same_person}
 use Rattle.csl_name_marks.specs.Steps.{same_place}
 use Rattle.csl_name_marks.specs.declared.by_name.Holder.{Holder}
@@ -152,10 +152,10 @@ module _ {S : Type 0} where
   none-by-name m e = record { tells = λ name p place. ap (λ es. is_other_held p place (option_map_or (λ w. w.items) (lookup (same_name name) es) [])) e }
 
 -- the persons of one more member
-pub shown-next : (group : List NamedCite) (k : ℕ) (x : NamedCite) → k < length group → x ≡ get_or group k x → shown (take k group) ++ shown_by x ≡ shown (take (k + 1) group)
+pub shown-next : (group : List NamedCite) (k : ℕ) (x : NamedCite) → k < length group → x ≡ get_or group k x → shown_by_all (take k group) ++ shown_by x ≡ shown_by_all (take (k + 1) group)
 shown-next group k x within here =
-    ap (λ l. shown (take k group) ++ l) (sym (append-nil (shown_by x))) ∙ sym (flat_map-append shown_by (take k group) (x ∷ []))
-    ∙ ap shown (ap (λ y. take k group ++ y ∷ []) here ∙ sym (take_more group k x within))
+    ap (λ l. shown_by_all (take k group) ++ l) (sym (append-nil (shown_by x))) ∙ sym (flat_map-append shown_by (take k group) (x ∷ []))
+    ∙ ap shown_by_all (ap (λ y. take k group ++ y ∷ []) here ∙ sym (take_more group k x within))
 
 -- one more person of a member
 pub persons-next : (so_far : List (SharedName × Holder)) (place : Place) (ps : List Person) (k : ℕ) (p : Person) → k < length ps → p ≡ get_or ps k p

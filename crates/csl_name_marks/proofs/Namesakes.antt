@@ -8,7 +8,7 @@ use Rattle.std.proofs.lemmas.List.Folds.{list_any-append}
 use Rattle.csl_base.specs.declared.entry.Person.{Person}
 use Rattle.csl_base.specs.declared.names.DisambiguatedNameForm.{DisambiguatedNameForm}
 use Rattle.csl_passes.specs.Renders.{Place}
-use Rattle.csl_name_marks.specs.ByName.{AreByName, by_family, by_initials, fuller_by, holders, is_other_held, is_other_named, names_of, same_name, shown, shown_by}
+use Rattle.csl_name_marks.specs.ByName.{AreByName, by_family, by_initials, fuller_by, holders, is_other_held, is_other_named, names_of, same_name, shown_by_all, shown_by}
 use Rattle.csl_name_marks.specs.Persons.{same_person}
 use Rattle.csl_name_marks.specs.Raising.{fuller, is_namesake, raised, same_initials}
 use Rattle.csl_name_marks.specs.Steps.{others, same_place}
@@ -84,14 +84,14 @@ module _ (name : SharedName) (p : Person) (test : Person → Bool) (x : NamedCit
       out true = refl
       out false = refl
 
-  shown-theirs : (group : List NamedCite) → is_other_named name p x.place (shown group) ≡ list_any test (flat_map (λ y. y.persons) (others group x))
+  shown-theirs : (group : List NamedCite) → is_other_named name p x.place (shown_by_all group) ≡ list_any test (flat_map (λ y. y.persons) (others group x))
   shown-theirs [] = refl
-  shown-theirs (y ∷ ys) = list_any-append _ (shown_by y) (shown ys) ∙ by (same_place x.place y.place) refl (shown-theirs ys)
+  shown-theirs (y ∷ ys) = list_any-append _ (shown_by y) (shown_by_all ys) ∙ by (same_place x.place y.place) refl (shown-theirs ys)
     where
-      by : (b : Bool) → same_place x.place y.place ≡ b → is_other_named name p x.place (shown ys) ≡ list_any test (flat_map (λ z. z.persons) (others ys x))
-          → (is_other_named name p x.place (shown_by y) || is_other_named name p x.place (shown ys))
+      by : (b : Bool) → same_place x.place y.place ≡ b → is_other_named name p x.place (shown_by_all ys) ≡ list_any test (flat_map (λ z. z.persons) (others ys x))
+          → (is_other_named name p x.place (shown_by y) || is_other_named name p x.place (shown_by_all ys))
           ≡ list_any test (flat_map (λ z. z.persons) (cond (not b) (y ∷ others ys x) (others ys x)))
-      by true e h = ap (λ c. c || is_other_named name p x.place (shown ys)) (shown-one y.place y.persons true e) ∙ h
+      by true e h = ap (λ c. c || is_other_named name p x.place (shown_by_all ys)) (shown-one y.place y.persons true e) ∙ h
       by false e h =
           (λ i. shown-one y.place y.persons false e i || h i) ∙ sym (list_any-append test y.persons (flat_map (λ z. z.persons) (others ys x)))
 
@@ -117,7 +117,7 @@ module _ (p : Person) where
 
   -- the form among the persons of others, from those who are held
   fuller-by-name : {S : Type 0} (x : NamedCite) (group : List NamedCite) (by_name : HashMap SharedName (Vec Holder Global) S) (form : DisambiguatedNameForm)
-      → AreByName by_name (shown group)
+      → AreByName by_name (shown_by_all group)
       → fuller_by (is_other_held p x.place (holders by_name (by_family p))) (is_other_held p x.place (holders by_name (by_initials p))) form
       ≡ fuller p (filter (is_namesake p) (flat_map (λ y. y.persons) (others group x))) form
   fuller-by-name x group by_name form h =
@@ -127,7 +127,7 @@ module _ (p : Person) where
 
   -- the form of a person that may be raised
   pub raised-by-name : {S : Type 0} (x : NamedCite) (group : List NamedCite) (by_name : HashMap SharedName (Vec Holder Global) S) (form : DisambiguatedNameForm)
-      → (form ≡ DisambiguatedNameForm.Short) ⊎ (form ≡ DisambiguatedNameForm.LongInitialized) → AreByName by_name (shown group)
+      → (form ≡ DisambiguatedNameForm.Short) ⊎ (form ≡ DisambiguatedNameForm.LongInitialized) → AreByName by_name (shown_by_all group)
       → fuller_by (is_other_held p x.place (holders by_name (by_family p))) (is_other_held p x.place (holders by_name (by_initials p))) form
       ≡ raised p (flat_map (λ y. y.persons) (others group x)) form
   raised-by-name x group by_name form may h = fuller-by-name x group by_name form h ∙ by may

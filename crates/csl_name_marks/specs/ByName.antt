@@ -1,5 +1,5 @@
 -- For the code: the persons of the members of a group, by the names that they share.
-use Rattle.std.specs.Prelude.{◌≡◌, Bool, not, true, false, ◌&&◌, ◌||◌, List, [], ◌∷◌, None, Some, Vec, bytes_eq, if◌then◌else◌}
+use Rattle.std.specs.Prelude.{◌≡◌, Bool, not, true, false, ◌&&◌, ◌||◌, List, [], ◌∷◌, ◌++◌, None, Some, Vec, bytes_eq, if◌then◌else◌}
 use Rattle.std.specs.HashMap.{HashMap, get}
 use Rattle.std.specs.List.{flat_map, list_any}
 use Rattle.std.specs.Option.{option_eq, option_map_or}
@@ -42,12 +42,20 @@ names_of place p = let h : Holder = record { person = p; place = place } in (by_
 abbrev pub shown_by : NamedCite → List (SharedName × Holder)
 shown_by x = flat_map (names_of x.place) x.persons
 
-abbrev pub shown : List NamedCite → List (SharedName × Holder)
-shown group = flat_map shown_by group
+abbrev pub shown_by_all : List NamedCite → List (SharedName × Holder)
+shown_by_all group = flat_map shown_by group
 
 -- one more who holds the person at this place changes no answer
 abbrev pub IsTold : Person → Place → List Holder → Type 0
 IsTold q place hs = (p : Person) (other : Place) → same_person p q ≡ false → same_place other place ≡ false → is_other_held p other hs ≡ true
+
+-- the holders tell of each other person, at another place than this, what one more who holds `added` here would
+abbrev pub TellWithout : Person → Person → Place → List Holder → Type 0
+TellWithout p added place hs = same_person p added ≡ false → (other : Place) → same_place other place ≡ false → is_other_held p other hs ≡ true
+
+-- the holders tell of each person but `added`, elsewhere than at a place, what one more who holds `added` here would
+abbrev pub TellElsewhere : Place → Person → Place → List Holder → Type 0
+TellElsewhere elsewhere added place hs = same_place elsewhere place ≡ false → (p : Person) → same_person p added ≡ false → is_other_held p elsewhere hs ≡ true
 
 -- after a person at a place was added to holders of the same name
 abbrev pub Grows : Person → Place → List Holder → List Holder → Type 0
@@ -62,6 +70,10 @@ module _ {S : Type 0} where
   -- for each name they tell of other persons what all persons of that name do
   pub record AreByName (by_name : HashMap SharedName (Vec Holder Global) S) (shown : List (SharedName × Holder)) : Type 0 where
     pub tells : (name : SharedName) (p : Person) (place : Place) → is_other_held p place (holders by_name name) ≡ is_other_named name p place shown
+
+  -- what was told by these names is now told by more
+  abbrev pub Adds : HashMap SharedName (Vec Holder Global) S → HashMap SharedName (Vec Holder Global) S → List (SharedName × Holder) → Type 0
+  Adds old new more = (shown : List (SharedName × Holder)) → AreByName old shown → AreByName new (shown ++ more)
 
 -- the form of a person: full where another one has its initials, else with initials where another one has its family name
 abbrev pub fuller_by : Bool → Bool → DisambiguatedNameForm → DisambiguatedNameForm

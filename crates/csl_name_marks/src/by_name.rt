@@ -1,11 +1,6 @@
 //! Who is named by a family name in a group, and who by it and by initials.
-ghost use Rattle.std.specs.Prelude.{◌≡◌, ◌∷◌, ◌++◌, [], true, false, IfOk, List, OnOk, if◌then◌else◌};
-ghost use Rattle.csl_base.specs.declared.entry.Person.{Person as PersonValue};
-ghost use Rattle.csl_passes.specs.Renders.{Place};
-ghost use Rattle.csl_name_marks.specs.ByName.{AreByName, Grows, IsTold, by_family, by_initials, holders, is_other_held, names_of, same_name, shown, shown_by};
-ghost use Rattle.csl_name_marks.specs.Persons.{same_person};
-ghost use Rattle.csl_name_marks.specs.Steps.{same_place};
-ghost use Rattle.csl_name_marks.specs.declared.by_name.Holder.{Holder as HolderValue};
+ghost use Rattle.std.specs.Prelude.{◌≡◌, ◌∷◌, [], true, IfOk, OnOk, if◌then◌else◌};
+ghost use Rattle.csl_name_marks.specs.ByName.{Adds, AreByName, Grows, IsTold, TellElsewhere, TellWithout, by_family, by_initials, holders, is_other_held, names_of, same_name, shown_by_all, shown_by};
 ghost use Rattle.csl_name_marks.specs.declared.by_name.SharedName.{SharedName as SharedNameValue};
 
 use crate::named_cite::NamedCite;
@@ -47,7 +42,7 @@ fn is_other_held(holders: &[Holder], person: &Person, place: (usize, usize)) -> 
 
 /// Whether the holders tell all that a person at a place adds of others than this one.
 fn tells_without(holders: &[Holder], person: &Person, added: &Person, place: (usize, usize)) -> bool
-    ensures { result ≡ true → same_person person.now added.now ≡ false → (other : Place) → same_place other place ≡ false → is_other_held person.now other holders.now ≡ true }
+    ensures { result ≡ true → TellWithout person.now added.now place holders.now }
 {
     if person == added {
         return true;
@@ -67,7 +62,7 @@ fn tells_elsewhere(
     added: &Person,
     place: (usize, usize),
 ) -> bool
-    ensures { result ≡ true → same_place elsewhere place ≡ false → (p : PersonValue) → same_person p added.now ≡ false → is_other_held p elsewhere holders.now ≡ true }
+    ensures { result ≡ true → TellElsewhere elsewhere added.now place holders.now }
 {
     if same_place(elsewhere, place) {
         return true;
@@ -129,7 +124,7 @@ fn add_named(
     person: &Person,
     place: (usize, usize),
 ) -> Result<(), AllocError>
-    ensures { OnOk result ((so_far : List (SharedNameValue × HolderValue)) → AreByName by_name.old so_far → AreByName by_name.new (so_far ++ (name, record { person = person.now; place = place }) ∷ [])) }
+    ensures { OnOk result (Adds by_name.old by_name.new ((name, record { person = person.now; place = place }) ∷ [])) }
 {
     let mut holders = take_holders(alloc, by_name, &name);
     add_holder(&mut holders, person, place)?;
@@ -163,14 +158,14 @@ fn add_person(
     person: &Person,
     place: (usize, usize),
 ) -> Result<(), AllocError>
-    ensures { OnOk result ((so_far : List (SharedNameValue × HolderValue)) → AreByName by_name.old so_far → AreByName by_name.new (so_far ++ names_of place person.now)) }
+    ensures { OnOk result (Adds by_name.old by_name.new (names_of place person.now)) }
 {
     add_named(alloc, by_name, by_family(person)?, person, place)?;
     add_named(alloc, by_name, by_initials(alloc, person)?, person, place)
 }
 
 fn add_member(alloc: Global, by_name: &mut ByName, member: &NamedCite) -> Result<(), AllocError>
-    ensures { OnOk result ((so_far : List (SharedNameValue × HolderValue)) → AreByName by_name.old so_far → AreByName by_name.new (so_far ++ shown_by member.now)) }
+    ensures { OnOk result (Adds by_name.old by_name.new (shown_by member.now)) }
 {
     for person in member.persons.as_slice() {
         add_person(alloc, by_name, person, member.place)?;
@@ -180,7 +175,7 @@ fn add_member(alloc: Global, by_name: &mut ByName, member: &NamedCite) -> Result
 
 /// The persons of all members, by the names that they share.
 pub(crate) fn by_name(alloc: Global, group: &[NamedCite]) -> Result<ByName, AllocError>
-    ensures { IfOk result (λ m. AreByName m (shown group.now)) }
+    ensures { IfOk result (λ m. AreByName m (shown_by_all group.now)) }
 {
     let mut by_name = HashMap::new(alloc);
     for member in group {

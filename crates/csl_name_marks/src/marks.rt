@@ -4,7 +4,7 @@ ghost use Rattle.std.specs.Prelude.{◌≡◌, fold, length, zip, All, IfOk, OnO
 ghost use Rattle.std.specs.List.{filter_map};
 ghost use Rattle.csl_passes.specs.Places.{AreDistinct, IsPlace};
 ghost use Rattle.csl_passes.specs.RendersView.{renders_view};
-ghost use Rattle.csl_name_marks.specs.ByName.{AreByName, shown};
+ghost use Rattle.csl_name_marks.specs.ByName.{AreByName, shown_by_all};
 ghost use Rattle.csl_name_marks.specs.Classes.{StandApart};
 ghost use Rattle.csl_name_marks.specs.NameMarks.{after_step, is_by_cite, mark, marks_after, name_marks};
 ghost use Rattle.csl_name_marks.specs.Steps.{step, steps};
@@ -38,7 +38,7 @@ fn take_step(
     i: usize,
     forms: &mut NameDisambiguationProperties,
 ) -> Result<(), AllocError>
-    requires { AreByName by_name.now (shown group.now) }
+    requires { AreByName by_name.now (shown_by_all group.now) }
     ensures { OnOk result (forms.new ≡ record { forms = after_step group.now member.now own forms.old.forms i }) }
 {
     if is_by_cite(member.rule) && own == Some(i) {
@@ -58,7 +58,7 @@ fn forms_after(
     own: Option<usize>,
     start: &NameDisambiguationProperties,
 ) -> Result<NameDisambiguationProperties, AllocError>
-    requires { AreByName by_name.now (shown group.now) }
+    requires { AreByName by_name.now (shown_by_all group.now) }
     ensures { IfOk result (λ f. f ≡ record { forms = fold (after_step group.now member.now own) start.now.forms steps.now }) }
 {
     let mut forms = copied(start)?;
@@ -76,7 +76,7 @@ fn mark_of(
     member: &NamedCite,
     own: Option<usize>,
 ) -> Result<Option<((usize, usize), DisambiguateState)>, AllocError>
-    requires { AreByName by_name.now (shown group.now) }
+    requires { AreByName by_name.now (shown_by_all group.now) }
     ensures { IfOk result (λ m. m ≡ mark group.now steps.now member.now own) }
 {
     match &member.start {
@@ -96,7 +96,7 @@ fn member_marks(
     own_steps: &[Option<usize>],
 ) -> Result<Marks, AllocError>
     requires long { length own_steps.now ≡ length group.now }
-    requires by_name { AreByName by_name.now (shown group.now) }
+    requires by_name { AreByName by_name.now (shown_by_all group.now) }
     ensures { IfOk result (λ v. v.items ≡ filter_map (λ p. mark group.now steps.now p.0 p.1) (zip group.now own_steps.now)) }
 {
     let mut found = Vec::new(alloc);

@@ -1,7 +1,7 @@
 //! How far given names are written to tell persons apart.
 ghost use Rattle.std.specs.Prelude.{◌≡◌, IfOk, OnOk};
 ghost use Rattle.std.specs.List.{flat_map};
-ghost use Rattle.csl_name_marks.specs.ByName.{AreByName, by_family, by_initials, fuller_by, holders, is_other_held, shown};
+ghost use Rattle.csl_name_marks.specs.ByName.{AreByName, by_family, by_initials, fuller_by, holders, is_other_held, shown_by_all};
 ghost use Rattle.csl_name_marks.specs.Raising.{raise, raised};
 ghost use Rattle.csl_name_marks.specs.Steps.{others};
 
@@ -41,7 +41,7 @@ fn raised_in_group(
     by_name: &ByName,
     form: DisambiguatedNameForm,
 ) -> Result<DisambiguatedNameForm, AllocError>
-    requires { AreByName by_name.now (shown group.now) }
+    requires { AreByName by_name.now (shown_by_all group.now) }
     ensures { IfOk result (λ r. r ≡ raised person.now (flat_map (λ y. y.persons) (others group.now member.now)) form) }
 {
     match form {
@@ -62,7 +62,7 @@ pub(crate) fn raise(
     i: usize,
     forms: &mut NameDisambiguationProperties,
 ) -> Result<(), AllocError>
-    requires { AreByName by_name.now (shown group.now) }
+    requires { AreByName by_name.now (shown_by_all group.now) }
     ensures { OnOk result (forms.new ≡ record { forms = raise group.now member.now i forms.old.forms }) }
 {
     if i == 0 {

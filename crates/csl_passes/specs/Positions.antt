@@ -19,16 +19,20 @@ module _ {P : Type 0} (eq : P → P → Bool) where
   same_locators (Some a) (Some b) = (locator_eq.ghosts).eq a.kind b.kind && same_payload a.payload b.payload
   same_locators _ _ = false
 
+  -- the position of a cite with this locator that repeats the last one, or doesn't
+  abbrev pub position_by : Bool → Option (LocatorValue P) → Option (LocatorValue P) → IbidState
+  position_by repeats this last =
+      if not repeats then IbidState.Different
+      else if same_locators this last then IbidState.Ibid
+      else if is_some this then IbidState.IbidWithLocator
+      else IbidState.Different
+
 module _ {E P : Type 0} (entry_eq : E → E → Bool) (payload_eq : P → P → Bool) where
   -- a cite repeats the last one before it where that is shown and has an equal entry
   abbrev pub repeats : RequestedCite E P → RequestedCite E P → Bool
   repeats this last = not last.hidden && entry_eq this.entry last.entry
 
-  -- the position of a cite that repeats the last one, or doesn't
+  -- the position of a cite against the last one before it
   abbrev pub with_last : RequestedCite E P → Option (RequestedCite E P) → IbidState
   with_last this None = IbidState.Different
-  with_last this (Some last) =
-      if not (repeats this last) then IbidState.Different
-      else if same_locators payload_eq this.locator last.locator then IbidState.Ibid
-      else if is_some this.locator then IbidState.IbidWithLocator
-      else IbidState.Different
+  with_last this (Some last) = position_by payload_eq (repeats this last) this.locator last.locator

@@ -1,7 +1,7 @@
 //! The position of a cite against the one before it (CSL 1.0.2, position).
 ghost use Rattle.std.specs.Prelude.{◌≡◌, option_map};
 ghost use Rattle.csl_lookup.specs.PropertiesView.{locator_view, payload_view};
-ghost use Rattle.csl_passes.specs.Positions.{same_locators, same_payload, with_last};
+ghost use Rattle.csl_passes.specs.Positions.{position_by, same_locators, same_payload, with_last};
 ghost use Rattle.csl_passes.specs.RequestView.{cite_view};
 
 use crate::item::CitationItem;
@@ -19,7 +19,7 @@ fn same_payload<P: PartialEq>(a: &LocatorPayload<'_, P>, b: &LocatorPayload<'_, 
 }
 
 /// Whether both are the same locator, or both are none.
-pub fn same_locators<P: PartialEq>(
+fn same_locators<P: PartialEq>(
     a: &Option<SpecificLocator<'_, P>>,
     b: &Option<SpecificLocator<'_, P>>,
 ) -> bool
@@ -32,6 +32,26 @@ pub fn same_locators<P: PartialEq>(
     }
 }
 
+/// The position of a cite with this locator that repeats the last one, or doesn't.
+pub fn position_by<P: PartialEq>(
+    repeats: bool,
+    this: &Option<SpecificLocator<'_, P>>,
+    last: &Option<SpecificLocator<'_, P>>,
+) -> IbidState
+    ensures { result ≡ position_by P.eq repeats (option_map locator_view this.now) (option_map locator_view last.now) }
+{
+    if !repeats {
+        return IbidState::Different;
+    }
+    if same_locators(this, last) {
+        return IbidState::Ibid;
+    }
+    match this {
+        Some(_) => IbidState::IbidWithLocator,
+        None => IbidState::Different,
+    }
+}
+
 /// The position of a cite against the last one before it. No last one, another entry and a hidden one
 /// give `Different`; an equal entry gives `Ibid` where the locators are equal, `Different` where they
 /// aren't and this cite has none, and else `IbidWithLocator`. It takes no memory.
@@ -41,19 +61,9 @@ pub fn with_last<T: PartialEq, P: PartialEq>(
 ) -> IbidState
     ensures { result ≡ with_last T.eq P.eq (cite_view this.now) (option_map (λ l. cite_view l.now) last.entry) }
 {
-    match last {
-        Some(last) => {
-            if last.hidden || *this.entry != *last.entry {
-                return IbidState::Different;
-            }
-            if same_locators(&this.locator, &last.locator) {
-                return IbidState::Ibid;
-            }
-            match &this.locator {
-                Some(_) => IbidState::IbidWithLocator,
-                None => IbidState::Different,
-            }
-        }
-        None => IbidState::Different,
-    }
+    let Some(last) = last else {
+        return IbidState::Different;
+    };
+    let repeats = !last.hidden && *this.entry == *last.entry;
+    position_by(repeats, &this.locator, &last.locator)
 }

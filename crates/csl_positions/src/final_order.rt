@@ -17,7 +17,7 @@ use csl_base::entry::EntryLike;
 use csl_entries::listing::Listing;
 use csl_entries::table::EntryTable;
 use csl_lookup::state::IbidState;
-use csl_passes::positions::same_locators;
+use csl_passes::positions::position_by;
 use csl_passes::renders::{SpeculativeCiteRender, SpeculativeItemRender};
 use std::alloc::{AllocError, Global};
 
@@ -142,21 +142,11 @@ fn position_behind<T: PartialEq, P: PartialEq>(
 ) -> IbidState
     ensures { result ≡ with_last T.eq P.eq (as_cite (item_view this.now)) (option_map (λ l. as_cite (item_view l.now)) last.entry) }
 {
-    match last {
-        Some(last) => {
-            if *this.entry != *last.entry {
-                return IbidState::Different;
-            }
-            if same_locators(&this.locator, &last.locator) {
-                return IbidState::Ibid;
-            }
-            match &this.locator {
-                Some(_) => IbidState::IbidWithLocator,
-                None => IbidState::Different,
-            }
-        }
-        None => IbidState::Different,
-    }
+    let Some(last) = last else {
+        return IbidState::Different;
+    };
+    let repeats = *this.entry == *last.entry;
+    position_by(repeats, &this.locator, &last.locator)
 }
 
 /// The last cite of the request directly before; none where it has none, or there is no such request.

@@ -17,8 +17,8 @@ use Rattle.csl_name_marks.specs.MarkLaws.{IsNameMark, NameMarksGoOn}
 use Rattle.csl_name_marks.specs.NameMarks.{name_marks}
 use Rattle.csl_passes.specs.Renders.{CiteRender, Place}
 use Rattle.csl_rounds.specs.FirstRenders.{AreBegun}
-use Rattle.csl_rounds.specs.RoundMarks.{Mark, by_choice, by_suffix, cites, counting, counts, greatest, has_any, round_marks, waits}
-use Rattle.csl_rounds.specs.Rounds.{Table, at_table, mark_of, no_states, with_marks}
+use Rattle.csl_rounds.specs.RoundMarks.{Mark, by_choice, by_suffix, cites_entry, counting, counts, greatest_state, has_any, round_marks, waits}
+use Rattle.csl_rounds.specs.Rounds.{StateTable, at_table, mark_of, no_states, with_marks}
 use Rattle.csl_rounds.specs.RunLaws.{StatesGoOn, told_by}
 use Rattle.csl_rounds.specs.Tables.{marked_at, marks_at, most_rounds, tables, tables_from}
 use Rattle.csl_rounds.specs.declared.mode.RoundMode.{RoundMode}
@@ -48,7 +48,7 @@ module _ (one : GreaterIsOne) (Q : DisambiguateState → Type 0) where
   of-all s [] h all = h
   of-all s (t ∷ ts) h all = of-all (greater s t) ts (of-two s t h (All-head Q t ts all)) (All-tail Q t ts all)
 
-  pub greatest-known : (ss : List DisambiguateState) (s : DisambiguateState) → All Q ss → greatest ss ≡ Some s → Q s
+  pub greatest-known : (ss : List DisambiguateState) (s : DisambiguateState) → All Q ss → greatest_state ss ≡ Some s → Q s
   greatest-known [] s all e = cc
   greatest-known (t ∷ ts) s all e = subst Q (some-inj (fold greater t ts) s e) (of-all t ts (All-head Q t ts all) (All-tail Q t ts all))
 
@@ -126,20 +126,20 @@ module _ {E P : Type 0} (eq : E → E → Bool) (laws : AreMarkLaws E P eq) (ren
       (counting-goes (name_marks renders) names-go) (counting-goes (by_choice eq renders) choice-goes) (counting-goes (by_suffix eq renders dated) (suffixes-go dated))
       (waits eq renders) [] (ambiguous_groups eq renders) are-groups
 
-  pub cites-is : (e : E) (p : Place) (c : Member E P) → member_at renders p ≡ Some c → cites eq renders e p ≡ eq e (entry_of c)
+  pub cites-is : (e : E) (p : Place) (c : Member E P) → member_at renders p ≡ Some c → cites_entry eq renders e p ≡ eq e (entry_of c)
   cites-is e p c found = ap (λ o. option_map_or (λ m. eq e (entry_of m)) o false) found
 
   -- the marks of an entry
   pub own-marks : (mode : RoundMode) (answers : E → Answers) (e : E)
-      → All (λ m. (f : GoesFrom m) × (eq e (entry_of f.cite) ≡ true)) (filter (λ m. cites eq renders e m.0) (round_marks mode eq answers renders))
+      → All (λ m. (f : GoesFrom m) × (eq e (entry_of f.cite) ≡ true)) (filter (λ m. cites_entry eq renders e m.0) (round_marks mode eq answers renders))
   own-marks mode answers e =
-      All-weaker (λ m. GoesFrom m × (cites eq renders e m.0 ≡ true)) (λ m. (f : GoesFrom m) × (eq e (entry_of f.cite) ≡ true))
+      All-weaker (λ m. GoesFrom m × (cites_entry eq renders e m.0 ≡ true)) (λ m. (f : GoesFrom m) × (eq e (entry_of f.cite) ≡ true))
       (λ m h. (h.0, sym (cites-is e m.0 h.0.cite h.0.stands_there) ∙ h.1))
-      (filter (λ m. cites eq renders e m.0) (round_marks mode eq answers renders))
-      (all-passed GoesFrom (λ m. cites eq renders e m.0) (round_marks mode eq answers renders) (marks-go mode answers))
+      (filter (λ m. cites_entry eq renders e m.0) (round_marks mode eq answers renders))
+      (all-passed GoesFrom (λ m. cites_entry eq renders e m.0) (round_marks mode eq answers renders) (marks-go mode answers))
 
   -- equal entries have the same ones
-  cites-alike : (d e : E) → eq d e ≡ true → (p : Place) → cites eq renders d p ≡ cites eq renders e p
+  cites-alike : (d e : E) → eq d e ≡ true → (p : Place) → cites_entry eq renders d p ≡ cites_entry eq renders e p
   cites-alike d e h p = by (member_at renders p)
     where
       by : (o : Option (Member E P)) → option_map_or (λ m. eq d (entry_of m)) o false ≡ option_map_or (λ m. eq e (entry_of m)) o false
@@ -147,60 +147,60 @@ module _ {E P : Type 0} (eq : E → E → Bool) (laws : AreMarkLaws E P eq) (ren
       by (Some c) = laws.equal.congr d e (entry_of c) h
 
   pub mark-alike : (marks : List Mark) (d e : E) → eq d e ≡ true → mark_of eq renders marks d ≡ mark_of eq renders marks e
-  mark-alike marks d e h = ap (λ ms. greatest (map (λ m. m.1) ms)) (filter_agree (λ m. cites eq renders d m.0) (λ m. cites eq renders e m.0) (λ m. cites-alike d e h m.0) marks)
+  mark-alike marks d e h = ap (λ ms. greatest_state (map (λ m. m.1) ms)) (filter_agree (λ m. cites_entry eq renders d m.0) (λ m. cites_entry eq renders e m.0) (λ m. cites-alike d e h m.0) marks)
 
 -- the tables, as steps from one to the next
 module _ {E P : Type 0} (mode : RoundMode) (eq : E → E → Bool) (answers : E → Answers) (firsts : List (CiteRender E P)) where
-  abbrev pub goes_on : Table E → Bool
+  abbrev pub goes_on : StateTable E → Bool
   goes_on t = has_any (marks_at mode eq answers firsts t)
 
-  abbrev pub next : Table E → Table E
+  abbrev pub next : StateTable E → StateTable E
   next t = with_marks (marked_at mode eq answers firsts t) t
 
-  pub tables-are : (n : ℕ) (t : Table E) → tables_from mode eq answers firsts n t ≡ run goes_on next n t
+  pub tables-are : (n : ℕ) (t : StateTable E) → tables_from mode eq answers firsts n t ≡ run goes_on next n t
   unfolding tables_from
   tables-are n t = by n t
     where
-      by : (n : ℕ) (t : Table E) → tables_from mode eq answers firsts n t ≡ run goes_on next n t
+      by : (n : ℕ) (t : StateTable E) → tables_from mode eq answers firsts n t ≡ run goes_on next n t
       by zero t = refl
       by (suc n) t = ap (λ ts. cond (goes_on t) (t ∷ ts) (t ∷ [])) (by n (next t))
 
-  abbrev pub steps : List (Table E)
+  abbrev pub steps : List (StateTable E)
   steps = run goes_on next (most_rounds mode eq firsts) no_states
 
   pub are-steps : steps ≡ tables mode eq answers firsts
   are-steps = sym (tables-are (most_rounds mode eq firsts) no_states)
 
-  abbrev pub Alike : Table E → Type 0
+  abbrev pub Alike : StateTable E → Type 0
   Alike t = (d e : E) → eq d e ≡ true → t d ≡ t e
 
   module _ (laws : AreMarkLaws E P eq) (begun : AreBegun firsts) where
-    pub member-told : (t : Table E) (p : Place) (c : Member E P) → member_at (at_table answers t firsts) p ≡ Some c → state_of c ≡ told_by t (entry_of c)
+    pub member-told : (t : StateTable E) (p : Place) (c : Member E P) → member_at (at_table answers t firsts) p ≡ Some c → state_of c ≡ told_by t (entry_of c)
     member-told t p c found = item-known (at_table answers t firsts) (IsTold t) p c (rows-told answers t firsts begun) found
 
     -- to each mark of an entry its state goes on
-    pub marks-of : (t : Table E) → Alike t → (e : E)
-        → All (λ m. GoesOnTo (told_by t e) m.1) (filter (λ m. cites eq (at_table answers t firsts) e m.0) (marks_at mode eq answers firsts t))
+    pub marks-of : (t : StateTable E) → Alike t → (e : E)
+        → All (λ m. GoesOnTo (told_by t e) m.1) (filter (λ m. cites_entry eq (at_table answers t firsts) e m.0) (marks_at mode eq answers firsts t))
     marks-of t alike e =
         let renders = at_table answers t firsts in
         All-weaker (λ m. (f : GoesFrom eq laws renders m) × (eq e (entry_of f.cite) ≡ true)) (λ m. GoesOnTo (told_by t e) m.1)
         (λ m h. subst (λ s. GoesOnTo s m.1)
         (member-told t m.0 h.0.cite h.0.stands_there ∙ ap (λ o. unwrap_or o DisambiguateState.None) (sym (alike e (entry_of h.0.cite) h.1))) h.0.goes_on)
-        (filter (λ m. cites eq renders e m.0) (marks_at mode eq answers firsts t)) (own-marks eq laws renders mode answers e)
+        (filter (λ m. cites_entry eq renders e m.0) (marks_at mode eq answers firsts t)) (own-marks eq laws renders mode answers e)
 
-    pub state-goes : (t : Table E) → Alike t → (e : E) (s : DisambiguateState) → marked_at mode eq answers firsts t e ≡ Some s → GoesOnTo (told_by t e) s
+    pub state-goes : (t : StateTable E) → Alike t → (e : E) (s : DisambiguateState) → marked_at mode eq answers firsts t e ≡ Some s → GoesOnTo (told_by t e) s
     state-goes t alike e s h =
-        let own = filter (λ m. cites eq (at_table answers t firsts) e m.0) (marks_at mode eq answers firsts t) in
+        let own = filter (λ m. cites_entry eq (at_table answers t firsts) e m.0) (marks_at mode eq answers firsts t) in
         greatest-known laws.one (GoesOnTo (told_by t e)) (map (λ m. m.1) own) s (All-map (GoesOnTo (told_by t e)) (λ m. m.1) own (marks-of t alike e)) h
 
-    pub goes-next : (t : Table E) → Alike t → (e : E) → GoesOnTo (told_by t e) (told_by (next t) e)
+    pub goes-next : (t : StateTable E) → Alike t → (e : E) → GoesOnTo (told_by t e) (told_by (next t) e)
     goes-next t alike e = by (marked_at mode eq answers firsts t e) refl
       where
         by : (o : Option DisambiguateState) → marked_at mode eq answers firsts t e ≡ o → GoesOnTo (told_by t e) (unwrap_or (option_or o (t e)) DisambiguateState.None)
         by None h = laws.goes.0 (told_by t e)
         by (Some s) h = state-goes t alike e s h
 
-    pub alike-next : (t : Table E) → Alike t → Alike (next t)
+    pub alike-next : (t : StateTable E) → Alike t → Alike (next t)
     alike-next t alike d e h =
         ap (λ o. option_or o (t d)) (mark-alike eq laws (at_table answers t firsts) (marks_at mode eq answers firsts t) d e h)
         ∙ ap (option_or (marked_at mode eq answers firsts t e)) (alike d e h)

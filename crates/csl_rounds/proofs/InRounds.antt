@@ -11,7 +11,7 @@ use Rattle.csl_passes.specs.Renders.{CiteRender}
 use Rattle.csl_rounds.specs.AfterRounds.{AreAfterRounds}
 use Rattle.csl_rounds.specs.Rerenders.{AreStatesOf, marked_among, rerenders}
 use Rattle.csl_rounds.specs.RoundMarks.{has_any, round_marks}
-use Rattle.csl_rounds.specs.Rounds.{Table, at_table, entries_cited, mark_of, no_states, with_marks}
+use Rattle.csl_rounds.specs.Rounds.{StateTable, at_table, entries_cited, mark_of, no_states, with_marks}
 use Rattle.csl_rounds.specs.Tables.{disambiguated, last_states, marked_at, marks_at, most_rounds, round_tables, rounds, tables, tables_from}
 use Rattle.csl_rounds.specs.declared.mode.RoundMode.{RoundMode}
 use Rattle.csl_rounds.proofs.Marked.{empty-counted, empty-round, nothing-marked}
@@ -27,23 +27,23 @@ one-more k = omega arith
 
 module _ {E P : Type 0} (mode : RoundMode) (eq : E → E → Bool) (answers : E → Answers) (firsts : List (CiteRender E P)) where
   -- what a round marks
-  abbrev pub marks_on : List (CiteRender E P) → Table E
+  abbrev pub marks_on : List (CiteRender E P) → StateTable E
   marks_on rs = mark_of eq rs (round_marks mode eq answers rs)
 
-  abbrev last_of : Table E → List (Table E)
+  abbrev last_of : StateTable E → List (StateTable E)
   last_of t = t ∷ []
 
   -- a round that marks, and one that doesn't
-  pub from-yes : (n : ℕ) (t : Table E) → has_any (marks_at mode eq answers firsts t) ≡ true
+  pub from-yes : (n : ℕ) (t : StateTable E) → has_any (marks_at mode eq answers firsts t) ≡ true
       → tables_from mode eq answers firsts (suc n) t ≡ t ∷ tables_from mode eq answers firsts n (with_marks (marked_at mode eq answers firsts t) t)
   unfolding tables_from
   from-yes n t h = rw h refl
 
-  from-none : (t : Table E) → tables_from mode eq answers firsts 0 t ≡ last_of t
+  from-none : (t : StateTable E) → tables_from mode eq answers firsts 0 t ≡ last_of t
   unfolding tables_from
   from-none t = refl
 
-  from-no : (n : ℕ) (t : Table E) → has_any (marks_at mode eq answers firsts t) ≡ false → tables_from mode eq answers firsts n t ≡ last_of t
+  from-no : (n : ℕ) (t : StateTable E) → has_any (marks_at mode eq answers firsts t) ≡ false → tables_from mode eq answers firsts n t ≡ last_of t
   unfolding tables_from
   from-no zero t h = refl
   from-no (suc n) t h = rw h refl
@@ -53,7 +53,7 @@ module _ {E P : Type 0} (mode : RoundMode) (eq : E → E → Bool) (answers : E 
   told-apart now h = h
 
   -- where these tables are all
-  module _ (done : List (Table E)) (t : Table E) (all : done ++ t ∷ [] ≡ tables mode eq answers firsts) where
+  module _ (done : List (StateTable E)) (t : StateTable E) (all : done ++ t ∷ [] ≡ tables mode eq answers firsts) where
     rounds-done : length done ≡ rounds mode eq answers firsts
     rounds-done =
         let long : length (done ++ t ∷ []) ≡ length (tables mode eq answers firsts) = ap length all in
@@ -68,15 +68,15 @@ module _ {E P : Type 0} (mode : RoundMode) (eq : E → E → Bool) (answers : E 
         (sym (take-append_seam done (t ∷ [])) ∙ ap (take (length done)) all ∙ ap (λ n. take n (tables mode eq answers firsts)) rounds-done)
 
   -- the renders after a round are those at the next table
-  pub renders-after : (now new : List (CiteRender E P)) (t : Table E) → now ≡ at_table answers t firsts → new ≡ at_table answers (marks_on now) now
+  pub renders-after : (now new : List (CiteRender E P)) (t : StateTable E) → now ≡ at_table answers t firsts → new ≡ at_table answers (marks_on now) now
       → new ≡ at_table answers (with_marks (marked_at mode eq answers firsts t) t) firsts
   renders-after now new t here again = again ∙ ap (λ rs. at_table answers (marks_on rs) rs) here ∙ twice answers (marked_at mode eq answers firsts t) t firsts
 
   module _ (es : List E) (old : ℕ) where
     -- k rounds have marked
     pub record InRounds (k : ℕ) (now : List (CiteRender E P)) (states : List (Option DisambiguateState)) (marked count : ℕ) : Type 0 where
-      pub table : Table E
-      pub done : List (Table E)
+      pub table : StateTable E
+      pub done : List (StateTable E)
       pub renders : now ≡ at_table answers table firsts
       pub all : done ++ tables_from mode eq answers firsts (most_rounds mode eq firsts - k) table ≡ tables mode eq answers firsts
       pub states_are : AreStatesOf eq es table states
@@ -134,7 +134,7 @@ module _ {E P : Type 0} (mode : RoundMode) (eq : E → E → Bool) (answers : E 
         one-round within next any one =
             let left : most_rounds mode eq firsts - k ≡ suc (most_rounds mode eq firsts - (k + 1)) = omega (arith, within) in
             let yes : has_any (round_marks mode eq answers start) ≡ true = subst (λ rs. has_any (round_marks mode eq answers rs) ≡ true) so.renders any in
-            let table : Table E = marks_on start in
+            let table : StateTable E = marks_on start in
             record {
               table = with_marks table so.table;
               done = so.done ++ so.table ∷ [];
@@ -154,10 +154,10 @@ module _ {E P : Type 0} (mode : RoundMode) (eq : E → E → Bool) (answers : E 
                   ∙ ap (λ ts. counted_times (rerenders (entries_cited firsts) ts) old) (sym (map-append (marked_at mode eq answers firsts) so.done (so.table ∷ [])));
             }
           where
-            marked_before : List (Table E)
+            marked_before : List (StateTable E)
             marked_before = map (marked_at mode eq answers firsts) so.done
 
-            sum : (t : Table E) → marked_among (entries_cited firsts) t + rerenders (entries_cited firsts) marked_before ≡ rerenders (entries_cited firsts) (marked_before ++ t ∷ [])
+            sum : (t : StateTable E) → marked_among (entries_cited firsts) t + rerenders (entries_cited firsts) marked_before ≡ rerenders (entries_cited firsts) (marked_before ++ t ∷ [])
             sum t = omega (arith, sum_by_push (marked_among (entries_cited firsts)) marked_before t)
 
 -- a round that marks nothing is the last
@@ -182,7 +182,7 @@ last-round mode eq answers firsts es old k now new states given marked count tot
     done-with mode eq answers firsts es old k new given marked total same (from-no mode eq answers firsts (most_rounds mode eq firsts - k) so.table no) (λ full. no)
 
 -- states that are put back where they came from
-pub put-back : {E : Type 0} (eq : E → E → Bool) (es : List E) (known table : Table E) (old new : List (Option DisambiguateState)) (len : ℕ) → len ≡ length old
+pub put-back : {E : Type 0} (eq : E → E → Bool) (es : List E) (known table : StateTable E) (old new : List (Option DisambiguateState)) (len : ℕ) → len ≡ length old
     → AreStatesOf eq es known old → AreStatesOf eq es table new → AreStatesOf eq es table (take len (new ++ drop (length new) old))
 put-back eq es known table old new len same were are =
     subst (AreStatesOf eq es table) (sym (take_at new (drop (length new) old) len (are.long ∙ sym were.long ∙ sym same))) are

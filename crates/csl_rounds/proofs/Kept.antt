@@ -22,7 +22,7 @@ use Rattle.csl_passes.specs.Renders.{CiteRender, ItemRender, Place}
 use Rattle.csl_passes.specs.Request.{Request}
 use Rattle.csl_rounds.proofs.Twice.{same-entry}
 use Rattle.csl_rounds.specs.RoundMarks.{Mark, all_ways, by_choice, by_full, by_suffix, by_three, counting, counts, has_any, marks_of, or_others, round_marks, waits}
-use Rattle.csl_rounds.specs.Rounds.{Table, at_table, request_at, with_any}
+use Rattle.csl_rounds.specs.Rounds.{StateTable, at_table, request_at, with_any}
 use Rattle.csl_rounds.specs.declared.mode.RoundMode.{RoundMode}
 
 some-inj : {A : Type 0} (x y : A) → Some x ≡ Some y → x ≡ y
@@ -185,7 +185,7 @@ module _ {E P : Type 0} (renders : List (CiteRender E P)) where
       (λ g h. counting-stand (by_suffix eq renders dated) (suffixes-stand eq dated) g) (waits eq renders) [] (ambiguous_groups eq renders) (any-groups (ambiguous_groups eq renders))
 
 -- what is known of the renders holds after a round
-module _ {E P : Type 0} (answers : E → Answers) (t : Table E) where
+module _ {E P : Type 0} (answers : E → Answers) (t : StateTable E) where
   pub rings-kept : (rs : List (CiteRender E P)) → All (λ c. HasNoRing c.request.style.macros) rs → All (λ c. HasNoRing c.request.style.macros) (at_table answers t rs)
   rings-kept rs h = All-map (λ c. HasNoRing c.request.style.macros) (request_at answers t) rs h
 

@@ -15,8 +15,8 @@ use Rattle.csl_lookup.specs.declared.state.DisambiguateState.{DisambiguateState}
 use Rattle.csl_lookup.specs.declared.state.DisambiguateState.TheVariants.{YearSuffix}
 use Rattle.csl_name_marks.specs.NameMarks.{name_marks}
 use Rattle.csl_passes.specs.Renders.{CiteRender, Place}
-use Rattle.csl_rounds.specs.RoundMarks.{Mark, all_ways, by_choice, by_full, by_suffix, by_three, counting, counts, greatest, has_any, marks_of, or_others, raises, round_marks, waits}
-use Rattle.csl_rounds.specs.Rounds.{Table, at_table, mark_of, no_states}
+use Rattle.csl_rounds.specs.RoundMarks.{Mark, all_ways, by_choice, by_full, by_suffix, by_three, counting, counts, greatest_state, has_any, marks_of, or_others, raises, round_marks, waits}
+use Rattle.csl_rounds.specs.Rounds.{StateTable, at_table, mark_of, no_states}
 use Rattle.csl_rounds.specs.RunLaws.{EndByThemselves, IsInNoGroup, NothingLeft, ways}
 use Rattle.csl_rounds.specs.Tables.{last_states, marks_at, most_rounds, rounds, tables}
 use Rattle.csl_rounds.specs.declared.mode.RoundMode.{RoundMode}
@@ -30,7 +30,7 @@ module _ {E P : Type 0} (eq : E → E → Bool) (laws : AreMarkLaws E P eq) (ren
   abbrev Own : Mark → Type 0
   Own m = (f : GoesFrom eq laws renders m) × (eq e (entry_of f.cite) ≡ true)
 
-  no-mark : (ms : List Mark) → All Own ms → greatest (map (λ m. m.1) ms) ≡ None
+  no-mark : (ms : List Mark) → All Own ms → greatest_state (map (λ m. m.1) ms) ≡ None
   no-mark [] all = refl
   no-mark (m ∷ ms) all =
       let own : Own m = All-head Own m ms all in
@@ -167,7 +167,7 @@ module _ {E P : Type 0} (eq : E → E → Bool) (answers : E → Answers) (rende
       ap (λ d. d || adds_suffix (b ∷ [])) (no a one) ∙ ap (λ d. d || false) (no b other)
 
 module _ {E P : Type 0} (mode : RoundMode) (eq : E → E → Bool) (answers : E → Answers) (firsts : List (CiteRender E P)) (laws : AreMarkLaws E P eq) where
-  abbrev at : Table E → List (CiteRender E P)
+  abbrev at : StateTable E → List (CiteRender E P)
   at t = at_table answers t firsts
 
   only-ambiguous : (e : E) → All (λ t. IsInNoGroup eq (at t) e) (done (tables mode eq answers firsts)) → last_states mode eq answers firsts e ≡ None

@@ -16,7 +16,7 @@ use Rattle.csl_rounds.specs.RoundMarks.{Mark, has_any, or_others, round_marks}
 use Rattle.csl_rounds.proofs.Kept.{marks-stand, places-kept, rings-kept}
 use Rattle.csl_rounds.proofs.Placed.{are-placed, document-alike, state-at}
 use Rattle.csl_rounds.specs.Rerenders.{AreStatesOf, marked_among}
-use Rattle.csl_rounds.specs.Rounds.{Table, at_table, entries_cited, mark_of, with_marks}
+use Rattle.csl_rounds.specs.Rounds.{StateTable, at_table, entries_cited, mark_of, with_marks}
 use Rattle.csl_rounds.specs.declared.mode.RoundMode.{RoundMode}
 use Rattle.csl_rounds.proofs.Rerendered.{cites-marked, none-marked, states-more}
 use Rattle.csl_rounds.proofs.Twice.{nothing-new}
@@ -49,7 +49,7 @@ empty-round answers eq rs marks e = sym (ap (λ ms. at_table answers (mark_of eq
 
 module _ {E P : Type 0} (eq : E → E → Bool) (es : List E) (rs : List (CiteRender E P)) (marks : List Mark) (none : marks ≡ []) where
   -- nor does it give states
-  pub empty-states : (known : Table E) (states : List (Option DisambiguateState)) → AreStatesOf eq es known states → AreStatesOf eq es (with_marks (mark_of eq rs marks) known) states
+  pub empty-states : (known : StateTable E) (states : List (Option DisambiguateState)) → AreStatesOf eq es known states → AreStatesOf eq es (with_marks (mark_of eq rs marks) known) states
   empty-states known states h = subst (λ ms. AreStatesOf eq es (with_marks (mark_of eq rs ms) known) states) (sym none) h
 
   -- nor is anything rendered again
@@ -110,7 +110,7 @@ module _ {E P : Type 0} (mode : RoundMode) (eq : E → E → Bool) (answers : E 
       state-of : (x : E) → place eq x es < length es → get_or now (place eq x es) None ≡ mark_of eq rs (round_marks mode eq answers rs) x
       state-of = state-at eq es places rs (f ∙ placed) (subst listed-in (sym f) listed) laws answers (round_marks mode eq answers rs) (marks-stand rs mode eq answers) now greatest-now
 
-      pub round-states : (known : Table E) (old new : List (Option DisambiguateState)) → new ≡ put_before now old → AreStatesOf eq es known old
+      pub round-states : (known : StateTable E) (old new : List (Option DisambiguateState)) → new ≡ put_before now old → AreStatesOf eq es known old
           → AreStatesOf eq es (with_marks (mark_of eq rs (round_marks mode eq answers rs)) known) new
       round-states known old new put = states-more eq es (mark_of eq rs (round_marks mode eq answers rs)) now state-of known old new put
 

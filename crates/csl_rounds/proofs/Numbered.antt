@@ -7,7 +7,7 @@ use Rattle.std.proofs.lemmas.List.Elements.{All-cons, All-head, All-nil, All-tai
 use Rattle.csl_lookup.specs.States.{greater, kind_of, state_cmp}
 use Rattle.csl_lookup.specs.declared.state.DisambiguateState.{DisambiguateState}
 use Rattle.csl_lookup.specs.declared.state.DisambiguateState.TheVariants.{YearSuffix}
-use Rattle.csl_rounds.specs.RoundMarks.{greatest}
+use Rattle.csl_rounds.specs.RoundMarks.{greatest_state}
 
 behind : {X : Type 0} (x y : X) (xs : List X) → Contains xs y → Contains (x ∷ xs) y
 behind x y xs h = (suc h.0, omega (arith, h.1), h.2)
@@ -119,7 +119,7 @@ module _ (n : ℕ) where
   comes-top s (t ∷ ss) h all (zero, w, e) = ap (λ u. fold greater u ss) (ap (greater s) e ∙ before s h) ∙ stays-top ss (All-tail IsBelow t ss all)
   comes-top s (t ∷ ss) h all (suc k, w, e) = comes-top (greater s t) ss (both s t h (All-head IsBelow t ss all)) (All-tail IsBelow t ss all) (k, omega (arith, w), e)
 
-  pub top-greatest : (ss : List DisambiguateState) → All IsBelow ss → Contains ss (YearSuffix n) → greatest ss ≡ Some (YearSuffix n)
+  pub top-greatest : (ss : List DisambiguateState) → All IsBelow ss → Contains ss (YearSuffix n) → greatest_state ss ≡ Some (YearSuffix n)
   top-greatest [] all (k, w, e) = absurd (omega (arith, w))
   top-greatest (s ∷ ss) all (zero, w, e) = ap Some (ap (λ t. fold greater t ss) e ∙ stays-top ss (All-tail IsBelow s ss all))
   top-greatest (s ∷ ss) all (suc k, w, e) = ap Some (comes-top s ss (All-head IsBelow s ss all) (All-tail IsBelow s ss all) (k, omega (arith, w), e))

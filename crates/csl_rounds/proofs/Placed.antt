@@ -16,7 +16,7 @@ use Rattle.csl_passes.specs.Places.{IsPlace}
 use Rattle.csl_passes.specs.Renders.{CiteRender, ItemRender, Place}
 use Rattle.csl_passes.specs.Request.{Request}
 use Rattle.csl_rounds.specs.Gathered.{AreGreatest, IsPlaced, by_places, cite_again, document_again, entry_place, greatest_at, request_again}
-use Rattle.csl_rounds.specs.RoundMarks.{Mark, cites, greatest, waits}
+use Rattle.csl_rounds.specs.RoundMarks.{Mark, cites_entry, greatest_state, waits}
 use Rattle.csl_rounds.specs.Rounds.{at_table, mark_of, request_at, with_any}
 
 -- the same place is an equal entry
@@ -141,7 +141,7 @@ module _ {E P : Type 0} (eq : E → E → Bool) (es : List E) (places : List (Li
         (are-placed ms (All-tail (λ m. IsPlace renders m.0) m ms h))
 
     module _ (laws : IsEquivalence eq) where
-      cited-at : (at : Place) (e : E) (s : Stands at) → cites eq renders e at ≡ eq e s.item.entry
+      cited-at : (at : Place) (e : E) (s : Stands at) → cites_entry eq renders e at ≡ eq e s.item.entry
       cited-at at e s =
           ap (λ o. cited o)
           (ap (λ o. option_and_then (λ cite. option_map (λ item. (cite.request, item)) (slice_get cite.items at.1)) o) s.request
@@ -151,7 +151,7 @@ module _ {E P : Type 0} (eq : E → E → Bool) (es : List E) (places : List (Li
           cited o = option_map_or {T = Member E P} (λ m. eq e (entry_of m)) (option_map (λ cite. record { place = at; item = cite.1; style = cite.0.style }) o) false
 
       -- a mark of a cite of e has its place
-      agree : (e : E) (m : Mark) → IsPlace renders m.0 → nat_eq (entry_place places m.0) (place eq e es) ≡ cites eq renders e m.0
+      agree : (e : E) (m : Mark) → IsPlace renders m.0 → nat_eq (entry_place places m.0) (place eq e es) ≡ cites_entry eq renders e m.0
       agree e m there =
           let s : Stands m.0 = stands m.0 there in
           let below : place eq s.item.entry es < length es = subst (λ n. n < length es) (entry-at m.0 s) (is-placed m.0 s).below in
@@ -160,16 +160,16 @@ module _ {E P : Type 0} (eq : E → E → Bool) (es : List E) (places : List (Li
       -- by its place an entry has the greatest of its marks
       marks-at : (marks : List Mark) → All (λ m. IsPlace renders m.0) marks → (e : E) → greatest_at places marks (place eq e es) ≡ mark_of eq renders marks e
       marks-at marks h e =
-          ap (λ ms. greatest (map (λ m. m.1) ms))
-          (same-kept (λ m. IsPlace renders m.0) (λ m. nat_eq (entry_place places m.0) (place eq e es)) (λ m. cites eq renders e m.0) (agree e) marks h)
+          ap (λ ms. greatest_state (map (λ m. m.1) ms))
+          (same-kept (λ m. IsPlace renders m.0) (λ m. nat_eq (entry_place places m.0) (place eq e es)) (λ m. cites_entry eq renders e m.0) (agree e) marks h)
 
       -- the flags of entries tell whether a group waits
       module _ (marks : List Mark) (there : All (λ m. IsPlace renders m.0) marks) (flags : List Bool)
           (told : (p : ℕ) → p < length es → get_or flags p false ≡ list_any (λ m. nat_eq (entry_place places m.0) p) marks) where
-        flag-at : (at : Place) (s : Stands at) → get_or flags (entry_place places at) false ≡ list_any (λ m. cites eq renders s.item.entry m.0) marks
+        flag-at : (at : Place) (s : Stands at) → get_or flags (entry_place places at) false ≡ list_any (λ m. cites_entry eq renders s.item.entry m.0) marks
         flag-at at s =
             told (entry_place places at) (is-placed at s).below ∙ ap (λ n. list_any (λ m. nat_eq (entry_place places m.0) n) marks) (entry-at at s)
-            ∙ same-any (λ m. IsPlace renders m.0) (λ m. nat_eq (entry_place places m.0) (place eq s.item.entry es)) (λ m. cites eq renders s.item.entry m.0) (agree s.item.entry) marks there
+            ∙ same-any (λ m. IsPlace renders m.0) (λ m. nat_eq (entry_place places m.0) (place eq s.item.entry es)) (λ m. cites_entry eq renders s.item.entry m.0) (agree s.item.entry) marks there
 
         member-of : (at : Place) (s : Stands at) → member_at renders at ≡ Some (record { place = at; item = s.item; style = s.cite.request.style })
         member-of at s =

@@ -8,11 +8,11 @@ use Rattle.std.proofs.lemmas.List.Elements.{All-head, All-tail}
 use Rattle.std.proofs.lemmas.List.Sums.{fold_push}
 use Rattle.csl_lookup.specs.States.{greater}
 use Rattle.csl_lookup.specs.declared.state.DisambiguateState.{DisambiguateState}
-use Rattle.csl_rounds.specs.Gathered.{AreGreatest, IsPlaced, entry_place, greatest_at, raised}
-use Rattle.csl_rounds.specs.RoundMarks.{Mark, greatest}
+use Rattle.csl_rounds.specs.Gathered.{AreGreatest, IsPlaced, entry_place, greatest_at, with_greater}
+use Rattle.csl_rounds.specs.RoundMarks.{Mark, greatest_state}
 use Rattle.csl_rounds.proofs.Halves.{any_default}
 
-greatest-more : (ss : List DisambiguateState) (s : DisambiguateState) → greatest (ss ++ s ∷ []) ≡ raised (greatest ss) s
+greatest-more : (ss : List DisambiguateState) (s : DisambiguateState) → greatest_state (ss ++ s ∷ []) ≡ with_greater (greatest_state ss) s
 greatest-more [] s = refl
 greatest-more (t ∷ ss) s = ap Some (fold_push greater t ss s)
 
@@ -39,22 +39,22 @@ module _ (q : Mark → Bool) where
 
 module _ (places : List (List ℕ)) (count : ℕ) where
   raised-at : (done : List Mark) (states : List (Option DisambiguateState)) (m : Mark) (p : ℕ) (d : Option DisambiguateState) → AreGreatest places done count states → p ≡ entry_place places m.0 → p < count
-      → (k : ℕ) (b : Bool) → nat_eq (entry_place places m.0) k ≡ b → k < count → get_or (set states p (raised (get_or states p d) m.1)) k None ≡ greatest_at places (done ++ m ∷ []) k
+      → (k : ℕ) (b : Bool) → nat_eq (entry_place places m.0) k ≡ b → k < count → get_or (set states p (with_greater (get_or states p d) m.1)) k None ≡ greatest_at places (done ++ m ∷ []) k
   raised-at done states m p d so at within k true same h =
       let here : p ≡ k = at ∙ eqb-true (entry_place places m.0) k same in
       let long : k < length states = subst (λ n. k < n) (sym so.long) h in
-      ap (λ j. get_or (set states j (raised (get_or states j d) m.1)) k None) here
-      ∙ get_or-set_same states k (raised (get_or states k d) m.1) None long
-      ∙ ap (λ s. raised s m.1) (any_default states k d None long ∙ so.at k h)
-      ∙ sym (ap greatest (seen-yes (λ n. nat_eq (entry_place places n.0) k) done m same) ∙ greatest-more (seen (λ n. nat_eq (entry_place places n.0) k) done) m.1)
+      ap (λ j. get_or (set states j (with_greater (get_or states j d) m.1)) k None) here
+      ∙ get_or-set_same states k (with_greater (get_or states k d) m.1) None long
+      ∙ ap (λ s. with_greater s m.1) (any_default states k d None long ∙ so.at k h)
+      ∙ sym (ap greatest_state (seen-yes (λ n. nat_eq (entry_place places n.0) k) done m same) ∙ greatest-more (seen (λ n. nat_eq (entry_place places n.0) k) done) m.1)
   raised-at done states m p d so at within k false differs h =
       let apart : k ≢ p = λ e. false≢true (sym differs ∙ eq-eqb (entry_place places m.0) k (sym at ∙ sym e)) in
-      get_or-set_other states p k (raised (get_or states p d) m.1) None apart
+      get_or-set_other states p k (with_greater (get_or states p d) m.1) None apart
       ∙ so.at k h
-      ∙ ap greatest (sym (seen-no (λ n. nat_eq (entry_place places n.0) k) done m differs))
+      ∙ ap greatest_state (sym (seen-no (λ n. nat_eq (entry_place places n.0) k) done m differs))
 
   raised-more : (done : List Mark) (states now : List (Option DisambiguateState)) (m : Mark) (p : ℕ) (d : Option DisambiguateState) → AreGreatest places done count states → p ≡ entry_place places m.0 → p < count
-      → now ≡ set states p (raised (get_or states p d) m.1) → AreGreatest places (done ++ m ∷ []) count now
+      → now ≡ set states p (with_greater (get_or states p d) m.1) → AreGreatest places (done ++ m ∷ []) count now
   raised-more done states now m p d so at within changed = record {
     long = ap length changed ∙ length-set states p _ ∙ so.long;
     at = λ k h. ap (λ l. get_or l k None) changed ∙ raised-at done states m p d so at within k (nat_eq (entry_place places m.0) k) refl h;
@@ -87,7 +87,7 @@ module _ (places : List (List ℕ)) (count : ℕ) (all : List Mark) where
 
   -- a mark is put in
   pub one-more : (states now : List (Option DisambiguateState)) (m : Mark) (rest left : List Mark) (p : ℕ) (d : Option DisambiguateState) → left ≡ m ∷ rest → p ≡ entry_place places m.0 → p < count
-      → now ≡ set states p (raised (get_or states p d) m.1) → SoFar states left → SoFar now rest
+      → now ≡ set states p (with_greater (get_or states p d) m.1) → SoFar states left → SoFar now rest
   one-more states now m rest left p d e at within changed so = record {
     done = so.done ++ m ∷ [];
     split = append_assoc so.done (m ∷ []) rest ∙ ap (λ l. so.done ++ l) (sym e) ∙ so.split;

@@ -22,8 +22,8 @@ use Rattle.csl_passes.specs.Places.{IsPlace, cite_at}
 use Rattle.csl_passes.specs.Renders.{CiteRender, ItemRender, Place}
 use Rattle.csl_passes.specs.Request.{Request}
 use Rattle.csl_rounds.specs.FirstRenders.{AreBegun}
-use Rattle.csl_rounds.specs.RoundMarks.{Mark, cites, greatest, has_any}
-use Rattle.csl_rounds.specs.Rounds.{Table, at_table, entries_cited, no_states, request_at, with_any, with_marks}
+use Rattle.csl_rounds.specs.RoundMarks.{Mark, cites_entry, greatest_state, has_any}
+use Rattle.csl_rounds.specs.Rounds.{StateTable, at_table, entries_cited, no_states, request_at, with_any, with_marks}
 use Rattle.csl_rounds.specs.Tables.{form_count, marked_at, marks_at, most_forms, most_rounds}
 use Rattle.csl_rounds.specs.declared.mode.RoundMode.{RoundMode}
 use Rattle.csl_rounds.proofs.Higher.{IsHigher, marks-are-higher}
@@ -79,7 +79,7 @@ folded-kept : (Q : DisambiguateState → Type 0) (s : DisambiguateState) (ss : L
 folded-kept Q s [] h all = h
 folded-kept Q s (t ∷ ss) h all = folded-kept Q (greater s t) ss (greater-kept Q s t h (All-head Q t ss all)) (All-tail Q t ss all)
 
-greatest-kept : (Q : DisambiguateState → Type 0) (ss : List DisambiguateState) → All Q ss → (s : DisambiguateState) → greatest ss ≡ Some s → Q s
+greatest-kept : (Q : DisambiguateState → Type 0) (ss : List DisambiguateState) → All Q ss → (s : DisambiguateState) → greatest_state ss ≡ Some s → Q s
 greatest-kept Q [] all s e = cc
 greatest-kept Q (t ∷ ss) all s e = subst Q (some-inj (fold greater t ss) s e) (folded-kept Q t ss (All-head Q t ss all) (All-tail Q t ss all))
 
@@ -116,7 +116,7 @@ module _ {E P : Type 0} (answers : E → Answers) (firsts : List (CiteRender E P
   few-forms : All (λ i. form_count i.first_name ≤ forms_most) (flat_map (λ c. c.items) firsts)
   few-forms = all-below (λ i. form_count i.first_name) forms_most (flat_map (λ c. c.items) firsts) (omega arith)
 
-  module _ (t : Table E) where
+  module _ (t : StateTable E) where
     -- a cite at a table is one of the first, rendered again or not
     record IsAgain (Q : ItemRender E P → Type 0) (c : Member E P) : Type 0 where
       pub request : Request E P
@@ -175,26 +175,26 @@ module _ {E P : Type 0} (answers : E → Answers) (firsts : List (CiteRender E P
         )
 
   -- the sum of ranks of entries
-  abbrev pub ranks : List E → Table E → ℕ
+  abbrev pub ranks : List E → StateTable E → ℕ
   ranks es t = sum_by (λ e. rank forms_most (told (t e))) es
 
   module _ (eq : E → E → Bool) (laws : IsEquivalence eq) where
     -- equal entries have the same state, and no state has too many forms
-    pub record IsSound (t : Table E) : Type 0 where
+    pub record IsSound (t : StateTable E) : Type 0 where
       pub even : (x y : E) → eq x y ≡ true → t x ≡ t y
       pub short : (e : E) → IsShort forms_most (told (t e))
 
     pub sound-begun : IsSound no_states
     sound-begun = record { even = λ x y e. refl; short = λ e. omega arith }
 
-    module _ (t : Table E) (sound : IsSound t) where
+    module _ (t : StateTable E) (sound : IsSound t) where
       abbrev now : List (CiteRender E P)
       now = at_table answers t firsts
 
       abbrev marks : List Mark
       marks = marks_at RoundMode.Full eq answers firsts t
 
-      abbrev marked : Table E
+      abbrev marked : StateTable E
       marked = marked_at RoundMode.Full eq answers firsts t
 
       higher : All (IsHigher forms_most now) marks
@@ -204,7 +204,7 @@ module _ {E P : Type 0} (answers : E → Answers) (firsts : List (CiteRender E P
       abbrev Raises : E → DisambiguateState → Type 0
       Raises e s = (rank forms_most (told (t e)) < rank forms_most s) × IsShort forms_most s
 
-      own : (e : E) (m : Mark) → IsHigher forms_most now m → cites eq now e m.0 ≡ true → Raises e m.1
+      own : (e : E) (m : Mark) → IsHigher forms_most now m → cites_entry eq now e m.0 ≡ true → Raises e m.1
       own e m h cited = by (member_at now m.0) refl cited
         where
           by : (o : Option (Member E P)) → member_at now m.0 ≡ o → option_map_or (λ c. eq e (entry_of c)) o false ≡ true → Raises e m.1
@@ -213,24 +213,24 @@ module _ {E P : Type 0} (answers : E → Answers) (firsts : List (CiteRender E P
               let high = h c f in
               (subst (λ s. rank forms_most s < rank forms_most m.1) (shown t m.0 c f ∙ ap told (sym (sound.even e (entry_of c) same))) high.0, high.1)
 
-      own-all : (e : E) (ms : List Mark) → All (IsHigher forms_most now) ms → All (Raises e) (map (λ m. m.1) (filter (λ m. cites eq now e m.0) ms))
+      own-all : (e : E) (ms : List Mark) → All (IsHigher forms_most now) ms → All (Raises e) (map (λ m. m.1) (filter (λ m. cites_entry eq now e m.0) ms))
       own-all e [] h = All-nil (Raises e)
-      own-all e (m ∷ ms) h = by (cites eq now e m.0) refl (own-all e ms (All-tail (IsHigher forms_most now) m ms h))
+      own-all e (m ∷ ms) h = by (cites_entry eq now e m.0) refl (own-all e ms (All-tail (IsHigher forms_most now) m ms h))
         where
           rest : List Mark
-          rest = filter (λ m. cites eq now e m.0) ms
+          rest = filter (λ m. cites_entry eq now e m.0) ms
 
-          by : (b : Bool) → cites eq now e m.0 ≡ b → All (Raises e) (map (λ m. m.1) rest) → All (Raises e) (map (λ m. m.1) (cond b (m ∷ rest) rest))
+          by : (b : Bool) → cites_entry eq now e m.0 ≡ b → All (Raises e) (map (λ m. m.1) rest) → All (Raises e) (map (λ m. m.1) (cond b (m ∷ rest) rest))
           by true c more = All-cons (Raises e) m.1 (map (λ m. m.1) rest) (own e m (All-head (IsHigher forms_most now) m ms h) c) more
           by false c more = more
 
       raised-by : (e : E) (s : DisambiguateState) → marked e ≡ Some s → Raises e s
-      raised-by e s at = greatest-kept (Raises e) (map (λ m. m.1) (filter (λ m. cites eq now e m.0) marks)) (own-all e marks higher) s at
+      raised-by e s at = greatest-kept (Raises e) (map (λ m. m.1) (filter (λ m. cites_entry eq now e m.0) marks)) (own-all e marks higher) s at
 
       pub sound-after : IsSound (with_marks marked t)
       sound-after = record { even = even; short = λ e. short e (marked e) refl }
         where
-          same-cites : (x y : E) → eq x y ≡ true → (m : Mark) → cites eq now x m.0 ≡ cites eq now y m.0
+          same-cites : (x y : E) → eq x y ≡ true → (m : Mark) → cites_entry eq now x m.0 ≡ cites_entry eq now y m.0
           same-cites x y e m = by (member_at now m.0)
             where
               by : (o : Option (Member E P)) → option_map_or (λ c. eq x (entry_of c)) o false ≡ option_map_or (λ c. eq y (entry_of c)) o false
@@ -239,7 +239,7 @@ module _ {E P : Type 0} (answers : E → Answers) (firsts : List (CiteRender E P
 
           even : (x y : E) → eq x y ≡ true → with_marks marked t x ≡ with_marks marked t y
           even x y e =
-              ap (λ ms. option_or (greatest (map (λ m. m.1) ms)) (t x)) (filter_agree (λ m. cites eq now x m.0) (λ m. cites eq now y m.0) (same-cites x y e) marks)
+              ap (λ ms. option_or (greatest_state (map (λ m. m.1) ms)) (t x)) (filter_agree (λ m. cites_entry eq now x m.0) (λ m. cites_entry eq now y m.0) (same-cites x y e) marks)
               ∙ ap (option_or (marked y)) (sound.even x y e)
 
           short : (e : E) (o : Option DisambiguateState) → marked e ≡ o → IsShort forms_most (told (option_or o (t e)))
@@ -255,15 +255,15 @@ module _ {E P : Type 0} (answers : E → Answers) (firsts : List (CiteRender E P
 
       -- an entry with a mark, equal ones too
       is-marked : (p : Place) (s : DisambiguateState) (c : Member E P) → member_at now p ≡ Some c → (ms : List Mark) → (e : E) → eq (entry_of c) e ≡ true
-          → list_any (λ m. cites eq now e m.0) ((p, s) ∷ ms) ≡ true
+          → list_any (λ m. cites_entry eq now e m.0) ((p, s) ∷ ms) ≡ true
       is-marked p s c found ms e same =
-          ap (λ b. b || list_any (λ m. cites eq now e m.0) ms) (ap (λ o. option_map_or (λ c. eq e (entry_of c)) o false) found ∙ laws.symm e (entry_of c) ∙ same)
+          ap (λ b. b || list_any (λ m. cites_entry eq now e m.0) ms) (ap (λ o. option_map_or (λ c. eq e (entry_of c)) o false) found ∙ laws.symm e (entry_of c) ∙ same)
 
-      some-greatest : (q : Mark → Bool) (ms : List Mark) → list_any q ms ≡ true → is_some (greatest (map (λ m. m.1) (filter q ms))) ≡ true
+      some-greatest : (q : Mark → Bool) (ms : List Mark) → list_any q ms ≡ true → is_some (greatest_state (map (λ m. m.1) (filter q ms))) ≡ true
       some-greatest q [] h = cc
       some-greatest q (m ∷ ms) h = by (q m) h (λ k. some-greatest q ms k)
         where
-          by : (b : Bool) → (b || list_any q ms) ≡ true → (list_any q ms ≡ true → is_some (greatest (map (λ m. m.1) (filter q ms))) ≡ true) → is_some (greatest (map (λ m. m.1) (cond b (m ∷ filter q ms) (filter q ms)))) ≡ true
+          by : (b : Bool) → (b || list_any q ms) ≡ true → (list_any q ms ≡ true → is_some (greatest_state (map (λ m. m.1) (filter q ms))) ≡ true) → is_some (greatest_state (map (λ m. m.1) (cond b (m ∷ filter q ms) (filter q ms)))) ≡ true
           by true h more = refl
           by false h more = more h
 
@@ -308,7 +308,7 @@ module _ {E P : Type 0} (answers : E → Answers) (firsts : List (CiteRender E P
                   let c : Member E P = record { place = m.0; item = x.1; style = x.0.style } in
                   let found : member_at now m.0 ≡ Some c = ap (option_map (λ cite. record { place = m.0; item = cite.1; style = cite.0.style })) f in
                   any-then (eq (entry_of c)) (λ d. is_some (marked d))
-                  (λ d same. some-greatest (λ m. cites eq now d m.0) marks (ap (list_any (λ m. cites eq now d m.0)) e ∙ is-marked m.0 m.1 c found ms d same))
+                  (λ d same. some-greatest (λ m. cites_entry eq now d m.0) marks (ap (list_any (λ m. cites_entry eq now d m.0)) e ∙ is-marked m.0 m.1 c found ms d same))
                   es (inside (entry_of c) (cited-there m.0 c found))
 
       -- the sum of ranks rises
@@ -318,7 +318,7 @@ module _ {E P : Type 0} (answers : E → Answers) (firsts : List (CiteRender E P
           sum-rises (λ e. rank forms_most (told (t e))) (λ e. rank forms_most (told (with_marks marked t e))) (λ e. is_some (marked e)) up es (one-marked es inside any)
 
     -- and has a bound
-    pub ranks-most : (t : Table E) → IsSound t → (es : List E) → ranks es t ≤ length es * (3 * forms_most + 3)
+    pub ranks-most : (t : StateTable E) → IsSound t → (es : List E) → ranks es t ≤ length es * (3 * forms_most + 3)
     ranks-most t sound es = sum_by-le (λ e. rank forms_most (told (t e))) (3 * forms_most + 3) es (each es)
       where
         each : (es : List E) → All (λ e. rank forms_most (told (t e)) ≤ 3 * forms_most + 3) es
@@ -329,15 +329,15 @@ module _ {E P : Type 0} (answers : E → Answers) (firsts : List (CiteRender E P
     in-distinct e h = is_in-distinct eq laws e (entries_cited firsts) ∙ h
 
     -- k rounds have marked
-    pub record HaveRisen (k : ℕ) (t : Table E) : Type 0 where
+    pub record HaveRisen (k : ℕ) (t : StateTable E) : Type 0 where
       pub sound : IsSound t
       pub least : k ≤ ranks (distinct eq (entries_cited firsts)) t
 
     pub risen-begun : HaveRisen 0 no_states
     risen-begun = record { sound = sound-begun; least = omega arith }
 
-    module _ (k : ℕ) (t : Table E) (so : HaveRisen k t) (any : has_any (marks_at RoundMode.Full eq answers firsts t) ≡ true) where
-      abbrev next : Table E
+    module _ (k : ℕ) (t : StateTable E) (so : HaveRisen k t) (any : has_any (marks_at RoundMode.Full eq answers firsts t) ≡ true) where
+      abbrev next : StateTable E
       next = with_marks (marked_at RoundMode.Full eq answers firsts t) t
 
       rises : ranks (distinct eq (entries_cited firsts)) t < ranks (distinct eq (entries_cited firsts)) next
@@ -364,7 +364,7 @@ module _ {E P : Type 0} (answers : E → Answers) (firsts : List (CiteRender E P
   abbrev pub cite_ranks : List (CiteRender E P) → ℕ
   cite_ranks rs = sum_by (λ i. rank forms_most i.properties.speculative.disambiguation) (flat_map (λ c. c.items) rs)
 
-  row-ranks : (t : Table E) (r : Request E P) (items : List (ItemRender E P)) → All (λ i. i.properties.speculative.disambiguation ≡ DisambiguateState.None) items
+  row-ranks : (t : StateTable E) (r : Request E P) (items : List (ItemRender E P)) → All (λ i. i.properties.speculative.disambiguation ≡ DisambiguateState.None) items
       → sum_by (λ i. rank forms_most i.properties.speculative.disambiguation) (map (λ i. with_any answers r (t i.entry) i) items) ≡ ranks (map (λ i. i.entry) items) t
   row-ranks t r [] h = refl
   row-ranks t r (i ∷ items) h =
@@ -375,7 +375,7 @@ module _ {E P : Type 0} (answers : E → Answers) (firsts : List (CiteRender E P
       ∙ (λ j. own j + row-ranks t r items (All-tail (λ i. i.properties.speculative.disambiguation ≡ DisambiguateState.None) i items h) j)
       ∙ sym (sum_by-cons (λ e. rank forms_most (told (t e))) i.entry (map (λ i. i.entry) items))
 
-  rows-ranks : (t : Table E) (rs : List (CiteRender E P)) → AreBegun rs → cite_ranks (at_table answers t rs) ≡ ranks (entries_cited rs) t
+  rows-ranks : (t : StateTable E) (rs : List (CiteRender E P)) → AreBegun rs → cite_ranks (at_table answers t rs) ≡ ranks (entries_cited rs) t
   rows-ranks t [] h = refl
   rows-ranks t (r ∷ rs) h =
       let state = λ (i : ItemRender E P). rank forms_most i.properties.speculative.disambiguation in
@@ -385,5 +385,5 @@ module _ {E P : Type 0} (answers : E → Answers) (firsts : List (CiteRender E P
       + rows-ranks t rs (all-right none r.items (flat_map (λ c. c.items) rs) h) j)
       ∙ sym (sum_by-append (λ e. rank forms_most (told (t e))) (map (λ i. i.entry) r.items) (entries_cited rs))
 
-  pub cite-ranks : (t : Table E) → cite_ranks (at_table answers t firsts) ≡ ranks (entries_cited firsts) t
+  pub cite-ranks : (t : StateTable E) → cite_ranks (at_table answers t firsts) ≡ ranks (entries_cited firsts) t
   cite-ranks t = rows-ranks t firsts begun

@@ -10,14 +10,14 @@ use Rattle.csl_lookup.specs.declared.state.DisambiguateState.{DisambiguateState}
 use Rattle.csl_passes.specs.Renders.{CiteRender, ItemRender}
 use Rattle.csl_rounds.specs.Gathered.{put_before, with_states}
 use Rattle.csl_rounds.specs.Rerenders.{AreStatesOf, marked_among}
-use Rattle.csl_rounds.specs.Rounds.{Table, entries_cited, with_marks}
+use Rattle.csl_rounds.specs.Rounds.{StateTable, entries_cited, with_marks}
 use Rattle.csl_rounds.proofs.Halves.{by_places-at, by_places-length}
 
 sum_by-map : {A B : Type 0} (f : B → ℕ) (g : A → B) (xs : List A) → sum_by (λ x. f (g x)) xs ≡ sum_by f (map g xs)
 sum_by-map f g [] = refl
 sum_by-map f g (x ∷ xs) = sum_by-cons (λ y. f (g y)) x xs ∙ ap (λ n. f (g x) + n) (sum_by-map f g xs) ∙ sym (sum_by-cons f (g x) (map g xs))
 
-module _ {E P : Type 0} (eq : E → E → Bool) (es : List E) (table : Table E) (states : List (Option DisambiguateState))
+module _ {E P : Type 0} (eq : E → E → Bool) (es : List E) (table : StateTable E) (states : List (Option DisambiguateState))
     (at : (e : E) → place eq e es < length es → get_or states (place eq e es) None ≡ table e) where
   row-marked : (xs : List (ItemRender E P)) → All (λ p. p < length es) (map (λ i. place eq i.entry es) xs) → with_states states (map (λ i. place eq i.entry es) xs) ≡ marked_among (map (λ i. i.entry) xs) table
   row-marked [] h = refl
@@ -52,10 +52,10 @@ module _ {E P : Type 0} (eq : E → E → Bool) (es : List E) (table : Table E) 
       sum_by-map (with_states states) view places ∙ ap (sum_by (with_states states)) placed
       ∙ rows-marked rs (subst (λ rows. All (λ ps. All (λ p. p < length es) ps) rows) placed listed)
 
-module _ {E : Type 0} (eq : E → E → Bool) (es : List E) (table : Table E) (states : List (Option DisambiguateState))
+module _ {E : Type 0} (eq : E → E → Bool) (es : List E) (table : StateTable E) (states : List (Option DisambiguateState))
     (at : (e : E) → place eq e es < length es → get_or states (place eq e es) None ≡ table e) where
   -- the entries have these states before those that they had
-  pub states-more : (known : Table E) (old new : List (Option DisambiguateState)) → new ≡ put_before states old → AreStatesOf eq es known old → AreStatesOf eq es (with_marks table known) new
+  pub states-more : (known : StateTable E) (old new : List (Option DisambiguateState)) → new ≡ put_before states old → AreStatesOf eq es known old → AreStatesOf eq es (with_marks table known) new
   states-more known old new put were =
       subst (AreStatesOf eq es (with_marks table known)) (sym put)
       (record {

@@ -6,7 +6,7 @@ use Rattle.std.proofs.lemmas.List.Elements.{All-append, All-contains, All-contai
 use Rattle.csl_ambiguity.specs.Members.{Member, entry_of, members}
 use Rattle.csl_lookup.specs.States.{kind_of}
 use Rattle.csl_passes.specs.Renders.{CiteRender, Place}
-use Rattle.csl_rounds.specs.RoundMarks.{Mark, MarkedGroups, all_ways, by_full, by_three, cites, has_any, marks_of, waits}
+use Rattle.csl_rounds.specs.RoundMarks.{Mark, MarkedGroups, all_ways, by_full, by_three, cites_entry, has_any, marks_of, waits}
 use Rattle.csl_rounds.proofs.GoneOn.{AreMarkLaws, GoesIn, IsGroup, cites-is}
 use Rattle.csl_rounds.proofs.Numbered.{any-in}
 use Rattle.csl_rounds.proofs.Runs.{all-left, all-right}
@@ -75,15 +75,15 @@ module _ {E P : Type 0} (eq : E → E → Bool) (laws : AreMarkLaws E P eq) (ren
 
   -- each of the group's entries has one of the marks
   abbrev pub Covers : Type 0
-  Covers = (x : Member E P) → Contains (members renders group) x → (m : Mark) × Contains own m × ((e : E) → eq e (entry_of x) ≡ true → cites eq renders e m.0 ≡ true)
+  Covers = (x : Member E P) → Contains (members renders group) x → (m : Mark) × Contains own m × ((e : E) → eq e (entry_of x) ≡ true → cites_entry eq renders e m.0 ≡ true)
 
   -- a mark of one of them is one of these
   abbrev pub Keeps : Mark → Type 0
-  Keeps m = (x : Member E P) → Contains (members renders group) x → cites eq renders (entry_of x) m.0 ≡ true → Contains own m
+  Keeps m = (x : Member E P) → Contains (members renders group) x → cites_entry eq renders (entry_of x) m.0 ≡ true → Contains own m
 
-  it-waits : (marks : List Mark) (h : List Place) (y : Member E P) (m : Mark) → Contains (members renders h) y → Contains marks m → cites eq renders (entry_of y) m.0 ≡ true → waits eq renders marks h ≡ true
+  it-waits : (marks : List Mark) (h : List Place) (y : Member E P) (m : Mark) → Contains (members renders h) y → Contains marks m → cites_entry eq renders (entry_of y) m.0 ≡ true → waits eq renders marks h ≡ true
   it-waits marks h y m i j cited =
-      any-in (λ c. list_any (λ m. cites eq renders (entry_of c) m.0) marks) (members renders h) y i (any-in (λ m. cites eq renders (entry_of y) m.0) marks m j cited)
+      any-in (λ c. list_any (λ m. cites_entry eq renders (entry_of c) m.0) marks) (members renders h) y i (any-in (λ m. cites_entry eq renders (entry_of y) m.0) marks m j cited)
 
   module _ (covers : Covers) where
     behind-keeps : (marks : List Mark) → All (Contains marks) own → (gs : List (List Place)) → All (IsGroup eq laws renders) gs → All Keeps (marks_of (by_full n c s (waits eq renders) marks gs))

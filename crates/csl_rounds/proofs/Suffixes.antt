@@ -18,8 +18,8 @@ use Rattle.csl_lookup.specs.declared.state.DisambiguateState.TheVariants.{YearSu
 use Rattle.csl_name_marks.specs.NameMarks.{name_marks}
 use Rattle.csl_passes.specs.Renders.{CiteRender, Place}
 use Rattle.csl_rounds.specs.FirstRenders.{AreBegun}
-use Rattle.csl_rounds.specs.RoundMarks.{Mark, all_ways, by_choice, by_suffix, cites, counting, counts, has_any, marks_by_group, or_others, round_marks}
-use Rattle.csl_rounds.specs.Rounds.{Table, at_table, mark_of, no_states}
+use Rattle.csl_rounds.specs.RoundMarks.{Mark, all_ways, by_choice, by_suffix, cites_entry, counting, counts, has_any, marks_by_group, or_others, round_marks}
+use Rattle.csl_rounds.specs.Rounds.{StateTable, at_table, mark_of, no_states}
 use Rattle.csl_rounds.specs.RunLaws.{GetsSuffixes, IsInNoGroup, SuffixesStay}
 use Rattle.csl_rounds.specs.Tables.{marked_at, most_rounds, tables}
 use Rattle.csl_rounds.specs.declared.mode.RoundMode.{RoundMode}
@@ -55,21 +55,21 @@ module _ {E P : Type 0} (eq : E → E → Bool) (laws : AreMarkLaws E P eq) (mor
   counted : (way : List Place → List Mark) (g : List Place) → All (GoesIn eq laws renders g) (way g) → All (GoesIn eq laws renders g) (counting renders way g)
   counted way g h = All-filter (counts renders) (GoesIn eq laws renders g) (way g) h
 
-  cites-there : (e : E) (c : Member E P) → IsThere renders c → cites eq renders e c.place ≡ eq e (entry_of c)
+  cites-there : (e : E) (c : Member E P) → IsThere renders c → cites_entry eq renders e c.place ≡ eq e (entry_of c)
   cites-there e c there = cites-is eq laws renders e c.place c there
 
   -- of cites with different entries each has a suffix of its own
   abbrev Tells : List Mark → ℕ × Member E P → Type 0
-  Tells marks p = All (λ m. cites eq renders (entry_of p.1) m.0 ≡ true → m.1 ≡ YearSuffix p.0) marks
+  Tells marks p = All (λ m. cites_entry eq renders (entry_of p.1) m.0 ≡ true → m.1 ≡ YearSuffix p.0) marks
 
   tells-all : (k : ℕ) (cs : List (Member E P)) → All (IsThere renders) cs → NoTwoEqual eq (map entry_of cs)
       → All (Tells (map (λ p. (p.1.place, YearSuffix p.0)) (enumerate_from k cs))) (enumerate_from k cs)
   tells-all k [] there once = All-nil (Tells [])
   tells-all k (c ∷ cs) there once =
       All-cons (Tells (first ∷ rest)) (k, c) later
-      (All-cons (λ m. cites eq renders (entry_of c) m.0 ≡ true → m.1 ≡ YearSuffix k) first rest (λ h. refl)
-      (All-map (λ m. cites eq renders (entry_of c) m.0 ≡ true → m.1 ≡ YearSuffix k) (λ p. (p.1.place, YearSuffix p.0)) later
-      (All-weaker Other (λ p. cites eq renders (entry_of c) p.1.place ≡ true → YearSuffix p.0 ≡ YearSuffix k) (λ p o h. absurd (true≢false (sym h ∙ cites-there (entry_of c) p.1 o.1 ∙ o.0))) later
+      (All-cons (λ m. cites_entry eq renders (entry_of c) m.0 ≡ true → m.1 ≡ YearSuffix k) first rest (λ h. refl)
+      (All-map (λ m. cites_entry eq renders (entry_of c) m.0 ≡ true → m.1 ≡ YearSuffix k) (λ p. (p.1.place, YearSuffix p.0)) later
+      (All-weaker Other (λ p. cites_entry eq renders (entry_of c) p.1.place ≡ true → YearSuffix p.0 ≡ YearSuffix k) (λ p o h. absurd (true≢false (sym h ∙ cites-there (entry_of c) p.1 o.1 ∙ o.0))) later
       others)))
       (λ j d w. with-first _ (others j d w) (tells-all (k + 1) cs (All-tail (IsThere renders) c cs there) once.1 j d w))
     where
@@ -92,7 +92,7 @@ module _ {E P : Type 0} (eq : E → E → Bool) (laws : AreMarkLaws E P eq) (mor
 
       with-first : (p : ℕ × Member E P) → Other p → Tells rest p → Tells (first ∷ rest) p
       with-first p o h =
-          All-cons (λ m. cites eq renders (entry_of p.1) m.0 ≡ true → m.1 ≡ YearSuffix p.0) first rest
+          All-cons (λ m. cites_entry eq renders (entry_of p.1) m.0 ≡ true → m.1 ≡ YearSuffix p.0) first rest
           (λ g. absurd (true≢false (sym g ∙ cites-there (entry_of p.1) c (there 0 c (omega arith)) ∙ laws.equal.symm (entry_of p.1) (entry_of c) ∙ o.0))) h
 
   module _ (answers : E → Answers) (group : List Place) where
@@ -117,7 +117,7 @@ module _ {E P : Type 0} (eq : E → E → Bool) (laws : AreMarkLaws E P eq) (mor
         (sym (any-map (eq (entry_of x)) entry_of ones) ∙ ap (list_any (eq (entry_of x))) (more.count ms).one_each ∙ more.all_in (map entry_of ms) (entry_of x)
         ∙ any-in (eq (entry_of x)) (map entry_of ms) (entry_of x) (in-map entry_of ms x i) (laws.equal.refl (entry_of x)))
 
-    covers : (x : Member E P) → Contains ms x → (m : Mark) × Contains own m × ((e : E) → eq e (entry_of x) ≡ true → cites eq renders e m.0 ≡ true)
+    covers : (x : Member E P) → Contains ms x → (m : Mark) × Contains own m × ((e : E) → eq e (entry_of x) ≡ true → cites_entry eq renders e m.0 ≡ true)
     covers x i =
         let d = first-of x i in (
           (d.0.place, suffix_among eq ms d.0),
@@ -131,7 +131,7 @@ module _ {E P : Type 0} (eq : E → E → Bool) (laws : AreMarkLaws E P eq) (mor
 
     abbrev AreKnown : List Mark → Type 0
     AreKnown marks =
-        ((x : Member E P) → Contains ms x → All (λ m. IsKnown m × (cites eq renders (entry_of x) m.0 ≡ true)) (filter (λ m. cites eq renders (entry_of x) m.0) marks)) × All (Contains marks) own
+        ((x : Member E P) → Contains ms x → All (λ m. IsKnown m × (cites_entry eq renders (entry_of x) m.0 ≡ true)) (filter (λ m. cites_entry eq renders (entry_of x) m.0) marks)) × All (Contains marks) own
 
     abbrev given : List Place × List Mark
     given = (group, own)
@@ -141,7 +141,7 @@ module _ {E P : Type 0} (eq : E → E → Bool) (laws : AreMarkLaws E P eq) (mor
     known RoundMode.Three one is_own high h =
         let walked = three-walked (name_marks renders) (by_choice eq renders) (by_suffix eq renders (shows_dates answers renders))
         (λ g. All-weaker (Named renders) (λ m. kind_of m.1 ≤ 2) (λ m k. omega (arith, k)) (name_marks renders g) (names-named renders g)) group own one is_own high (ambiguous_groups eq renders) h in
-        (λ x i. all-passed IsKnown (λ m. cites eq renders (entry_of x) m.0) (round_marks RoundMode.Three eq answers renders) walked.0, walked.1)
+        (λ x i. all-passed IsKnown (λ m. cites_entry eq renders (entry_of x) m.0) (round_marks RoundMode.Three eq answers renders) walked.0, walked.1)
     known RoundMode.Full one is_own high h =
         let dated = shows_dates answers renders in
         let walked = full-walked eq laws renders (counting renders (name_marks renders)) (counting renders (by_choice eq renders)) (counting renders (by_suffix eq renders dated))
@@ -149,9 +149,9 @@ module _ {E P : Type 0} (eq : E → E → Bool) (laws : AreMarkLaws E P eq) (mor
         (counted (name_marks renders) g (names-in eq laws renders g i)) (counted (by_choice eq renders) g (choice-in eq laws renders g i))
         (counted (by_suffix eq renders dated) g (suffixes-in eq laws renders dated g i)))
         group own one is_own covers [] (ambiguous_groups eq renders) (are-groups eq laws renders) h in (
-          λ x i. All-weaker (λ m. ((y : Member E P) → Contains ms y → cites eq renders (entry_of y) m.0 ≡ true → Contains own m) × (cites eq renders (entry_of x) m.0 ≡ true))
-              (λ m. IsKnown m × (cites eq renders (entry_of x) m.0 ≡ true)) (λ m k. (inr (k.0 x i k.1), k.1)) (filter (λ m. cites eq renders (entry_of x) m.0) (round_marks RoundMode.Full eq answers renders))
-              (all-passed (λ m. (y : Member E P) → Contains ms y → cites eq renders (entry_of y) m.0 ≡ true → Contains own m) (λ m. cites eq renders (entry_of x) m.0) (round_marks RoundMode.Full eq answers renders) walked.1),
+          λ x i. All-weaker (λ m. ((y : Member E P) → Contains ms y → cites_entry eq renders (entry_of y) m.0 ≡ true → Contains own m) × (cites_entry eq renders (entry_of x) m.0 ≡ true))
+              (λ m. IsKnown m × (cites_entry eq renders (entry_of x) m.0 ≡ true)) (λ m k. (inr (k.0 x i k.1), k.1)) (filter (λ m. cites_entry eq renders (entry_of x) m.0) (round_marks RoundMode.Full eq answers renders))
+              (all-passed (λ m. (y : Member E P) → Contains ms y → cites_entry eq renders (entry_of y) m.0 ≡ true → Contains own m) (λ m. cites_entry eq renders (entry_of x) m.0) (round_marks RoundMode.Full eq answers renders) walked.1),
           walked.2,
         )
 
@@ -159,18 +159,18 @@ module _ {E P : Type 0} (eq : E → E → Bool) (laws : AreMarkLaws E P eq) (mor
     module _ (marks : List Mark) (are : AreKnown marks) where
       one-marked : (p : ℕ × Member E P) → Contains ms p.1 → IsThere renders p.1 → Tells own p → Contains own (p.1.place, YearSuffix p.0) → mark_of eq renders marks (entry_of p.1) ≡ Some (YearSuffix p.0)
       one-marked p i there tells inside =
-          let its = filter (λ m. cites eq renders (entry_of p.1) m.0) marks in
+          let its = filter (λ m. cites_entry eq renders (entry_of p.1) m.0) marks in
           top-greatest p.0 (map (λ m. m.1) its)
           (All-map (IsBelow p.0) (λ m. m.1) its
-          (All-weaker (λ m. IsKnown m × (cites eq renders (entry_of p.1) m.0 ≡ true)) (λ m. IsBelow p.0 m.1)
+          (All-weaker (λ m. IsKnown m × (cites_entry eq renders (entry_of p.1) m.0 ≡ true)) (λ m. IsBelow p.0 m.1)
           (λ m k. by m k.0 k.1) its (are.0 p.1 i)))
           (in-map (λ m. m.1) its (p.1.place, YearSuffix p.0)
-          (in-filter (λ m. cites eq renders (entry_of p.1) m.0) marks (p.1.place, YearSuffix p.0) (All-contains (Contains marks) own (p.1.place, YearSuffix p.0) are.1 inside)
+          (in-filter (λ m. cites_entry eq renders (entry_of p.1) m.0) marks (p.1.place, YearSuffix p.0) (All-contains (Contains marks) own (p.1.place, YearSuffix p.0) are.1 inside)
           (cites-there (entry_of p.1) p.1 there ∙ laws.equal.refl (entry_of p.1))))
         where
-          by : (m : Mark) → IsKnown m → cites eq renders (entry_of p.1) m.0 ≡ true → IsBelow p.0 m.1
+          by : (m : Mark) → IsKnown m → cites_entry eq renders (entry_of p.1) m.0 ≡ true → IsBelow p.0 m.1
           by m (inl low) h = inl low
-          by m (inr o) h = inr (All-contains (λ m. cites eq renders (entry_of p.1) m.0 ≡ true → m.1 ≡ YearSuffix p.0) own m tells o h)
+          by m (inr o) h = inr (All-contains (λ m. cites_entry eq renders (entry_of p.1) m.0 ≡ true → m.1 ≡ YearSuffix p.0) own m tells o h)
 
       ones-marked : All (λ p. mark_of eq renders marks (entry_of p.1) ≡ Some (YearSuffix p.0)) (enumerate_from 0 ones)
       ones-marked =
@@ -202,16 +202,16 @@ module _ {E P : Type 0} (eq : E → E → Bool) (laws : AreMarkLaws E P eq) (mor
             (known mode (d.0.place, suffix_among eq ms d.0) (in-map (λ m. (m.place, suffix_among eq ms m)) ones d.0 d.1) refl h)
 
 module _ {E P : Type 0} (mode : RoundMode) (eq : E → E → Bool) (answers : E → Answers) (firsts : List (CiteRender E P)) (laws : AreMarkLaws E P eq) (more : AreSuffixLaws E P eq) (begun : AreBegun firsts) where
-  abbrev at : Table E → List (CiteRender E P)
+  abbrev at : StateTable E → List (CiteRender E P)
   at t = at_table answers t firsts
 
-  abbrev after : Table E → Table E
+  abbrev after : StateTable E → StateTable E
   after t = next mode eq answers firsts t
 
-  abbrev KeepsSuffixes : Table E → Table E → Type 0
+  abbrev KeepsSuffixes : StateTable E → StateTable E → Type 0
   KeepsSuffixes t later = (e : E) (n : ℕ) → t e ≡ Some (YearSuffix n) → later e ≡ Some (YearSuffix n)
 
-  stay-next : (t : Table E) → Alike mode eq answers firsts t → KeepsSuffixes t (after t)
+  stay-next : (t : StateTable E) → Alike mode eq answers firsts t → KeepsSuffixes t (after t)
   stay-next t alike e n h = by (marked_at mode eq answers firsts t e) refl
     where
       by : (o : Option DisambiguateState) → marked_at mode eq answers firsts t e ≡ o → option_or o (t e) ≡ Some (YearSuffix n)
@@ -219,7 +219,7 @@ module _ {E P : Type 0} (mode : RoundMode) (eq : E → E → Bool) (answers : E 
       by (Some s) f =
           ap Some (suffix-on n s (subst (λ o. GoesOnTo (unwrap_or o DisambiguateState.None) s) h (state-goes mode eq answers firsts laws begun t alike e s f)))
 
-  suffixed-apart : (t : Table E) → Alike mode eq answers firsts t → (e : E) (n : ℕ) → t e ≡ Some (YearSuffix n) → IsInNoGroup eq (at t) e
+  suffixed-apart : (t : StateTable E) → Alike mode eq answers firsts t → (e : E) (n : ℕ) → t e ≡ Some (YearSuffix n) → IsInNoGroup eq (at t) e
   suffixed-apart t alike e n h =
       All-weaker (λ g. HaveNoSuffix (members (at t) g)) (λ g. All (λ m. eq e (entry_of m) ≡ false) (members (at t) g))
       (λ g bare k d w. one _ (members-there (at t) g k d w) (bare k d w)) (ambiguous_groups eq (at t)) (laws.without_suffix (at t))
@@ -234,11 +234,11 @@ module _ {E P : Type 0} (mode : RoundMode) (eq : E → E → Bool) (answers : E 
               absurd (true≢false (sym bare ∙ ap may_get_suffix state))
           by false same = refl
 
-  abbrev InOrder : Table E → Table E → Type 0
+  abbrev InOrder : StateTable E → StateTable E → Type 0
   InOrder t later =
       (group : List Place) → GetsSuffixes mode eq answers firsts t group → All (λ p. later p.1 ≡ Some (YearSuffix p.0)) (enumerate_from 0 (distinct eq (map entry_of (members (at t) group))))
 
-  in-order : (t : Table E) → InOrder t (after t)
+  in-order : (t : StateTable E) → InOrder t (after t)
   in-order t group gets =
       let same : gets.own ≡ suffix_marks eq (members (at t) group) =
       own-suffixes eq (at t) answers (laws.without_suffix (at t)) mode group gets.own gets.are_own gets.mark gets.one_of_them (ap kind_of gets.is_suffix) in

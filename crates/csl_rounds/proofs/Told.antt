@@ -10,7 +10,7 @@ use Rattle.csl_passes.specs.Places.{cite_at}
 use Rattle.csl_passes.specs.Renders.{CiteRender, ItemRender, Place}
 use Rattle.csl_passes.specs.Request.{Request}
 use Rattle.csl_rounds.specs.FirstRenders.{AreBegun}
-use Rattle.csl_rounds.specs.Rounds.{Table, at_table, with_any}
+use Rattle.csl_rounds.specs.Rounds.{StateTable, at_table, with_any}
 use Rattle.csl_rounds.specs.RunLaws.{told_by}
 use Rattle.csl_rounds.proofs.Runs.{all-at, all-left, all-right, all-row}
 
@@ -21,10 +21,10 @@ module _ {E P : Type 0} where
   abbrev IsUntold : ItemRender E P → Type 0
   IsUntold i = i.properties.speculative.disambiguation ≡ DisambiguateState.None
 
-  abbrev pub IsTold : Table E → ItemRender E P → Type 0
+  abbrev pub IsTold : StateTable E → ItemRender E P → Type 0
   IsTold t i = i.properties.speculative.disambiguation ≡ told_by t i.entry
 
-  module _ (answers : E → Answers) (t : Table E) where
+  module _ (answers : E → Answers) (t : StateTable E) where
     again : (r : Request E P) (i : ItemRender E P) → IsUntold i → IsTold t (with_any answers r (t i.entry) i)
     again r i none = by (t i.entry) refl
       where

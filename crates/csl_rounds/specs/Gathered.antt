@@ -8,7 +8,7 @@ use Rattle.csl_lookup.specs.declared.state.DisambiguateState.{DisambiguateState}
 use Rattle.csl_name_marks.specs.NameMarks.{name_marks}
 use Rattle.csl_passes.specs.Renders.{CiteRender, ItemRender, Place}
 use Rattle.csl_passes.specs.Request.{Request}
-use Rattle.csl_rounds.specs.RoundMarks.{Mark, all_ways, by_choice, by_suffix, counting, greatest, or_others, waits}
+use Rattle.csl_rounds.specs.RoundMarks.{Mark, all_ways, by_choice, by_suffix, counting, greatest_state, or_others, waits}
 use Rattle.csl_rounds.specs.Rounds.{with_any}
 
 module _ {E P : Type 0} (eq : E → E → Bool) (dated : Bool) (renders : List (CiteRender E P)) where
@@ -26,9 +26,9 @@ module _ {E P : Type 0} (eq : E → E → Bool) (dated : Bool) (renders : List (
   with_counting marks group = marks ++ (if waits eq renders marks group then [] else counting_ways group)
 
 -- the greater of a mark and the state before it
-abbrev pub raised : Option DisambiguateState → DisambiguateState → Option DisambiguateState
-raised None mark = Some mark
-raised (Some before) mark = Some (greater before mark)
+abbrev pub with_greater : Option DisambiguateState → DisambiguateState → Option DisambiguateState
+with_greater None mark = Some mark
+with_greater (Some before) mark = Some (greater before mark)
 
 -- the place of the entry that is cited at a place
 abbrev pub entry_place : List (List ℕ) → Place → ℕ
@@ -42,7 +42,7 @@ pub record IsPlaced (places : List (List ℕ)) (count : ℕ) (at : Place) : Type
 
 -- the greatest of the marks of the entry at p
 abbrev pub greatest_at : List (List ℕ) → List Mark → ℕ → Option DisambiguateState
-greatest_at places marks p = greatest (map (λ m. m.1) (filter (λ m. nat_eq (entry_place places m.0) p) marks))
+greatest_at places marks p = greatest_state (map (λ m. m.1) (filter (λ m. nat_eq (entry_place places m.0) p) marks))
 
 -- a list of such states
 pub record AreGreatest (places : List (List ℕ)) (marks : List Mark) (count : ℕ) (states : List (Option DisambiguateState)) : Type 0 where

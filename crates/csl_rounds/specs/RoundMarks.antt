@@ -28,9 +28,9 @@ abbrev pub or_others : {X : Type 0} → List X → List X → List X
 or_others xs ys = if has_any xs then xs else ys
 
 -- the greatest of some states; none of none
-abbrev pub greatest : List DisambiguateState → Option DisambiguateState
-greatest [] = None
-greatest (s ∷ ss) = Some (fold greater s ss)
+abbrev pub greatest_state : List DisambiguateState → Option DisambiguateState
+greatest_state [] = None
+greatest_state (s ∷ ss) = Some (fold greater s ss)
 
 -- groups, each with the marks that it gets
 abbrev pub MarkedGroups : Type 0
@@ -71,12 +71,12 @@ module _ {E P : Type 0} (eq : E → E → Bool) (renders : List (CiteRender E P)
   by_suffix dated group = year_suffix_marks eq dated (members renders group)
 
   -- the cite at a place cites an entry equal to e
-  abbrev pub cites : E → Place → Bool
-  cites e place = option_map_or (λ m. eq e (entry_of m)) (member_at renders place) false
+  abbrev pub cites_entry : E → Place → Bool
+  cites_entry e place = option_map_or (λ m. eq e (entry_of m)) (member_at renders place) false
 
   -- some cite of the group cites an entry with a mark
   abbrev pub waits : List Mark → List Place → Bool
-  waits marks group = list_any (λ c. list_any (λ m. cites (entry_of c) m.0) marks) (members renders group)
+  waits marks group = list_any (λ c. list_any (λ m. cites_entry (entry_of c) m.0) marks) (members renders group)
 
 module _ {E P : Type 0} (renders : List (CiteRender E P)) where
   -- the mark counts: it is greater than the state of the cite at its place

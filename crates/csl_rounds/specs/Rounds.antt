@@ -6,18 +6,18 @@ use Rattle.csl_lookup.specs.Properties.{Properties}
 use Rattle.csl_lookup.specs.declared.state.DisambiguateState.{DisambiguateState}
 use Rattle.csl_passes.specs.Renders.{CiteRender, ItemRender}
 use Rattle.csl_passes.specs.Request.{Request, source_of}
-use Rattle.csl_rounds.specs.RoundMarks.{Mark, cites, greatest}
+use Rattle.csl_rounds.specs.RoundMarks.{Mark, cites_entry, greatest_state}
 use Rattle.csl_writing.specs.CiteText.{cite_text}
 
 -- by what means entries are told apart; for most there is none
-abbrev pub Table : Type 0 → Type 0
-Table E = E → Option DisambiguateState
+abbrev pub StateTable : Type 0 → Type 0
+StateTable E = E → Option DisambiguateState
 
-abbrev pub no_states : {E : Type 0} → Table E
+abbrev pub no_states : {E : Type 0} → StateTable E
 no_states e = None
 
 -- the table with marks: an entry that has one gets it, the others keep theirs
-abbrev pub with_marks : {E : Type 0} → Table E → Table E → Table E
+abbrev pub with_marks : {E : Type 0} → StateTable E → StateTable E → StateTable E
 with_marks marks table e = option_or (marks e) (table e)
 
 abbrev pub with_state : {P : Type 0} → DisambiguateState → Properties P → Properties P
@@ -29,8 +29,8 @@ module _ {E P : Type 0} where
   entries_cited renders = flat_map (λ c. map (λ i. i.entry) c.items) renders
 
   -- the greatest of the marks of cites of e
-  abbrev pub mark_of : (E → E → Bool) → List (CiteRender E P) → List Mark → Table E
-  mark_of eq renders marks e = greatest (map (λ m. m.1) (filter (λ m. cites eq renders e m.0) marks))
+  abbrev pub mark_of : (E → E → Bool) → List (CiteRender E P) → List Mark → StateTable E
+  mark_of eq renders marks e = greatest_state (map (λ m. m.1) (filter (λ m. cites_entry eq renders e m.0) marks))
 
   module _ (answers : E → Answers) where
     -- the cite rendered again with this state of its entry, for its purpose; what else is known of it stays
@@ -45,9 +45,9 @@ module _ {E P : Type 0} where
     with_any request None i = i
     with_any request (Some s) i = rendered_again request s i
 
-    abbrev pub request_at : Table E → CiteRender E P → CiteRender E P
+    abbrev pub request_at : StateTable E → CiteRender E P → CiteRender E P
     request_at table c = record c { items = map (λ i. with_any c.request (table i.entry) i) c.items }
 
     -- the cites whose entries the table has states for, rendered again with these; the others stay
-    abbrev pub at_table : Table E → List (CiteRender E P) → List (CiteRender E P)
+    abbrev pub at_table : StateTable E → List (CiteRender E P) → List (CiteRender E P)
     at_table table = map (request_at table)

@@ -13,12 +13,12 @@ use Rattle.csl_lookup.specs.declared.state.DisambiguateState.TheVariants.{YearSu
 use Rattle.csl_name_marks.specs.NameMarks.{name_marks}
 use Rattle.csl_passes.specs.Renders.{CiteRender, Place}
 use Rattle.csl_rounds.specs.RoundMarks.{Mark, all_ways, by_choice, by_suffix, counting, marks_by_group}
-use Rattle.csl_rounds.specs.Rounds.{Table, at_table}
+use Rattle.csl_rounds.specs.Rounds.{StateTable, at_table}
 use Rattle.csl_rounds.specs.Tables.{last_states, rounds, tables}
 use Rattle.csl_rounds.specs.declared.mode.RoundMode.{RoundMode}
 
 -- by what means a table tells an entry apart
-abbrev pub told_by : {E : Type 0} → Table E → E → DisambiguateState
+abbrev pub told_by : {E : Type 0} → StateTable E → E → DisambiguateState
 told_by table e = unwrap_or (table e) DisambiguateState.None
 
 -- so many rounds marked that they came to an end by themselves: in mode three fewer than three, in mode full any number
@@ -40,10 +40,10 @@ module _ {E P : Type 0} (eq : E → E → Bool) (answers : E → Answers) where
 
 module _ {E P : Type 0} (mode : RoundMode) (eq : E → E → Bool) (answers : E → Answers) (firsts : List (CiteRender E P)) where
   -- all tables, and the document as it stands at one
-  abbrev pub run : List (Table E)
+  abbrev pub run : List (StateTable E)
   run = tables mode eq answers firsts
 
-  abbrev pub shown_at : Table E → List (CiteRender E P)
+  abbrev pub shown_at : StateTable E → List (CiteRender E P)
   shown_at table = at_table answers table firsts
 
   -- states go on
@@ -55,7 +55,7 @@ module _ {E P : Type 0} (mode : RoundMode) (eq : E → E → Bool) (answers : E 
     pub on : AllAdjacentBelow (λ t next. (e : E) → GoesOnTo (told_by t e) (told_by next e)) run (length run)
 
   -- at this table the group gets marks of which one is a suffix
-  pub record GetsSuffixes (t : Table E) (group : List Place) : Type 0 where
+  pub record GetsSuffixes (t : StateTable E) (group : List Place) : Type 0 where
     pub own : List Mark
     pub are_own : Contains (marks_by_group mode eq answers (shown_at t)) (group, own)
     pub mark : Mark

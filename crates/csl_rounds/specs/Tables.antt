@@ -7,7 +7,7 @@ use Rattle.csl_entries.specs.Entries.{distinct}
 use Rattle.csl_name_marks.specs.NamedCites.{greatest}
 use Rattle.csl_passes.specs.Renders.{CiteRender}
 use Rattle.csl_rounds.specs.RoundMarks.{Mark, has_any, round_marks}
-use Rattle.csl_rounds.specs.Rounds.{Table, at_table, entries_cited, mark_of, no_states, with_marks}
+use Rattle.csl_rounds.specs.Rounds.{StateTable, at_table, entries_cited, mark_of, no_states, with_marks}
 use Rattle.csl_rounds.specs.declared.mode.RoundMode.{RoundMode}
 
 -- how many forms there are
@@ -21,15 +21,15 @@ most_forms renders = greatest (map (λ i. form_count i.first_name) (flat_map (λ
 
 module _ {E P : Type 0} (mode : RoundMode) (eq : E → E → Bool) (answers : E → Answers) (firsts : List (CiteRender E P)) where
   -- the marks of the round that begins with this table
-  abbrev pub marks_at : Table E → List Mark
+  abbrev pub marks_at : StateTable E → List Mark
   marks_at table = round_marks mode eq answers (at_table answers table firsts)
 
   -- what it marks
-  abbrev pub marked_at : Table E → Table E
+  abbrev pub marked_at : StateTable E → StateTable E
   marked_at table = mark_of eq (at_table answers table firsts) (marks_at table)
 
   -- the tables from this one on: one more behind each round that marks, in so many rounds at most
-  unfoldable pub tables_from : ℕ → Table E → List (Table E)
+  unfoldable pub tables_from : ℕ → StateTable E → List (StateTable E)
   tables_from zero table = table ∷ []
   tables_from (suc n) table = if has_any (marks_at table) then table ∷ tables_from n (with_marks (marked_at table) table) else table ∷ []
 
@@ -41,7 +41,7 @@ most_rounds RoundMode.Full eq firsts = length (distinct eq (entries_cited firsts
 
 module _ {E P : Type 0} (mode : RoundMode) (eq : E → E → Bool) (answers : E → Answers) (firsts : List (CiteRender E P)) where
   -- the tables, from the empty one to the last
-  abbrev pub tables : List (Table E)
+  abbrev pub tables : List (StateTable E)
   tables = tables_from mode eq answers firsts (most_rounds mode eq firsts) no_states
 
   -- how many rounds marked
@@ -49,11 +49,11 @@ module _ {E P : Type 0} (mode : RoundMode) (eq : E → E → Bool) (answers : E 
   rounds = length tables - 1
 
   -- what they marked
-  abbrev pub round_tables : List (Table E)
+  abbrev pub round_tables : List (StateTable E)
   round_tables = map (marked_at mode eq answers firsts) (take rounds tables)
 
   -- the states that the entries have after them
-  abbrev pub last_states : Table E
+  abbrev pub last_states : StateTable E
   last_states = slice_index_or tables rounds no_states
 
 -- the first renders, rendered again with the states that tell their entries apart after all rounds

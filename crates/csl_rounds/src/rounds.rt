@@ -8,7 +8,7 @@ ghost use Rattle.csl_rounds.specs.FirstRenders.{AreBegun};
 ghost use Rattle.csl_rounds.specs.AfterRounds.{AreAfterRounds};
 ghost use Rattle.csl_rounds.specs.Rerenders.{AreStatesOf, marked_among};
 ghost use Rattle.csl_rounds.specs.RoundMarks.{has_any, round_marks};
-ghost use Rattle.csl_rounds.specs.Rounds.{Table, at_table, entries_cited, mark_of, with_marks};
+ghost use Rattle.csl_rounds.specs.Rounds.{StateTable, at_table, entries_cited, mark_of, with_marks};
 ghost use Rattle.csl_rounds.specs.declared.mode.RoundMode.{RoundMode};
 ghost use Rattle.csl_writing.specs.Counted.{counted_times};
 
@@ -50,7 +50,7 @@ fn run_round<'a, T: EntryLike, P>(
     ensures again { IfOk result (λ again. again ≡ has_any (round_marks mode T.eq T.answers (renders_view renders.old))) }
     ensures marked { OnOk result (renders_view renders.new
         ≡ at_table T.answers (mark_of T.eq (renders_view renders.old) (round_marks mode T.eq T.answers (renders_view renders.old))) (renders_view renders.old)) }
-    ensures states { OnOk result ((known : Table T) → AreStatesOf T.eq (table_view table.now).entries known states.old
+    ensures states { OnOk result ((known : StateTable T) → AreStatesOf T.eq (table_view table.now).entries known states.old
         → AreStatesOf T.eq (table_view table.now).entries (with_marks (mark_of T.eq (renders_view renders.old) (round_marks mode T.eq T.answers (renders_view renders.old))) known) states.new) }
     ensures counted { OnOk result (counter.new ≡ counted_times (marked_among (entries_cited (renders_view renders.old))
         (mark_of T.eq (renders_view renders.old) (round_marks mode T.eq T.answers (renders_view renders.old)))) counter.old) }

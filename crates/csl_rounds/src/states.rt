@@ -1,7 +1,7 @@
 //! The states that entries get in a round, by the places of the entries.
 ghost use Rattle.std.specs.Prelude.{◌≡◌, All, IfOk, None, OnOk, length, map, replicate};
 ghost use Rattle.std.specs.Option.{option_or};
-ghost use Rattle.csl_rounds.specs.Gathered.{AreGreatest, IsPlaced, entry_place, put_before, raised};
+ghost use Rattle.csl_rounds.specs.Gathered.{AreGreatest, IsPlaced, entry_place, put_before, with_greater};
 
 use csl_lookup::state::DisambiguateState;
 use csl_passes::renders::Marks;
@@ -23,7 +23,7 @@ pub(crate) fn no_states(alloc: Global, count: usize) -> Result<States, AllocErro
 
 /// Raises a state to a mark, where that is greater.
 fn raise(state: &mut Option<DisambiguateState>, mark: DisambiguateState)
-    ensures { state.new ≡ raised state.old mark }
+    ensures { state.new ≡ with_greater state.old mark }
 {
     *state = match state.take() {
         Some(before) => Some(before.max(mark)),

@@ -20,7 +20,7 @@ use csl_context::wording::{
     pop_quotes, push_chunked, push_link, push_quotes, push_str, push_transparent,
     stop_stripping_periods,
 };
-use csl_context::writing::{WritingContext, text_of};
+use csl_context::writing::WritingContext;
 use csl_lookup::lookup::StyleLocales;
 use csl_lookup::year::{letters_of_suffix, year_in_words};
 use csl_picking::pieces::{Leaf, Node, Piece};
@@ -34,7 +34,7 @@ fn prefix_of<'a>(node: &Node<'a>) -> Option<&'a str>
     ensures { option_map (λ s. s.now) result ≡ (node_view node.now).look.affixes.prefix }
 {
     match node.affixes {
-        Some(affixes) => text_of(&affixes.prefix),
+        Some(affixes) => affixes.prefix.as_deref(),
         None => None,
     }
 }
@@ -43,7 +43,7 @@ fn suffix_of<'a>(node: &Node<'a>) -> Option<&'a str>
     ensures { option_map (λ s. s.now) result ≡ (node_view node.now).look.affixes.suffix }
 {
     match node.affixes {
-        Some(affixes) => text_of(&affixes.suffix),
+        Some(affixes) => affixes.suffix.as_deref(),
         None => None,
     }
 }

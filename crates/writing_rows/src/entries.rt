@@ -1,5 +1,5 @@
 //! Texts, lists and the initials of names, by themselves.
-use csl_base::entry::Person;
+use csl_base::entry::{Chunk, ChunkKind, ChunkedString, Person};
 use csl_base::seq::Seq;
 use csl_base::text::Text;
 use std::alloc::{AllocError, Global};
@@ -50,5 +50,16 @@ fn texts_and_lists_are_copied(rt: HostRuntime) -> Result<(), Fail> {
     let words = Seq::new(vec![in rt.alloc(); word, text(rt.alloc(), "noir")?]?);
     let copy = words.clone()?;
     assert!(rt; copy == words && copy.as_slice().len() == 2 && copy.into_vec().len() == 2);
+    Ok(())
+}
+
+#[test]
+fn pieces_are_copied(rt: HostRuntime) -> Result<(), Fail> {
+    let piece = Chunk {
+        value: text(rt.alloc(), "a")?,
+        kind: ChunkKind::Normal,
+    };
+    let title = ChunkedString(Seq::new(vec![in rt.alloc(); piece]?));
+    assert!(rt; title.clone()? == title);
     Ok(())
 }

@@ -1,5 +1,5 @@
 use Rattle.std.proofs.Common.{subst, take}
-use Rattle.csl_name_marks.specs.ByName.{AreByName, shown}
+use Rattle.csl_name_marks.specs.ByName.{AreByName, shown_by_all}
 use Rattle.csl_name_marks.proofs.Holders.{none-by-name, shown-next}
 use Rattle.csl_name_marks.proofs.by_name.by_name.Goals as goal
 
@@ -9,4 +9,4 @@ loop-member-init c = none-by-name c.new-by_name.result c.new-by_name.ensures.emp
 pub loop-member-preserved : goal.loop-member-preserved
 loop-member-preserved c =
     subst (AreByName c.add_member.new.by_name) (shown-next c.args.group.now c.loop-member.member-index c.member-item.result c.loop-member-test.true c.member-item.is)
-    (c.in_ok-add_member.ensures (shown (take c.loop-member.member-index c.args.group.now)) c.loop-member.invariant)
+    (c.in_ok-add_member.ensures (shown_by_all (take c.loop-member.member-index c.args.group.now)) c.loop-member.invariant)

@@ -1,7 +1,7 @@
 use Rattle.std.proofs.Common.{◌<◌, ap, map, subst, sym, ◌∙◌}
 use Rattle.std.proofs.Math.ListN.{set}
 use Rattle.std.specs.Vec.Iter.{into_iter_items}
-use Rattle.csl_rounds.specs.Gathered.{raised}
+use Rattle.csl_rounds.specs.Gathered.{with_greater}
 use Rattle.csl_rounds.specs.RoundMarks.{Mark}
 use Rattle.csl_rounds.proofs.Raising.{next-placed, one-more}
 use Rattle.csl_rounds.proofs.states.greatest_marks.Goals as goal
@@ -30,4 +30,4 @@ loop-at-preserved c =
     let next = next-placed places c.args.count c.args.marks.items states mark rest left c.in-Some.ensures.steps.0 c.requires.placed c.loop-at.invariant in
     let below : place < c.args.count = subst (λ n. n < c.args.count) (sym c.entry_place-place.ensures) next.below in
     one-more places c.args.count c.args.marks.items states _ mark rest left place c.index_mut.result.now c.in-Some.ensures.steps.0 c.entry_place-place.ensures below
-    (ap (λ s. set states place s) (c.raise.ensures ∙ ap (λ s. raised s c.in-Some.mark) c.index_mut.ensures.value)) c.loop-at.invariant
+    (ap (λ s. set states place s) (c.raise.ensures ∙ ap (λ s. with_greater s c.in-Some.mark) c.index_mut.ensures.value)) c.loop-at.invariant

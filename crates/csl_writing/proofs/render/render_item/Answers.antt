@@ -35,8 +35,8 @@ returns-clause-item g c =
     item_rendered (subject_view g.T.EntryLike.answers c.args.subject.now) (bibliography_view c.args.bibliography.now) c.in_ok-section.section
     a (state c.begin_prefix.new.writing) d (state c.apply_suffix.new.writing) h n c.first_notes-notes.result c.in_ok-_noted._noted c.in_ok-tree.tree
     c.in_room-writing.ensures c.first_notes-notes.ensures c.in_ok-section.ensures c.in_ok-prefix.ensures.formats
-    (c.in_ok-prefix.ensures.offset ∙ ap (λ x. length (term_text x)) c.text_of-before.ensures)
-    (c.in_ok-prefix.ensures.done ∙ ap (λ x. prefixed x a) c.text_of-before.ensures)
+    (c.in_ok-prefix.ensures.offset ∙ ap (λ x. length (term_text x)) c.as_deref-before.ensures.value)
+    (c.in_ok-prefix.ensures.done ∙ ap (λ x. prefixed x a) c.as_deref-before.ensures.value)
     c.in_ok-_noted.ensures
-    (c.in_ok-apply_suffix.ensures.done ∙ ap (λ x. suffixed k x h n d) c.text_of-behind.ensures)
+    (c.in_ok-apply_suffix.ensures.done ∙ ap (λ x. suffixed k x h n d) c.as_deref-behind.ensures.value)
     c.in_ok-tree.ensures

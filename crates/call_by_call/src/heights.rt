@@ -1,0 +1,205 @@
+//! Calls of a writing context, each of which leaves the stacks as high as they were where it is refused.
+
+use csl_base::element::{Affixes, InheritableNameOptions};
+use csl_base::entry::{Chunk, ChunkKind, ChunkedString, PlainEntry};
+use csl_base::formatting::{Display, FontStyle, StyleFormatting};
+use csl_base::seq::Seq;
+use csl_base::style::IndependentStyle;
+use csl_base::text::Text;
+use csl_driver::context::Context;
+use csl_driver::lookup::StyleContext;
+use csl_driver::properties::CiteProperties;
+use csl_driver::token::Heights;
+use csl_driver::writing::WritingContext;
+use std::alloc::{AllocError, Global};
+use std::convert::Infallible;
+
+type Writing<'a> = Context<'a, PlainEntry, Infallible>;
+
+/// What is written, long enough to take memory.
+const LONG: &str = "what is longer than fifteen bytes";
+
+/// Why the calls ended before their end.
+#[derive(Clone, Copy)]
+pub enum Ended {
+    /// A call was refused, and the stacks are as high as before it.
+    Refused,
+    /// The stacks aren't.
+    OtherHeights,
+}
+
+/// Why, behind a call that was refused.
+fn ended(before: Heights, writing: &WritingContext<'_>) -> Ended {
+    if writing.heights() == before {
+        Ended::Refused
+    } else {
+        Ended::OtherHeights
+    }
+}
+
+/// What a call came to that leaves the heights as they were in any case.
+fn held(
+    before: Heights,
+    writing: &WritingContext<'_>,
+    result: Result<(), AllocError>,
+) -> Result<(), Ended> {
+    match result {
+        Ok(()) if writing.heights() == before => Ok(()),
+        Ok(()) => Err(Ended::OtherHeights),
+        Err(_) => Err(ended(before, writing)),
+    }
+}
+
+fn italic() -> StyleFormatting {
+    StyleFormatting {
+        font_style: Some(FontStyle::Italic),
+        font_weight: None,
+    }
+}
+
+/// A formula, and a text that it is the link of.
+fn formula(alloc: Global) -> Result<ChunkedString, AllocError> {
+    let chunk = Chunk {
+        value: Text::new(String::from_str(alloc, LONG)?),
+        kind: ChunkKind::Math,
+    };
+    Ok(ChunkedString(Seq::new(vec![in alloc; chunk]?)))
+}
+
+/// Texts, spaces and quotes.
+fn push_texts(context: &mut Writing<'_>) -> Result<(), Ended> {
+    let before = context.writing.heights();
+    let result = context.push_quotes();
+    held(before, &context.writing, result)?;
+    let result = context.push_str(LONG);
+    held(before, &context.writing, result)?;
+    let result = context.pop_quotes();
+    held(before, &context.writing, result)?;
+    let result = context.ensure_space();
+    held(before, &context.writing, result)
+}
+
+/// Pieces, a link and a mark.
+fn push_children(
+    context: &mut Writing<'_>,
+    formula: &ChunkedString,
+    url: String,
+) -> Result<(), Ended> {
+    let before = context.writing.heights();
+    let result = context.push_chunked(formula);
+    held(before, &context.writing, result)?;
+    let result = context.push_link(formula, url);
+    held(before, &context.writing, result)?;
+    let result = context.push_transparent(2);
+    held(before, &context.writing, result)
+}
+
+/// An element that is closed, inside of another that is dropped.
+fn push_elements(context: &mut Writing<'_>) -> Result<(), Ended> {
+    let writing = &mut context.writing;
+    let before = writing.heights();
+    let Ok(outer) = writing.push_elem(italic()) else {
+        return Err(ended(before, writing));
+    };
+    let before = writing.heights();
+    let Ok(inner) = writing.push_elem(italic()) else {
+        return Err(ended(before, writing));
+    };
+    let before = writing.heights();
+    if writing
+        .commit_elem(inner, Some(Display::Block), None)
+        .is_err()
+    {
+        return Err(ended(before, writing));
+    }
+    let before = writing.heights();
+    if writing.discard_elem(outer).is_err() {
+        return Err(ended(before, writing));
+    }
+    Ok(())
+}
+
+/// A format, with a text in it.
+fn push_formats(context: &mut Writing<'_>) -> Result<(), Ended> {
+    let before = context.writing.heights();
+    let Ok(format) = context.writing.push_format(italic()) else {
+        return Err(ended(before, &context.writing));
+    };
+    push_texts(context)?;
+    let before = context.writing.heights();
+    if context.writing.pop_format(format).is_err() {
+        return Err(ended(before, &context.writing));
+    }
+    Ok(())
+}
+
+/// A delimiter and name options upon those before.
+fn push_settings<'a>(
+    context: &mut Writing<'a>,
+    options: &'a InheritableNameOptions,
+) -> Result<(), Ended> {
+    let before = context.writing.heights();
+    let Ok(delimiter) = context.writing.push_delimiter(Some("; ")) else {
+        return Err(ended(before, &context.writing));
+    };
+    context.writing.pop_delimiter(delimiter);
+    let before = context.writing.heights();
+    if context.writing.push_name_options(options).is_err() {
+        return Err(ended(before, &context.writing));
+    }
+    Ok(())
+}
+
+/// A text in affixes.
+fn push_affixes(context: &mut Writing<'_>, affixes: &Affixes) -> Result<(), Ended> {
+    let before = context.writing.heights();
+    let Ok(prefix) = context.writing.apply_prefix(affixes) else {
+        return Err(ended(before, &context.writing));
+    };
+    let before = context.writing.heights();
+    if context.push_str(LONG).is_err() || context.writing.has_content_since(&prefix).is_err() {
+        return Err(ended(before, &context.writing));
+    }
+    let before = context.writing.heights();
+    if context.apply_suffix(affixes, prefix).is_err() {
+        return Err(ended(before, &context.writing));
+    }
+    Ok(())
+}
+
+/// All of these, one after another.
+fn push_all<'a>(
+    context: &mut Writing<'a>,
+    options: &'a InheritableNameOptions,
+    affixes: &Affixes,
+    formula: &ChunkedString,
+    url: String,
+) -> Result<(), Ended> {
+    push_texts(context)?;
+    push_children(context, formula, url)?;
+    push_elements(context)?;
+    push_formats(context)?;
+    push_affixes(context, affixes)?;
+    push_settings(context, options)
+}
+
+/// Makes calls of a context in this style, and tells why they ended before their end.
+pub fn keep_heights(
+    rt: &(impl Eprint + AllocGlobal),
+    style: &IndependentStyle,
+    entry: &PlainEntry,
+) -> Result<Result<(), Ended>, AllocError> {
+    let alloc = rt.alloc();
+    let affixes = Affixes {
+        prefix: Some(String::from_str(alloc, "(")?),
+        suffix: Some(String::from_str(alloc, ")")?),
+    };
+    let (formula, url) = (formula(alloc)?, String::from_str(alloc, LONG)?);
+    let options = &style.settings.options;
+    let properties = CiteProperties::for_sorting(None, 0);
+    let _ = eprintln!(rt; "heights");
+    let mut context: Writing<'_> = StyleContext::new(style, None, &[]).ctx(
+        alloc, entry, properties, options,
+    )?;
+    Ok(push_all(&mut context, options, &affixes, &formula, url))
+}
