@@ -7,9 +7,9 @@ answer the documents by the public calls: each by `finish` or, where it says so,
 NAME.account, by `finish_counted` or `finish_full` once more, of which the account is printed, or why there is none; where
 there is a NAME.alone, each request by `standalone_citation`; where there is a NAME.passes, by the passes themselves, on cites
 that are written without a driver; where there is a NAME.equality, it is told which requests are equal to the first, and whether that
-for the bibliography is one for its style alone; and where there is a NAME.context, what calls of a writing context give in its style. A
-copy of each answer has to be equal to it. Where a C compiler is there, it refuses each growth of memory in
-turn (refuse.c), in both programs.
+for the bibliography is one for its style alone. A copy of each answer has to be equal to it. Where there is a NAME.context,
+crates/context_calls prints what calls of a writing context give in its first style. Where a C compiler is there, it refuses each
+growth of memory in turn (refuse.c), in all three programs.
 run.py PROGRAM FOLDER..: runs it on the documents of these folders, and does nothing else.
 
 A document is NAME.json. NAME.txt is what it must print; where the status isn't 0, NAME.status has it, and nothing is
@@ -166,9 +166,9 @@ def validator_of_schema():
 # Documents, call by call
 
 
-def program_of_calls(program):
-    """crates/call_by_call, beside the program, or None where it isn't built."""
-    found = os.path.join(os.path.dirname(program), '../../call_by_call/out/call_by_call')
+def beside(program, name):
+    """The program of another crate, beside the program, or None where it isn't built."""
+    found = os.path.join(os.path.dirname(program), '../../%s/out/%s' % (name, name))
     return found if os.access(found, os.X_OK) else None
 
 
@@ -178,7 +178,7 @@ def is_full(base):
 
 
 def by_calls(calls, way, base, status, text):
-    """The program of calls ends with the status and prints the text."""
+    """A program of calls ends with the status and prints the text."""
     got = ended(calls, way.encode() + b'\n' + read(base + '.json'))
     if got[0] != status:
         raise Failed('status %d, and not %d' % (got[0], status))
@@ -186,8 +186,8 @@ def by_calls(calls, way, base, status, text):
         raise Failed(difference(text, got[1]))
 
 
-def call_by_call(calls, bases):
-    """What the program of calls is to do with the documents that are of their form."""
+def call_by_call(calls, contexts, bases):
+    """What the programs of calls are to do with the documents that are of their form."""
     made = []
     for base in bases:
         status, text = wanted(base)
@@ -199,9 +199,9 @@ def call_by_call(calls, bases):
             made.append(('account: ' + name_of(base), by_calls, calls, 'account', base, status, read(base + '.account')))
         if os.path.isfile(base + '.alone'):
             made.append(('standalone: ' + name_of(base), by_calls, calls, 'standalone_citation', base, 0, read(base + '.alone')))
-        for way in ('passes', 'equality', 'context'):
+        for way, asked in (('passes', calls), ('equality', calls), ('context', contexts)):
             if os.path.isfile(base + '.' + way):
-                made.append((way + ': ' + name_of(base), by_calls, calls, way, base, 0, read(base + '.' + way)))
+                made.append((way + ': ' + name_of(base), by_calls, asked, way, base, 0, read(base + '.' + way)))
         if status == 0:
             made.append(('copies: ' + name_of(base), by_calls, calls, 'copies', base, 0, b'copy: equal\n'))
     ring = HERE + '/rows/ring_of_one_macro'
@@ -476,7 +476,7 @@ REFUSED = {'rows/ring_of_two_macros': 3, 'rows/number_overflow': 4}
 ALONE = b'[1]\n' * 4
 PASSES = ['find_ambiguous_sets', 'disambiguate_names', 'disambiguate_with_choose', 'disambiguate_year_suffix']
 PASSES += ['group_cites', 'substitute_subsequent_authors']
-# Calls of crates/call_by_call, which it names before it makes them; the status is 5 where one is refused, but for `citation`.
+# Calls of crates/call_by_call and crates/context_calls, which name them before they make them; the status is 5 where one is refused, but for `citation`.
 CALLS = ['read', 'prepare', 'citation', 'finish', 'finish_counted', 'finish_full', 'standalone_citation', 'run', 'free', 'clone', 'context', 'heights', *PASSES]
 # Those that print before others are called.
 PRINT = ['standalone_citation', 'context', *PASSES]
@@ -524,7 +524,7 @@ def sweep_of_program(shim, program, name):
 
 
 def held_call(called, status, out, text, status_wanted):
-    """What a run of crates/call_by_call must end in: the refusal of the call whose growth was refused, or the answer."""
+    """What a run of a program of calls must end in: the refusal of the call whose growth was refused, or the answer."""
     at = called[called.index('!') - 1] if '!' in called else None
     if at == 'free':
         raise Failed('a call that takes no memory was refused some')
@@ -558,6 +558,11 @@ def sweep_of_calls(shim, program, way, given, status_wanted, text):
     return refused_in_turn(shim, program, way.encode() + b'\n' + given, judge)
 
 
+def sweeps_of_contexts(shim, program):
+    given, text = read(HERE + '/words/calls_of_a_context.json'), read(HERE + '/words/calls_of_a_context.context')
+    return [('growths of ' + way, sweep_of_calls, shim, program, way, given, 0, printed) for way, printed in (('context', text), ('heights', b''))]
+
+
 def sweeps_of_calls(shim, program):
     made = []
     for way, names in (('finish', SWEPT), ('finish_counted', SWEPT), ('finish_full', SWEPT_FULL)):
@@ -570,22 +575,20 @@ def sweeps_of_calls(shim, program):
     for name in SWEPT_PASSES:
         given, text = read(HERE + '/' + name + '.json'), read(HERE + '/' + name + '.passes')
         made.append(('growths of passes: ' + name, sweep_of_calls, shim, program, 'passes', given, 0, text))
-    given, text = read(HERE + '/words/calls_of_a_context.json'), read(HERE + '/words/calls_of_a_context.context')
-    made.append(('growths of context', sweep_of_calls, shim, program, 'context', given, 0, text))
     given, text = row('rows/offset_and_order')
-    for way, printed in (('run', text), ('copies', b'copy: equal\n'), ('heights', b''), ('standalone_citation', ALONE), ('free', b'')):
+    for way, printed in (('run', text), ('copies', b'copy: equal\n'), ('standalone_citation', ALONE), ('free', b'')):
         made.append(('growths of %s' % way, sweep_of_calls, shim, program, way, given, 0, printed))
     return made
 
 
-def sweeps(program, calls):
+def sweeps(program, calls, contexts):
     """The sweeps, each with its name; or none, and why."""
     folder = tempfile.mkdtemp()
     shim = compiled(folder)
     if not shim:
         return [], 'no C compiler is here'
     made = [('growths of %s' % it, sweep_of_program, shim, program, it) for it in SWEPT]
-    return made + sweeps_of_calls(shim, calls), None
+    return made + sweeps_of_calls(shim, calls) + sweeps_of_contexts(shim, contexts), None
 
 
 def model(program):
@@ -605,7 +608,7 @@ def worked(folder):
 
 
 GROWTHS = []
-NO_CALLS = 'crates/call_by_call is not built'
+NO_CALLS = 'crates/call_by_call and crates/context_calls are not both built'
 
 
 def not_built():
@@ -662,14 +665,14 @@ def main():
     bases = documents()
     tests = [('model: %d random documents' % RANDOM_DOCUMENTS, model, program)]
     tests += [('process: ' + it.__name__.replace('_', ' '), it, program) for it in reversed(PROCESSES)]
-    calls = program_of_calls(program)
-    swept, why_not = sweeps(program, calls) if calls else ([], NO_CALLS)
+    calls, contexts = (beside(program, it) for it in ('call_by_call', 'context_calls'))
+    swept, why_not = sweeps(program, calls, contexts) if calls and contexts else ([], NO_CALLS)
     tests += swept
-    if calls:
-        tests += call_by_call(calls, bases)
+    if calls and contexts:
+        tests += call_by_call(calls, contexts, bases)
         tests += [('process: ' + it.__name__.replace('_', ' '), it, calls) for it in (failing_writer, slow_reader)]
     else:
-        tests.append(('crates/call_by_call', not_built))
+        tests.append(('programs of calls', not_built))
     tests += [(name_of(it), document, program, it) for it in bases]
     tests += [('model: ' + name_of(it), worked, it) for it in [*folders_of(HERE), ROOT + '/examples']]
     tests.append(('files of the folders', strays))

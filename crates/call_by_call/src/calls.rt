@@ -1,10 +1,8 @@
 //! A document's requests, handed to the driver one by one.
 
 use crate::account::{print_account, print_refusal};
-use crate::contexts::print_contexts;
 use crate::equality::{print_copies, print_requests, print_wanted, properties_differ, word};
 use crate::free::calls_without_memory;
-use crate::heights::{Ended, keep_heights};
 use crate::passes::by_passes;
 use crate::streams::{Failing, Slow};
 use cite_document::error::RunError;
@@ -47,10 +45,6 @@ pub enum How {
     Equality,
     /// By `finish`; what is printed is whether a copy of the answer is equal to it.
     Copies,
-    /// By none: calls of a writing context are made.
-    Context,
-    /// By none: calls of a writing context are made, and its heights are compared where one is refused.
-    Heights,
     /// By none: calls that take no memory are made.
     Free,
 }
@@ -343,22 +337,6 @@ fn call_passes<'e, 'f: 'e>(
     by_passes(rt, &requests)
 }
 
-/// Makes calls of a context, in the style of the bibliography, and compares its heights.
-fn call_context(rt: &(impl Eprint + AllocGlobal), asked: &Asked<'_>) -> Result<Seen, RunError> {
-    let entry = match asked.requests.as_slice().first() {
-        Some(request) => request.items.as_slice().first(),
-        None => None,
-    };
-    let Some(cite) = entry else {
-        return Err(RunError::Document);
-    };
-    match keep_heights(rt, asked.wanted.style.style, cite.entry)? {
-        Ok(()) => Ok(Seen::Answer),
-        Err(Ended::Refused) => Err(RunError::OutOfMemory),
-        Err(Ended::OtherHeights) => Ok(Seen::Amiss("a refused call left other heights")),
-    }
-}
-
 /// Does what is asked with the document.
 pub fn answered(
     rt: &(impl Print + Eprint + AllocGlobal),
@@ -379,11 +357,6 @@ pub fn answered(
         How::Alone => answer_alone(rt, &asked, &files),
         How::Passes => call_passes(rt, &asked, &files),
         How::Equality => compare(rt, &asked, &files),
-        How::Context => {
-            print_contexts(rt, asked.wanted.style.style, asked.locales)?;
-            Ok(Seen::Answer)
-        }
-        How::Heights => call_context(rt, &asked),
         How::Free => call_free(rt, &asked, &files),
         _ => answer_all(rt, &asked, &files, how),
     }

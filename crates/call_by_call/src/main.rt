@@ -10,10 +10,8 @@
 
 mod account;
 mod calls;
-mod contexts;
 mod equality;
 mod free;
-mod heights;
 mod passes;
 mod streams;
 
@@ -38,8 +36,6 @@ fn answer(rt: &(impl Input + Print + Eprint + AllocGlobal)) -> Result<Seen, RunE
         "account" => answered(rt, document, How::Account),
         "standalone_citation" => answered(rt, document, How::Alone),
         "passes" => answered(rt, document, How::Passes),
-        "context" => answered(rt, document, How::Context),
-        "heights" => answered(rt, document, How::Heights),
         "equality" => answered(rt, document, How::Equality),
         "copies" => answered(rt, document, How::Copies),
         "free" => answered(rt, document, How::Free),

@@ -151,7 +151,7 @@ fn mark_all(
     Ok(())
 }
 
-/// Whether two cites are equal in all that grouping may change, and cite equal entries.
+/// Whether two cites are equal in each part.
 fn is_same(cite: &Cite<'_>, other: &Cite<'_>) -> bool {
     let entry = *cite.entry == *other.entry;
     let rendered = cite.rendered == other.rendered;
@@ -159,8 +159,18 @@ fn is_same(cite: &Cite<'_>, other: &Cite<'_>) -> bool {
     let first_name = cite.first_name == other.first_name;
     let delimiter = cite.delim_override == other.delim_override;
     let block = cite.group_idx == other.group_idx;
-    let hidden = cite.hidden == other.hidden;
-    entry && rendered && properties && first_name && delimiter && block && hidden
+    let verdict = cite.collapse_verdict == other.collapse_verdict;
+    let is_written_alike = entry && rendered && properties && first_name;
+    is_written_alike && delimiter && block && verdict && is_asked_alike(cite, other)
+}
+
+/// Whether two cites are equal in what a caller asks of them and in how they may be told apart.
+fn is_asked_alike(cite: &Cite<'_>, other: &Cite<'_>) -> bool {
+    let locator = cite.locator == other.locator;
+    let locale = cite.locale == other.locale;
+    let purpose = cite.purpose == other.purpose;
+    let checked = cite.checked_disambiguate == other.checked_disambiguate;
+    locator && locale && purpose && checked && cite.hidden == other.hidden
 }
 
 /// Whether the cites of two requests are.
@@ -231,6 +241,7 @@ fn substitute(
     request: &Request<'_>,
     bibliography: &Bibliography,
 ) -> Result<(), RunError> {
+    let _ = eprintln!(rt; "prepare");
     let mut items = items_of(rt.alloc(), request)?;
     let _ = eprintln!(rt; "substitute_subsequent_authors");
     substitute_subsequent_authors(

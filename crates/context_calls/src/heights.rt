@@ -6,11 +6,11 @@ use csl_base::formatting::{Display, FontStyle, StyleFormatting};
 use csl_base::seq::Seq;
 use csl_base::style::IndependentStyle;
 use csl_base::text::Text;
-use csl_driver::context::Context;
-use csl_driver::lookup::StyleContext;
-use csl_driver::properties::CiteProperties;
-use csl_driver::token::Heights;
-use csl_driver::writing::WritingContext;
+use csl_context::context::Context;
+use csl_context::token::Heights;
+use csl_context::writing::WritingContext;
+use csl_lookup::properties::CiteProperties;
+use csl_writing::lookup::StyleContext;
 use std::alloc::{AllocError, Global};
 use std::convert::Infallible;
 

@@ -1,0 +1,76 @@
+//! Calls a writing context by itself, in the first style of a document, for what no document shows: what
+//! each call writes, that what is pushed comes off again, and that the stacks are as high as before where a
+//! call is refused.
+//!
+//! The first line of standard input says what is done, `context` or `heights`, and the document follows.
+//! Before the calls that is written to standard error, and at the end a line that says what was seen; the
+//! exit status tells that too. What the calls gave goes to standard output.
+#![tactic(auto)]
+
+mod contexts;
+mod heights;
+
+use cite_document::error::RunError;
+use cite_document::input::read_input;
+use contexts::print_contexts;
+use document_reading::document::{top_of, utf8_text, value_of};
+use document_reading::entries::entries_of;
+use document_styles::locales::locales_at;
+use document_styles::styles::styles_of;
+use heights::{Ended, keep_heights};
+use std::process::ExitCode;
+
+/// Makes the calls that are asked for.
+fn called(
+    rt: &(impl Print + Eprint + AllocGlobal),
+    asked: &str,
+    document: &str,
+) -> Result<Result<(), Ended>, RunError> {
+    let alloc = rt.alloc();
+    let _ = eprintln!(rt; "prepare");
+    let value = value_of(alloc, document)?;
+    let object = top_of(&value)?;
+    let styles = styles_of(alloc, object)?;
+    let locales = locales_at(alloc, object, "locales")?;
+    let entries = entries_of(alloc, object)?;
+    let (Some(named), Some(entry)) = (styles.first(), entries.first()) else {
+        return Err(RunError::Document);
+    };
+    match asked {
+        "context" => print_contexts(rt, &named.style, &locales)?,
+        "heights" => return Ok(keep_heights(rt, &named.style, entry)?),
+        _ => return Err(RunError::Document),
+    }
+    Ok(Ok(()))
+}
+
+/// Does what the first line says with the document behind it.
+fn answer(rt: &(impl Input + Print + Eprint + AllocGlobal)) -> Result<Result<(), Ended>, RunError> {
+    let _ = eprintln!(rt; "read");
+    let bytes = read_input(rt.alloc(), &mut rt.reader())?;
+    let Some((asked, document)) = utf8_text(&bytes)?.split_once('\n') else {
+        return Err(RunError::Document);
+    };
+    called(rt, asked, document)
+}
+
+fn main(rt: HostRuntime) -> ExitCode {
+    match answer(&rt) {
+        Ok(Ok(())) => {
+            let _ = eprintln!(rt; "each call was answered");
+            ExitCode::SUCCESS
+        }
+        Ok(Err(Ended::OtherHeights)) => {
+            let _ = eprintln!(rt; "amiss: a call left other heights");
+            ExitCode::from(7)
+        }
+        Ok(Err(Ended::Refused)) => {
+            let _ = eprintln!(rt; "a call was refused");
+            ExitCode::from(5)
+        }
+        Err(error) => {
+            let _ = eprintln!(rt; "{error}");
+            ExitCode::from(error.status())
+        }
+    }
+}
