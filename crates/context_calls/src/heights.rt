@@ -41,9 +41,9 @@ fn ended(before: Heights, writing: &WritingContext<'_>) -> Ended {
 fn held(
     before: Heights,
     writing: &WritingContext<'_>,
-    result: Result<(), AllocError>,
+    outcome: Result<(), AllocError>,
 ) -> Result<(), Ended> {
-    match result {
+    match outcome {
         Ok(()) if writing.heights() == before => Ok(()),
         Ok(()) => Err(Ended::OtherHeights),
         Err(_) => Err(ended(before, writing)),
@@ -69,14 +69,14 @@ fn formula(alloc: Global) -> Result<ChunkedString, AllocError> {
 /// Texts, spaces and quotes.
 fn push_texts(context: &mut Writing<'_>) -> Result<(), Ended> {
     let before = context.writing.heights();
-    let result = context.push_quotes();
-    held(before, &context.writing, result)?;
-    let result = context.push_str(LONG);
-    held(before, &context.writing, result)?;
-    let result = context.pop_quotes();
-    held(before, &context.writing, result)?;
-    let result = context.ensure_space();
-    held(before, &context.writing, result)
+    let outcome = context.push_quotes();
+    held(before, &context.writing, outcome)?;
+    let outcome = context.push_str(LONG);
+    held(before, &context.writing, outcome)?;
+    let outcome = context.pop_quotes();
+    held(before, &context.writing, outcome)?;
+    let outcome = context.ensure_space();
+    held(before, &context.writing, outcome)
 }
 
 /// Pieces, a link and a mark.
@@ -86,12 +86,12 @@ fn push_children(
     url: String,
 ) -> Result<(), Ended> {
     let before = context.writing.heights();
-    let result = context.push_chunked(formula);
-    held(before, &context.writing, result)?;
-    let result = context.push_link(formula, url);
-    held(before, &context.writing, result)?;
-    let result = context.push_transparent(2);
-    held(before, &context.writing, result)
+    let outcome = context.push_chunked(formula);
+    held(before, &context.writing, outcome)?;
+    let outcome = context.push_link(formula, url);
+    held(before, &context.writing, outcome)?;
+    let outcome = context.push_transparent(2);
+    held(before, &context.writing, outcome)
 }
 
 /// An element that is closed, inside of another that is dropped.
