@@ -22,7 +22,7 @@ use Rattle.csl_passes.specs.Request.{Request, cited}
 use Rattle.csl_positions.specs.FinalProperties.{items_before, with_final, with_final_items, with_final_properties}
 use Rattle.csl_positions.specs.FirstProperties.{first_properties}
 use Rattle.csl_rounds.specs.FirstRenders.{first_renders}
-use Rattle.csl_rounds.specs.Rounds.{StateTable as States, at_table, request_at, with_any}
+use Rattle.csl_rounds.specs.Rounds.{StateTable, at_table, request_at, with_any}
 use Rattle.csl_rounds.specs.Tables.{disambiguated, last_states}
 use Rattle.csl_rounds.specs.declared.mode.RoundMode.{RoundMode}
 
@@ -106,8 +106,8 @@ module _ {E P : Type 0} (eq : E → E → Bool) (laws : IsEquivalence eq) (answe
     same = λ e. ap (is_in eq e) (first-cited eq payload_eq answers number_of (distinct eq (cited requests)) requests) ∙ sym (is_in-distinct eq laws e (cited requests));
   }
 
-  module _ (entered : StateTable E) (requests : List (Request E P)) (renders : List (CiteRender E P)) (h : AreCitesOf eq entered requests renders) where
-    entry-again : (table : States E) (r : Request E P) (s : Option DisambiguateState) (i : ItemRender E P) → (with_any answers r s i).entry ≡ i.entry
+  module _ (entered : Table E) (requests : List (Request E P)) (renders : List (CiteRender E P)) (h : AreCitesOf eq entered requests renders) where
+    entry-again : (table : StateTable E) (r : Request E P) (s : Option DisambiguateState) (i : ItemRender E P) → (with_any answers r s i).entry ≡ i.entry
     entry-again table r None i = refl
     entry-again table r (Some s) i = refl
 
@@ -117,7 +117,7 @@ module _ {E P : Type 0} (eq : E → E → Bool) (laws : IsEquivalence eq) (answe
     placed-again entries places r (Some s) i a = a
 
     -- rendered again
-    pub again-stand : (table : States E) → AreCitesOf eq entered requests (at_table answers table renders)
+    pub again-stand : (table : StateTable E) → AreCitesOf eq entered requests (at_table answers table renders)
     again-stand table = record {
       of = same-mapped (request_at answers table) (λ c. c.request) (λ c. refl) renders ∙ h.of;
       placed = zip-mapped (request_at answers table) (λ places c. All (IsPlaced eq entered.entries places) c.items)
@@ -157,7 +157,7 @@ module _ {E P : Type 0} (eq : E → E → Bool) (laws : IsEquivalence eq) (answe
         settled k c = record c { items = with_final_items eq payload_eq number_of (items_before renders k) c.items }
 
 module _ {E P : Type 0} (eq : E → E → Bool) (laws : IsEquivalence eq) (answers : E → Answers) (payload_eq : P → P → Bool) (number_of : E → ℕ)
-    (requests : List (Request E P)) (table : StateTable E) (is : table ≡ table_of eq requests)
+    (requests : List (Request E P)) (table : Table E) (is : table ≡ table_of eq requests)
     (begun : List (CiteRender E P)) (first : begun ≡ first_renders answers requests (first_properties eq payload_eq number_of requests)) where
   -- the first renders, over the table
   pub begun-stand : AreCitesOf eq table requests begun
