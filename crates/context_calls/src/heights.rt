@@ -28,8 +28,8 @@ pub enum Ended {
     OtherHeights,
 }
 
-/// Why, behind a call that was refused.
-fn ended(before: Heights, writing: &WritingContext<'_>) -> Ended {
+/// Why they ended at a call that was refused.
+fn after_refusal(before: Heights, writing: &WritingContext<'_>) -> Ended {
     if writing.heights() == before {
         Ended::Refused
     } else {
@@ -46,7 +46,7 @@ fn held(
     match outcome {
         Ok(()) if writing.heights() == before => Ok(()),
         Ok(()) => Err(Ended::OtherHeights),
-        Err(_) => Err(ended(before, writing)),
+        Err(_) => Err(after_refusal(before, writing)),
     }
 }
 
@@ -99,22 +99,22 @@ fn push_elements(context: &mut Writing<'_>) -> Result<(), Ended> {
     let writing = &mut context.writing;
     let before = writing.heights();
     let Ok(outer) = writing.push_elem(italic()) else {
-        return Err(ended(before, writing));
+        return Err(after_refusal(before, writing));
     };
     let before = writing.heights();
     let Ok(inner) = writing.push_elem(italic()) else {
-        return Err(ended(before, writing));
+        return Err(after_refusal(before, writing));
     };
     let before = writing.heights();
     if writing
         .commit_elem(inner, Some(Display::Block), None)
         .is_err()
     {
-        return Err(ended(before, writing));
+        return Err(after_refusal(before, writing));
     }
     let before = writing.heights();
     if writing.discard_elem(outer).is_err() {
-        return Err(ended(before, writing));
+        return Err(after_refusal(before, writing));
     }
     Ok(())
 }
@@ -123,12 +123,12 @@ fn push_elements(context: &mut Writing<'_>) -> Result<(), Ended> {
 fn push_formats(context: &mut Writing<'_>) -> Result<(), Ended> {
     let before = context.writing.heights();
     let Ok(format) = context.writing.push_format(italic()) else {
-        return Err(ended(before, &context.writing));
+        return Err(after_refusal(before, &context.writing));
     };
     push_texts(context)?;
     let before = context.writing.heights();
     if context.writing.pop_format(format).is_err() {
-        return Err(ended(before, &context.writing));
+        return Err(after_refusal(before, &context.writing));
     }
     Ok(())
 }
@@ -140,12 +140,12 @@ fn push_settings<'a>(
 ) -> Result<(), Ended> {
     let before = context.writing.heights();
     let Ok(delimiter) = context.writing.push_delimiter(Some("; ")) else {
-        return Err(ended(before, &context.writing));
+        return Err(after_refusal(before, &context.writing));
     };
     context.writing.pop_delimiter(delimiter);
     let before = context.writing.heights();
     if context.writing.push_name_options(options).is_err() {
-        return Err(ended(before, &context.writing));
+        return Err(after_refusal(before, &context.writing));
     }
     Ok(())
 }
@@ -154,15 +154,15 @@ fn push_settings<'a>(
 fn push_affixes(context: &mut Writing<'_>, affixes: &Affixes) -> Result<(), Ended> {
     let before = context.writing.heights();
     let Ok(prefix) = context.writing.apply_prefix(affixes) else {
-        return Err(ended(before, &context.writing));
+        return Err(after_refusal(before, &context.writing));
     };
     let before = context.writing.heights();
     if context.push_str(LONG).is_err() || context.writing.has_content_since(&prefix).is_err() {
-        return Err(ended(before, &context.writing));
+        return Err(after_refusal(before, &context.writing));
     }
     let before = context.writing.heights();
     if context.apply_suffix(affixes, prefix).is_err() {
-        return Err(ended(before, &context.writing));
+        return Err(after_refusal(before, &context.writing));
     }
     Ok(())
 }
