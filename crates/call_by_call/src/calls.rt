@@ -9,6 +9,7 @@ use cite_document::error::RunError;
 use cite_document::input::read_input;
 use cite_document::running::run;
 use csl_base::entry::PlainEntry;
+use csl_base::locale::Locale;
 use csl_driver::account::Account;
 use csl_driver::driver::BibliographyDriver;
 use csl_driver::error::{CitationRefused, DriverError};
@@ -22,7 +23,8 @@ use document_reading::entries::entries_of;
 use document_reading::finders::found_styles;
 use document_reading::requests::{copied_code, driver_request};
 use document_styles::locales::locales_at;
-use document_styles::styles::styles_of;
+use document_styles::styles::{NamedStyle, styles_of};
+use serde_json::Value;
 use std::alloc::{AllocError, Global};
 use std::convert::Infallible;
 
@@ -62,11 +64,10 @@ pub enum Seen {
 
 type Driver<'e> = BibliographyDriver<'e, PlainEntry, Infallible>;
 
+type Request<'e> = CitationRequest<'e, PlainEntry, Infallible>;
+
 /// Hands in a request, and once more where it comes back; tells whether it did.
-fn take<'e>(
-    driver: &mut Driver<'e>,
-    request: CitationRequest<'e, PlainEntry, Infallible>,
-) -> Result<bool, RunError> {
+fn take<'e>(driver: &mut Driver<'e>, request: Request<'e>) -> Result<bool, RunError> {
     match driver.citation(request) {
         Ok(()) => Ok(false),
         Err(refused) => {
@@ -301,12 +302,19 @@ fn requests_of<'e, 'f: 'e>(
     alloc: Global,
     asked: &'e Asked<'f>,
     files: &'e TermTables<'f>,
-) -> Result<Vec<CitationRequest<'e, PlainEntry, Infallible>>, RunError> {
+) -> Result<Vec<Request<'e>>, RunError> {
     let mut requests = Vec::new(alloc);
     for request in &asked.requests {
         requests.push(driver_request(alloc, request, files)?)?;
     }
     Ok(requests)
+}
+
+/// Compares cites with their copies, and requests with the first one.
+fn compare_requests(rt: &impl Print, requests: &[Request<'_>]) -> Result<(), AllocError> {
+    print_copies(rt, requests)?;
+    print_requests(rt, requests);
+    Ok(())
 }
 
 /// Compares the requests with the first one, and that for the bibliography with one for its style alone.
@@ -315,11 +323,8 @@ fn compare<'e, 'f: 'e>(
     asked: &'e Asked<'f>,
     files: &'e TermTables<'f>,
 ) -> Result<Seen, RunError> {
-    let requests = requests_of(rt.alloc(), asked, files)?;
-    print_copies(rt, &requests)?;
-    print_requests(rt, &requests);
-    let wanted = bibliography_request(rt.alloc(), asked, files)?;
-    print_wanted(rt, &wanted);
+    compare_requests(rt, &requests_of(rt.alloc(), asked, files)?)?;
+    print_wanted(rt, &bibliography_request(rt.alloc(), asked, files)?);
     if properties_differ() {
         Ok(Seen::Answer)
     } else {
@@ -337,29 +342,58 @@ fn call_passes<'e, 'f: 'e>(
     by_passes(rt, &requests)
 }
 
+/// Does it with what the document asks for, and the tables of its locales.
+fn answered_over<'e, 'f: 'e>(
+    rt: &(impl Print + Eprint + AllocGlobal),
+    asked: &'e Asked<'f>,
+    files: &'e TermTables<'f>,
+    how: How,
+) -> Result<Seen, RunError> {
+    match how {
+        How::Alone => answer_alone(rt, asked, files),
+        How::Passes => call_passes(rt, asked, files),
+        How::Equality => compare(rt, asked, files),
+        How::Free => call_free(rt, asked, files),
+        _ => answer_all(rt, asked, files, how),
+    }
+}
+
+/// Does it with what the value asks for, of these styles, entries and locales.
+fn answered_of(
+    rt: &(impl Print + Eprint + AllocGlobal),
+    object: &Value,
+    styles: &[NamedStyle],
+    entries: &[PlainEntry],
+    locales: &[Locale],
+    how: How,
+) -> Result<Seen, RunError> {
+    let found = found_styles(rt.alloc(), styles, object)?;
+    let asked = asked_in(rt.alloc(), &found, entries, locales, object)?;
+    let files = TermTables::new(rt.alloc(), asked.locales)?;
+    answered_over(rt, &asked, &files, how)
+}
+
+/// Does it with the value of a document.
+fn answered_in(
+    rt: &(impl Print + Eprint + AllocGlobal),
+    object: &Value,
+    how: How,
+) -> Result<Seen, RunError> {
+    let styles = styles_of(rt.alloc(), object)?;
+    let locales = locales_at(rt.alloc(), object, "locales")?;
+    let entries = entries_of(rt.alloc(), object)?;
+    answered_of(rt, object, &styles, &entries, &locales, how)
+}
+
 /// Does what is asked with the document.
 pub fn answered(
     rt: &(impl Print + Eprint + AllocGlobal),
     document: &str,
     how: How,
 ) -> Result<Seen, RunError> {
-    let alloc = rt.alloc();
     let _ = eprintln!(rt; "prepare");
-    let value = value_of(alloc, document)?;
-    let object = top_of(&value)?;
-    let styles = styles_of(alloc, object)?;
-    let locales = locales_at(alloc, object, "locales")?;
-    let entries = entries_of(alloc, object)?;
-    let found = found_styles(alloc, &styles, object)?;
-    let asked = asked_in(alloc, &found, &entries, &locales, object)?;
-    let files = TermTables::new(alloc, asked.locales)?;
-    match how {
-        How::Alone => answer_alone(rt, &asked, &files),
-        How::Passes => call_passes(rt, &asked, &files),
-        How::Equality => compare(rt, &asked, &files),
-        How::Free => call_free(rt, &asked, &files),
-        _ => answer_all(rt, &asked, &files, how),
-    }
+    let value = value_of(rt.alloc(), document)?;
+    answered_in(rt, top_of(&value)?, how)
 }
 
 /// Answers the document by `run`, into memory that is there.

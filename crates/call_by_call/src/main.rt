@@ -22,10 +22,7 @@ use document_reading::document::utf8_text;
 use std::process::ExitCode;
 
 /// Does what the first line says with the document behind it.
-fn answer(rt: &(impl Input + Print + Eprint + AllocGlobal)) -> Result<Seen, RunError> {
-    let _ = eprintln!(rt; "read");
-    let bytes = read_input(rt.alloc(), &mut rt.reader())?;
-    let text = utf8_text(&bytes)?;
+fn answer_to(rt: &(impl Print + Eprint + AllocGlobal), text: &str) -> Result<Seen, RunError> {
     let Some((asked, document)) = text.split_once('\n') else {
         return Err(RunError::Document);
     };
@@ -47,6 +44,13 @@ fn answer(rt: &(impl Input + Print + Eprint + AllocGlobal)) -> Result<Seen, RunE
             Err(_) => Err(RunError::Document),
         },
     }
+}
+
+/// Reads what is asked, and answers it.
+fn answer(rt: &(impl Input + Print + Eprint + AllocGlobal)) -> Result<Seen, RunError> {
+    let _ = eprintln!(rt; "read");
+    let bytes = read_input(rt.alloc(), &mut rt.reader())?;
+    answer_to(rt, utf8_text(&bytes)?)
 }
 
 fn main(rt: HostRuntime) -> ExitCode {

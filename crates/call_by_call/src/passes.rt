@@ -127,14 +127,19 @@ fn mark_group(
 {
     print_places(rt, group);
     let _ = eprintln!(rt; "disambiguate_names");
-    let names = disambiguate_names(rt.alloc(), cites, group)?;
-    print_marks(rt, "names", &names);
+    print_marks(rt, "names", &disambiguate_names(rt.alloc(), cites, group)?);
     let _ = eprintln!(rt; "disambiguate_with_choose");
-    let choices = disambiguate_with_choose(rt.alloc(), cites, group)?;
-    print_marks(rt, "choose", &choices);
+    print_marks(
+        rt,
+        "choose",
+        &disambiguate_with_choose(rt.alloc(), cites, group)?,
+    );
     let _ = eprintln!(rt; "disambiguate_year_suffix");
-    let suffixes = disambiguate_year_suffix(rt.alloc(), cites, group)?;
-    print_marks(rt, "suffixes", &suffixes);
+    print_marks(
+        rt,
+        "suffixes",
+        &disambiguate_year_suffix(rt.alloc(), cites, group)?,
+    );
     Ok(())
 }
 
@@ -220,16 +225,31 @@ fn group_one(
     Ok(true)
 }
 
+/// The item of a bibliography for this cite, if it has content, with its key.
+fn item_of(
+    alloc: Global,
+    context: &StyleContext<'_>,
+    item: &Item<'_>,
+    renders: &mut Renders,
+) -> Result<Option<(ElemChildren, String)>, AllocError>
+    requires no_ring { HasNoRing (context_source context.now).style.macros }
+{
+    let key = String::from_str(alloc, item.entry.key())?;
+    let properties: CiteProperties<'_, Infallible> = CiteProperties::for_sorting(None, 0);
+    match context.bibliography(alloc, item.entry, &properties, None, None, renders)? {
+        Some(tree) => Ok(Some((tree, key))),
+        None => Ok(None),
+    }
+}
+
 /// The items of a bibliography.
 fn items_of(alloc: Global, request: &Request<'_>) -> Result<Vec<(ElemChildren, String)>, RunError> {
     let context = ringless(alloc, request.style())?;
-    let properties: CiteProperties<'_, Infallible> = CiteProperties::for_sorting(None, 0);
     let mut renders = Renders::new();
     let mut items = Vec::new(alloc);
     for item in &request.items {
-        let tree = context.bibliography(alloc, item.entry, &properties, None, None, &mut renders)?;
-        if let Some(tree) = tree {
-            items.push((tree, String::from_str(alloc, item.entry.key())?))?;
+        if let Some(found) = item_of(alloc, &context, item, &mut renders)? {
+            items.push(found)?;
         }
     }
     Ok(items)
@@ -270,15 +290,22 @@ fn change_each(
     Ok(true)
 }
 
+/// Marks the cites of these requests, and makes the calls that change them.
+fn pass_over(
+    rt: &(impl Print + Eprint + AllocGlobal),
+    requests: &[Request<'_>],
+) -> Result<bool, RunError> {
+    let mut cites = all_written(rt.alloc(), requests)?;
+    mark_all(rt, &cites)?;
+    change_each(rt, &mut cites, &all_written(rt.alloc(), requests)?)
+}
+
 /// Calls the passes on the cites of these requests, and prints what they give.
 pub fn by_passes(
     rt: &(impl Print + Eprint + AllocGlobal),
     requests: &[Request<'_>],
 ) -> Result<Seen, RunError> {
-    let mut cites = all_written(rt.alloc(), requests)?;
-    let alike = all_written(rt.alloc(), requests)?;
-    mark_all(rt, &cites)?;
-    if !change_each(rt, &mut cites, &alike)? {
+    if !pass_over(rt, requests)? {
         return Ok(Seen::Amiss("a refused request isn't as it was"));
     }
     for request in requests {

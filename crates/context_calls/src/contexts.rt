@@ -41,18 +41,15 @@ fn formula(alloc: Global) -> Result<ChunkedString, AllocError> {
 }
 
 /// A text, a formula, a link and a mark.
-fn marked(
-    alloc: Global,
-    style: &IndependentStyle,
+fn push_children(
+    context: &mut Writing<'_>,
     formula: &ChunkedString,
     url: String,
-) -> Result<ElemChildren, AllocError> {
-    let mut context = begin(alloc, style)?;
+) -> Result<(), AllocError> {
     context.push_str("A")?;
     context.push_chunked(formula)?;
     context.push_link(formula, url)?;
-    context.push_transparent(2)?;
-    context.writing.flush()
+    context.push_transparent(2)
 }
 
 fn affixes(alloc: Global, prefix: &str, suffix: &str) -> Result<Affixes, AllocError> {
@@ -63,53 +60,48 @@ fn affixes(alloc: Global, prefix: &str, suffix: &str) -> Result<Affixes, AllocEr
 }
 
 /// The text in these affixes.
-fn in_affixes(
-    alloc: Global,
-    style: &IndependentStyle,
+fn push_in_affixes(
+    context: &mut Writing<'_>,
     affixes: &Affixes,
     text: &str,
-) -> Result<ElemChildren, AllocError> {
-    let mut context = begin(alloc, style)?;
+) -> Result<(), AllocError> {
     let prefix = context.writing.apply_prefix(affixes)?;
     context.push_str(text)?;
-    context.apply_suffix(affixes, prefix)?;
-    context.writing.flush()
+    context.apply_suffix(affixes, prefix)
 }
 
-/// Whether what follows a prefix of one space is content, where its periods are stripped.
-fn stripped_behind_a_space(alloc: Global, style: &IndependentStyle) -> Result<bool, AllocError> {
-    let affixes = affixes(alloc, " ", "")?;
-    let mut context = begin(alloc, style)?;
-    let prefix = context.writing.apply_prefix(&affixes)?;
+/// Whether what follows this prefix is content, where its periods are stripped.
+fn is_content(context: &mut Writing<'_>, affixes: &Affixes) -> Result<bool, AllocError> {
+    let prefix = context.writing.apply_prefix(affixes)?;
     context.may_strip_periods(true);
     context.push_str(".é")?;
     context.stop_stripping_periods();
     context.writing.has_content_since(&prefix)
 }
 
-/// A text in quotes, and a space behind it that is there already.
-fn quoted(alloc: Global, style: &IndependentStyle) -> Result<ElemChildren, AllocError> {
+/// Whether it is behind one space.
+fn is_content_behind_a_space(alloc: Global, style: &IndependentStyle) -> Result<bool, AllocError> {
+    let affixes = affixes(alloc, " ", "")?;
     let mut context = begin(alloc, style)?;
+    is_content(&mut context, &affixes)
+}
+
+/// A text in quotes, and a space behind it that is there already.
+fn push_quoted(context: &mut Writing<'_>) -> Result<(), AllocError> {
     context.push_quotes()?;
     context.push_str("X")?;
     context.pop_quotes()?;
     context.may_pull_punctuation();
     context.push_str(",\u{a0}")?;
-    context.ensure_space()?;
-    context.writing.flush()
+    context.ensure_space()
 }
 
-/// Writes under name options and a delimiter of its own.
-fn in_stacks(alloc: Global, style: &IndependentStyle) -> Result<ElemChildren, AllocError> {
-    let mut context = begin(alloc, style)?;
+/// A text under a delimiter of its own.
+fn push_delimited(context: &mut Writing<'_>) -> Result<(), AllocError> {
     let delimiter = context.writing.push_delimiter(Some("; "))?;
-    context
-        .writing
-        .push_name_options(&style.citation.name_options)?;
     context.push_str("A")?;
-    context.writing.pop_name_options();
     context.writing.pop_delimiter(delimiter);
-    context.writing.flush()
+    Ok(())
 }
 
 fn italic() -> StyleFormatting {
@@ -120,11 +112,48 @@ fn italic() -> StyleFormatting {
 }
 
 /// Changes the formatting, and goes back.
-fn in_formats(alloc: Global, style: &IndependentStyle) -> Result<(), AllocError> {
-    let mut context = begin(alloc, style)?;
+fn push_in_format(context: &mut Writing<'_>) -> Result<(), AllocError> {
     let format = context.writing.push_format(italic())?;
     context.push_str("A")?;
     context.writing.pop_format(format)
+}
+
+/// What is written into a context of its own.
+#[derive(Clone, Copy)]
+enum Part<'p> {
+    /// A text, a formula, a link of it and a mark.
+    Children(&'p ChunkedString),
+    /// A text in affixes.
+    InAffixes(&'p Affixes, &'p str),
+    /// A text in quotes.
+    Quoted,
+    /// A text under a delimiter of its own.
+    Delimited,
+    /// A text in a format of its own.
+    Formatted,
+}
+
+fn push_part(alloc: Global, context: &mut Writing<'_>, part: Part<'_>) -> Result<(), AllocError> {
+    match part {
+        Part::Children(formula) => {
+            push_children(context, formula, String::from_str(alloc, "u")?)
+        }
+        Part::InAffixes(affixes, text) => push_in_affixes(context, affixes, text),
+        Part::Quoted => push_quoted(context),
+        Part::Delimited => push_delimited(context),
+        Part::Formatted => push_in_format(context),
+    }
+}
+
+/// The tree of this part.
+fn written(
+    alloc: Global,
+    style: &IndependentStyle,
+    part: Part<'_>,
+) -> Result<ElemChildren, AllocError> {
+    let mut context = begin(alloc, style)?;
+    push_part(alloc, &mut context, part)?;
+    context.writing.flush()
 }
 
 /// An element that is closed, and one that is dropped.
@@ -136,16 +165,29 @@ fn in_elements(alloc: Global, style: &IndependentStyle) -> Result<(), AllocError
     writing.discard_elem(dropped)
 }
 
-/// A term, and a number that is written into the context.
-fn print_term(rt: &(impl Print + AllocGlobal), style: &IndependentStyle) -> Result<(), AllocError> {
-    let mut context = begin(rt.alloc(), style)?;
+fn print_quote(rt: &impl Print, context: &Writing<'_>) {
     let quote = Term::Other(OtherTerm::OpenQuote);
     if let Some(words) = context.term(quote, TermForm::Short, false) {
         let _ = println!(rt; "term: {words}");
     }
-    if write!(context, "{}", 7).is_err() {
-        return Err(AllocError);
+}
+
+fn write_number(context: &mut Writing<'_>) -> Result<(), AllocError> {
+    match write!(context, "{}", 7) {
+        Ok(()) => Ok(()),
+        Err(_) => Err(AllocError),
     }
+}
+
+/// A term, and a number that is written into the context, behind name options that are gone again.
+fn print_term(rt: &(impl Print + AllocGlobal), style: &IndependentStyle) -> Result<(), AllocError> {
+    let mut context = begin(rt.alloc(), style)?;
+    context
+        .writing
+        .push_name_options(&style.citation.name_options)?;
+    context.writing.pop_name_options();
+    print_quote(rt, &context);
+    write_number(&mut context)?;
     let _ = println!(rt; "a number is written");
     Ok(())
 }
@@ -178,9 +220,23 @@ fn print_affixes(
 ) -> Result<(), AllocError> {
     for (prefix, text) in [("(", "A"), ("(", ""), (". ", ".")] {
         let affixes = affixes(rt.alloc(), prefix, ")")?;
-        let tree = in_affixes(rt.alloc(), style, &affixes, text)?;
+        let tree = written(rt.alloc(), style, Part::InAffixes(&affixes, text))?;
         let _ = println!(rt; "affixes: {tree}");
     }
+    Ok(())
+}
+
+/// Prints what is written in quotes, and under a delimiter.
+fn print_trees(
+    rt: &(impl Print + AllocGlobal),
+    style: &IndependentStyle,
+) -> Result<(), AllocError> {
+    let _ = println!(rt;
+        "content: {}",
+        is_content_behind_a_space(rt.alloc(), style)?
+    );
+    let _ = println!(rt; "quoted: {}", written(rt.alloc(), style, Part::Quoted)?);
+    let _ = println!(rt; "stacks: {}", written(rt.alloc(), style, Part::Delimited)?);
     Ok(())
 }
 
@@ -190,16 +246,14 @@ pub fn print_contexts(
     style: &IndependentStyle,
     files: &[Locale],
 ) -> Result<(), AllocError> {
-    let alloc = rt.alloc();
-    let (formula, url) = (formula(alloc)?, String::from_str(alloc, "u")?);
     let _ = eprintln!(rt; "context");
-    let _ = println!(rt; "children: {}", marked(alloc, style, &formula, url)?);
+    let formula = formula(rt.alloc())?;
+    let tree = written(rt.alloc(), style, Part::Children(&formula))?;
+    let _ = println!(rt; "children: {tree}");
     print_affixes(rt, style)?;
-    let _ = println!(rt; "content: {}", stripped_behind_a_space(alloc, style)?);
-    let _ = println!(rt; "quoted: {}", quoted(alloc, style)?);
-    let _ = println!(rt; "stacks: {}", in_stacks(alloc, style)?);
-    in_formats(alloc, style)?;
-    in_elements(alloc, style)?;
+    print_trees(rt, style)?;
+    let _ = written(rt.alloc(), style, Part::Formatted)?;
+    in_elements(rt.alloc(), style)?;
     print_term(rt, style)?;
     print_language(rt, style, files)
 }

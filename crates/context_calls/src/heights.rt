@@ -183,23 +183,37 @@ fn push_all<'a>(
     push_settings(context, options)
 }
 
-/// Makes calls of a context in this style, and tells why they ended before their end.
-pub fn keep_heights(
+/// Makes them in this style, of these affixes and this formula.
+fn push_under<'a>(
     rt: &(impl Eprint + AllocGlobal),
-    style: &IndependentStyle,
-    entry: &PlainEntry,
+    style: &'a IndependentStyle,
+    entry: &'a PlainEntry,
+    affixes: &Affixes,
+    formula: &ChunkedString,
 ) -> Result<Result<(), Ended>, AllocError> {
-    let alloc = rt.alloc();
-    let affixes = Affixes {
-        prefix: Some(String::from_str(alloc, "(")?),
-        suffix: Some(String::from_str(alloc, ")")?),
-    };
-    let (formula, url) = (formula(alloc)?, String::from_str(alloc, LONG)?);
     let options = &style.settings.options;
     let properties = CiteProperties::for_sorting(None, 0);
+    let url = String::from_str(rt.alloc(), LONG)?;
     let _ = eprintln!(rt; "heights");
-    let mut context: Writing<'_> = StyleContext::new(style, None, &[]).ctx(
-        alloc, entry, properties, options,
+    let mut context: Writing<'a> = StyleContext::new(style, None, &[]).ctx(
+        rt.alloc(),
+        entry,
+        properties,
+        options,
     )?;
-    Ok(push_all(&mut context, options, &affixes, &formula, url))
+    Ok(push_all(&mut context, options, affixes, formula, url))
+}
+
+/// Makes calls of a context in this style, and tells why they ended before their end.
+pub fn keep_heights<'a>(
+    rt: &(impl Eprint + AllocGlobal),
+    style: &'a IndependentStyle,
+    entry: &'a PlainEntry,
+) -> Result<Result<(), Ended>, AllocError> {
+    let affixes = Affixes {
+        prefix: Some(String::from_str(rt.alloc(), "(")?),
+        suffix: Some(String::from_str(rt.alloc(), ")")?),
+    };
+    let formula = formula(rt.alloc())?;
+    push_under(rt, style, entry, &affixes, &formula)
 }

@@ -13,45 +13,68 @@ mod heights;
 use cite_document::error::RunError;
 use cite_document::input::read_input;
 use contexts::print_contexts;
+use csl_base::entry::PlainEntry;
+use csl_base::locale::Locale;
+use csl_base::style::IndependentStyle;
 use document_reading::document::{top_of, utf8_text, value_of};
 use document_reading::entries::entries_of;
 use document_styles::locales::locales_at;
 use document_styles::styles::styles_of;
 use heights::{Ended, keep_heights};
+use serde_json::Value;
 use std::process::ExitCode;
 
 /// Makes the calls that are asked for.
 fn called(
     rt: &(impl Print + Eprint + AllocGlobal),
     asked: &str,
-    document: &str,
+    style: &IndependentStyle,
+    locales: &[Locale],
+    entry: &PlainEntry,
 ) -> Result<Result<(), Ended>, RunError> {
-    let alloc = rt.alloc();
-    let _ = eprintln!(rt; "prepare");
-    let value = value_of(alloc, document)?;
-    let object = top_of(&value)?;
-    let styles = styles_of(alloc, object)?;
-    let locales = locales_at(alloc, object, "locales")?;
-    let entries = entries_of(alloc, object)?;
+    match asked {
+        "context" => {
+            print_contexts(rt, style, locales)?;
+            Ok(Ok(()))
+        }
+        "heights" => Ok(keep_heights(rt, style, entry)?),
+        _ => Err(RunError::Document),
+    }
+}
+
+/// Makes them in the first style of a document's value, for its first entry.
+fn called_of(
+    rt: &(impl Print + Eprint + AllocGlobal),
+    asked: &str,
+    object: &Value,
+) -> Result<Result<(), Ended>, RunError> {
+    let styles = styles_of(rt.alloc(), object)?;
+    let locales = locales_at(rt.alloc(), object, "locales")?;
+    let entries = entries_of(rt.alloc(), object)?;
     let (Some(named), Some(entry)) = (styles.first(), entries.first()) else {
         return Err(RunError::Document);
     };
-    match asked {
-        "context" => print_contexts(rt, &named.style, &locales)?,
-        "heights" => return Ok(keep_heights(rt, &named.style, entry)?),
-        _ => return Err(RunError::Document),
-    }
-    Ok(Ok(()))
+    called(rt, asked, &named.style, &locales, entry)
+}
+
+/// Makes them of the document behind the first line.
+fn called_in(
+    rt: &(impl Print + Eprint + AllocGlobal),
+    text: &str,
+) -> Result<Result<(), Ended>, RunError> {
+    let Some((asked, document)) = text.split_once('\n') else {
+        return Err(RunError::Document);
+    };
+    let _ = eprintln!(rt; "prepare");
+    let value = value_of(rt.alloc(), document)?;
+    called_of(rt, asked, top_of(&value)?)
 }
 
 /// Does what the first line says with the document behind it.
 fn answer(rt: &(impl Input + Print + Eprint + AllocGlobal)) -> Result<Result<(), Ended>, RunError> {
     let _ = eprintln!(rt; "read");
     let bytes = read_input(rt.alloc(), &mut rt.reader())?;
-    let Some((asked, document)) = utf8_text(&bytes)?.split_once('\n') else {
-        return Err(RunError::Document);
-    };
-    called(rt, asked, document)
+    called_in(rt, utf8_text(&bytes)?)
 }
 
 fn main(rt: HostRuntime) -> ExitCode {

@@ -75,21 +75,26 @@ fn one_piece(alloc: Global, text: &str) -> Result<ChunkedString, AllocError> {
     Ok(ChunkedString(Seq::new(vec![in alloc; chunk]?)))
 }
 
-/// An entry with the title X, issued in 1999.
-fn titled(alloc: Global, key: &str) -> Result<Counting, AllocError> {
-    let mut plain = entry(alloc, key)?;
+/// Gives an entry the title X, issued in 1999.
+fn put_title(alloc: Global, plain: &mut PlainEntry) -> Result<(), AllocError> {
     let title = one_piece(alloc, "X")?;
     plain.texts = Seq::new(vec![in alloc; (StandardVariable::Title, title)]?);
     plain.dates = Seq::new(vec![in alloc; (DateVariable::Issued, Date { year: 1999 })]?);
+    Ok(())
+}
+
+/// An entry with that title and that date.
+fn titled(alloc: Global, key: &str) -> Result<Counting, AllocError> {
+    let mut plain = entry(alloc, key)?;
+    put_title(alloc, &mut plain)?;
     Ok(Counting {
         plain,
         titles: Cell::new(0),
     })
 }
 
-/// A style of titles, years and their letters, without a bibliography.
-fn titles_and_years(alloc: Global) -> Result<IndependentStyle, AllocError> {
-    let mut style = author_date(alloc)?;
+/// The title and the year.
+fn title_and_year(alloc: Global) -> Result<Vec<LayoutRenderingElement>, AllocError> {
     let year = LayoutRenderingElement::Date {
         variable: DateVariable::Issued,
         affixes: no_affixes(),
@@ -97,7 +102,14 @@ fn titles_and_years(alloc: Global) -> Result<IndependentStyle, AllocError> {
         display: None,
     };
     let title = text_element(TextTarget::Standard(StandardVariable::Title));
-    style.citation.layout.elements = vec![in alloc; title, year]?;
+    Ok(vec![in alloc; title, year]?)
+}
+
+/// A style of titles, years and their letters, without a bibliography.
+fn titles_and_years(alloc: Global) -> Result<IndependentStyle, AllocError> {
+    let elements = title_and_year(alloc)?;
+    let mut style = author_date(alloc)?;
+    style.citation.layout.elements = elements;
     style.citation.disambiguate_add_year_suffix = true;
     Ok(style)
 }
@@ -131,22 +143,27 @@ fn take<'a>(
     }
 }
 
-/// How often one cite asks for the title.
-fn asked_once(alloc: Global, style: &IndependentStyle) -> Result<u64, Fail> {
-    let cited = titled(alloc, "a")?;
-    let properties: CiteProperties<'_, u8> = CiteProperties::for_sorting(None, 0);
+/// Renders one cite.
+fn render_once(alloc: Global, style: &IndependentStyle, cited: &Counting) -> Result<(), Fail> {
     let context = ringless(alloc, style)?;
-    let mut renders = Renders::new();
+    let properties: CiteProperties<'_, Infallible> = CiteProperties::for_sorting(None, 0);
     let _cite = context.do_citation(
         alloc,
-        &cited,
+        cited,
         &properties,
         None,
         None,
         None,
         None,
-        &mut renders,
+        &mut Renders::new(),
     )?;
+    Ok(())
+}
+
+/// How often one cite asks for the title.
+fn asked_once(alloc: Global, style: &IndependentStyle) -> Result<u64, Fail> {
+    let cited = titled(alloc, "a")?;
+    render_once(alloc, style, &cited)?;
     Ok(cited.titles.get())
 }
 
@@ -165,12 +182,32 @@ fn renders_of<'a>(
     Ok(account.renders)
 }
 
+/// Those of a run over this entry and one more, and how often the two were asked for their titles.
+fn asked_beside(
+    alloc: Global,
+    style: &IndependentStyle,
+    a: &Counting,
+) -> Result<(u128, u64), Fail> {
+    let b = titled(alloc, "b")?;
+    let renders = renders_of(alloc, style, a, &b)?;
+    Ok((renders, a.titles.get().wrapping_add(b.titles.get())))
+}
+
+/// Those of a run over two entries.
+fn asked_in_a_run(alloc: Global, style: &IndependentStyle) -> Result<(u128, u64), Fail> {
+    asked_beside(alloc, style, &titled(alloc, "a")?)
+}
+
+/// Whether nine renders are counted, and no other is made.
+fn counts_all(alloc: Global, style: &IndependentStyle) -> Result<bool, Fail> {
+    let asked = asked_once(alloc, style)?;
+    let (renders, titles) = asked_in_a_run(alloc, style)?;
+    Ok(renders == 9 && titles == asked.wrapping_mul(9))
+}
+
 #[test]
 fn renders_on_another_counter(rt: HostRuntime) -> Result<(), Fail> {
     let style = titles_and_years(rt.alloc())?;
-    let asked = asked_once(rt.alloc(), &style)?;
-    let (a, b) = (titled(rt.alloc(), "a")?, titled(rt.alloc(), "b")?);
-    assert!(rt; renders_of(rt.alloc(), &style, &a, &b)? == 9);
-    assert!(rt; a.titles.get().wrapping_add(b.titles.get()) == asked.wrapping_mul(9));
+    assert!(rt; counts_all(rt.alloc(), &style)?);
     Ok(())
 }

@@ -102,12 +102,15 @@ fn laws() {
     final_order_laws::<PlainEntry, Infallible>();
 }
 
-/// The answer to a request for each of the keys.
-fn numbered(alloc: Global, keys: &[&str]) -> Result<Rendered, Fail> {
-    let style = numeric(alloc)?;
+/// The answer to a request for each of the keys, in the style.
+fn numbered_in(alloc: Global, style: &IndependentStyle, keys: &[&str]) -> Result<Rendered, Fail> {
     let entries = entries_of(alloc, keys)?;
-    let driver = driver_of(alloc, &style, &entries)?;
-    Ok(driver.finish(wanted(&style))?)
+    Ok(driver_of(alloc, style, &entries)?.finish(wanted(style))?)
+}
+
+/// The answer in the numeric style.
+fn numbered(alloc: Global, keys: &[&str]) -> Result<Rendered, Fail> {
+    numbered_in(alloc, &numeric(alloc)?, keys)
 }
 
 #[test]
@@ -137,12 +140,15 @@ fn noting<'a>(
     Ok(driver)
 }
 
-/// The answer to that.
-fn noted(alloc: Global, class: StyleClass) -> Result<Rendered, Fail> {
-    let style = value_style(alloc, class, "T")?;
+/// The answer to that in the style.
+fn noted_in(alloc: Global, style: &IndependentStyle) -> Result<Rendered, Fail> {
     let cited = entry(alloc, "a")?;
-    let driver = noting(alloc, &style, &cited)?;
-    Ok(driver.finish(wanted(&style))?)
+    Ok(noting(alloc, style, &cited)?.finish(wanted(style))?)
+}
+
+/// The answer to that in a style of the class.
+fn noted(alloc: Global, class: StyleClass) -> Result<Rendered, Fail> {
+    noted_in(alloc, &value_style(alloc, class, "T")?)
 }
 
 #[test]

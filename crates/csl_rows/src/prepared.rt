@@ -74,13 +74,21 @@ fn answer_prepared<'a, 's: 'a>(
     answer(alloc, cite_prepared(alloc, sound, files, cited)?, wanted)
 }
 
+/// Whether both answers to a cite are equal.
+fn answers_alike(alloc: Global, sound: &SoundStyle<'_>, cited: &PlainEntry) -> Result<bool, Fail> {
+    let files = TermTables::new(alloc, &[])?;
+    let answered = answer_prepared(alloc, sound, &files, cited)?;
+    Ok(answered == answer_unprepared(alloc, sound.style(), cited)?)
+}
+
+/// Whether they are for an entry of the key a.
+fn answers_alike_in(alloc: Global, sound: &SoundStyle<'_>) -> Result<bool, Fail> {
+    answers_alike(alloc, sound, &entry(alloc, "a")?)
+}
+
 #[test]
 fn prepared_answers_alike(rt: HostRuntime) -> Result<(), Fail> {
     let style = numeric(rt.alloc())?;
-    let cited = entry(rt.alloc(), "a")?;
-    let sound = prepared(rt.alloc(), &style)?;
-    let files = TermTables::new(rt.alloc(), &[])?;
-    let answered = answer_prepared(rt.alloc(), &sound, &files, &cited)?;
-    assert!(rt; answered == answer_unprepared(rt.alloc(), &style, &cited)?);
+    assert!(rt; answers_alike_in(rt.alloc(), &prepared(rt.alloc(), &style)?)?);
     Ok(())
 }

@@ -64,10 +64,14 @@ fn two_books(alloc: Global) -> Result<Vec<Book>, AllocError> {
     Ok(vec![in alloc; moths, mosses]?)
 }
 
-fn printed(alloc: Global) -> Result<String, DriverError> {
-    let style = author_date(alloc)?;
+fn printed_in(alloc: Global, style: &IndependentStyle) -> Result<String, DriverError> {
     let books = two_books(alloc)?;
-    Ok(lines(alloc, &answer(alloc, &style, &books)?)?)
+    let rendered = answer(alloc, style, &books)?;
+    Ok(lines(alloc, &rendered)?)
+}
+
+fn printed(alloc: Global) -> Result<String, DriverError> {
+    printed_in(alloc, &author_date(alloc)?)
 }
 
 fn main(rt: HostRuntime) -> ExitCode {

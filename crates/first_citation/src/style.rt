@@ -18,8 +18,9 @@ fn authors_and_year(alloc: Global) -> Result<LayoutRenderingElement, AllocError>
 
 /// The style: cites as `(Doe 1999)`, items as `Doe 1999`.
 pub fn author_date(alloc: Global) -> Result<IndependentStyle, AllocError> {
+    let layout = layout_of(alloc, authors_and_year(alloc)?)?;
     let mut style = styles::author_date(alloc)?;
     style.citation.disambiguate_add_year_suffix = true;
-    style.bibliography = Some(bibliography_of(layout_of(alloc, authors_and_year(alloc)?)?));
+    style.bibliography = Some(bibliography_of(layout));
     Ok(style)
 }

@@ -4,7 +4,7 @@ ghost use Rattle.csl_base.specs.Ring.{HasNoRing};
 ghost use Rattle.csl_writing.specs.ContextSource.{context_source};
 
 use csl_base::elem::ElemChild;
-use csl_base::element::TextTarget;
+use csl_base::element::{LayoutRenderingElement, TextTarget};
 use csl_base::entry::{Chunk, ChunkKind, ChunkedString, PlainEntry};
 use csl_base::seq::Seq;
 use csl_base::style::IndependentStyle;
@@ -68,47 +68,68 @@ fn piece(alloc: Global, value: &str, kind: ChunkKind) -> Result<Chunk, AllocErro
     })
 }
 
-/// An entry whose title is text, verbatim text that begins with a comma, and a formula.
+/// Text, verbatim text that begins with a comma, and a formula.
+fn title(alloc: Global) -> Result<ChunkedString, AllocError> {
+    let mut pieces = Vec::new(alloc);
+    for (value, kind) in [
+        ("a ", ChunkKind::Normal),
+        (", b", ChunkKind::Verbatim),
+        ("x", ChunkKind::Math),
+    ] {
+        pieces.push(piece(alloc, value, kind)?)?;
+    }
+    Ok(ChunkedString(Seq::new(pieces)))
+}
+
+/// An entry with that title.
 fn titled(alloc: Global) -> Result<PlainEntry, AllocError> {
+    let texts = vec![in alloc; (StandardVariable::Title, title(alloc)?)]?;
     let mut cited = entry(alloc, "a")?;
-    let text = piece(alloc, "a ", ChunkKind::Normal)?;
-    let verbatim = piece(alloc, ", b", ChunkKind::Verbatim)?;
-    let formula = piece(alloc, "x", ChunkKind::Math)?;
-    let title = ChunkedString(Seq::new(vec![in alloc; text, verbatim, formula]?));
-    cited.texts = Seq::new(vec![in alloc; (StandardVariable::Title, title)]?);
+    cited.texts = Seq::new(texts);
     Ok(cited)
+}
+
+fn title_element() -> LayoutRenderingElement {
+    text_element(TextTarget::Standard(StandardVariable::Title))
 }
 
 /// A style of titles and locators.
 fn locating(alloc: Global) -> Result<IndependentStyle, AllocError> {
-    let mut style = writing(
-        alloc,
-        text_element(TextTarget::Standard(StandardVariable::Title)),
-    )?;
     let locator = number(NumberVariable::Locator, no_affixes());
-    style.citation.layout.elements.push(locator)?;
+    let elements = vec![in alloc; title_element(), locator]?;
+    let mut style = writing(alloc, title_element())?;
+    style.citation.layout.elements = elements;
     Ok(style)
 }
 
-fn located(alloc: Global) -> Result<Cite, Fail> {
-    let style = locating(alloc)?;
-    let cited = titled(alloc)?;
+fn located_of(alloc: Global, style: &IndependentStyle, cited: &PlainEntry) -> Result<Cite, Fail> {
     let properties = supplement(alloc)?;
-    cite(alloc, &style, &cited, &properties)
+    cite(alloc, style, cited, &properties)
 }
 
-/// The pieces of a text are written together, a formula as markup, and the caller's own locator is a mark.
-#[test]
-fn pieces_and_marks(rt: HostRuntime) -> Result<(), Fail> {
-    let cite = located(rt.alloc())?;
-    let alike = match cite.children.0.as_slice() {
+fn located_in(alloc: Global, style: &IndependentStyle) -> Result<Cite, Fail> {
+    located_of(alloc, style, &titled(alloc)?)
+}
+
+fn located(alloc: Global) -> Result<Cite, Fail> {
+    located_in(alloc, &locating(alloc)?)
+}
+
+fn are_pieces_and_a_mark(children: &[ElemChild]) -> bool {
+    match children {
         [
             ElemChild::Text(first),
             ElemChild::Markup(formula),
             ElemChild::Transparent { cite_idx: 3, .. },
         ] => first.text.as_str() == "a , b" && formula.as_str() == "x",
         _ => false,
-    };
-    assert!(rt; alike);
+    }
+}
+
+/// The pieces of a text are written together, a formula as markup, and the caller's own locator is a mark.
+#[test]
+fn pieces_and_marks(rt: HostRuntime) -> Result<(), Fail> {
+    let cite = located(rt.alloc())?;
+    assert!(rt; are_pieces_and_a_mark(cite.children.0.as_slice()));
     Ok(())
 }

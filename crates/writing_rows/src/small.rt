@@ -90,14 +90,23 @@ fn located(alloc: Global, payload: u32) -> Result<CiteProperties<'static, u32>, 
     Ok(CiteProperties::for_sorting(Some(locator.clone()?), 2))
 }
 
+/// Whether the properties of one cite that points at its payload are those of the other.
+fn are_equal(alloc: Global, payload: u32, other: u32) -> Result<bool, AllocError> {
+    let properties = located(alloc, payload)?;
+    Ok(located(alloc, other)? == properties)
+}
+
+/// Whether what stands in a bibliography has no locator, and so is another.
+fn loses_its_locator(alloc: Global) -> Result<bool, AllocError> {
+    let properties = located(alloc, 7)?;
+    let without = properties.clone()?.speculative.for_bibliography();
+    Ok(without.locator.is_none() && !(without == properties.speculative))
+}
+
 #[test]
 fn properties_are_compared(rt: HostRuntime) -> Result<(), Fail> {
-    let properties = located(rt.alloc(), 7)?;
-    for (payload, equal) in [(7, true), (8, false)] {
-        assert!(rt; (located(rt.alloc(), payload)? == properties) == equal);
-    }
-    let without = properties.clone()?.speculative.for_bibliography();
-    assert!(rt; without.locator.is_none() && !(without == properties.speculative));
+    assert!(rt; are_equal(rt.alloc(), 7, 7)? && !are_equal(rt.alloc(), 7, 8)?);
+    assert!(rt; loses_its_locator(rt.alloc())?);
     assert!(rt; DisambiguateState::Choose.clone()? == DisambiguateState::Choose);
     Ok(())
 }
