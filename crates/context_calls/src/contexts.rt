@@ -1,5 +1,5 @@
 //! Calls of a writing context: what each writes, and that what is pushed comes off again.
-ghost use Rattle.std.specs.Prelude.{◌≡◌, IfOk, length};
+ghost use Rattle.std.specs.Prelude.{◌≡◌, IfOk, OnOk, length};
 ghost use Rattle.csl_context.specs.WritingState.{state};
 
 use csl_base::elem::ElemChildren;
@@ -45,7 +45,10 @@ fn push_children(
     context: &mut Writing<'_>,
     formula: &ChunkedString,
     url: String,
-) -> Result<(), AllocError> {
+) -> Result<(), AllocError>
+    requires formats { length (state context.old.writing).formats ≡ 1 }
+    ensures formats { OnOk result (length (state context.new.writing).formats ≡ 1) }
+{
     context.push_str("A")?;
     context.push_chunked(formula)?;
     context.push_link(formula, url)?;
@@ -64,7 +67,10 @@ fn push_in_affixes(
     context: &mut Writing<'_>,
     affixes: &Affixes,
     text: &str,
-) -> Result<(), AllocError> {
+) -> Result<(), AllocError>
+    requires formats { length (state context.old.writing).formats ≡ 1 }
+    ensures formats { OnOk result (length (state context.new.writing).formats ≡ 1) }
+{
     let prefix = context.writing.apply_prefix(affixes)?;
     context.push_str(text)?;
     context.apply_suffix(affixes, prefix)
@@ -87,7 +93,10 @@ fn is_content_behind_a_space(alloc: Global, style: &IndependentStyle) -> Result<
 }
 
 /// A text in quotes, and a space behind it that is there already.
-fn push_quoted(context: &mut Writing<'_>) -> Result<(), AllocError> {
+fn push_quoted(context: &mut Writing<'_>) -> Result<(), AllocError>
+    requires formats { length (state context.old.writing).formats ≡ 1 }
+    ensures formats { OnOk result (length (state context.new.writing).formats ≡ 1) }
+{
     context.push_quotes()?;
     context.push_str("X")?;
     context.pop_quotes()?;
@@ -97,7 +106,10 @@ fn push_quoted(context: &mut Writing<'_>) -> Result<(), AllocError> {
 }
 
 /// A text under a delimiter of its own.
-fn push_delimited(context: &mut Writing<'_>) -> Result<(), AllocError> {
+fn push_delimited(context: &mut Writing<'_>) -> Result<(), AllocError>
+    requires formats { length (state context.old.writing).formats ≡ 1 }
+    ensures formats { OnOk result (length (state context.new.writing).formats ≡ 1) }
+{
     let delimiter = context.writing.push_delimiter(Some("; "))?;
     context.push_str("A")?;
     context.writing.pop_delimiter(delimiter);
@@ -111,13 +123,6 @@ fn italic() -> StyleFormatting {
     }
 }
 
-/// Changes the formatting, and goes back.
-fn push_in_format(context: &mut Writing<'_>) -> Result<(), AllocError> {
-    let format = context.writing.push_format(italic())?;
-    context.push_str("A")?;
-    context.writing.pop_format(format)
-}
-
 /// What is written into a context of its own.
 #[derive(Clone, Copy)]
 enum Part<'p> {
@@ -129,11 +134,12 @@ enum Part<'p> {
     Quoted,
     /// A text under a delimiter of its own.
     Delimited,
-    /// A text in a format of its own.
-    Formatted,
 }
 
-fn push_part(alloc: Global, context: &mut Writing<'_>, part: Part<'_>) -> Result<(), AllocError> {
+fn push_part(alloc: Global, context: &mut Writing<'_>, part: Part<'_>) -> Result<(), AllocError>
+    requires formats { length (state context.old.writing).formats ≡ 1 }
+    ensures formats { OnOk result (length (state context.new.writing).formats ≡ 1) }
+{
     match part {
         Part::Children(formula) => {
             push_children(context, formula, String::from_str(alloc, "u")?)
@@ -141,8 +147,14 @@ fn push_part(alloc: Global, context: &mut Writing<'_>, part: Part<'_>) -> Result
         Part::InAffixes(affixes, text) => push_in_affixes(context, affixes, text),
         Part::Quoted => push_quoted(context),
         Part::Delimited => push_delimited(context),
-        Part::Formatted => push_in_format(context),
     }
+}
+
+/// Changes the formatting of a context of its own, and goes back.
+fn in_format(alloc: Global, style: &IndependentStyle) -> Result<(), AllocError> {
+    let mut context = begin(alloc, style)?;
+    let format = context.writing.push_format(italic())?;
+    context.writing.pop_format(format)
 }
 
 /// The tree of this part.
@@ -252,7 +264,7 @@ pub fn print_contexts(
     let _ = println!(rt; "children: {tree}");
     print_affixes(rt, style)?;
     print_trees(rt, style)?;
-    let _ = written(rt.alloc(), style, Part::Formatted)?;
+    in_format(rt.alloc(), style)?;
     in_elements(rt.alloc(), style)?;
     print_term(rt, style)?;
     print_language(rt, style, files)
