@@ -476,7 +476,8 @@ REFUSED = {'rows/ring_of_two_macros': 3, 'rows/number_overflow': 4}
 ALONE = b'[1]\n' * 4
 PASSES = ['find_ambiguous_sets', 'disambiguate_names', 'disambiguate_with_choose', 'disambiguate_year_suffix']
 PASSES += ['group_cites', 'substitute_subsequent_authors']
-# Calls of crates/call_by_call and crates/context_calls, which name them before they make them; the status is 5 where one is refused, but for `citation`.
+# Calls of crates/call_by_call and crates/context_calls, which name them before they make them; the status is 5 where one is
+# refused, but for `citation`.
 CALLS = ['read', 'prepare', 'citation', 'finish', 'finish_counted', 'finish_full', 'standalone_citation', 'run', 'free', 'clone', 'context', 'heights', *PASSES]
 # Those that print before others are called.
 PRINT = ['standalone_citation', 'context', *PASSES]
