@@ -31,10 +31,10 @@ fn begin<'a>(alloc: Global, style: &'a IndependentStyle) -> Result<Writing<'a>, 
     StyleContext::new(style, None, &[]).ctx(alloc, options, properties, options)
 }
 
-/// A formula.
-fn formula(alloc: Global) -> Result<ChunkedString, AllocError> {
+/// This formula.
+pub(crate) fn formula(alloc: Global, text: &str) -> Result<ChunkedString, AllocError> {
     let chunk = Chunk {
-        value: Text::new(String::from_str(alloc, "x")?),
+        value: Text::new(String::from_str(alloc, text)?),
         kind: ChunkKind::Math,
     };
     Ok(ChunkedString(Seq::new(vec![in alloc; chunk]?)))
@@ -55,7 +55,7 @@ fn push_children(
     context.push_transparent(2)
 }
 
-fn affixes(alloc: Global, prefix: &str, suffix: &str) -> Result<Affixes, AllocError> {
+pub(crate) fn affixes(alloc: Global, prefix: &str, suffix: &str) -> Result<Affixes, AllocError> {
     Ok(Affixes {
         prefix: Some(String::from_str(alloc, prefix)?),
         suffix: Some(String::from_str(alloc, suffix)?),
@@ -116,7 +116,7 @@ fn push_delimited(context: &mut Writing<'_>) -> Result<(), AllocError>
     Ok(())
 }
 
-fn italic() -> StyleFormatting {
+pub(crate) fn italic() -> StyleFormatting {
     StyleFormatting {
         font_style: Some(FontStyle::Italic),
         font_weight: None,
@@ -259,7 +259,7 @@ pub fn print_contexts(
     files: &[Locale],
 ) -> Result<(), AllocError> {
     let _ = eprintln!(rt; "context");
-    let formula = formula(rt.alloc())?;
+    let formula = formula(rt.alloc(), "x")?;
     let tree = written(rt.alloc(), style, Part::Children(&formula))?;
     let _ = println!(rt; "children: {tree}");
     print_affixes(rt, style)?;

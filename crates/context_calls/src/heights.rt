@@ -1,11 +1,10 @@
 //! Calls of a writing context, each of which leaves the stacks as high as they were where it is refused.
 
+use crate::contexts::{affixes, formula, italic};
 use csl_base::element::{Affixes, InheritableNameOptions};
-use csl_base::entry::{Chunk, ChunkKind, ChunkedString, PlainEntry};
-use csl_base::formatting::{Display, FontStyle, StyleFormatting};
-use csl_base::seq::Seq;
+use csl_base::entry::{ChunkedString, PlainEntry};
+use csl_base::formatting::Display;
 use csl_base::style::IndependentStyle;
-use csl_base::text::Text;
 use csl_context::context::Context;
 use csl_context::token::Heights;
 use csl_context::writing::WritingContext;
@@ -48,22 +47,6 @@ fn held(
         Ok(()) => Err(Ended::OtherHeights),
         Err(_) => Err(after_refusal(before, writing)),
     }
-}
-
-fn italic() -> StyleFormatting {
-    StyleFormatting {
-        font_style: Some(FontStyle::Italic),
-        font_weight: None,
-    }
-}
-
-/// A formula, and a text that it is the link of.
-fn formula(alloc: Global) -> Result<ChunkedString, AllocError> {
-    let chunk = Chunk {
-        value: Text::new(String::from_str(alloc, LONG)?),
-        kind: ChunkKind::Math,
-    };
-    Ok(ChunkedString(Seq::new(vec![in alloc; chunk]?)))
 }
 
 /// Texts, spaces and quotes.
@@ -210,10 +193,7 @@ pub fn keep_heights<'a>(
     style: &'a IndependentStyle,
     entry: &'a PlainEntry,
 ) -> Result<Result<(), Ended>, AllocError> {
-    let affixes = Affixes {
-        prefix: Some(String::from_str(rt.alloc(), "(")?),
-        suffix: Some(String::from_str(rt.alloc(), ")")?),
-    };
-    let formula = formula(rt.alloc())?;
+    let affixes = affixes(rt.alloc(), "(", ")")?;
+    let formula = formula(rt.alloc(), LONG)?;
     push_under(rt, style, entry, &affixes, &formula)
 }
