@@ -2,10 +2,10 @@
 """run.py [CRATE..]: tries the must-fail edits of this folder, of all crates or of those named, and counts them.
 run.py --applied: only looks whether each of them can be applied, which takes no prover.
 
-An edit lies in edits/CRATE/NAME.edit, in the form of crates/CRATE/must-fail/, whose edits `rt ci` tries itself. The tree
-is copied, the edits are put where `rt must-fail` looks in place of those of the gate, and it tries them, the crates side
-by side. An edit passes where the prover refuses it. The last line is 'N passed, M failed', and the exit status is 1 where
-one failed."""
+An edit lies in edits/CRATE/NAME.edit, in the form of crates/CRATE/must-fail/, whose edits the gate tries. The tree is
+copied, the edits are put in place of those of the gate, and `rt ci` tries them, the crates side by side: it takes over what
+an earlier run on this machine proved, and goes on where one was stopped. An edit passes where the prover refuses it. The
+last line is 'N passed, M failed', and the exit status is 1 where one failed."""
 import glob
 import os
 import re
@@ -16,7 +16,7 @@ import tempfile
 
 HERE = os.path.dirname(os.path.abspath(__file__))
 ROOT = os.path.dirname(HERE)
-TOLD = re.compile(r'(?:rt: )?must-fail (\w+)/([\w.-]+)\.edit: (.*)')
+TOLD = re.compile(r'rt: must-fail (\w+)/([\w.-]+)\.edit: (.*)')
 REFUSED = 'refused, as it must be'
 
 
@@ -84,7 +84,7 @@ def tried(crates):
     refused = set()
     with tempfile.TemporaryDirectory(prefix='edits-') as room:
         copy_with_edits(room, crates)
-        ran = subprocess.Popen(['rt', 'must-fail', *crates], cwd=room, text=True, errors='replace',
+        ran = subprocess.Popen(['rt', 'ci', *crates], cwd=room, text=True, errors='replace',
                                stdin=subprocess.DEVNULL, stdout=subprocess.PIPE, stderr=subprocess.STDOUT)
         for line in ran.stdout:
             print(line, end='', flush=True)
