@@ -22,7 +22,7 @@ def by_function(files):
     """The seconds for each function, and those for what it owns."""
     spent = {}
     for (before, _), (at, name) in zip(files, files[1:]):
-        what = '.'.join(name.split('.')[:3])
+        what = '.'.join(name.split('.')[:-2]) or name
         whole, owned = spent.get(what, (0, 0))
         spent[what] = whole + at - before, owned + (at - before if '.Lts' in name else 0)
     return spent
