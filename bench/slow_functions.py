@@ -18,11 +18,19 @@ def written(folder):
     return sorted(found)
 
 
+def function_of(name):
+    """The function that a file is about: the parts behind its name are the prover's own, and begin with a capital letter."""
+    parts = name.split('.')[:-1]
+    while len(parts) > 1 and (parts[-1] == 'decls' or parts[-1][:1].isupper()):
+        parts.pop()
+    return '.'.join(parts) or name
+
+
 def by_function(files):
     """The seconds for each function, and those for what it owns."""
     spent = {}
     for (before, _), (at, name) in zip(files, files[1:]):
-        what = '.'.join(name.split('.')[:-2]) or name
+        what = function_of(name)
         whole, owned = spent.get(what, (0, 0))
         spent[what] = whole + at - before, owned + (at - before if '.Lts' in name else 0)
     return spent
