@@ -5,7 +5,6 @@ use Rattle.std.specs.Cmp.{IsEquivalence}
 use Rattle.std.specs.List.{range_with_len}
 use Rattle.std.proofs.lemmas.List.{map-append}
 use Rattle.std.proofs.lemmas.List.Elements.{All-cons, All-head, All-nil, All-tail}
-use Rattle.csl_driver.specs.Account.{told_by}
 use Rattle.csl_entries.specs.Entries.{is_in, place}
 use Rattle.csl_entries.specs.Laws.{NoTwoEqual}
 use Rattle.csl_entries.proofs.ListedPlaces.{all-cited, place-within}
@@ -15,7 +14,7 @@ use Rattle.csl_entries.proofs.Placing.{all_in, left, right}
 use Rattle.csl_lookup.specs.declared.state.DisambiguateState.{DisambiguateState}
 use Rattle.csl_positions.specs.FirstProperties.{numbered_by}
 use Rattle.csl_rounds.specs.Rerenders.{AreStatesOf}
-use Rattle.csl_rounds.specs.Rounds.{StateTable}
+use Rattle.csl_rounds.specs.Rounds.{StateTable, told_by}
 
 zero-more : (n : ℕ) → 0 + n ≡ n
 zero-more n = omega arith
@@ -39,7 +38,7 @@ taken-length xs zero h = refl
 taken-length [] (suc n) h = absurd (omega (arith, h))
 taken-length (x ∷ xs) (suc n) h = ap suc (taken-length xs n (omega (arith, h)))
 
-agree : {E Y : Type 0} (f g : E → Y) (xs : List E) → All (λ e. f e ≡ g e) xs → map f xs ≡ map g xs
+pub agree : {E Y : Type 0} (f g : E → Y) (xs : List E) → All (λ e. f e ≡ g e) xs → map f xs ≡ map g xs
 agree f g [] h = refl
 agree f g (x ∷ xs) h = λ i. All-head (λ e. f e ≡ g e) x xs h i ∷ agree f g xs (All-tail (λ e. f e ≡ g e) x xs h) i
 

@@ -1,79 +1,230 @@
 -- The laws of states, numbers, final orders and runs hold of every answer.
-use Rattle.std.proofs.Common.{◌≡◌, ℕ, Bool, true, false, List, [], ◌∷◌, Option, None, Some, length, map, refl, sym, ◌∙◌, true≢false}
-use Rattle.std.specs.Prelude.{All, if◌then◌else◌}
+use Rattle.std.proofs.Common.{◌≡◌, ℕ, zero, suc, ◌+◌, ◌-◌, ◌<◌, ◌≤◌, ◌^◌, ◌||◌, ◌++◌, Bool, true, false, List, [], ◌∷◌, Option, None, Some, length, map, refl, ap, sym, subst, ◌∙◌, true≢false, arith}
+use Rattle.std.specs.Prelude.{All, flat_map, if◌then◌else◌, min, slice_get, take}
 use Rattle.std.specs.Cmp.{IsEquivalence}
-use Rattle.std.specs.List.{range_with_len}
+use Rattle.std.specs.List.{AllZip, enumerate_from, range_with_len}
+use Rattle.std.specs.List.Sorted.{IsPermutation}
 use Rattle.std.proofs.lemmas.List.Elements.{All-cons, All-nil}
+use Rattle.std.proofs.lemmas.List.Sorted.{length_permutation}
+use Rattle.std.proofs.Math.ListN.{length-map}
 use Rattle.csl_assembly.specs.CitationTree.{has_no_purpose}
+use Rattle.csl_assembly.specs.declared.rendered.Rendered.{Rendered}
 use Rattle.csl_base.specs.Answers.{Answers}
 use Rattle.csl_collapse.specs.Collapsed.{collapsed}
 use Rattle.csl_collapse.specs.NumberLaws.{CanBeReadBack}
-use Rattle.csl_driver.specs.Answer.{Asked, entries_listed, final_number, in_final_order, in_the_end, numbered_finally, order_in_use, rendered_first}
-use Rattle.csl_driver.specs.AnswerLaws.{HaveNumbersOnce, IsBroughtTogether, IsReadBack, KeepsLaws}
+use Rattle.csl_driver.specs.Answer.{Asked, citation_of, drawn_together, entries_listed, final_number, in_final_order, in_the_end, numbered_finally, order_in_use, rendered_first}
+use Rattle.csl_driver.specs.AnswerLaws.{AreInOrder, ComeFrom, HaveNumbersOnce, IsBroughtTogether, IsReadBack, IsSettled, KeepsLaws, number_in, unsettled}
 use Rattle.csl_driver.specs.AreCitesOf.{AreCitesOf}
-use Rattle.csl_driver.proofs.Standing.{ordered-stand}
+use Rattle.csl_driver.specs.Promised.{IsAnswer, IsExactly}
+use Rattle.csl_driver.specs.declared.account.Account.{Account}
+use Rattle.csl_driver.proofs.ByEntries.{agree}
+use Rattle.csl_driver.proofs.EachOnce.{at-place, number-alike, permuted}
+use Rattle.csl_driver.proofs.Standing.{drawn-requests, final-stand, grouped-request, ordered-stand, same-changed}
 use Rattle.csl_entries.specs.Entries.{bibliography_order, distinct, is_in, number}
-use Rattle.csl_entries.specs.Laws.{HoldsEachOnce, NumbersWithoutGaps}
+use Rattle.csl_entries.specs.Laws.{HoldsEachOnce, NoTwoEqual, NumbersWithoutGaps}
 use Rattle.csl_entries.specs.Table.{table_of}
 use Rattle.csl_entries.proofs.Distinct.{is_in-distinct}
-use Rattle.csl_grouping.specs.Blocks.{grouped}
-use Rattle.csl_passes.specs.Renders.{CiteRender}
+use Rattle.csl_entries.proofs.Placed.{map-map}
+use Rattle.csl_grouping.specs.Blocks.{grouped, is_grouped}
+use Rattle.csl_grouping.specs.FinalOrder.{HasFinalOrder}
+use Rattle.csl_passes.specs.Renders.{CiteRender, ItemRender}
 use Rattle.csl_passes.specs.Request.{Request, cited}
 use Rattle.csl_passes.specs.declared.first.FirstProperties.{FirstProperties}
-use Rattle.csl_positions.specs.FinalProperties.{cited_finally}
+use Rattle.csl_positions.specs.FinalProperties.{cited_finally, items_before, with_final, with_final_items, with_final_properties}
 use Rattle.csl_positions.specs.FirstProperties.{first_properties}
 use Rattle.csl_rounds.specs.FirstRenders.{first_renders}
-use Rattle.csl_rounds.specs.RunLaws.{IsLawful}
-use Rattle.csl_rounds.specs.Tables.{disambiguated}
+use Rattle.csl_rounds.specs.RoundMarks.{has_any}
+use Rattle.csl_rounds.specs.Rounds.{StateTable, no_states, told_by, with_marks}
+use Rattle.csl_rounds.specs.RunLaws.{Ended, IsLawful}
+use Rattle.csl_rounds.specs.Tables.{disambiguated, last_table, marked_at, marks_at, most_rounds, rounds, tables, tables_from}
 use Rattle.csl_rounds.specs.declared.mode.RoundMode.{RoundMode}
 
-everywhere : {X : Type 0} (Q : X → Type 0) → ((x : X) → Q x) → (xs : List X) → All Q xs
-everywhere Q holds [] = All-nil Q
-everywhere Q holds (x ∷ xs) = All-cons Q x xs (holds x) (everywhere Q holds xs)
-
 -- drawn together where no cite has a purpose
-read-back : {E P : Type 0} → ((c : CiteRender E P) → CanBeReadBack c.items (collapsed c).items c.request.style.citation.collapse) → (c : CiteRender E P) → IsReadBack c
-read-back law c = by (has_no_purpose c.items)
+read-back : {E P : Type 0} → ((c : CiteRender E P) → CanBeReadBack c.items (collapsed c).items c.request.style.citation.collapse) → (c : CiteRender E P) → IsReadBack c (drawn_together c)
+read-back law c = by (has_no_purpose c.items) refl
   where
-    by : (b : Bool) → b ≡ true → CanBeReadBack c.items (if b then collapsed c else c).items c.request.style.citation.collapse
-    by true plain = law c
-    by false plain = absurd (true≢false (sym plain))
+    by : (b : Bool) → has_no_purpose c.items ≡ b → IsReadBack c (if b then collapsed c else c)
+    by true e = record { same_request = refl; read_back = λ plain. law c }
+    by false e = record { same_request = refl; read_back = λ plain. absurd (true≢false (sym plain ∙ e)) }
+
+-- place by place
+zip-mapped : {X Y : Type 0} (R : X → Y → Type 0) (f : X → Y) → ((x : X) → R x (f x)) → (xs : List X) → AllZip R xs (map f xs)
+zip-mapped R f holds [] = tt
+zip-mapped R f holds (x ∷ xs) = (holds x, zip-mapped R f holds xs)
+
+zip-numbered : {X : Type 0} (R : X → X → Type 0) (h : ℕ → X → X) → ((k : ℕ) (x : X) → R x (h k x)) → (n : ℕ) (xs : List X) → AllZip R xs (map (λ p. h p.0 p.1) (enumerate_from n xs))
+zip-numbered R h holds n [] = tt
+zip-numbered R h holds n (x ∷ xs) = (holds n x, zip-numbered R h holds (n + 1) xs)
+
+few : (marked : ℕ) → min marked (2 ^ 128 - 1) < 3 → marked < 3
+few marked h = omega (arith, h)
+
+-- rounds that ended, by a count that stands still
+ended : (mode : RoundMode) (marked : ℕ) → Ended mode (min marked (2 ^ 128 - 1)) → Ended mode marked
+ended RoundMode.Three marked h = few marked h
+ended RoundMode.Full marked h = h
+
+-- the first table is empty
+begins : {E P : Type 0} (mode : RoundMode) (eq : E → E → Bool) (answers : E → Answers) (firsts : List (CiteRender E P)) (n : ℕ) (t : StateTable E)
+    → slice_get (tables_from mode eq answers firsts n t) 0 ≡ Some t
+unfolding tables_from
+begins mode eq answers firsts zero t = refl
+begins mode eq answers firsts (suc n) t = by (has_any (marks_at mode eq answers firsts t))
+  where
+    by : (b : Bool) → slice_get (if b then t ∷ tables_from mode eq answers firsts n (with_marks (marked_at mode eq answers firsts t) t) else t ∷ []) 0 ≡ Some t
+    by true = refl
+    by false = refl
+
+or-first : (a b : Bool) → a ≡ true → (a || b) ≡ true
+or-first true b h = refl
+or-first false b h = absurd (true≢false (sym h))
+
+or-second : (a b : Bool) → b ≡ true → (a || b) ≡ true
+or-second true b h = refl
+or-second false b h = h
+
+-- the entries that are cited, in an order that has each of them once
+module _ {E : Type 0} (eq : E → E → Bool) (laws : IsEquivalence eq) where
+  numbered-once : (offset : ℕ) (ordered entries : List E) → NoTwoEqual eq ordered → NoTwoEqual eq entries → ((e : E) → is_in eq e ordered ≡ is_in eq e entries) → NumbersWithoutGaps eq offset ordered
+      → HaveNumbersOnce eq offset entries (map (number eq offset ordered) entries)
+  numbered-once offset ordered entries once each same in_order =
+      let among : IsPermutation (map (number eq offset ordered) ordered) (map (number eq offset ordered) entries) =
+      permuted eq laws (number eq offset ordered) (number-alike eq laws offset ordered) ordered entries once each same in
+      let as_many : length ordered ≡ length entries =
+      sym (length-map ordered (number eq offset ordered)) ∙ sym (length_permutation _ _ among) ∙ length-map entries (number eq offset ordered) in
+      record {
+        apart = each;
+        each_once = subst (λ ns. IsPermutation ns (map (number eq offset ordered) entries)) (in_order ∙ ap (range_with_len offset) as_many) among;
+      }
 
 module _ {E P : Type 0} (eq : E → E → Bool) (laws : IsEquivalence eq) (each_once : (order : Option (List E)) (entries : List E) → HoldsEachOnce eq order entries)
     (gapless : (offset : ℕ) (order : Option (List E)) (entries : List E) → NumbersWithoutGaps eq offset (bibliography_order eq order entries)) where
-  -- numbers go by an order of the entries that are cited, or of the cites that cite the same ones
-  by-order : (offset : ℕ) (order : Option (List E)) (requests : List (Request E P)) (cites : List (CiteRender E P)) → ((e : E) → is_in eq e (cited_finally cites) ≡ is_in eq e (cited requests))
-      → HaveNumbersOnce eq offset (cited requests) (number eq offset (numbered_finally eq order requests cites))
-  by-order offset None requests cites same = record {
-    by_number = distinct eq (cited_finally cites);
-    all_cited = λ e. (each_once None (cited_finally cites)).same e ∙ same e;
-    each_once = (each_once None (cited_finally cites)).once;
-    without_gaps = gapless offset None (cited_finally cites);
-  }
-  by-order offset (Some order) requests cites same = record {
-    by_number = bibliography_order eq (Some order) (cited requests);
-    all_cited = (each_once (Some order) (cited requests)).same;
-    each_once = (each_once (Some order) (cited requests)).once;
-    without_gaps = gapless offset (Some order) (cited requests);
-  }
+  module _ (requests : List (Request E P)) (cites : List (CiteRender E P)) (same : (e : E) → is_in eq e (cited_finally cites) ≡ is_in eq e (cited requests)) where
+    by-order : (offset : ℕ) (order : Option (List E)) → HaveNumbersOnce eq offset (distinct eq (cited requests)) (map (number eq offset (numbered_finally eq order requests cites)) (distinct eq (cited requests)))
+    by-order offset None =
+        numbered-once eq laws offset (distinct eq (cited_finally cites)) (distinct eq (cited requests)) (each_once None (cited_finally cites)).once (each_once None (cited requests)).once
+        (λ e. is_in-distinct eq laws e (cited_finally cites) ∙ same e ∙ sym (is_in-distinct eq laws e (cited requests))) (gapless offset None (cited_finally cites))
+    by-order offset (Some order) =
+        numbered-once eq laws offset (bibliography_order eq (Some order) (cited requests)) (distinct eq (cited requests)) (each_once (Some order) (cited requests)).once (each_once None (cited requests)).once
+        (λ e. (each_once (Some order) (cited requests)).same e ∙ sym (is_in-distinct eq laws e (cited requests))) (gapless offset (Some order) (cited requests))
 
-  module _ (answers : E → Answers) (payload_eq : P → P → Bool) (mode : RoundMode) (asked : Asked E P) where
-    firsts : List (CiteRender E P)
+    -- what is known of the members of a list of entries
+    each-in : (Q : E → Type 0) (es : List E) → ((e : E) → is_in eq e es ≡ true → Q e) → All Q es
+    each-in Q [] h = All-nil Q
+    each-in Q (x ∷ xs) h =
+        All-cons Q x xs (h x (or-first (eq x x) (is_in eq x xs) (laws.refl x))) (each-in Q xs (λ e within. h e (or-second (eq e x) (is_in eq e xs) within)))
+
+    -- where no order is used, numbers go by the cites in their final order
+    module _ (offset : ℕ) where
+      abbrev entries : List E
+      entries = distinct eq (cited requests)
+
+      abbrev finally : List E
+      finally = distinct eq (cited_finally cites)
+
+      abbrev own : E → ℕ
+      own = number eq offset finally
+
+      cited-there : (e : E) → is_in eq e finally ≡ true → is_in eq e entries ≡ true
+      cited-there e within = is_in-distinct eq laws e (cited requests) ∙ sym (same e) ∙ sym (is_in-distinct eq laws e (cited_finally cites)) ∙ within
+
+      by-final-order : AreInOrder eq offset entries (map own entries) finally
+      by-final-order =
+          agree (number_in eq entries (map own entries)) own finally
+          (each-in (λ e. number_in eq entries (map own entries) e ≡ own e) finally
+          (λ e within. at-place eq laws own (number-alike eq laws offset finally) e entries (cited-there e within)))
+          ∙ gapless offset None (cited_finally cites)
+
+      in-order : (order : Option (List E)) → order ≡ None → AreInOrder eq offset entries (map (number eq offset (numbered_finally eq order requests cites)) entries) finally
+      in-order order none =
+          subst (λ o. AreInOrder eq offset entries (map (number eq offset (numbered_finally eq o requests cites)) entries) finally) (sym none) by-final-order
+
+  module _ (answers : E → Answers) (payload_eq : P → P → Bool) (mode : RoundMode) (asked : Asked E P) (r : Rendered × Account E) (is : IsExactly eq payload_eq answers mode asked r) where
+    abbrev firsts : List (CiteRender E P)
     firsts = rendered_first eq payload_eq answers asked
 
-    ordered : AreCitesOf eq (table_of eq asked.requests) asked.requests (in_final_order eq payload_eq answers mode asked)
-    unfolding firsts
+    abbrev all_tables : List (StateTable E)
+    all_tables = tables mode eq answers firsts
+
+    abbrev told : List (CiteRender E P)
+    told = disambiguated mode eq answers firsts
+
+    abbrev in_order : List (CiteRender E P)
+    in_order = in_final_order eq payload_eq answers mode asked
+
+    abbrev number_of : E → ℕ
+    number_of = final_number eq payload_eq answers mode asked
+
+    abbrev in_end : List (CiteRender E P)
+    in_end = in_the_end eq payload_eq answers mode asked
+
+    ordered : AreCitesOf eq (table_of eq asked.requests) asked.requests in_order
     ordered =
         ordered-stand eq laws answers payload_eq (number eq asked.offset (entries_listed eq asked.wanted asked.requests)) asked.requests (table_of eq asked.requests) refl firsts refl mode
-        (disambiguated mode eq answers firsts) (in_final_order eq payload_eq answers mode asked) refl refl
+        told in_order refl refl
 
-    pub keeps-laws : ((m : RoundMode) (requests : List (Request E P)) (first : List (List FirstProperties)) → IsLawful m eq answers (first_renders answers requests first))
-        → ((c : CiteRender E P) → IsBroughtTogether c) → ((c : CiteRender E P) → CanBeReadBack c.items (collapsed c).items c.request.style.citation.collapse)
-        → KeepsLaws eq payload_eq answers mode asked
-    keeps-laws lawful brought drawn = record {
-      rounds = lawful mode asked.requests (first_properties eq payload_eq (number eq asked.offset (entries_listed eq asked.wanted asked.requests)) asked.requests);
-      numbers = by-order asked.offset (order_in_use asked.wanted) asked.requests (in_final_order eq payload_eq answers mode asked)
-          (λ e. ordered.same e ∙ is_in-distinct eq laws e (cited asked.requests));
-      final_orders = everywhere IsBroughtTogether brought (disambiguated mode eq answers (rendered_first eq payload_eq answers asked));
-      runs = everywhere IsReadBack (read-back drawn) (in_the_end eq payload_eq answers mode asked);
+    same-cited : (e : E) → is_in eq e (cited_finally in_order) ≡ is_in eq e (cited asked.requests)
+    same-cited e = ordered.same e ∙ is_in-distinct eq laws e (cited asked.requests)
+
+    abbrev settled : ℕ → CiteRender E P → CiteRender E P
+    settled k c = record c { items = with_final_items eq payload_eq number_of (items_before in_order k) c.items }
+
+    is-settled : (k : ℕ) (c : CiteRender E P) → IsSettled c (settled k c)
+    is-settled k c = record {
+      same_request = refl;
+      same_cites = same-changed (λ j i. with_final eq payload_eq number_of (items_before in_order k ++ take j c.items) i) unsettled (λ j i. refl) 0 c.items;
     }
+
+    settled-cites : AllZip IsSettled in_order in_end
+    settled-cites = zip-numbered IsSettled settled is-settled 0 in_order
+
+    module _ (brought : (c : CiteRender E P) → HasFinalOrder (is_grouped c.request.style.citation) c.items (grouped c).items)
+        (drawn : (c : CiteRender E P) → CanBeReadBack c.items (collapsed c).items c.request.style.citation.collapse) where
+      abbrev citations-come : ComeFrom answers asked told r.0.citations
+      citations-come = record {
+        ordered = in_order;
+        settled = in_end;
+        drawn = map drawn_together in_end;
+        final_orders = zip-mapped IsBroughtTogether grouped (λ c. record { same_request = grouped-request c; final_order = brought c }) told;
+        settles = settled-cites;
+        runs = zip-mapped IsReadBack drawn_together (read-back drawn) in_end;
+        asked_for = drawn-requests in_end ∙ (final-stand eq laws answers (table_of eq asked.requests) asked.requests in_order ordered payload_eq number_of).of;
+        made = ap (λ (a : Rendered). a.citations) is.ok ∙ sym (map-map (citation_of answers) drawn_together in_end);
+      }
+
+      laws-of-rounds : IsLawful mode eq answers firsts all_tables (rounds mode eq answers firsts) → IsLawful mode eq answers firsts all_tables r.1.rounds
+      laws-of-rounds h =
+          let back : Ended mode r.1.rounds → Ended mode (rounds mode eq answers firsts) = λ e. ended mode (rounds mode eq answers firsts) (subst (Ended mode) is.rounds e) in
+          record {
+            go_on = h.go_on;
+            stay = h.stay;
+            left = record {
+              only_ambiguous = h.left.only_ambiguous;
+              none_left = λ e. h.left.none_left (back e);
+              told_apart = λ e. h.left.told_apart (back e);
+            };
+            ranks = h.ranks;
+          }
+
+      pub keeps-laws : ((m : RoundMode) (requests : List (Request E P)) (properties : List (List FirstProperties))
+          → let fs = first_renders answers requests properties in IsLawful m eq answers fs (tables m eq answers fs) (rounds m eq answers fs))
+          → KeepsLaws eq payload_eq answers mode asked r
+      unfolding disambiguated
+      keeps-laws lawful = record {
+        tables = all_tables;
+        first_is_empty = begins mode eq answers firsts (most_rounds mode eq firsts) no_states;
+        one_for_each_round = is.rounds;
+        last_is_told = is.states ∙ ap (map (λ e. told_by (last_table all_tables e))) (sym is.entries) ∙ map-map (λ e. told_by (last_table all_tables e)) (λ e. e.now) r.1.entries.items;
+        rounds = laws-of-rounds (lawful mode asked.requests (first_properties eq payload_eq (number eq asked.offset (entries_listed eq asked.wanted asked.requests)) asked.requests));
+        numbers = subst (λ es. HaveNumbersOnce eq asked.offset es r.1.numbers.items) (sym is.entries)
+            (subst (HaveNumbersOnce eq asked.offset (distinct eq (cited asked.requests))) (sym is.numbers) (by-order asked.requests in_order same-cited asked.offset (order_in_use asked.wanted)));
+        citations = citations-come;
+        numbers_in_order = λ none. (λ i. map (number_in eq (is.entries i) (is.numbers i)) (distinct eq (cited_finally in_order)))
+            ∙ in-order asked.requests in_order same-cited asked.offset (order_in_use asked.wanted) none;
+      }
+
+-- what is exactly the answer keeps the laws, and so is all that is promised
+pub is-answer : {E P : Type 0} (eq : E → E → Bool) (payload_eq : P → P → Bool) (answers : E → Answers) (mode : RoundMode) (asked : Asked E P) (r : Rendered × Account E)
+    → ((r : Rendered × Account E) → IsExactly eq payload_eq answers mode asked r → KeepsLaws eq payload_eq answers mode asked r)
+    → IsExactly eq payload_eq answers mode asked r → IsAnswer eq payload_eq answers mode asked r
+is-answer eq payload_eq answers mode asked r keeps exact = record { exact = exact; laws = keeps r exact }

@@ -10,4 +10,5 @@ pub mod Whole
 pub mod Sizes
 pub mod ListedCount
 pub mod ByEntries
+pub mod EachOnce
 pub mod KeptLaws

@@ -35,7 +35,7 @@ module _ {X : Type 0} (h : ℕ → X → X) where
   all-changed Q kept n [] a = All-nil Q
   all-changed Q kept n (x ∷ xs) a = All-cons Q (h n x) (changed (n + 1) xs) (kept n x (All-head Q x xs a)) (all-changed Q kept (n + 1) xs (All-tail Q x xs a))
 
-  same-changed : {B : Type 0} (v : X → B) → ((k : ℕ) (x : X) → v (h k x) ≡ v x) → (n : ℕ) (xs : List X) → map v (changed n xs) ≡ map v xs
+  pub same-changed : {B : Type 0} (v : X → B) → ((k : ℕ) (x : X) → v (h k x) ≡ v x) → (n : ℕ) (xs : List X) → map v (changed n xs) ≡ map v xs
   same-changed v kept n [] = refl
   same-changed v kept n (x ∷ xs) = rw (kept n x, same-changed v kept (n + 1) xs) refl
 
@@ -69,7 +69,7 @@ module _ {X : Type 0} (f : X → X) where
   zip-mapped R kept (y ∷ ys) (x ∷ xs) a = (kept y x a.0, zip-mapped R kept ys xs a.1)
 
 -- the request stays
-grouped-request : {E P : Type 0} (c : CiteRender E P) → (grouped c).request ≡ c.request
+pub grouped-request : {E P : Type 0} (c : CiteRender E P) → (grouped c).request ≡ c.request
 grouped-request c = by (is_grouped c.request.style.citation)
   where
     by : (b : Bool) → (if b then record c { items = grouped_cites (group_delimiter c.request.style.citation) c.items } else c).request ≡ c.request

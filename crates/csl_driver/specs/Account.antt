@@ -1,16 +1,13 @@
 -- The account of an answer: what it cost, and how it numbers its entries and tells them apart.
-use Rattle.std.specs.Prelude.{ℕ, ◌+◌, ◌*◌, Bool, List, Option, None, Some, length, unwrap_or}
+use Rattle.std.specs.Prelude.{ℕ, ◌+◌, ◌*◌, Bool, List, Option, None, Some, length}
 use Rattle.csl_base.specs.Answers.{Answers}
 use Rattle.csl_driver.specs.Answer.{Asked, entries_listed, rendered_first}
 use Rattle.csl_lookup.specs.declared.state.DisambiguateState.{DisambiguateState}
 use Rattle.csl_passes.specs.Request.{Request, Wanted, cited, cites_of}
 use Rattle.csl_rounds.specs.Rerenders.{rerenders}
+use Rattle.csl_rounds.specs.Rounds.{told_by}
 use Rattle.csl_rounds.specs.Tables.{last_states, round_tables, rounds}
 use Rattle.csl_rounds.specs.declared.mode.RoundMode.{RoundMode}
-
--- by what an entry with this state is told apart
-abbrev pub told_by : Option DisambiguateState → DisambiguateState
-told_by state = unwrap_or state DisambiguateState.None
 
 -- so many where there is a bibliography
 abbrev pub where_listed : {B : Type 0} → Option B → ℕ → ℕ

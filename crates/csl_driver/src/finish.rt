@@ -3,7 +3,7 @@ ghost use Rattle.std.specs.Prelude.{◌≡◌, ◌+◌, ◌<◌, ◌^◌, All, l
 ghost use Rattle.std.specs.List.{sum_by};
 ghost use Rattle.csl_base.specs.Ring.{HasNoRing};
 ghost use Rattle.csl_base.specs.StyleView.{style_view};
-ghost use Rattle.csl_driver.specs.Account.{listed_count, rerendered, told_by};
+ghost use Rattle.csl_driver.specs.Account.{listed_count, rerendered};
 ghost use Rattle.csl_driver.specs.Answer.{citation_of, drawn_together, in_the_end, numbered_finally, order_in_use, rendered, rendered_first};
 ghost use Rattle.csl_driver.specs.AreCitesOf.{AreCitesOf};
 ghost use Rattle.csl_driver.specs.AreSettled.{AreSettled};
@@ -19,6 +19,7 @@ ghost use Rattle.csl_passes.specs.RendersView.{render_view, renders_view};
 ghost use Rattle.csl_passes.specs.Request.{cited, cites_of};
 ghost use Rattle.csl_passes.specs.RequestView.{order_view, requests_view, wanted_view};
 ghost use Rattle.csl_positions.specs.FirstProperties.{numbered_by};
+ghost use Rattle.csl_rounds.specs.Rounds.{told_by};
 ghost use Rattle.csl_rounds.specs.declared.mode.RoundMode.{RoundMode};
 ghost use Rattle.csl_writing.specs.Counted.{counted_times};
 
@@ -397,7 +398,8 @@ impl<'a, T: EntryLike, P: Eq + Drop> BibliographyDriver<'a, T, P> {
     /// Answers all requests, as `finish_counted` does, but for the rounds in which cites are told apart:
     /// these go on until none marks. In a round each ambiguous group is tried in all ways, and a mark counts
     /// only where it is greater than the state of its entry; a group waits for the next round where an entry
-    /// of it was marked in this one.
+    /// of it was marked in this one. Each round that marks raises the rank of some entry and lowers none, so of
+    /// n distinct entries, where no first name has more than F forms, at most n(3F + 3) rounds mark.
     ///
     /// # Errors
     /// Those of `finish`.

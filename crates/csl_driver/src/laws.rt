@@ -1,6 +1,9 @@
 //! Laws of what goes in and comes out, of how cites are told apart, and of every answer.
+ghost use Rattle.csl_assembly.specs.declared.rendered.Rendered.{Rendered};
 ghost use Rattle.csl_driver.specs.Answer.{Asked};
 ghost use Rattle.csl_driver.specs.AnswerLaws.{KeepsLaws};
+ghost use Rattle.csl_driver.specs.Promised.{IsExactly};
+ghost use Rattle.csl_driver.specs.declared.account.Account.{Account};
 ghost use Rattle.csl_rounds.specs.declared.mode.RoundMode.{RoundMode};
 
 pub use csl_ambiguity::laws::{
@@ -18,11 +21,13 @@ pub use csl_passes::laws::{
 };
 pub use csl_rounds::laws::runs_are_lawful;
 
-/// A law of every answer, whatever is asked: states go on from table to table, suffixes stay, and nothing is
-/// left; the entries that are cited have the numbers from the offset on, each once; the cites of each request
-/// have a final order; and what collapsing hid of a request without purposes can be read back.
+/// A law of every answer and its account, whatever is asked: there are tables of states, from the empty one to
+/// the account's, along which states go on, suffixes stay, nothing is left, and (in mode full) ranks rise; the
+/// entries of the account have the numbers from the offset on, each once; and each citation comes from the cites
+/// of its request in a final order, whose collapsed runs can be read back.
 pub fn answers_keep_laws<T: EntryLike, P: Eq>()
-    ensures { (mode : RoundMode) (asked : Asked T P) → KeepsLaws T.eq P.eq T.answers mode asked }
+    ensures { (mode : RoundMode) (asked : Asked T P) (r : Rendered × Account T)
+        → IsExactly T.eq P.eq T.answers mode asked r → KeepsLaws T.eq P.eq T.answers mode asked r }
 {
     runs_are_lawful::<T, P>();
     bibliography_holds_each_once::<T>();

@@ -10,18 +10,21 @@ use Rattle.csl_ambiguity.specs.MarkLaws.{ChooseMarksGoOn, GroupsHaveNoSuffix, Ha
 use Rattle.csl_ambiguity.specs.Members.{Member, entry_of, member_at, members, state_of}
 use Rattle.csl_ambiguity.specs.SuffixMarks.{shows_dates}
 use Rattle.csl_base.specs.Answers.{Answers}
+use Rattle.csl_base.specs.Ordered.{IsValueOrder}
 use Rattle.csl_lookup.specs.GoingOn.{GoesOn, GoesOnTo, GreaterIsOne}
-use Rattle.csl_lookup.specs.States.{greater}
+use Rattle.csl_lookup.specs.States.{greater, state_cmp}
+use Rattle.csl_lookup.specs.ValueLaws.{IsNeverBelow}
 use Rattle.csl_lookup.specs.declared.state.DisambiguateState.{DisambiguateState}
 use Rattle.csl_name_marks.specs.MarkLaws.{IsNameMark, NameMarksGoOn}
 use Rattle.csl_name_marks.specs.NameMarks.{name_marks}
 use Rattle.csl_passes.specs.Renders.{CiteRender, Place}
 use Rattle.csl_rounds.specs.FirstRenders.{AreBegun}
-use Rattle.csl_rounds.specs.RoundMarks.{Mark, by_choice, by_suffix, cites_entry, counting, counts, greatest_state, has_any, round_marks, waits}
-use Rattle.csl_rounds.specs.Rounds.{StateTable, at_table, mark_of, no_states, with_marks}
-use Rattle.csl_rounds.specs.RunLaws.{StatesGoOn, told_by}
+use Rattle.csl_rounds.specs.RoundMarks.{Mark, by_choice, by_suffix, cites_entry, counting, counts, greatest_state, has_any, raises, round_marks, waits}
+use Rattle.csl_rounds.specs.Rounds.{StateTable, at_table, mark_of, no_states, told_by, with_marks}
+use Rattle.csl_rounds.specs.RunLaws.{StatesGoOn, marks_of_entry}
 use Rattle.csl_rounds.specs.Tables.{marked_at, marks_at, most_rounds, tables, tables_from}
 use Rattle.csl_rounds.specs.declared.mode.RoundMode.{RoundMode}
+use Rattle.csl_rounds.proofs.Greatest.{none-greater}
 use Rattle.csl_rounds.proofs.Kept.{full-kept, three-kept}
 use Rattle.csl_rounds.proofs.Runs.{all-passed, run, run-all, run-neighbours}
 use Rattle.csl_rounds.proofs.Told.{IsThere, IsTold, in-members, item-known, members-there, rows-told}
@@ -31,6 +34,8 @@ pub record AreMarkLaws (E P : Type 0) (eq : E → E → Bool) : Type 0 where
   pub equal : IsEquivalence eq
   pub goes : GoesOn
   pub one : GreaterIsOne
+  pub order : IsValueOrder state_cmp
+  pub never_below : IsNeverBelow state_cmp greater
   pub names : (renders : List (CiteRender E P)) (group : List Place) → NameMarksGoOn renders group
   pub without_suffix : (renders : List (CiteRender E P)) → GroupsHaveNoSuffix eq renders
   pub choose : (cites : List (Member E P)) → ChooseMarksGoOn eq cites
@@ -175,29 +180,29 @@ module _ {E P : Type 0} (mode : RoundMode) (eq : E → E → Bool) (answers : E 
   Alike t = (d e : E) → eq d e ≡ true → t d ≡ t e
 
   module _ (laws : AreMarkLaws E P eq) (begun : AreBegun firsts) where
-    pub member-told : (t : StateTable E) (p : Place) (c : Member E P) → member_at (at_table answers t firsts) p ≡ Some c → state_of c ≡ told_by t (entry_of c)
+    pub member-told : (t : StateTable E) (p : Place) (c : Member E P) → member_at (at_table answers t firsts) p ≡ Some c → state_of c ≡ told_by (t (entry_of c))
     member-told t p c found = item-known (at_table answers t firsts) (IsTold t) p c (rows-told answers t firsts begun) found
 
     -- to each mark of an entry its state goes on
     pub marks-of : (t : StateTable E) → Alike t → (e : E)
-        → All (λ m. GoesOnTo (told_by t e) m.1) (filter (λ m. cites_entry eq (at_table answers t firsts) e m.0) (marks_at mode eq answers firsts t))
+        → All (λ m. GoesOnTo (told_by (t e)) m.1) (filter (λ m. cites_entry eq (at_table answers t firsts) e m.0) (marks_at mode eq answers firsts t))
     marks-of t alike e =
         let renders = at_table answers t firsts in
-        All-weaker (λ m. (f : GoesFrom eq laws renders m) × (eq e (entry_of f.cite) ≡ true)) (λ m. GoesOnTo (told_by t e) m.1)
+        All-weaker (λ m. (f : GoesFrom eq laws renders m) × (eq e (entry_of f.cite) ≡ true)) (λ m. GoesOnTo (told_by (t e)) m.1)
         (λ m h. subst (λ s. GoesOnTo s m.1)
         (member-told t m.0 h.0.cite h.0.stands_there ∙ ap (λ o. unwrap_or o DisambiguateState.None) (sym (alike e (entry_of h.0.cite) h.1))) h.0.goes_on)
         (filter (λ m. cites_entry eq renders e m.0) (marks_at mode eq answers firsts t)) (own-marks eq laws renders mode answers e)
 
-    pub state-goes : (t : StateTable E) → Alike t → (e : E) (s : DisambiguateState) → marked_at mode eq answers firsts t e ≡ Some s → GoesOnTo (told_by t e) s
+    pub state-goes : (t : StateTable E) → Alike t → (e : E) (s : DisambiguateState) → marked_at mode eq answers firsts t e ≡ Some s → GoesOnTo (told_by (t e)) s
     state-goes t alike e s h =
         let own = filter (λ m. cites_entry eq (at_table answers t firsts) e m.0) (marks_at mode eq answers firsts t) in
-        greatest-known laws.one (GoesOnTo (told_by t e)) (map (λ m. m.1) own) s (All-map (GoesOnTo (told_by t e)) (λ m. m.1) own (marks-of t alike e)) h
+        greatest-known laws.one (GoesOnTo (told_by (t e))) (map (λ m. m.1) own) s (All-map (GoesOnTo (told_by (t e))) (λ m. m.1) own (marks-of t alike e)) h
 
-    pub goes-next : (t : StateTable E) → Alike t → (e : E) → GoesOnTo (told_by t e) (told_by (next t) e)
+    pub goes-next : (t : StateTable E) → Alike t → (e : E) → GoesOnTo (told_by (t e)) (told_by (next t e))
     goes-next t alike e = by (marked_at mode eq answers firsts t e) refl
       where
-        by : (o : Option DisambiguateState) → marked_at mode eq answers firsts t e ≡ o → GoesOnTo (told_by t e) (unwrap_or (option_or o (t e)) DisambiguateState.None)
-        by None h = laws.goes.0 (told_by t e)
+        by : (o : Option DisambiguateState) → marked_at mode eq answers firsts t e ≡ o → GoesOnTo (told_by (t e)) (unwrap_or (option_or o (t e)) DisambiguateState.None)
+        by None h = laws.goes.0 (told_by (t e))
         by (Some s) h = state-goes t alike e s h
 
     pub alike-next : (t : StateTable E) → Alike t → Alike (next t)
@@ -208,11 +213,23 @@ module _ {E P : Type 0} (mode : RoundMode) (eq : E → E → Bool) (answers : E 
     pub all-alike : All Alike (tables mode eq answers firsts)
     all-alike = subst (All Alike) are-steps (run-all goes_on next Alike (λ t alike h. alike-next t alike) (most_rounds mode eq firsts) no_states (λ d e h. refl))
 
-    pub states-go-on : StatesGoOn mode eq answers firsts
+    -- no mark is greater than the state that the round leaves
+    LosesNone : StateTable E → StateTable E → Type 0
+    LosesNone t later = (e : E) → All (λ m. raises (told_by (later e)) m.1 ≡ false) (marks_of_entry mode eq answers firsts t e)
+
+    loses-none : (t : StateTable E) → LosesNone t (next t)
+    unfolding LosesNone
+    loses-none t e =
+        none-greater laws.order.total laws.never_below (t e) (marks_of_entry mode eq answers firsts t e)
+
+    pub states-go-on : StatesGoOn mode eq answers firsts (tables mode eq answers firsts)
+    unfolding LosesNone
     states-go-on = record {
       alike = all-alike;
       rendered = λ k d w. rows-told answers _ firsts begun;
-      on = subst (λ ts. AllAdjacentBelow (λ t later. (e : E) → GoesOnTo (told_by t e) (told_by later e)) ts (length ts)) are-steps
-          (run-neighbours goes_on next Alike (λ t alike h. alike-next t alike) (λ t later. (e : E) → GoesOnTo (told_by t e) (told_by later e))
+      on = subst (λ ts. AllAdjacentBelow (λ t later. (e : E) → GoesOnTo (told_by (t e)) (told_by (later e))) ts (length ts)) are-steps
+          (run-neighbours goes_on next Alike (λ t alike h. alike-next t alike) (λ t later. (e : E) → GoesOnTo (told_by (t e)) (told_by (later e)))
           (λ t alike h. goes-next t alike) (most_rounds mode eq firsts) no_states (λ d e h. refl));
+      no_mark_lost = subst (λ ts. AllAdjacentBelow LosesNone ts (length ts)) are-steps
+          (run-neighbours goes_on next Alike (λ t alike h. alike-next t alike) LosesNone (λ t alike h. loses-none t) (most_rounds mode eq firsts) no_states (λ d e h. refl));
     }

@@ -15,9 +15,9 @@ use Rattle.csl_lookup.specs.declared.state.DisambiguateState.{DisambiguateState}
 use Rattle.csl_lookup.specs.declared.state.DisambiguateState.TheVariants.{YearSuffix}
 use Rattle.csl_name_marks.specs.NameMarks.{name_marks}
 use Rattle.csl_passes.specs.Renders.{CiteRender, Place}
-use Rattle.csl_rounds.specs.RoundMarks.{Mark, all_ways, by_choice, by_full, by_suffix, by_three, counting, counts, greatest_state, has_any, marks_of, or_others, raises, round_marks, waits}
+use Rattle.csl_rounds.specs.RoundMarks.{CannotBeMarked, Mark, Ways, all_ways, by_choice, by_full, by_suffix, by_three, counting, counts, greatest_state, has_any, marks_of, or_others, raises, round_marks, waits, ways}
 use Rattle.csl_rounds.specs.Rounds.{StateTable, at_table, mark_of, no_states}
-use Rattle.csl_rounds.specs.RunLaws.{EndByThemselves, IsInNoGroup, NothingLeft, ways}
+use Rattle.csl_rounds.specs.RunLaws.{Ended, IsInNoGroup, NothingLeft}
 use Rattle.csl_rounds.specs.Tables.{last_states, marks_at, most_rounds, rounds, tables}
 use Rattle.csl_rounds.specs.declared.mode.RoundMode.{RoundMode}
 use Rattle.csl_rounds.proofs.GoneOn.{AreMarkLaws, GoesFrom, are-steps, goes_on, next, own-marks}
@@ -43,9 +43,15 @@ module _ {E P : Type 0} (eq : E → E → Bool) (laws : AreMarkLaws E P eq) (ren
   unmarked mode answers = no-mark _ (own-marks eq laws renders mode answers e)
 
 -- where groups get no mark, there is none in any way
-or-empty : {X : Type 0} (xs ys : List X) → or_others xs ys ≡ [] → ys ≡ []
-or-empty [] ys h = h
-or-empty (x ∷ xs) ys h = cc
+both-empty : {X : Type 0} (xs ys : List X) → or_others xs ys ≡ [] → (xs ≡ []) × (ys ≡ [])
+both-empty [] ys h = (refl, h)
+both-empty (x ∷ xs) ys h = cc
+
+in-no-way : (w : Ways) (g : List Place) → all_ways w.by_names w.by_choice w.by_suffix g ≡ [] → CannotBeMarked w g
+in-no-way w g h =
+    let names = both-empty (w.by_names g) (or_others (w.by_choice g) (w.by_suffix g)) h in
+    let others = both-empty (w.by_choice g) (w.by_suffix g) names.1 in
+    record { not_by_names = names.0; not_by_choice = others.0; not_by_suffix = others.1 }
 
 module _ (n c s : List Place → List Mark) where
   abbrev IsDone : List Place → Type 0
@@ -80,13 +86,22 @@ module _ {E P : Type 0} (eq : E → E → Bool) (answers : E → Answers) (rende
       by [] = refl
       by (m ∷ ms) = by ms
 
-  pub all-done : (mode : RoundMode) → has_any (round_marks mode eq answers renders) ≡ false → All (λ g. ways eq answers mode renders g ≡ []) (ambiguous_groups eq renders)
+  abbrev their_ways : RoundMode → Ways
+  their_ways mode = ways eq renders (shows_dates answers renders) mode
+
+  none-in-any-way : (mode : RoundMode) → has_any (round_marks mode eq answers renders) ≡ false
+      → let w = their_ways mode in All (λ g. all_ways w.by_names w.by_choice w.by_suffix g ≡ []) (ambiguous_groups eq renders)
   unfolding round_marks
-  all-done RoundMode.Three h =
+  none-in-any-way RoundMode.Three h =
       three-empty (name_marks renders) (by_choice eq renders) (by_suffix eq renders (shows_dates answers renders)) (ambiguous_groups eq renders) h
-  all-done RoundMode.Full h =
+  none-in-any-way RoundMode.Full h =
       full-empty (counting renders (name_marks renders)) (counting renders (by_choice eq renders)) (counting renders (by_suffix eq renders (shows_dates answers renders)))
       (waits eq renders) nothing-waits (ambiguous_groups eq renders) h
+
+  pub all-done : (mode : RoundMode) → has_any (round_marks mode eq answers renders) ≡ false → All (CannotBeMarked (their_ways mode)) (ambiguous_groups eq renders)
+  all-done mode h =
+      let w = their_ways mode in
+      All-weaker (λ g. all_ways w.by_names w.by_choice w.by_suffix g ≡ []) (CannotBeMarked w) (in-no-way w) (ambiguous_groups eq renders) (none-in-any-way mode h)
 
 -- suffixes count
 suffix-counts : (s : DisambiguateState) (n : ℕ) → may_get_suffix s ≡ true → raises s (YearSuffix n) ≡ true
@@ -123,11 +138,13 @@ module _ {E P : Type 0} (eq : E → E → Bool) (answers : E → Answers) (rende
           (all-distinct IsBare (λ a b. eq (entry_of a) (entry_of b)) ms (λ k d w. (members-there renders g k d w, bare k d w))))
       by false = All-nil (λ m. counts renders m ≡ true)
 
-  no-suffix : (mode : RoundMode) (g : List Place) → HaveNoSuffix (members renders g) → ways eq answers mode renders g ≡ [] → by_suffix eq renders (shows_dates answers renders) g ≡ []
-  no-suffix RoundMode.Three g bare h = or-empty (by_choice eq renders g) _ (or-empty (name_marks renders g) _ h)
+  abbrev HasNone : RoundMode → List Place → Type 0
+  HasNone mode = CannotBeMarked (ways eq renders (shows_dates answers renders) mode)
+
+  no-suffix : (mode : RoundMode) (g : List Place) → HaveNoSuffix (members renders g) → HasNone mode g → by_suffix eq renders (shows_dates answers renders) g ≡ []
+  no-suffix RoundMode.Three g bare h = h.not_by_suffix
   no-suffix RoundMode.Full g bare h =
-      none-passes (counts renders) (by_suffix eq renders (shows_dates answers renders) g) (suffixes-count (shows_dates answers renders) g bare)
-      (or-empty (counting renders (by_choice eq renders) g) _ (or-empty (counting renders (name_marks renders) g) _ h))
+      none-passes (counts renders) (by_suffix eq renders (shows_dates answers renders) g) (suffixes-count (shows_dates answers renders) g bare) h.not_by_suffix
 
   -- a group that could get suffixes has no style that adds them
   adds-none : (ms : List (Member E P)) (a : Member E P) → Contains ms a → year_suffix_marks eq true ms ≡ [] → adds_suffix ms ≡ false
@@ -150,7 +167,7 @@ module _ {E P : Type 0} (eq : E → E → Bool) (answers : E → Answers) (rende
   cited-there : All (IsThere renders) (document renders)
   cited-there = All-from_recursion (IsThere renders) (document renders) (document-stands renders [] renders refl)
 
-  pub add-none : (mode : RoundMode) → AreMarkLaws E P eq → AmbiguousStandTogether eq renders → All (λ g. ways eq answers mode renders g ≡ []) (ambiguous_groups eq renders)
+  pub add-none : (mode : RoundMode) → AreMarkLaws E P eq → AmbiguousStandTogether eq renders → All (HasNone mode) (ambiguous_groups eq renders)
       → shows_dates answers renders ≡ true → (a b : Member E P) → AreAmbiguous eq renders a b → adds_suffix (a ∷ b ∷ []) ≡ false
   add-none mode laws together none dated a b h =
       let t : StandInOneGroup (ambiguous_groups eq renders) a.place b.place = together a b h in
@@ -158,7 +175,7 @@ module _ {E P : Type 0} (eq : E → E → Bool) (answers : E → Answers) (rende
       let other = in-members renders t.group b.place b t.other_inside (All-contains (IsThere renders) (document renders) b cited-there h.other_cited) in
       let bare : HaveNoSuffix (members renders t.group) =
       All-contains (λ g. HaveNoSuffix (members renders g)) (ambiguous_groups eq renders) t.group (laws.without_suffix renders) t.is_group in
-      let empty : ways eq answers mode renders t.group ≡ [] = All-contains (λ g. ways eq answers mode renders g ≡ []) (ambiguous_groups eq renders) t.group none t.is_group in
+      let empty : HasNone mode t.group = All-contains (HasNone mode) (ambiguous_groups eq renders) t.group none t.is_group in
       let suffixes : year_suffix_marks eq true (members renders t.group) ≡ [] =
       ap (λ d. by_suffix eq renders d t.group) (sym dated) ∙ no-suffix mode t.group bare empty in
       let styles = style-of (members renders t.group) (adds-none (members renders t.group) a one suffixes) in
@@ -176,19 +193,25 @@ module _ {E P : Type 0} (mode : RoundMode) (eq : E → E → Bool) (answers : E 
       (run-last (goes_on mode eq answers firsts) (next mode eq answers firsts) (λ t. IsInNoGroup eq (at t) e) (λ t. t e ≡ None)
       (λ t none apart go. ap (λ o. option_or o (t e)) (unmarked eq laws (at t) e apart mode answers) ∙ none) no_states (most_rounds mode eq firsts) no_states refl)
 
-  module _ (together : AmbiguousStandTogether eq (at (last_states mode eq answers firsts))) (ends : EndByThemselves mode (rounds mode eq answers firsts) → has_any (marks_at mode eq answers firsts (last_states mode eq answers firsts)) ≡ false) where
-    none-left : EndByThemselves mode (rounds mode eq answers firsts) → All (λ g. ways eq answers mode (at (last_states mode eq answers firsts)) g ≡ []) (ambiguous_groups eq (at (last_states mode eq answers firsts)))
-    none-left ended = all-done eq answers (at (last_states mode eq answers firsts)) mode (ends ended)
+  abbrev last : List (CiteRender E P)
+  last = at (last_states mode eq answers firsts)
 
-    pub nothing-left : NothingLeft mode eq answers firsts
+  abbrev HaveEnded : Type 0
+  HaveEnded = Ended mode (rounds mode eq answers firsts)
+
+  module _ (together : AmbiguousStandTogether eq last) (ends : HaveEnded → has_any (marks_at mode eq answers firsts (last_states mode eq answers firsts)) ≡ false) where
+    none-left : HaveEnded → All (CannotBeMarked (ways eq last (shows_dates answers last) mode)) (ambiguous_groups eq last)
+    none-left ended = all-done eq answers last mode (ends ended)
+
+    pub nothing-left : NothingLeft mode eq answers firsts (tables mode eq answers firsts) (rounds mode eq answers firsts)
     nothing-left = record {
       only_ambiguous = only-ambiguous;
       none_left = none-left;
-      told_apart = λ ended. add-none eq answers (at (last_states mode eq answers firsts)) mode laws together (none-left ended);
+      told_apart = λ ended. add-none eq answers last mode laws together (none-left ended);
     }
 
 -- in mode three they ended where fewer than three marked
-pub three-ends : {E P : Type 0} (eq : E → E → Bool) (answers : E → Answers) (firsts : List (CiteRender E P)) → EndByThemselves RoundMode.Three (rounds RoundMode.Three eq answers firsts)
+pub three-ends : {E P : Type 0} (eq : E → E → Bool) (answers : E → Answers) (firsts : List (CiteRender E P)) → Ended RoundMode.Three (rounds RoundMode.Three eq answers firsts)
     → has_any (marks_at RoundMode.Three eq answers firsts (last_states RoundMode.Three eq answers firsts)) ≡ false
 three-ends eq answers firsts h =
     subst (λ ts. length ts - 1 < 3 → goes_on RoundMode.Three eq answers firsts (final ts no_states) ≡ false) (are-steps RoundMode.Three eq answers firsts)

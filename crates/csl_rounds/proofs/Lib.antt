@@ -12,6 +12,7 @@ pub mod Marked
 pub mod InRounds
 pub mod Runs
 pub mod Told
+pub mod Greatest
 pub mod GoneOn
 pub mod Left
 pub mod MarkKinds
@@ -24,6 +25,7 @@ pub mod Ranks
 pub mod NameSizes
 pub mod Higher
 pub mod RankSums
+pub mod Risen
 pub mod Begun
 pub mod FullRounds
 pub mod FullMarks

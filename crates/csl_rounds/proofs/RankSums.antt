@@ -1,6 +1,6 @@
 -- A round of mode full that marks makes the sum of ranks greater, and this has a bound.
 use Rattle.std.proofs.Common.{◌≡◌, ℕ, zero, suc, ◌+◌, ◌*◌, ◌<◌, ◌≤◌, Bool, true, false, cond, ◌||◌, Option, Some, None, List, [], ◌∷◌, ◌++◌, length, map, filter, refl, ap, sym, subst, ◌∙◌, arith}
-use Rattle.std.specs.Prelude.{All, fold, is_some, max, option_map, slice_get, unwrap_or}
+use Rattle.std.specs.Prelude.{All, fold, is_some, max, option_map, slice_get}
 use Rattle.std.specs.Cmp.{IsEquivalence}
 use Rattle.std.specs.List.{flat_map, list_any, sum_by}
 use Rattle.std.specs.Option.{option_and_then, option_map_or, option_or}
@@ -23,7 +23,7 @@ use Rattle.csl_passes.specs.Renders.{CiteRender, ItemRender, Place}
 use Rattle.csl_passes.specs.Request.{Request}
 use Rattle.csl_rounds.specs.FirstRenders.{AreBegun}
 use Rattle.csl_rounds.specs.RoundMarks.{Mark, cites_entry, greatest_state, has_any}
-use Rattle.csl_rounds.specs.Rounds.{StateTable, at_table, entries_cited, no_states, request_at, with_any, with_marks}
+use Rattle.csl_rounds.specs.Rounds.{StateTable, at_table, entries_cited, no_states, request_at, told_by, with_any, with_marks}
 use Rattle.csl_rounds.specs.Tables.{form_count, marked_at, marks_at, most_forms, most_rounds}
 use Rattle.csl_rounds.specs.declared.mode.RoundMode.{RoundMode}
 use Rattle.csl_rounds.proofs.Higher.{IsHigher, marks-are-higher}
@@ -38,10 +38,6 @@ some-inj x y h = cc
 or-right : (a b : Bool) → b ≡ true → (a || b) ≡ true
 or-right true b h = refl
 or-right false b h = h
-
--- by what an entry is told apart
-abbrev told : Option DisambiguateState → DisambiguateState
-told s = unwrap_or s DisambiguateState.None
 
 -- sums that rise
 module _ {X : Type 0} (f g : X → ℕ) (q : X → Bool) (up : (x : X) → f x + cond (q x) 1 0 ≤ g x) where
@@ -151,7 +147,7 @@ module _ {E P : Type 0} (answers : E → Answers) (firsts : List (CiteRender E P
     abbrev item_state : ItemRender E P → DisambiguateState
     item_state i = i.properties.speculative.disambiguation
 
-    again-state : (r : Request E P) (s : Option DisambiguateState) (i : ItemRender E P) → item_state i ≡ DisambiguateState.None → item_state (with_any answers r s i) ≡ told s
+    again-state : (r : Request E P) (s : Option DisambiguateState) (i : ItemRender E P) → item_state i ≡ DisambiguateState.None → item_state (with_any answers r s i) ≡ told_by s
     again-state r None i none = none
     again-state r (Some s) i none = refl
 
@@ -160,13 +156,13 @@ module _ {E P : Type 0} (answers : E → Answers) (firsts : List (CiteRender E P
     again-forms r (Some s) i = refl
 
     -- its state is that of its entry
-    shown : (p : Place) (c : Member E P) → member_at (at_table answers t firsts) p ≡ Some c → state_of c ≡ told (t (entry_of c))
+    shown : (p : Place) (c : Member E P) → member_at (at_table answers t firsts) p ≡ Some c → state_of c ≡ told_by (t (entry_of c))
     shown p c found =
         let a : IsAgain (λ i. item_state i ≡ DisambiguateState.None) c = again (λ i. item_state i ≡ DisambiguateState.None) begun p c found in
         ap item_state a.is ∙ again-state a.request (t a.item.entry) a.item a.known
-        ∙ ap (λ e. told (t e)) (sym (ap (λ (i : ItemRender E P). i.entry) a.is ∙ same-entry answers a.request (t a.item.entry) a.item))
+        ∙ ap (λ e. told_by (t e)) (sym (ap (λ (i : ItemRender E P). i.entry) a.is ∙ same-entry answers a.request (t a.item.entry) a.item))
 
-    has-few : ((e : E) → IsShort forms_most (told (t e))) → HasFew forms_most (at_table answers t firsts)
+    has-few : ((e : E) → IsShort forms_most (told_by (t e))) → HasFew forms_most (at_table answers t firsts)
     has-few short p c found =
         let a : IsAgain (λ i. form_count i.first_name ≤ forms_most) c = again (λ i. form_count i.first_name ≤ forms_most) few-forms p c found in (
           subst (IsShort forms_most) (sym (shown p c found)) (short (entry_of c)),
@@ -176,13 +172,13 @@ module _ {E P : Type 0} (answers : E → Answers) (firsts : List (CiteRender E P
 
   -- the sum of ranks of entries
   abbrev pub ranks : List E → StateTable E → ℕ
-  ranks es t = sum_by (λ e. rank forms_most (told (t e))) es
+  ranks es t = sum_by (λ e. rank forms_most (told_by (t e))) es
 
   module _ (eq : E → E → Bool) (laws : IsEquivalence eq) where
     -- equal entries have the same state, and no state has too many forms
     pub record IsSound (t : StateTable E) : Type 0 where
       pub even : (x y : E) → eq x y ≡ true → t x ≡ t y
-      pub short : (e : E) → IsShort forms_most (told (t e))
+      pub short : (e : E) → IsShort forms_most (told_by (t e))
 
     pub sound-begun : IsSound no_states
     sound-begun = record { even = λ x y e. refl; short = λ e. omega arith }
@@ -202,7 +198,7 @@ module _ {E P : Type 0} (answers : E → Answers) (firsts : List (CiteRender E P
 
       -- what a mark of an entry raises
       abbrev Raises : E → DisambiguateState → Type 0
-      Raises e s = (rank forms_most (told (t e)) < rank forms_most s) × IsShort forms_most s
+      Raises e s = (rank forms_most (told_by (t e)) < rank forms_most s) × IsShort forms_most s
 
       own : (e : E) (m : Mark) → IsHigher forms_most now m → cites_entry eq now e m.0 ≡ true → Raises e m.1
       own e m h cited = by (member_at now m.0) refl cited
@@ -211,7 +207,7 @@ module _ {E P : Type 0} (answers : E → Answers) (firsts : List (CiteRender E P
           by None f c = cc
           by (Some c) f same =
               let high = h c f in
-              (subst (λ s. rank forms_most s < rank forms_most m.1) (shown t m.0 c f ∙ ap told (sym (sound.even e (entry_of c) same))) high.0, high.1)
+              (subst (λ s. rank forms_most s < rank forms_most m.1) (shown t m.0 c f ∙ ap told_by (sym (sound.even e (entry_of c) same))) high.0, high.1)
 
       own-all : (e : E) (ms : List Mark) → All (IsHigher forms_most now) ms → All (Raises e) (map (λ m. m.1) (filter (λ m. cites_entry eq now e m.0) ms))
       own-all e [] h = All-nil (Raises e)
@@ -242,14 +238,14 @@ module _ {E P : Type 0} (answers : E → Answers) (firsts : List (CiteRender E P
               ap (λ ms. option_or (greatest_state (map (λ m. m.1) ms)) (t x)) (filter_agree (λ m. cites_entry eq now x m.0) (λ m. cites_entry eq now y m.0) (same-cites x y e) marks)
               ∙ ap (option_or (marked y)) (sound.even x y e)
 
-          short : (e : E) (o : Option DisambiguateState) → marked e ≡ o → IsShort forms_most (told (option_or o (t e)))
+          short : (e : E) (o : Option DisambiguateState) → marked e ≡ o → IsShort forms_most (told_by (option_or o (t e)))
           short e None at = sound.short e
           short e (Some s) at = (raised-by e s at).1
 
-      up : (e : E) → rank forms_most (told (t e)) + cond (is_some (marked e)) 1 0 ≤ rank forms_most (told (with_marks marked t e))
+      pub up : (e : E) → rank forms_most (told_by (t e)) + cond (is_some (marked e)) 1 0 ≤ rank forms_most (told_by (with_marks marked t e))
       up e = by (marked e) refl
         where
-          by : (o : Option DisambiguateState) → marked e ≡ o → rank forms_most (told (t e)) + cond (is_some o) 1 0 ≤ rank forms_most (told (option_or o (t e)))
+          by : (o : Option DisambiguateState) → marked e ≡ o → rank forms_most (told_by (t e)) + cond (is_some o) 1 0 ≤ rank forms_most (told_by (option_or o (t e)))
           by None at = omega arith
           by (Some s) at = let high = (raised-by e s at).0 in omega (arith, high)
 
@@ -295,7 +291,7 @@ module _ {E P : Type 0} (answers : E → Answers) (firsts : List (CiteRender E P
               ∙ or-right (list_any (eq x) (map (λ i. i.entry) r.items)) (list_any (eq x) (entries_cited rs)) (h e)) (flat_map (λ c. c.items) rs) (each-from x rs))
 
       -- in any list that has an entry equal to each that is cited, one gets a mark
-      one-marked : (es : List E) → ((e : E) → list_any (eq e) (entries_cited firsts) ≡ true → list_any (eq e) es ≡ true) → has_any marks ≡ true → list_any (λ e. is_some (marked e)) es ≡ true
+      pub one-marked : (es : List E) → ((e : E) → list_any (eq e) (entries_cited firsts) ≡ true → list_any (eq e) es ≡ true) → has_any marks ≡ true → list_any (λ e. is_some (marked e)) es ≡ true
       one-marked es inside any = by marks refl any (marks-stand now RoundMode.Full eq answers)
         where
           by : (ms : List Mark) → marks ≡ ms → has_any ms ≡ true → All (λ m. IsPlace now m.0) ms → list_any (λ e. is_some (marked e)) es ≡ true
@@ -315,15 +311,15 @@ module _ {E P : Type 0} (answers : E → Answers) (firsts : List (CiteRender E P
       pub ranks-rise : (es : List E) → ((e : E) → list_any (eq e) (entries_cited firsts) ≡ true → list_any (eq e) es ≡ true) → has_any marks ≡ true
           → ranks es t < ranks es (with_marks marked t)
       ranks-rise es inside any =
-          sum-rises (λ e. rank forms_most (told (t e))) (λ e. rank forms_most (told (with_marks marked t e))) (λ e. is_some (marked e)) up es (one-marked es inside any)
+          sum-rises (λ e. rank forms_most (told_by (t e))) (λ e. rank forms_most (told_by (with_marks marked t e))) (λ e. is_some (marked e)) up es (one-marked es inside any)
 
     -- and has a bound
     pub ranks-most : (t : StateTable E) → IsSound t → (es : List E) → ranks es t ≤ length es * (3 * forms_most + 3)
-    ranks-most t sound es = sum_by-le (λ e. rank forms_most (told (t e))) (3 * forms_most + 3) es (each es)
+    ranks-most t sound es = sum_by-le (λ e. rank forms_most (told_by (t e))) (3 * forms_most + 3) es (each es)
       where
-        each : (es : List E) → All (λ e. rank forms_most (told (t e)) ≤ 3 * forms_most + 3) es
-        each [] = All-nil (λ e. rank forms_most (told (t e)) ≤ 3 * forms_most + 3)
-        each (e ∷ es) = All-cons (λ e. rank forms_most (told (t e)) ≤ 3 * forms_most + 3) e es (rank-most forms_most (told (t e)) (sound.short e)) (each es)
+        each : (es : List E) → All (λ e. rank forms_most (told_by (t e)) ≤ 3 * forms_most + 3) es
+        each [] = All-nil (λ e. rank forms_most (told_by (t e)) ≤ 3 * forms_most + 3)
+        each (e ∷ es) = All-cons (λ e. rank forms_most (told_by (t e)) ≤ 3 * forms_most + 3) e es (rank-most forms_most (told_by (t e)) (sound.short e)) (each es)
 
     pub in-distinct : (e : E) → list_any (eq e) (entries_cited firsts) ≡ true → list_any (eq e) (distinct eq (entries_cited firsts)) ≡ true
     in-distinct e h = is_in-distinct eq laws e (entries_cited firsts) ∙ h
@@ -369,11 +365,11 @@ module _ {E P : Type 0} (answers : E → Answers) (firsts : List (CiteRender E P
   row-ranks t r [] h = refl
   row-ranks t r (i ∷ items) h =
       let state = λ (i : ItemRender E P). rank forms_most i.properties.speculative.disambiguation in
-      let own : state (with_any answers r (t i.entry) i) ≡ rank forms_most (told (t i.entry)) =
+      let own : state (with_any answers r (t i.entry) i) ≡ rank forms_most (told_by (t i.entry)) =
       ap (rank forms_most) (again-state t r (t i.entry) i (All-head (λ i. i.properties.speculative.disambiguation ≡ DisambiguateState.None) i items h)) in
       sum_by-cons state (with_any answers r (t i.entry) i) (map (λ i. with_any answers r (t i.entry) i) items)
       ∙ (λ j. own j + row-ranks t r items (All-tail (λ i. i.properties.speculative.disambiguation ≡ DisambiguateState.None) i items h) j)
-      ∙ sym (sum_by-cons (λ e. rank forms_most (told (t e))) i.entry (map (λ i. i.entry) items))
+      ∙ sym (sum_by-cons (λ e. rank forms_most (told_by (t e))) i.entry (map (λ i. i.entry) items))
 
   rows-ranks : (t : StateTable E) (rs : List (CiteRender E P)) → AreBegun rs → cite_ranks (at_table answers t rs) ≡ ranks (entries_cited rs) t
   rows-ranks t [] h = refl
@@ -383,7 +379,7 @@ module _ {E P : Type 0} (answers : E → Answers) (firsts : List (CiteRender E P
       sum_by-append state (map (λ i. with_any answers r.request (t i.entry) i) r.items) (flat_map (λ c. c.items) (at_table answers t rs))
       ∙ (λ j. row-ranks t r.request r.items (all-left none r.items (flat_map (λ c. c.items) rs) h) j
       + rows-ranks t rs (all-right none r.items (flat_map (λ c. c.items) rs) h) j)
-      ∙ sym (sum_by-append (λ e. rank forms_most (told (t e))) (map (λ i. i.entry) r.items) (entries_cited rs))
+      ∙ sym (sum_by-append (λ e. rank forms_most (told_by (t e))) (map (λ i. i.entry) r.items) (entries_cited rs))
 
   pub cite-ranks : (t : StateTable E) → cite_ranks (at_table answers t firsts) ≡ ranks (entries_cited firsts) t
   cite-ranks t = rows-ranks t firsts begun

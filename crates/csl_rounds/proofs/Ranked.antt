@@ -9,7 +9,7 @@ use Rattle.csl_rounds.specs.FirstRenders.{AreBegun}
 use Rattle.csl_rounds.specs.RoundMarks.{has_any}
 use Rattle.csl_rounds.specs.Rounds.{entries_cited, no_states}
 use Rattle.csl_rounds.specs.RunLaws.{NothingLeft}
-use Rattle.csl_rounds.specs.Tables.{last_states, marks_at, most_rounds}
+use Rattle.csl_rounds.specs.Tables.{last_states, marks_at, most_rounds, rounds, tables}
 use Rattle.csl_rounds.specs.declared.mode.RoundMode.{RoundMode}
 use Rattle.csl_rounds.proofs.GoneOn.{AreMarkLaws, are-steps, goes_on, next}
 use Rattle.csl_rounds.proofs.Left.{nothing-left, three-ends}
@@ -29,6 +29,7 @@ full-ends eq answers firsts laws begun =
 
 -- in both modes nothing is left
 pub nothing-is-left : {E P : Type 0} (mode : RoundMode) (eq : E → E → Bool) (answers : E → Answers) (firsts : List (CiteRender E P)) → AreMarkLaws E P eq
-    → ((renders : List (CiteRender E P)) → AmbiguousStandTogether eq renders) → AreBegun firsts → NothingLeft mode eq answers firsts
+    → ((renders : List (CiteRender E P)) → AmbiguousStandTogether eq renders) → AreBegun firsts
+    → NothingLeft mode eq answers firsts (tables mode eq answers firsts) (rounds mode eq answers firsts)
 nothing-is-left RoundMode.Three eq answers firsts laws together begun = nothing-left RoundMode.Three eq answers firsts laws (together _) (three-ends eq answers firsts)
 nothing-is-left RoundMode.Full eq answers firsts laws together begun = nothing-left RoundMode.Full eq answers firsts laws (together _) (λ ended. full-ends eq answers firsts laws.equal begun)

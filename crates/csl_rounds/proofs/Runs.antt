@@ -121,6 +121,14 @@ module _ {X : Type 0} (goes : X → Bool) (next : X → X) where
                 AllPairs-cons R x (run n (next x)) (All-weaker (R (next x)) (R x) (λ y h. onwards x y i e h) (run n (next x)) (run-later n (next x) (keep x i e))) (more e)
             by false e more = AllPairs-cons R x [] (All-nil (R x)) (λ j k d below within. absurd (omega (arith, within)))
 
+  pub run-within : (n : ℕ) (x : X) → length (run n x) ≤ n + 1
+  run-within zero x = omega arith
+  run-within (suc n) x = by (goes x) (run-within n (next x))
+    where
+      by : (b : Bool) → length (run n (next x)) ≤ n + 1 → length (cond b (x ∷ run n (next x)) (x ∷ [])) ≤ suc n + 1
+      by true h = omega (arith, h)
+      by false h = omega (arith, h)
+
   -- what a step keeps where something holds of what it steps from
   module _ (B I : X → Type 0) (keep : (x : X) → I x → B x → goes x ≡ true → I (next x)) (d : X) where
     pub run-last : (n : ℕ) (x : X) → I x → All B (done (run n x)) → I (final (run n x) d)

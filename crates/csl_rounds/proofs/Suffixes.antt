@@ -246,7 +246,7 @@ module _ {E P : Type 0} (mode : RoundMode) (eq : E → E → Bool) (answers : E 
       (enumerate_from 0 (distinct eq (map entry_of (members (at t) group))))
       (suffixes-in-order eq laws more (at t) answers group mode (subst (λ own. Contains (marks_by_group mode eq answers (at t)) (group, own)) same gets.are_own))
 
-  pub suffixes-stay : SuffixesStay mode eq answers firsts
+  pub suffixes-stay : SuffixesStay mode eq answers firsts (tables mode eq answers firsts)
   suffixes-stay = record {
     stay = subst (AllPairs KeepsSuffixes) (are-steps mode eq answers firsts)
         (run-pairs (goes_on mode eq answers firsts) after (Alike mode eq answers firsts) (λ t alike go. alike-next mode eq answers firsts laws begun t alike) KeepsSuffixes (λ t e n h. h)

@@ -10,8 +10,7 @@ use Rattle.csl_passes.specs.Places.{cite_at}
 use Rattle.csl_passes.specs.Renders.{CiteRender, ItemRender, Place}
 use Rattle.csl_passes.specs.Request.{Request}
 use Rattle.csl_rounds.specs.FirstRenders.{AreBegun}
-use Rattle.csl_rounds.specs.Rounds.{StateTable, at_table, with_any}
-use Rattle.csl_rounds.specs.RunLaws.{told_by}
+use Rattle.csl_rounds.specs.Rounds.{StateTable, at_table, told_by, with_any}
 use Rattle.csl_rounds.proofs.Runs.{all-at, all-left, all-right, all-row}
 
 some-inj : {X : Type 0} (x y : X) → Some x ≡ Some y → x ≡ y
@@ -22,7 +21,7 @@ module _ {E P : Type 0} where
   IsUntold i = i.properties.speculative.disambiguation ≡ DisambiguateState.None
 
   abbrev pub IsTold : StateTable E → ItemRender E P → Type 0
-  IsTold t i = i.properties.speculative.disambiguation ≡ told_by t i.entry
+  IsTold t i = i.properties.speculative.disambiguation ≡ told_by (t i.entry)
 
   module _ (answers : E → Answers) (t : StateTable E) where
     again : (r : Request E P) (i : ItemRender E P) → IsUntold i → IsTold t (with_any answers r (t i.entry) i)

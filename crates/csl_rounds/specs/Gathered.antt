@@ -8,8 +8,9 @@ use Rattle.csl_lookup.specs.declared.state.DisambiguateState.{DisambiguateState}
 use Rattle.csl_name_marks.specs.NameMarks.{name_marks}
 use Rattle.csl_passes.specs.Renders.{CiteRender, ItemRender, Place}
 use Rattle.csl_passes.specs.Request.{Request}
-use Rattle.csl_rounds.specs.RoundMarks.{Mark, all_ways, by_choice, by_suffix, counting, greatest_state, or_others, waits}
+use Rattle.csl_rounds.specs.RoundMarks.{Mark, all_ways, by_choice, by_suffix, greatest_state, or_others, waits, ways}
 use Rattle.csl_rounds.specs.Rounds.{with_any}
+use Rattle.csl_rounds.specs.declared.mode.RoundMode.{RoundMode}
 
 module _ {E P : Type 0} (eq : E → E → Bool) (dated : Bool) (renders : List (CiteRender E P)) where
   -- the marks of the groups so far, and those of one more
@@ -19,7 +20,9 @@ module _ {E P : Type 0} (eq : E → E → Bool) (dated : Bool) (renders : List (
 
   -- the marks of a group that count, in the first way that gives any
   abbrev pub counting_ways : List Place → List Mark
-  counting_ways = all_ways (counting renders (name_marks renders)) (counting renders (by_choice eq renders)) (counting renders (by_suffix eq renders dated))
+  counting_ways =
+      let w = ways eq renders dated RoundMode.Full in
+      all_ways w.by_names w.by_choice w.by_suffix
 
   -- in mode full: the marks so far, and those of a group that doesn't wait
   abbrev pub with_counting : List Mark → List Place → List Mark

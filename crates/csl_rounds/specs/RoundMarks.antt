@@ -1,5 +1,5 @@
 -- The marks of a round: states by which entries are told apart from now on, at the places of cites.
-use Rattle.std.specs.Prelude.{Bool, true, false, List, [], ◌∷◌, ◌++◌, Option, Some, None, filter, fold, if◌then◌else◌, map}
+use Rattle.std.specs.Prelude.{◌≡◌, Bool, true, false, List, [], ◌∷◌, ◌++◌, Option, Some, None, filter, fold, if◌then◌else◌, map}
 use Rattle.std.specs.List.{flat_map, list_any}
 use Rattle.std.specs.Option.{option_map_or}
 use Rattle.std.specs.Ordering.{is_lt}
@@ -31,6 +31,18 @@ or_others xs ys = if has_any xs then xs else ys
 abbrev pub greatest_state : List DisambiguateState → Option DisambiguateState
 greatest_state [] = None
 greatest_state (s ∷ ss) = Some (fold greater s ss)
+
+-- the ways in which a group can be marked
+pub record Ways : Type 0 where
+  pub by_names : List Place → List Mark
+  pub by_choice : List Place → List Mark
+  pub by_suffix : List Place → List Mark
+
+-- in none of these ways the group gets a mark
+pub record CannotBeMarked (ways : Ways) (group : List Place) : Type 0 where
+  pub not_by_names : ways.by_names group ≡ []
+  pub not_by_choice : ways.by_choice group ≡ []
+  pub not_by_suffix : ways.by_suffix group ≡ []
 
 -- groups, each with the marks that it gets
 abbrev pub MarkedGroups : Type 0
@@ -88,12 +100,27 @@ module _ {E P : Type 0} (renders : List (CiteRender E P)) where
   counting way group = filter counts (way group)
 
 module _ {E P : Type 0} (eq : E → E → Bool) (renders : List (CiteRender E P)) (dated : Bool) where
+  -- the marks that a group gets in each way; in mode full those of them that count
+  abbrev pub ways : RoundMode → Ways
+  ways RoundMode.Three = record {
+    by_names = name_marks renders;
+    by_choice = by_choice eq renders;
+    by_suffix = by_suffix eq renders dated;
+  }
+  ways RoundMode.Full = record {
+    by_names = counting renders (name_marks renders);
+    by_choice = counting renders (by_choice eq renders);
+    by_suffix = counting renders (by_suffix eq renders dated);
+  }
+
   -- the groups with the marks that they get in a round
   abbrev pub marked_groups : RoundMode → List (List Place) → MarkedGroups
-  marked_groups RoundMode.Three groups = by_three (name_marks renders) (by_choice eq renders) (by_suffix eq renders dated) groups
+  marked_groups RoundMode.Three groups =
+      let w = ways RoundMode.Three in
+      by_three w.by_names w.by_choice w.by_suffix groups
   marked_groups RoundMode.Full groups =
-      by_full (counting renders (name_marks renders)) (counting renders (by_choice eq renders)) (counting renders (by_suffix eq renders dated))
-      (waits eq renders) [] groups
+      let w = ways RoundMode.Full in
+      by_full w.by_names w.by_choice w.by_suffix (waits eq renders) [] groups
 
 -- the ambiguous groups with their marks
 abbrev pub marks_by_group : {E P : Type 0} → RoundMode → (E → E → Bool) → (E → Answers) → List (CiteRender E P) → MarkedGroups

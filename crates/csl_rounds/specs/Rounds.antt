@@ -1,5 +1,5 @@
 -- The states of entries, and cites that are rendered again with them.
-use Rattle.std.specs.Prelude.{Bool, List, map, filter, flat_map, Option, Some, None}
+use Rattle.std.specs.Prelude.{Bool, List, map, filter, flat_map, Option, Some, None, unwrap_or}
 use Rattle.std.specs.Option.{option_or}
 use Rattle.csl_base.specs.Answers.{Answers}
 use Rattle.csl_lookup.specs.Properties.{Properties}
@@ -15,6 +15,10 @@ StateTable E = E → Option DisambiguateState
 
 abbrev pub no_states : {E : Type 0} → StateTable E
 no_states e = None
+
+-- by what means an entry with this state, or with none, is told apart
+abbrev pub told_by : Option DisambiguateState → DisambiguateState
+told_by state = unwrap_or state DisambiguateState.None
 
 -- the table with marks: an entry that has one gets it, the others keep theirs
 abbrev pub with_marks : {E : Type 0} → StateTable E → StateTable E → StateTable E

@@ -39,6 +39,10 @@ abbrev pub most_rounds : {E P : Type 0} → RoundMode → (E → E → Bool) →
 most_rounds RoundMode.Three eq firsts = 3
 most_rounds RoundMode.Full eq firsts = length (distinct eq (entries_cited firsts)) * (3 * most_forms firsts + 3)
 
+-- the last of the tables, behind which no round marked
+abbrev pub last_table : {E : Type 0} → List (StateTable E) → StateTable E
+last_table tables = slice_index_or tables (length tables - 1) no_states
+
 module _ {E P : Type 0} (mode : RoundMode) (eq : E → E → Bool) (answers : E → Answers) (firsts : List (CiteRender E P)) where
   -- the tables, from the empty one to the last
   abbrev pub tables : List (StateTable E)
@@ -54,7 +58,7 @@ module _ {E P : Type 0} (mode : RoundMode) (eq : E → E → Bool) (answers : E 
 
   -- the states that the entries have after them
   abbrev pub last_states : StateTable E
-  last_states = slice_index_or tables rounds no_states
+  last_states = last_table tables
 
 -- the first renders, rendered again with the states that tell their entries apart after all rounds
 unfoldable pub disambiguated : {E P : Type 0} → RoundMode → (E → E → Bool) → (E → Answers) → List (CiteRender E P) → List (CiteRender E P)

@@ -1,12 +1,14 @@
 use Rattle.std.proofs.Common.{ap, length, map, ◌∙◌}
-use Rattle.csl_driver.specs.Account.{listed_count, rerendered, told_by}
+use Rattle.csl_driver.specs.Account.{listed_count, rerendered}
 use Rattle.csl_driver.specs.Answer.{final_number, rendered_first}
 use Rattle.csl_driver.specs.AskedView.{asked_view}
 use Rattle.csl_driver.proofs.ByEntries.{numbers-of, states-of}
+use Rattle.csl_driver.proofs.KeptLaws.{is-answer}
 use Rattle.csl_driver.proofs.Listings.{table-once}
 use Rattle.csl_driver.proofs.Sizes.{all-counted}
 use Rattle.csl_entries.specs.TableView.{table_view}
 use Rattle.csl_passes.specs.Request.{cites_of}
+use Rattle.csl_rounds.specs.Rounds.{told_by}
 use Rattle.csl_rounds.specs.Tables.{last_states}
 use Rattle.csl_writing.specs.Counted.{counted_times}
 use Rattle.csl_driver.proofs.finish.counted_answer.Goals as goal
@@ -24,7 +26,7 @@ returns g c =
     let settled = c.in_ok-rendered.ensures.settled in
     let n = length (cites_of asked.requests) in
     let is = c.requires.known.table in
-    record {
+    is-answer eq peq answers mode asked _ (c.answers_keep_laws.ensures mode asked) (record {
       ok = c.in_ok-rendered.ensures.rendered;
       renders = account.renders
           ∙ all-counted n (listed_count eq asked.wanted asked.requests) (rerendered eq peq answers mode asked) _ _
@@ -37,5 +39,4 @@ returns g c =
       numbers = account.numbers
           ∙ numbers-of eq g.met.T.Eq.laws table.entries once (final_number eq peq answers mode asked) _ settled.long settled.numbers
           ∙ ap (λ t. map (final_number eq peq answers mode asked) t.entries) is;
-      laws = c.answers_keep_laws.ensures mode asked;
-    }
+    })
