@@ -1,31 +1,51 @@
--- What a caller derives from what is promised of an answer, without reading how it is made.
-use Rattle.std.specs.Prelude.{◌≡◌, All, Bool, true, false, [], ◌∷◌}
-use Rattle.csl_ambiguity.specs.MarkLaws.{AreAmbiguous}
-use Rattle.csl_ambiguity.specs.Members.{Member}
-use Rattle.csl_ambiguity.specs.SuffixMarks.{adds_suffix, shows_dates}
+-- What a caller derives from the laws of an answer, without reading how it is made.
+use Rattle.std.specs.Prelude.{◌≡◌, ◌≢◌, ℕ, ◌+◌, ◌<◌, Bool, List, Option, Some, length, map, slice_get, slice_index, slice_index_or, slice_range}
+use Rattle.csl_ambiguity.specs.Members.{entry_of, members}
+use Rattle.csl_assembly.specs.declared.rendered.Rendered.{Rendered}
 use Rattle.csl_base.specs.Answers.{Answers}
-use Rattle.csl_driver.specs.Answer.{Asked, final_number, in_the_end, rendered_first}
-use Rattle.csl_driver.specs.AnswerLaws.{HaveNumbersOnce, IsBroughtTogether, IsReadBack}
-use Rattle.csl_passes.specs.Request.{cited}
-use Rattle.csl_rounds.specs.RunLaws.{StatesGoOn, SuffixesStay, last_shown}
-use Rattle.csl_rounds.specs.Tables.{disambiguated}
+use Rattle.csl_base.specs.declared.style.Collapse.{Collapse}
+use Rattle.csl_collapse.specs.NumberLaws.{AreNextShown, CanBeReadBack, WasHid, numbers_of}
+use Rattle.csl_driver.specs.Answer.{Asked, rendered_first}
+use Rattle.csl_driver.specs.AnswerLaws.{KeepsLaws}
+use Rattle.csl_driver.specs.declared.account.Account.{Account}
+use Rattle.csl_entries.specs.Entries.{distinct}
+use Rattle.csl_passes.specs.Renders.{ItemRender, Place}
+use Rattle.csl_rounds.specs.Rounds.{StateTable, no_states}
+use Rattle.csl_rounds.specs.RunLaws.{GetsSuffixes, shown_at}
 use Rattle.csl_rounds.specs.declared.mode.RoundMode.{RoundMode}
 
-module _ {E P : Type 0} (eq : E → E → Bool) (payload_eq : P → P → Bool) (answers : E → Answers) (asked : Asked E P) where
-  -- where dates show, cites that read alike after rounds to the end, of different entries and without suffix, are of styles that add none
-  abbrev pub AreToldApart : Type 0
-  AreToldApart =
-      let shown = last_shown RoundMode.Full eq answers (rendered_first eq payload_eq answers asked) in
-      shows_dates answers shown ≡ true → (a b : Member E P) → AreAmbiguous eq shown a b → adds_suffix (a ∷ b ∷ []) ≡ false
+-- an entry and a number that stand at one place of an account
+pub record StandAtOnePlace {E : Type 0} (account : Account E) (e : E) (number : ℕ) : Type 0 where
+  pub place : ℕ
+  pub entry : slice_get (map (λ e. e.now) account.entries.items) place ≡ Some e
+  pub numbered : slice_get account.numbers.items place ≡ Some number
 
-  -- what was collapsed can be read back, in each request without purposes, and the numbers that are read have no gaps
-  abbrev pub CanBeNumbered : Type 0
-  CanBeNumbered =
-      HaveNumbersOnce eq asked.offset (cited asked.requests) (final_number eq payload_eq answers RoundMode.Three asked)
-      × All IsReadBack (in_the_end eq payload_eq answers RoundMode.Three asked)
+-- wherever collapsing hid the cites between two shown ones with the numbers `first` and `last`, it hid these numbers
+abbrev pub AreHiddenBetween : (E P : Type 0) → ℕ → ℕ → List ℕ → Type 0
+AreHiddenBetween E P first last numbers =
+    (cites drawn : List (ItemRender E P)) (collapse : Option Collapse) (p q k : ℕ)
+    → CanBeReadBack cites drawn collapse → AreNextShown cites drawn p q → p < k → k < q → WasHid cites drawn k
+    → slice_index (numbers_of drawn) p ≡ first → slice_index (numbers_of drawn) q ≡ last
+    → slice_range (numbers_of drawn) (p + 1) q ≡ numbers
 
-  -- what a round told of an entry is never taken back, and the cites of each request have a final order
-  abbrev pub IsSteady : RoundMode → Type 0
-  IsSteady mode =
-      let firsts = rendered_first eq payload_eq answers asked in
-      StatesGoOn mode eq answers firsts × SuffixesStay mode eq answers firsts × All IsBroughtTogether (disambiguated mode eq answers firsts)
+module _ {E P : Type 0} (eq : E → E → Bool) (payload_eq : P → P → Bool) (answers : E → Answers) (mode : RoundMode) (asked : Asked E P) (r : Rendered × Account E) (laws : KeepsLaws eq payload_eq answers mode asked r) where
+  -- the distinct entries that a group cites at a table
+  abbrev pub entries_of_group : StateTable E → List Place → List E
+  entries_of_group table group =
+      distinct eq (map entry_of (members (shown_at mode eq answers (rendered_first eq payload_eq answers asked) table) group))
+
+  -- the entries at two places of the account are two of one group that was given suffixes in some round
+  pub record GotSuffixesTogether (first second : ℕ) : Type 0 where
+    pub round : ℕ
+    pub marks : round + 1 < length laws.tables
+    pub group : List Place
+    pub given : GetsSuffixes mode eq answers (rendered_first eq payload_eq answers asked) (slice_index_or laws.tables round no_states) group
+    pub one : ℕ
+    pub other : ℕ
+    pub apart : one ≢ other
+    pub is_one : E
+    pub is_other : E
+    pub first_is : slice_get (map (λ e. e.now) r.1.entries.items) first ≡ Some is_one
+    pub second_is : slice_get (map (λ e. e.now) r.1.entries.items) second ≡ Some is_other
+    pub in_group : slice_get (entries_of_group (slice_index_or laws.tables round no_states) group) one ≡ Some is_one
+    pub other_in_group : slice_get (entries_of_group (slice_index_or laws.tables round no_states) group) other ≡ Some is_other

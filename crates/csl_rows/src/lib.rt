@@ -6,6 +6,8 @@ pub mod clients;
 mod counting;
 #[cfg(test)]
 mod finish;
+#[cfg(test)]
+mod laws;
 pub mod paths;
 #[cfg(test)]
 mod prepared;

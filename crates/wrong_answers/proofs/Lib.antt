@@ -1,0 +1,5 @@
+pub mod Differ
+pub mod Adjacent
+pub mod Drawn
+pub mod Told
+pub mod Four
