@@ -1,9 +1,13 @@
 -- Each of the numbers that the law of numbers speaks of stands at the place of an entry.
-use Rattle.std.proofs.Common.{◌≡◌, ℕ, zero, suc, ◌+◌, ◌-◌, ◌<◌, ◌≤◌, Bool, true, false, cond, not, List, [], ◌∷◌, Some, length, refl, ap, sym, subst, ◌∙◌, true≢false, arith}
-use Rattle.std.specs.Prelude.{Contains, nat_eq, position}
+use Rattle.std.proofs.Common.{◌≡◌, ℕ, zero, suc, ◌+◌, ◌-◌, ◌<◌, ◌≤◌, Bool, true, false, cond, not, List, [], ◌∷◌, ◌++◌, Some, get_or, length, refl, ap, sym, subst, ◌∙◌, true≢false, arith}
+use Rattle.std.specs.Prelude.{Contains, nat_eq, position, slice_get}
+use Rattle.std.specs.Cmp.{unsigned_Decides}
 use Rattle.std.specs.List.{position_or_len, range_with_len}
 use Rattle.std.specs.List.Sorted.{IsPermutation}
+use Rattle.std.proofs.lemmas.Bool.{lt-ltb}
 use Rattle.std.proofs.lemmas.List.FromFn.{get_or-range_with_len, length-range_with_len}
+use Rattle.std.proofs.lemmas.List.Quantifiers.{position-Some}
+use Rattle.std.proofs.lemmas.Option.{slice_get-get_or}
 use Rattle.std.proofs.lemmas.List.Sorted.{Contains-permutation, length_permutation}
 use Rattle.csl_driver.specs.AnswerLaws.{HaveNumbersOnce}
 
@@ -15,8 +19,7 @@ in-range offset n number low high =
     (number - offset, long, get_or-range_with_len offset n (number - offset) number within ∙ back)
 
 itself : (n : ℕ) → nat_eq n n ≡ true
-itself zero = refl
-itself (suc n) = itself n
+itself n = (unsigned_Decides n n).1 refl
 
 position-within : (number : ℕ) (numbers : List ℕ) → Contains numbers number → position_or_len (nat_eq number) numbers < length numbers
 position-within number [] (k, w, e) = absurd (omega (arith, w))
@@ -43,3 +46,24 @@ is-found eq offset entries numbers number law low high =
       within = position-within number numbers (Contains-permutation whole numbers number law.each_once (in-range offset (length entries) number low high));
       as_many = length_permutation whole numbers law.each_once ∙ length-range_with_len offset (length entries);
     }
+
+-- where a number was found it stands, and it is found where it stands
+pub stands : (number : ℕ) (numbers : List ℕ) (place : ℕ) → Some place ≡ position (nat_eq number) numbers → slice_get numbers place ≡ Some number
+stands number numbers place h =
+    let p = position-Some (nat_eq number) numbers place 0 (sym h) in
+    slice_get-get_or numbers place 0 p.0 ∙ ap Some (sym ((unsigned_Decides number (get_or numbers place 0)).0 p.1))
+
+pub there : (number : ℕ) (numbers : List ℕ) → position_or_len (nat_eq number) numbers < length numbers → position (nat_eq number) numbers ≡ Some (position_or_len (nat_eq number) numbers)
+there number numbers within = rw (lt-ltb (position_or_len (nat_eq number) numbers) (length numbers) within) refl
+
+pub below : (number n : ℕ) (numbers : List ℕ) (place : ℕ) → IsFound number n numbers → Some place ≡ position (nat_eq number) numbers → place < n
+below number n numbers place found h =
+    let p = position-Some (nat_eq number) numbers place 0 (sym h) in
+    omega (arith, p.0, found.as_many)
+
+-- one number more
+pub range-more : (a n j : ℕ) → a + n ≡ j → range_with_len a (n + 1) ≡ range_with_len a n ++ j ∷ []
+range-more a zero j h = let same : a ≡ j = omega (arith, h) in ap (λ k. k ∷ []) same
+range-more a (suc n) j h =
+    let long : suc n + 1 ≡ suc (n + 1) = omega arith in
+    ap (range_with_len a) long ∙ ap (λ l. a ∷ l) (range-more (a + 1) n j (omega (arith, h)))

@@ -1,6 +1,7 @@
 //! Callers that rely on the laws of an answer, and on nothing that says how it is made.
 ghost use Rattle.std.specs.Prelude.{◌≡◌, ◌≢◌, ◌+◌, ◌≤◌, ◌<◌, Bool, IfOk, IfSome, IsSome, List, Some, ℕ, length, map, nat_eq, option_and_then, position, slice_get, string_bytes};
 ghost use Rattle.csl_assembly.specs.declared.rendered.Rendered.{Rendered};
+ghost use Rattle.csl_collapse.specs.NumberLaws.{between};
 ghost use Rattle.csl_driver.specs.Answer.{Asked};
 ghost use Rattle.csl_driver.specs.AnswerLaws.{HaveNumbersOnce, KeepsLaws};
 ghost use Rattle.csl_lookup.specs.States.{year_suffix};
@@ -30,10 +31,24 @@ pub fn entry_of_number<'a, T: EntryLike>(account: &Account<'a, T>, number: usize
         → offset ≤ number → number < offset + length account.now.entries.items → IsSome result }
 {
     let place = place_of(&account.numbers, number)?;
-    match account.entries.get(place) {
-        Some(entry) => Some(*entry),
-        None => None,
+    if place < account.entries.len() {
+        return Some(account.entries[place]);
     }
+    None
+}
+
+/// The numbers strictly between two.
+fn numbers_between(alloc: Global, first: usize, last: usize) -> Result<Vec<usize>, AllocError>
+    ensures { IfOk result (λ v. v.items ≡ between first last) }
+{
+    let mut numbers = Vec::new(alloc);
+    if last <= first {
+        return Ok(numbers);
+    }
+    for number in first + 1..last {
+        numbers.push(number)?;
+    }
+    Ok(numbers)
 }
 
 /// The numbers that a reader finds between two shown numbers that collapsing drew together, by these two alone.
@@ -47,13 +62,8 @@ pub fn hidden_between<T, P>(
 ) -> Result<Vec<usize>, AllocError>
     ensures { IfOk result (λ v. AreHiddenBetween T P first last v.items) }
 {
-    let mut hidden = Vec::new(alloc);
-    if first < last {
-        for number in first + 1..last {
-            hidden.push(number)?;
-        }
-    }
-    Ok(hidden)
+    let numbers = numbers_between(alloc, first, last)?;
+    Ok(numbers)
 }
 
 /// The suffix of a state, where it is one.
