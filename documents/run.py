@@ -224,6 +224,16 @@ def slow_reader(calls):
     by_calls(calls, 'slow and failing', base, 1, b'')
 
 
+def most_reads(calls):
+    """`read_input` makes 1,048,576 reads at most, and the last must find the end: over a reader that gives a byte at each read,
+    one byte less is the longest input."""
+    for length, status in ((1048575, 0), (1048576, 1)):
+        given = b' ' * length
+        got = ended(calls, b'slow\n' + given)
+        if got[0] != status or got[1] != (given if status == 0 else b''):
+            raise Failed('%d bytes: status %d, and not %d; %d bytes came out' % (length, got[0], status, len(got[1])))
+
+
 # What only a process can show
 
 
@@ -479,9 +489,9 @@ PASSES = ['find_ambiguous_sets', *MARKING, 'group_cites', 'substitute_subsequent
 SWEPT_PASSES = {
     'disambiguation/suffix_by_entry': ['find_ambiguous_sets', 'disambiguate_names', 'disambiguate_year_suffix'],
     'disambiguation/added_names': ['find_ambiguous_sets', 'disambiguate_names', 'disambiguate_year_suffix'],
-    'disambiguation/choose': ['find_ambiguous_sets', 'disambiguate_with_choose'],
+    'disambiguation/choose': ['find_ambiguous_sets', *MARKING],
     'grouping/blocks': ['find_ambiguous_sets', 'group_cites'],
-    'bibliography/author_substitution': ['substitute_subsequent_authors'],
+    'bibliography/author_substitution': ['find_ambiguous_sets', 'substitute_subsequent_authors'],
 }
 # The calls of a writing context that take memory; each is made in a context of its own, whose text fills its room.
 HEIGHTS = ['ensure_space', 'push_str', 'push_chunked', 'push_link', 'push_transparent', 'push_quotes', 'pop_quotes', 'write_str']
@@ -740,7 +750,7 @@ def main():
         except Failed as error:
             tests.append(('growths of memory', cannot, str(error)))
         tests += call_by_call(calls, contexts, bases)
-        tests += [('process: ' + it.__name__.replace('_', ' '), it, calls) for it in (failing_writer, slow_reader)]
+        tests += [('process: ' + it.__name__.replace('_', ' '), it, calls) for it in (failing_writer, slow_reader, most_reads)]
     else:
         tests.append(('programs of calls', cannot, 'crates/call_by_call and crates/context_calls are not both built'))
     tests += [(name_of(it), document, program, it) for it in bases]
