@@ -2,7 +2,7 @@
 //! growths of memory are refused in turn, and none may be between a call's name and the next line.
 
 use crate::calls::Request;
-use crate::passes::{Cite, Item, all_written};
+use crate::passes::{Cite, Cites, Item, all_written};
 use cite_document::error::RunError;
 use csl_base::elem::{BufWriteFormat, Elem, ElemChild, ElemChildren, ElemMeta};
 use csl_base::entry::{EntryLike, PlainEntry};
@@ -107,22 +107,33 @@ fn is_shrunk(cites: &[Cite<'_>]) -> bool {
     cites.len() > 2
 }
 
-/// The cites of the first request, with the numbers 0 and on.
+fn number_all(cites: &mut [Cite<'_>]) {
+    for (k, cite) in cites.iter_mut().enumerate() {
+        cite.cite_props.speculative.citation_number = k;
+    }
+}
+
+/// Whether the cites of a request are one run where they have the numbers 0 and on.
+fn shrinks(rt: &impl Eprint, cites: &mut Cites<'_, '_>) -> bool {
+    number_all(&mut cites.items);
+    named(rt, "collapse_items");
+    collapse_items(cites);
+    is_shrunk(&cites.items)
+}
+
+/// The same of each request; there is one.
 fn collapsing(
     rt: &(impl Eprint + AllocGlobal),
     requests: &[Request<'_>],
 ) -> Result<bool, RunError> {
     named(rt, "prepare");
     let mut written = all_written(rt.alloc(), requests)?;
-    if written.is_empty() {
-        return Err(RunError::Document);
+    for r in 0..written.len() {
+        if !shrinks(rt, &mut written[r]) {
+            return Ok(false);
+        }
     }
-    for (k, cite) in written[0].items.iter_mut().enumerate() {
-        cite.cite_props.speculative.citation_number = k;
-    }
-    named(rt, "collapse_items");
-    collapse_items(&mut written[0]);
-    Ok(is_shrunk(&written[0].items))
+    Ok(true)
 }
 
 // ---- small values
