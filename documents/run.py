@@ -8,8 +8,9 @@ NAME.account, by `finish_counted` or `finish_full` once more, of which the accou
 there is a NAME.alone, each request by `standalone_citation`; where there is a NAME.passes, by the passes themselves, on cites
 that are written without a driver; where there is a NAME.equality, it is told which requests are equal to the first, and whether that
 for the bibliography is one for its style alone. A copy of each answer has to be equal to it. Where there is a NAME.context,
-crates/context_calls prints what calls of a writing context give in its first style. Where a C compiler is there, it refuses each
-growth of memory in turn (refuse.c), in all three programs.
+crates/context_calls prints what calls of a writing context give in its first style. It refuses each growth of memory in turn
+(refuse.c, for which a C compiler must be there), in all three programs; each such sweep is for some calls, and fails where one of
+them met no refusal.
 run.py PROGRAM FOLDER..: runs it on the documents of these folders, and does nothing else.
 
 A document is NAME.json. NAME.txt is what it must print; where the status isn't 0, NAME.status has it, and nothing is
@@ -221,6 +222,16 @@ def slow_reader(calls):
     base = HERE + '/rows/offset_and_order'
     by_calls(calls, 'slow', base, 0, read(base + '.json'))
     by_calls(calls, 'slow and failing', base, 1, b'')
+
+
+def most_reads(calls):
+    """`read_input` makes 1,048,576 reads at most, and the last must find the end: over a reader that gives a byte at each read,
+    one byte less is the longest input."""
+    for length, status in ((1048575, 0), (1048576, 1)):
+        given = b' ' * length
+        got = ended(calls, b'slow\n' + given)
+        if got[0] != status or got[1] != (given if status == 0 else b''):
+            raise Failed('%d bytes: status %d, and not %d; %d bytes came out' % (length, got[0], status, len(got[1])))
 
 
 # What only a process can show
@@ -462,33 +473,55 @@ SWEPT = [
 ]
 # Those by `finish_full`.
 SWEPT_FULL = ['rounds/no_round', 'rounds/suffix_by_entry', 'rounds/group_that_waits', 'rounds/names_that_do_not_help']
-# Those on which the passes are called by themselves.
-SWEPT_PASSES = [
-    'disambiguation/suffix_by_entry',
-    'disambiguation/added_names',
-    'disambiguation/choose',
-    'grouping/blocks',
-    'bibliography/author_substitution',
+# Those that have a refusal for an answer, or a number that is just not too large.
+SWEPT_REFUSALS = [
+    'rows/ring_of_two_macros',
+    'rows/ring_of_one_macro',
+    'rows/ring_without_requests',
+    'rows/number_overflow',
+    'rows/number_overflow_at_the_second_entry',
+    'rows/greatest_offset',
+    'rows/greatest_number',
 ]
-# Those that have a refusal for an answer, with its status.
-REFUSED = {'rows/ring_of_two_macros': 3, 'rows/number_overflow': 4}
-# A citation by itself has the number 0, which is printed as 1.
-ALONE = b'[1]\n' * 4
-PASSES = ['find_ambiguous_sets', 'disambiguate_names', 'disambiguate_with_choose', 'disambiguate_year_suffix']
-PASSES += ['group_cites', 'substitute_subsequent_authors']
+# Those on which the passes are called by themselves, with the passes that take memory there.
+MARKING = ['disambiguate_names', 'disambiguate_with_choose', 'disambiguate_year_suffix']
+PASSES = ['find_ambiguous_sets', *MARKING, 'group_cites', 'substitute_subsequent_authors']
+SWEPT_PASSES = {
+    'disambiguation/suffix_by_entry': ['find_ambiguous_sets', 'disambiguate_names', 'disambiguate_year_suffix'],
+    'disambiguation/added_names': ['find_ambiguous_sets', 'disambiguate_names', 'disambiguate_year_suffix'],
+    'disambiguation/choose': ['find_ambiguous_sets', *MARKING],
+    'grouping/blocks': ['find_ambiguous_sets', 'group_cites'],
+    'bibliography/author_substitution': ['find_ambiguous_sets', 'substitute_subsequent_authors'],
+}
+# The calls of a writing context that take memory; each is made in a context of its own, whose text fills its room.
+HEIGHTS = ['ensure_space', 'push_str', 'push_chunked', 'push_link', 'push_transparent', 'push_quotes', 'pop_quotes', 'write_str']
+HEIGHTS += ['push_format', 'pop_format', 'push_elem', 'commit_elem', 'discard_elem', 'push_delimiter', 'push_name_options']
+HEIGHTS += ['apply_prefix', 'has_content_since', 'apply_suffix', 'flush']
 # Calls of crates/call_by_call and crates/context_calls, which name them before they make them; the status is 5 where one is
 # refused, but for `citation`.
-CALLS = ['read', 'prepare', 'citation', 'finish', 'finish_counted', 'finish_full', 'standalone_citation', 'run', 'free', 'clone', 'context', 'heights', *PASSES]
+CALLS = ['read', 'prepare', 'citation', 'finish', 'finish_counted', 'finish_full', 'standalone_citation', 'run', 'clone', 'context']
+CALLS += [*PASSES, *HEIGHTS]
 # Those that print before others are called.
 PRINT = ['standalone_citation', 'context', *PASSES]
 MOST_GROWTHS = 100000
+# The calls that take no memory, in the order in which crates/call_by_call makes them.
+FREE = """
+with_entry with_locator CitationItem::new kind with_last CitationRequest::new from_items BibliographyRequest::new BibliographyDriver::new
+with_citation_number_offset collapse_items left right Renders::new count for_sorting speculate for_bibliography add_name get_form_mut
+label number may_disambiguate_names may_disambiguate_with_choose may_disambiguate_with_year_suffix max StyleContext::new lookup_locale
+locale term punctuation_in_quotes pop_name_options pop_delimiter may_pull_punctuation may_strip_periods stop_stripping_periods
+ElemChildren::new is_empty has_content find_names find_names_mut find_meta find_elem_by last_text last_text_mut write_buf eq hash
+remove_any_meta Formatting::default apply add_text ElemChild::from_text ElemChild::from_elem len last last_mut last_mut_predicate
+first_mut pop cut finish key resolve_name_variable resolve_date_variable resolve_standard_variable resolve_number_variable
+citation_label write_year
+""".split()
 
 
 def compiled(folder):
-    """What refuses the nth growth of a process, preloaded; none where no C compiler is here."""
+    """What refuses the nth growth of a process, preloaded."""
     compiler = next((it for it in map(shutil.which, ('cc', 'gcc', 'clang')) if it), None)
     if not compiler:
-        return None
+        raise Failed('no C compiler is here, so that no growth of memory can be refused')
     made = folder + '/refuse.so'
     words = [compiler, '-shared', '-fPIC', '-O1', '-o', made, HERE + '/refuse.c', '-ldl']
     if subprocess.run(words, stdout=subprocess.DEVNULL, stderr=subprocess.DEVNULL).returncode:
@@ -497,38 +530,44 @@ def compiled(folder):
 
 
 def refused_in_turn(shim, program, given, judge):
-    """Runs with the first growth refused, the second, and on until none is refused; tells how many were. `judge` gets
-    status, output and the lines of standard error, in which `!` stands where a growth was refused."""
+    """Runs with the first growth refused, the second, and on until none is refused; gives the lines of standard error of each
+    run, in which `!` stands where a growth was refused. `judge` gets the number of the growth, status, output and these lines."""
+    runs = []
     for n in range(1, MOST_GROWTHS):
         status, out, error = ended(program, given, env={'LD_PRELOAD': shim, 'REFUSE': str(n)})
         lines = error.replace(b'!', b'!\n').decode().split('\n')[:-1]
         try:
-            judge(status, out, lines)
+            judge(n, status, out, lines)
         except Failed as failed:
             raise Failed('growth %d refused: %s' % (n, failed))
+        runs.append(lines)
         if '!' not in lines:
-            return n - 1
+            return runs
     raise Failed('growths are refused without end')
 
 
 def sweep_of_program(shim, program, name):
-    """Each run ends in status 5, or 1 while the input is read, with nothing printed; or in the answer, as where a list that is
-    done could not be made smaller. At the end the answer comes."""
+    """Each run ends in status 5, or 1 while the input is read (whose buffer and bytes are the first two growths), with nothing
+    printed; or in the answer, as where a list that is done could not be made smaller. At the end the answer comes."""
     given, text = row(name)
+    ends = []
 
-    def judge(status, out, lines):
-        if '!' not in lines or status == 0:
-            return hold((status, out, ''.join(it for it in lines if it != '!').encode()), 0, text)
-        hold((status, out, lines[-1].encode() + b'\n'), status if status in (1, 5) else 5)
+    def judge(n, status, out, lines):
+        said = ''.join(it for it in lines if it != '!').encode()
+        if '!' not in lines or (status == 0 and n > 2):
+            return hold((status, out, said), 0, text)
+        ends.append(1 if n <= 2 else 5)
+        hold((status, out, said + b'\n'), ends[-1])
 
-    return refused_in_turn(shim, program, given, judge)
+    runs = refused_in_turn(shim, program, given, judge)
+    if 5 not in ends:
+        raise Failed('no growth was refused behind the reading of the input')
+    return len(runs) - 1
 
 
 def held_call(called, status, out, text, status_wanted):
     """What a run of a program of calls must end in: the refusal of the call whose growth was refused, or the answer."""
     at = called[called.index('!') - 1] if '!' in called else None
-    if at == 'free':
-        raise Failed('a call that takes no memory was refused some')
     if at == 'citation' and status_wanted == 0:
         # the request that came back was handed in again
         wanted, printed = 6, text
@@ -549,47 +588,85 @@ def held_call(called, status, out, text, status_wanted):
         raise Failed('%r was printed' % out)
 
 
-def sweep_of_calls(shim, program, way, given, status_wanted, text):
-    """Each run ends in the refusal of the very call whose growth was refused, or in the answer."""
+def sweep_of_calls(shim, program, way, swept, given, status_wanted, text):
+    """Each run ends in the refusal of the very call whose growth was refused, or in the answer; and each of the calls that are
+    swept is refused in some run."""
 
-    def judge(status, out, lines):
+    def judge(_n, status, out, lines):
         called = [it for it in lines if it in CALLS or it == '!']
         held_call(called, status, out, text, status_wanted)
 
-    return refused_in_turn(shim, program, way.encode() + b'\n' + given, judge)
+    runs = refused_in_turn(shim, program, way.encode() + b'\n' + given, judge)
+    refused = {[it for it in lines[: lines.index('!')] if it in CALLS][-1] for lines in runs if '!' in lines}
+    lacking = [it for it in swept if it not in refused]
+    if lacking:
+        raise Failed('of %d growths none was refused in %s' % (len(runs) - 1, ', '.join(lacking)))
+    return len(runs) - 1
+
+
+def sweep_of_free(shim, program, given):
+    """The calls of `FREE` are named before they are made, and `prepare` stands before what they need: no growth is refused
+    between a call's name and the next line."""
+
+    def judge(_n, status, out, lines):
+        if '!' not in lines:
+            made = [it for it in lines if it in FREE]
+            if status != 0 or made != FREE:
+                raise Failed('status %d, and not 0; it ended at %s behind %s' % (status, lines[-1:], made[-1:]))
+            return
+        at = lines[lines.index('!') - 1]
+        if at in FREE:
+            raise Failed('%s took memory' % at)
+        if status != 5 or out:
+            raise Failed('status %d, and not 5, refused at %s' % (status, at))
+
+    runs = refused_in_turn(shim, program, b'free\n' + given, judge)
+    if len(runs) == 1:
+        raise Failed('no growth was refused')
+    return len(runs) - 1
 
 
 def sweeps_of_contexts(shim, program):
-    given, text = read(HERE + '/words/calls_of_a_context.json'), read(HERE + '/words/calls_of_a_context.context')
-    return [('growths of ' + way, sweep_of_calls, shim, program, way, given, 0, printed) for way, printed in (('context', text), ('heights', b''))]
+    base = HERE + '/words/calls_of_a_context'
+    given = read(base + '.json')
+    asked = [('context', ['context'], read(base + '.context')), ('heights', HEIGHTS, b'')]
+    return [('growths of ' + way, sweep_of_calls, shim, program, way, swept, given, 0, printed) for way, swept, printed in asked]
 
 
-def sweeps_of_calls(shim, program):
+def sweeps_of_answers(shim, program):
+    """Those of the calls that answer whole documents. Requests are of prepared styles, and under `finish unprepared` of none."""
     made = []
-    for way, names in (('finish', SWEPT), ('finish_counted', SWEPT), ('finish_full', SWEPT_FULL)):
-        for name in names:
-            given, text = row(name)
-            made.append(('growths of %s: %s' % (way, name), sweep_of_calls, shim, program, way, given, 0, text))
-        for name, status in REFUSED.items():
-            given = read(HERE + '/' + name + '.json')
-            made.append(('growths of %s: %s' % (way, name), sweep_of_calls, shim, program, way, given, status, b''))
-    for name in SWEPT_PASSES:
-        given, text = read(HERE + '/' + name + '.json'), read(HERE + '/' + name + '.passes')
-        made.append(('growths of passes: ' + name, sweep_of_calls, shim, program, 'passes', given, 0, text))
-    given, text = row('rows/offset_and_order')
-    for way, printed in (('run', text), ('copies', b'copy: equal\n'), ('standalone_citation', ALONE), ('free', b'')):
-        made.append(('growths of %s' % way, sweep_of_calls, shim, program, way, given, 0, printed))
+    for way, names in (('finish', SWEPT), ('finish unprepared', SWEPT), ('finish_counted', SWEPT), ('finish_full', SWEPT_FULL)):
+        for name in [*names, *SWEPT_REFUSALS]:
+            base = HERE + '/' + name
+            status, text = wanted(base)
+            swept = [way.split(' ')[0]]
+            if json.loads(read(base + '.json'))['requests']:
+                swept.append('citation')
+            made.append(('growths of %s: %s' % (way, name), sweep_of_calls, shim, program, way, swept, read(base + '.json'), status, text))
     return made
 
 
+def sweeps_of_calls(shim, program):
+    made = sweeps_of_answers(shim, program)
+    for name, swept in SWEPT_PASSES.items():
+        given, text = read(HERE + '/' + name + '.json'), read(HERE + '/' + name + '.passes')
+        made.append(('growths of passes: ' + name, sweep_of_calls, shim, program, 'passes', swept, given, 0, text))
+    given, text = row('rows/offset_and_order')
+    for way, swept, printed in (('run', 'run', text), ('copies', 'clone', b'copy: equal\n')):
+        made.append(('growths of ' + way, sweep_of_calls, shim, program, way, [swept], given, 0, printed))
+    for name in ('hidden_cites', 'cites_without_content'):
+        base, way = HERE + '/alone/' + name, 'standalone_citation'
+        made.append(('growths of %s: %s' % (way, name), sweep_of_calls, shim, program, way, [way], read(base + '.json'), 0, read(base + '.alone')))
+    free = read(HERE + '/words/calls_without_memory.json')
+    return [*made, ('growths of calls that take none', sweep_of_free, shim, program, free)]
+
+
 def sweeps(program, calls, contexts):
-    """The sweeps, each with its name; or none, and why."""
-    folder = tempfile.mkdtemp()
-    shim = compiled(folder)
-    if not shim:
-        return [], 'no C compiler is here'
+    """The sweeps, each with its name."""
+    shim = compiled(tempfile.mkdtemp())
     made = [('growths of %s' % it, sweep_of_program, shim, program, it) for it in SWEPT]
-    return made + sweeps_of_calls(shim, calls) + sweeps_of_contexts(shim, contexts), None
+    return made + sweeps_of_calls(shim, calls) + sweeps_of_contexts(shim, contexts)
 
 
 def model(program):
@@ -609,18 +686,18 @@ def worked(folder):
 
 
 GROWTHS = []
-NO_CALLS = 'crates/call_by_call and crates/context_calls are not both built'
 
 
-def not_built():
-    raise Failed(NO_CALLS)
+def cannot(why):
+    """What stands for tests that can't be made."""
+    raise Failed(why)
 
 
 def tried(name, call, *given):
     """What failed, and how, or nothing."""
     try:
         count = call(*given)
-        if call in (sweep_of_program, sweep_of_calls):
+        if call in (sweep_of_program, sweep_of_calls, sweep_of_free):
             GROWTHS.append(count)
         return None
     except Failed as error:
@@ -667,13 +744,15 @@ def main():
     tests = [('model: %d random documents' % RANDOM_DOCUMENTS, model, program)]
     tests += [('process: ' + it.__name__.replace('_', ' '), it, program) for it in reversed(PROCESSES)]
     calls, contexts = (beside(program, it) for it in ('call_by_call', 'context_calls'))
-    swept, why_not = sweeps(program, calls, contexts) if calls and contexts else ([], NO_CALLS)
-    tests += swept
     if calls and contexts:
+        try:
+            tests += sweeps(program, calls, contexts)
+        except Failed as error:
+            tests.append(('growths of memory', cannot, str(error)))
         tests += call_by_call(calls, contexts, bases)
-        tests += [('process: ' + it.__name__.replace('_', ' '), it, calls) for it in (failing_writer, slow_reader)]
+        tests += [('process: ' + it.__name__.replace('_', ' '), it, calls) for it in (failing_writer, slow_reader, most_reads)]
     else:
-        tests.append(('programs of calls', not_built))
+        tests.append(('programs of calls', cannot, 'crates/call_by_call and crates/context_calls are not both built'))
     tests += [(name_of(it), document, program, it) for it in bases]
     tests += [('model: ' + name_of(it), worked, it) for it in [*folders_of(HERE), ROOT + '/examples']]
     tests.append(('files of the folders', strays))
@@ -686,8 +765,6 @@ def main():
     count = told(results)
     if not validator:
         print('note: the documents were not held to the schema: the library jsonschema (python3-jsonschema) is not here')
-    if why_not:
-        print('note: no growth of memory was refused: ' + why_not)
     print('%d documents, %d of a process, %d against the schema, %d growths of memory refused in %d sweeps, %d random documents against the model: '
           '%.1f seconds' % (len(bases), len(PROCESSES), len(by_schema), sum(GROWTHS), len(GROWTHS), RANDOM_DOCUMENTS, time.time() - began))
     print('%d passed, %d failed' % (len(results) - count, count))

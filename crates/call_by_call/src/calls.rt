@@ -21,7 +21,7 @@ use csl_rounds::mode::RoundMode;
 use document_reading::document::{Asked, asked_in, top_of, utf8_text, value_of};
 use document_reading::entries::entries_of;
 use document_reading::finders::found_styles;
-use document_reading::requests::{copied_code, driver_request};
+use document_reading::requests::{AskedCite, AskedRequest, copied_code, driver_request};
 use document_styles::locales::locales_at;
 use document_styles::styles::{NamedStyle, styles_of};
 use serde_json::Value;
@@ -35,6 +35,8 @@ const ROOM: usize = 65_536;
 #[derive(Clone, Copy)]
 pub enum How {
     Finish,
+    /// By `finish`, of requests whose styles aren't prepared.
+    FinishUnprepared,
     FinishCounted,
     FinishFull,
     /// By `finish_full` or `finish_counted`, as the document says; what is printed is the account.
@@ -64,7 +66,7 @@ pub enum Seen {
 
 type Driver<'e> = BibliographyDriver<'e, PlainEntry, Infallible>;
 
-type Request<'e> = CitationRequest<'e, PlainEntry, Infallible>;
+pub(crate) type Request<'e> = CitationRequest<'e, PlainEntry, Infallible>;
 
 /// Hands in a request, and once more where it comes back; tells whether it did.
 fn take<'e>(driver: &mut Driver<'e>, request: Request<'e>) -> Result<bool, RunError> {
@@ -80,17 +82,39 @@ fn take<'e>(driver: &mut Driver<'e>, request: Request<'e>) -> Result<bool, RunEr
     }
 }
 
+/// A request for the driver: of the prepared style, if there is one, or of the style itself.
+fn request_of<'e, 'f: 'e>(
+    alloc: Global,
+    request: &'e AskedRequest<'f>,
+    files: &'e TermTables<'f>,
+    is_prepared: bool,
+) -> Result<Request<'e>, AllocError> {
+    let made = driver_request(alloc, request, files)?;
+    if is_prepared {
+        return Ok(made);
+    }
+    let CitationRequest { items, locale, .. } = made;
+    Ok(CitationRequest::new(
+        items,
+        request.style.style,
+        locale,
+        files.locales(),
+        request.note_number,
+    ))
+}
+
 /// Hands in all requests; tells whether one came back.
 fn take_all<'e, 'f: 'e>(
     rt: &(impl Print + Eprint + AllocGlobal),
     driver: &mut Driver<'e>,
     asked: &'e Asked<'f>,
     files: &'e TermTables<'f>,
+    is_prepared: bool,
 ) -> Result<bool, RunError> {
     let mut came_back = false;
     for request in &asked.requests {
         let _ = eprintln!(rt; "prepare");
-        let made = driver_request(rt.alloc(), request, files)?;
+        let made = request_of(rt.alloc(), request, files, is_prepared)?;
         let _ = eprintln!(rt; "citation");
         came_back |= take(driver, made)?;
     }
@@ -110,6 +134,7 @@ fn bibliography_request<'o, 'e>(
     alloc: Global,
     asked: &'o Asked<'e>,
     files: &'o TermTables<'e>,
+    is_prepared: bool,
 ) -> Result<BibliographyRequest<'o, 'e, PlainEntry>, AllocError> {
     let locale = copied_code(alloc, &asked.wanted.locale)?;
     let order = match &asked.wanted.order {
@@ -117,8 +142,10 @@ fn bibliography_request<'o, 'e>(
         None => None,
     };
     match asked.wanted.style.sound() {
-        Some(sound) => Ok(BibliographyRequest::of_sound(sound, locale, files, order)),
-        None => {
+        Some(sound) if is_prepared => Ok(BibliographyRequest::of_sound(
+            sound, locale, files, order,
+        )),
+        _ => {
             let style = asked.wanted.style.style;
             Ok(BibliographyRequest::ordered(style, locale, files.locales(), order))
         }
@@ -231,9 +258,10 @@ fn answer_all<'e, 'f: 'e>(
 ) -> Result<Seen, RunError> {
     let alloc = rt.alloc();
     let mut driver = Driver::new(alloc).with_citation_number_offset(asked.offset);
-    let came_back = take_all(rt, &mut driver, asked, files)?;
+    let is_prepared = !matches!(how, How::FinishUnprepared);
+    let came_back = take_all(rt, &mut driver, asked, files, is_prepared)?;
     let _ = eprintln!(rt; "prepare");
-    let request = bibliography_request(alloc, asked, files)?;
+    let request = bibliography_request(alloc, asked, files, is_prepared)?;
     let finished = match how {
         How::Account => print_counted(rt, driver, request, asked.rounds),
         How::Copies => print_copied(rt, driver, request),
@@ -269,34 +297,6 @@ fn answer_alone<'e, 'f: 'e>(
     Ok(Seen::Answer)
 }
 
-/// Makes calls that take no memory, of the first request.
-fn call_free(
-    rt: &(impl Print + Eprint + AllocGlobal),
-    asked: &Asked<'_>,
-    files: &TermTables<'_>,
-) -> Result<Seen, RunError> {
-    let alloc = rt.alloc();
-    let Some(first) = asked.requests.as_slice().first() else {
-        return Err(RunError::Document);
-    };
-    let made = driver_request(alloc, first, files)?;
-    let style = made.style();
-    let tree = match standalone_citation(alloc, made) {
-        Ok(tree) => tree,
-        Err(error) => return Err(refusal(error)),
-    };
-    let room = Vec::with_capacity(alloc, 1)?;
-    let Some(cite) = first.items.as_slice().first() else {
-        return Err(RunError::Document);
-    };
-    let _ = eprintln!(rt; "free");
-    if calls_without_memory(alloc, style, cite.entry, room, tree) {
-        Ok(Seen::Answer)
-    } else {
-        Ok(Seen::Amiss("a call that takes no memory gave what it may not"))
-    }
-}
-
 /// The requests of a document.
 fn requests_of<'e, 'f: 'e>(
     alloc: Global,
@@ -308,6 +308,32 @@ fn requests_of<'e, 'f: 'e>(
         requests.push(driver_request(alloc, request, files)?)?;
     }
     Ok(requests)
+}
+
+/// The first cite of the first request.
+fn first_cite<'r, 'f>(asked: &'r Asked<'f>) -> Option<&'r AskedCite<'f>> {
+    match asked.requests.as_slice().first() {
+        Some(request) => request.items.as_slice().first(),
+        None => None,
+    }
+}
+
+/// Makes calls that take no memory.
+fn call_free<'e, 'f: 'e>(
+    rt: &(impl Print + Eprint + AllocGlobal),
+    asked: &'e Asked<'f>,
+    files: &'e TermTables<'f>,
+) -> Result<Seen, RunError> {
+    let requests = requests_of(rt.alloc(), asked, files)?;
+    let Some(cite) = first_cite(asked) else {
+        return Err(RunError::Document);
+    };
+    let style = asked.wanted.style.style;
+    if calls_without_memory(rt, &requests, style, cite.entry, asked.locales)? {
+        Ok(Seen::Answer)
+    } else {
+        Ok(Seen::Amiss("a call that takes no memory gave what it may not"))
+    }
 }
 
 /// Compares cites with their copies, and requests with the first one.
@@ -324,7 +350,7 @@ fn compare<'e, 'f: 'e>(
     files: &'e TermTables<'f>,
 ) -> Result<Seen, RunError> {
     compare_requests(rt, &requests_of(rt.alloc(), asked, files)?)?;
-    print_wanted(rt, &bibliography_request(rt.alloc(), asked, files)?);
+    print_wanted(rt, &bibliography_request(rt.alloc(), asked, files, true)?);
     if properties_differ() {
         Ok(Seen::Answer)
     } else {

@@ -1,78 +1,493 @@
-//! Calls that take no memory.
+//! Calls that take no memory. Each is named before it is made, and `prepare` stands before what it needs:
+//! growths of memory are refused in turn, and none may be between a call's name and the next line.
 
-use csl_base::elem::{ElemChildren, ElemMeta};
-use csl_base::entry::PlainEntry;
-use csl_base::formatting::Formatting;
+use crate::calls::Request;
+use crate::passes::{Cite, Cites, Item, all_written};
+use cite_document::error::RunError;
+use csl_base::elem::{BufWriteFormat, Elem, ElemChild, ElemChildren, ElemMeta};
+use csl_base::entry::{EntryLike, PlainEntry};
+use csl_base::formatting::{Display, FontStyle, Formatting, StyleFormatting};
+use csl_base::locale::Locale;
+use csl_base::names::{DisambiguatedNameForm, NameDisambiguationProperties};
+use csl_base::seq::Seq;
+use csl_base::stack::NonEmptyStack;
 use csl_base::style::IndependentStyle;
+use csl_base::taxonomy::{
+    DateVariable, Locator, NameVariable, NumberVariable, OtherTerm, StandardVariable, Term,
+    TermForm,
+};
+use csl_driver::brackets::Brackets;
+use csl_driver::context::Context;
+use csl_driver::counter::Renders;
 use csl_driver::driver::BibliographyDriver;
 use csl_driver::item::CitationItem;
-use csl_driver::passes::with_last;
+use csl_driver::locator::{LocatorPayload, SpecificLocator};
+use csl_driver::lookup::StyleContext;
+use csl_driver::passes::{collapse_items, with_last};
+use csl_driver::properties::{CiteProperties, SpeculativeCiteProperties};
+use csl_driver::purpose::CitePurpose;
 use csl_driver::request::{BibliographyRequest, CitationRequest};
-use csl_driver::state::{IbidState, IdentifierUsage};
-use csl_writing::counter::Renders;
-use csl_writing::lookup::StyleContext;
-use csl_writing::purpose::CitePurpose;
-use std::alloc::Global;
+use csl_driver::state::{DisambiguateState, IbidState, IdentifierUsage};
+use csl_driver::year::write_year;
+use std::alloc::{AllocError, Global};
 use std::convert::Infallible;
+use std::hash::{FoldHasher, Hash, Hasher};
 
-type Item<'e> = CitationItem<'e, PlainEntry, Infallible>;
+/// Names a call before it is made.
+fn named(rt: &impl Eprint, call: &str) {
+    let _ = eprintln!(rt; "{call}");
+}
 
-/// Requests and what they are made of, with their public fields written once more; tells whether each is as
-/// it was made. The list has room for one item.
+// ---- cites and requests
+
+fn page() -> SpecificLocator<'static, Infallible> {
+    SpecificLocator(Locator::Page, LocatorPayload::Str("7"))
+}
+
+/// Whether positions are as they must be behind a cite, behind none and behind a hidden one.
+fn are_placed(plain: &Item<'_>, located: &Item<'_>, hidden: &Item<'_>) -> bool {
+    let first = with_last(plain, None) == IbidState::Different;
+    let again = with_last(plain, Some(plain)) == IbidState::Ibid;
+    let elsewhere = with_last(located, Some(plain)) == IbidState::IbidWithLocator;
+    first && again && elsewhere && with_last(plain, Some(hidden)) == IbidState::Different
+}
+
+fn cites<'e>(rt: &impl Eprint, entry: &'e PlainEntry) -> bool {
+    named(rt, "with_entry");
+    let plain: Item<'e> = CitationItem::with_entry(entry);
+    named(rt, "with_locator");
+    let located: Item<'e> = CitationItem::with_locator(entry, Some(page()));
+    named(rt, "CitationItem::new");
+    let hidden: Item<'e> = CitationItem::new(entry, None, None, true, None);
+    named(rt, "kind");
+    let dated = hidden.kind(CitePurpose::Year);
+    named(rt, "with_last");
+    let is_dated = dated.hidden && dated.purpose == Some(CitePurpose::Year);
+    is_dated && are_placed(&plain, &located, &dated)
+}
+
+fn drivers(rt: &(impl Eprint + AllocGlobal)) {
+    named(rt, "BibliographyDriver::new");
+    let driver: BibliographyDriver<PlainEntry, Infallible> = BibliographyDriver::new(rt.alloc());
+    named(rt, "with_citation_number_offset");
+    let _offset = driver.with_citation_number_offset(2);
+}
+
+/// Requests, and their public fields written once more.
 fn requests<'e>(
-    alloc: Global,
+    rt: &(impl Eprint + AllocGlobal),
     style: &'e IndependentStyle,
     entry: &'e PlainEntry,
-    room: Vec<Item<'e>>,
-) -> bool {
-    let item = Item::with_entry(entry).kind(CitePurpose::Year);
-    let is_first = with_last(&item, None) == IbidState::Different;
-    let mut items = room;
-    if items.push(item).is_err() {
-        return false;
-    }
-    let mut request = CitationRequest::from_items(items, style, &[]);
-    request.locale = None;
-    request.locale_files = &[];
-    let context = StyleContext::of_locales(request.source());
-    let is_named = !context.locale().is_empty() && !context.punctuation_in_quotes();
+) -> Result<bool, AllocError> {
+    named(rt, "prepare");
+    let items: Vec<Item<'e>> = vec![in rt.alloc(); CitationItem::with_entry(entry)]?;
+    let none: Vec<Item<'e>> = Vec::new(rt.alloc());
+    named(rt, "CitationRequest::new");
+    let one = CitationRequest::new(items, style, None, &[], Some(7));
+    named(rt, "from_items");
+    let mut empty = CitationRequest::from_items(none, style, &[]);
+    empty.locale = None;
+    empty.locale_files = &[];
+    named(rt, "BibliographyRequest::new");
     let mut wanted: BibliographyRequest<PlainEntry> = BibliographyRequest::new(style, None, &[]);
     wanted.style = style;
     wanted.locale = None;
-    wanted.locale_files = &[];
     wanted.order = None;
-    let driver: BibliographyDriver<PlainEntry, Infallible> = BibliographyDriver::new(
-        alloc,
-    ).with_citation_number_offset(2);
-    let _unused = driver;
-    request.items = Vec::new(alloc);
-    is_first && is_named && wanted.style.macros.len() == request.style().macros.len()
+    drivers(rt);
+    Ok(one.items.len() == 1 && empty.items.is_empty() && wanted.locale_files.is_empty())
 }
 
-/// A tree, looked at and changed in its place.
-fn tree_calls(alloc: Global, tree: ElemChildren) -> bool {
-    let mut tree = tree;
-    let is_same = tree == tree;
-    let is_filled = tree.has_content() && tree.last_text().is_some();
-    let is_bare = tree.find_names().is_none() && tree.find_meta(&ElemMeta::Date).is_none();
-    let taken = tree.remove_any_meta();
-    let none = ElemChildren::new(alloc);
-    is_same && is_filled && is_bare && taken.is_some() && none.is_empty()
+/// Whether all but the ends are hidden.
+fn is_shrunk(cites: &[Cite<'_>]) -> bool {
+    for (k, cite) in cites.iter().enumerate() {
+        if cite.hidden != (0 < k && k + 1 < cites.len()) {
+            return false;
+        }
+    }
+    cites.len() > 2
 }
 
-/// Whether each call gave what it may.
-pub fn calls_without_memory<'e>(
-    alloc: Global,
-    style: &'e IndependentStyle,
-    entry: &'e PlainEntry,
-    room: Vec<Item<'e>>,
-    tree: ElemChildren,
-) -> bool {
-    let usage = IdentifierUsage::default().label().number();
+fn number_all(cites: &mut [Cite<'_>]) {
+    for (k, cite) in cites.iter_mut().enumerate() {
+        cite.cite_props.speculative.citation_number = k;
+    }
+}
+
+/// Whether the cites of a request are one run where they have the numbers 0 and on.
+fn shrinks(rt: &impl Eprint, cites: &mut Cites<'_, '_>) -> bool {
+    number_all(&mut cites.items);
+    named(rt, "collapse_items");
+    collapse_items(cites);
+    is_shrunk(&cites.items)
+}
+
+/// The same of each request; there is one.
+fn collapsing(
+    rt: &(impl Eprint + AllocGlobal),
+    requests: &[Request<'_>],
+) -> Result<bool, RunError> {
+    named(rt, "prepare");
+    let mut written = all_written(rt.alloc(), requests)?;
+    for r in 0..written.len() {
+        if !shrinks(rt, &mut written[r]) {
+            return Ok(false);
+        }
+    }
+    Ok(true)
+}
+
+// ---- small values
+
+fn brackets_and_counts(rt: &impl Eprint) -> bool {
+    named(rt, "left");
+    let left = Brackets::Round.left();
+    named(rt, "right");
+    let right = Brackets::Square.right();
+    named(rt, "Renders::new");
+    let renders = Renders::new();
+    named(rt, "count");
+    left == Some('(') && right == Some(']') && renders.count() == 0
+}
+
+fn properties(rt: &impl Eprint) -> bool {
+    named(rt, "for_sorting");
+    let sorted: CiteProperties<'_, Infallible> = CiteProperties::for_sorting(None, 3);
+    named(rt, "speculate");
+    let cited = SpeculativeCiteProperties::speculate(Some(page()), 4, IbidState::Ibid);
+    named(rt, "for_bibliography");
+    let listed = cited.for_bibliography();
+    let is_listed = listed.locator.is_none() && listed.ibid == IbidState::Ibid;
+    is_listed && listed.citation_number == 4 && sorted.speculative.citation_number == 3
+}
+
+/// Whether the one form is counted, then short, then as it is written there.
+fn forms(rt: &(impl Eprint + AllocGlobal)) -> Result<bool, AllocError> {
+    named(rt, "prepare");
+    let counted = vec![in rt.alloc(); DisambiguatedNameForm::Count]?;
+    let mut names = NameDisambiguationProperties {
+        forms: Seq::new(counted),
+    };
+    named(rt, "add_name");
+    names.add_name(1);
+    let is_short = names.forms.as_slice().first() == Some(&DisambiguatedNameForm::Short);
+    named(rt, "get_form_mut");
+    if let Some(form) = names.get_form_mut(0) {
+        *form = DisambiguatedNameForm::LongFull;
+    }
+    let is_long = names.forms.as_slice().first() == Some(&DisambiguatedNameForm::LongFull);
+    Ok(is_short && is_long)
+}
+
+fn states(rt: &impl Eprint) -> bool {
+    named(rt, "label");
+    let labelled = IdentifierUsage::default().label();
+    named(rt, "number");
+    let mixed = labelled.number() == IdentifierUsage::Mixed;
+    let suffix = DisambiguateState::YearSuffix(1);
+    named(rt, "may_disambiguate_names");
+    let names = suffix.may_disambiguate_names();
+    named(rt, "may_disambiguate_with_choose");
+    let choose = suffix.may_disambiguate_with_choose();
+    named(rt, "may_disambiguate_with_year_suffix");
+    let other = suffix.may_disambiguate_with_year_suffix();
+    named(rt, "max");
+    let greatest = DisambiguateState::Choose.max(suffix);
+    mixed && !names && !choose && !other && greatest == DisambiguateState::YearSuffix(1)
+}
+
+// ---- locales
+
+fn language<'l>(locale: &'l Locale) -> Option<&'l str> {
+    match &locale.lang {
+        Some(code) => Some(code.0.as_str()),
+        None => None,
+    }
+}
+
+/// A style's context in these files, which have one language and its `et-al`.
+fn locales<'a>(
+    rt: &(impl Eprint + AllocGlobal),
+    style: &'a IndependentStyle,
+    entry: &'a PlainEntry,
+    files: &'a [Locale],
+) -> Result<bool, AllocError> {
+    named(rt, "StyleContext::new");
+    let context = StyleContext::new(style, None, files);
+    named(rt, "lookup_locale");
+    let found = context.lookup_locale(|locale| language(locale)) == Some("en-US");
+    named(rt, "locale");
+    let code = context.locale() == "en-US";
+    named(rt, "prepare");
+    let properties: CiteProperties<'a, Infallible> = CiteProperties::for_sorting(None, 0);
+    let cite = context.ctx(rt.alloc(), entry, properties, &style.settings.options)?;
+    named(rt, "term");
+    let term = cite.term(Term::Other(OtherTerm::EtAl), TermForm::Long, false);
+    named(rt, "punctuation_in_quotes");
+    Ok(found && code && term == Some("and others") && context.punctuation_in_quotes())
+}
+
+/// Calls of a writing context, after which it is as high as before.
+fn contexts<'a>(
+    rt: &(impl Eprint + AllocGlobal),
+    style: &'a IndependentStyle,
+    entry: &'a PlainEntry,
+) -> Result<bool, AllocError> {
+    named(rt, "prepare");
+    let options = &style.settings.options;
+    let properties: CiteProperties<'a, Infallible> = CiteProperties::for_sorting(None, 0);
+    let mut context: Context<'a, PlainEntry, Infallible> = StyleContext::new(style, None, &[]).ctx(
+        rt.alloc(),
+        entry,
+        properties,
+        options,
+    )?;
+    let heights = context.writing.heights();
+    context.writing.push_name_options(options)?;
+    let delimiter = context.writing.push_delimiter(Some("; "))?;
+    named(rt, "pop_name_options");
+    context.writing.pop_name_options();
+    named(rt, "pop_delimiter");
+    context.writing.pop_delimiter(delimiter);
+    named(rt, "may_pull_punctuation");
+    context.may_pull_punctuation();
+    named(rt, "may_strip_periods");
+    context.may_strip_periods(true);
+    named(rt, "stop_stripping_periods");
+    context.stop_stripping_periods();
+    Ok(context.writing.heights() == heights)
+}
+
+// ---- trees
+
+fn text_child(alloc: Global, text: &str) -> Result<ElemChild, AllocError> {
+    Ok(ElemChild::Text(Formatting::default().add_text(String::from_str(alloc, text)?)))
+}
+
+fn elem(alloc: Global, text: &str, meta: ElemMeta) -> Result<Elem, AllocError> {
+    Ok(Elem {
+        children: ElemChildren(vec![in alloc; text_child(alloc, text)?]?),
+        display: None,
+        meta: Some(meta),
+    })
+}
+
+/// A names element that writes `A`, and behind it the date 1999.
+fn tree(alloc: Global) -> Result<ElemChildren, AllocError> {
+    let names = elem(alloc, "A", ElemMeta::Names(Seq::new(Vec::new(alloc))))?;
+    let date = elem(alloc, "1999", ElemMeta::Date)?;
+    Ok(ElemChildren(vec![in alloc; ElemChild::Elem(names), ElemChild::Elem(date)]?))
+}
+
+/// Whether the elements of that tree are found, the names to be set off.
+fn are_found(rt: &impl Eprint, tree: &mut ElemChildren) -> bool {
+    named(rt, "find_names");
+    let names = tree.find_names().is_some();
+    named(rt, "find_names_mut");
+    if let Some(elem) = tree.find_names_mut() {
+        elem.display = Some(Display::Block);
+    }
+    named(rt, "find_meta");
+    let date = tree.find_meta(&ElemMeta::Date).is_some();
+    named(rt, "find_elem_by");
+    let found = tree.find_elem_by(|elem: &Elem| elem.display.is_some());
+    let is_set_off = match found {
+        Some(elem) => elem.has_names(),
+        None => false,
+    };
+    names && date && is_set_off
+}
+
+fn is_italic(tree: &ElemChildren) -> bool {
+    match tree.last_text() {
+        Some(text) => text.formatting.font_style == FontStyle::Italic,
+        None => false,
+    }
+}
+
+/// Whether its last text is found, to be written in italics.
+fn last_texts(rt: &impl Eprint, tree: &mut ElemChildren) -> bool {
+    named(rt, "last_text");
+    let is_upright = !is_italic(tree);
+    named(rt, "last_text_mut");
+    if let Some(text) = tree.last_text_mut() {
+        text.formatting.font_style = FontStyle::Italic;
+    }
+    is_upright && is_italic(tree)
+}
+
+fn looked_at(rt: &(impl Eprint + AllocGlobal)) -> Result<bool, AllocError> {
+    named(rt, "ElemChildren::new");
+    let empty = ElemChildren::new(rt.alloc());
+    named(rt, "prepare");
+    let mut tree = tree(rt.alloc())?;
+    named(rt, "is_empty");
+    let is_empty = empty.is_empty() && !tree.is_empty();
+    named(rt, "has_content");
+    let has_content = tree.has_content() && !empty.has_content();
+    Ok(is_empty && has_content && are_found(rt, &mut tree) && last_texts(rt, &mut tree))
+}
+
+fn written(rt: &(impl Eprint + AllocGlobal)) -> Result<bool, AllocError> {
+    named(rt, "prepare");
+    let tree = tree(rt.alloc())?;
+    let mut text = String::with_capacity(rt.alloc(), 16)?;
+    named(rt, "write_buf");
+    let is_written = tree.write_buf(&mut text, BufWriteFormat::Plain).is_ok();
+    Ok(is_written && text.as_str() == "A1999")
+}
+
+fn hash_of(tree: &ElemChildren) -> u64 {
+    let mut hasher = FoldHasher::default();
+    tree.hash(&mut hasher);
+    hasher.finish()
+}
+
+/// Whether two trees that were made alike are equal, and hashed alike.
+fn compared(rt: &(impl Eprint + AllocGlobal)) -> Result<bool, AllocError> {
+    named(rt, "prepare");
+    let one = tree(rt.alloc())?;
+    let mut other = tree(rt.alloc())?;
+    named(rt, "eq");
+    let is_equal = one == other;
+    named(rt, "hash");
+    let is_hashed_alike = hash_of(&one) == hash_of(&other);
+    named(rt, "remove_any_meta");
+    let removed = other.remove_any_meta();
+    Ok(is_equal && is_hashed_alike && removed.is_some() && one != other)
+}
+
+/// A text and an element as children, and the text's formatting.
+fn children(rt: &(impl Eprint + AllocGlobal)) -> Result<bool, AllocError> {
+    named(rt, "prepare");
+    let text = String::from_str(rt.alloc(), "A")?;
+    let date = elem(rt.alloc(), "1999", ElemMeta::Date)?;
+    let asked = StyleFormatting {
+        font_style: Some(FontStyle::Italic),
+        font_weight: None,
+    };
+    named(rt, "Formatting::default");
     let plain = Formatting::default();
-    requests(alloc, style, entry, room)
-        && tree_calls(alloc, tree)
-        && usage == IdentifierUsage::Mixed
-        && plain == Formatting::default()
-        && Renders::new().count() == 0
+    named(rt, "apply");
+    let italic = plain.apply(asked);
+    named(rt, "add_text");
+    let formatted = italic.add_text(text);
+    named(rt, "ElemChild::from_text");
+    let child = ElemChild::from(formatted);
+    named(rt, "ElemChild::from_elem");
+    let other = ElemChild::from(date);
+    Ok(italic != plain && child.has_content() && other.has_content() && child != other)
+}
+
+// ---- stacks
+
+/// Whether 1, 2, 3 become 1, 5, 4 and then 7, 5, 4.
+fn lent_places(rt: &impl Eprint, stack: &mut NonEmptyStack<u32>) -> bool {
+    named(rt, "len");
+    let height = stack.len();
+    named(rt, "last");
+    let last = *stack.last();
+    named(rt, "last_mut");
+    *stack.last_mut() = 4;
+    named(rt, "last_mut_predicate");
+    if let Some(found) = stack.last_mut_predicate(|item: &u32| *item < 3) {
+        *found = 5;
+    }
+    named(rt, "first_mut");
+    *stack.first_mut() = 7;
+    height == 3 && last == 3
+}
+
+fn stacks(rt: &(impl Eprint + AllocGlobal)) -> Result<bool, AllocError> {
+    named(rt, "prepare");
+    let mut stack: NonEmptyStack<u32> = NonEmptyStack::new(rt.alloc(), 1)?;
+    stack.push(2)?;
+    stack.push(3)?;
+    let is_lent = lent_places(rt, &mut stack);
+    named(rt, "pop");
+    let top = stack.pop();
+    let second = *stack.last();
+    named(rt, "cut");
+    stack.cut(1);
+    let height = stack.len();
+    named(rt, "finish");
+    let bottom = stack.finish();
+    Ok(is_lent && top == Some(4) && second == 5 && height == 1 && bottom == 7)
+}
+
+// ---- entries and years
+
+/// Whether an entry of the key a, by Doe, issued in 1999 in volume 2, with the title X and the label L
+/// answers so.
+fn answers(rt: &impl Eprint, entry: &PlainEntry) -> bool {
+    named(rt, "key");
+    let key = entry.key() == "a";
+    named(rt, "resolve_name_variable");
+    let authors = entry.resolve_name_variable(NameVariable::Author).len();
+    named(rt, "resolve_date_variable");
+    let issued = match entry.resolve_date_variable(DateVariable::Issued) {
+        Some(date) => date.year == 1999,
+        None => false,
+    };
+    named(rt, "resolve_standard_variable");
+    let title = entry
+        .resolve_standard_variable(StandardVariable::Title)
+        .is_some();
+    named(rt, "resolve_number_variable");
+    let volume = entry.resolve_number_variable(NumberVariable::Volume) == Some("2");
+    named(rt, "citation_label");
+    let label = entry.citation_label() == Some("L");
+    key && authors == 1 && issued && title && volume && label
+}
+
+fn years(rt: &(impl Eprint + AllocGlobal)) -> Result<bool, AllocError> {
+    named(rt, "prepare");
+    let mut text = String::with_capacity(rt.alloc(), 16)?;
+    named(rt, "write_year");
+    let is_written = write_year(-1, false, &mut text, "AD", "BC").is_ok();
+    Ok(is_written && text.as_str() == "2BC")
+}
+
+// ---- all of them
+
+fn calls_of_requests(
+    rt: &(impl Eprint + AllocGlobal),
+    requests_made: &[Request<'_>],
+    entry: &PlainEntry,
+) -> Result<bool, RunError> {
+    let Some(first) = requests_made.first() else {
+        return Err(RunError::Document);
+    };
+    Ok(cites(rt, entry) && requests(rt, first.style(), entry)? && collapsing(rt, requests_made)?)
+}
+
+fn calls_of_values(
+    rt: &(impl Eprint + AllocGlobal),
+    style: &IndependentStyle,
+    entry: &PlainEntry,
+    files: &[Locale],
+) -> Result<bool, AllocError> {
+    let are_small = brackets_and_counts(rt) && properties(rt) && forms(rt)? && states(rt);
+    Ok(are_small && locales(rt, style, entry, files)? && contexts(rt, style, entry)?)
+}
+
+fn calls_of_trees(rt: &(impl Eprint + AllocGlobal)) -> Result<bool, AllocError> {
+    Ok(looked_at(rt)? && written(rt)? && compared(rt)? && children(rt)? && stacks(rt)?)
+}
+
+/// Makes each call that takes no memory, of these requests, an entry of theirs and these files; tells
+/// whether each gave what it must. Where one doesn't, it is the last that is named.
+pub fn calls_without_memory(
+    rt: &(impl Eprint + AllocGlobal),
+    requests: &[Request<'_>],
+    style: &IndependentStyle,
+    entry: &PlainEntry,
+    files: &[Locale],
+) -> Result<bool, RunError> {
+    Ok(
+        calls_of_requests(rt, requests, entry)?
+            && calls_of_values(rt, style, entry, files)?
+            && calls_of_trees(rt)?
+            && answers(rt, entry)
+            && years(rt)?,
+    )
 }

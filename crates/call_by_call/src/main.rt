@@ -28,6 +28,7 @@ fn answer_to(rt: &(impl Print + Eprint + AllocGlobal), text: &str) -> Result<See
     };
     match asked {
         "finish" => answered(rt, document, How::Finish),
+        "finish unprepared" => answered(rt, document, How::FinishUnprepared),
         "finish_counted" => answered(rt, document, How::FinishCounted),
         "finish_full" => answered(rt, document, How::FinishFull),
         "account" => answered(rt, document, How::Account),

@@ -24,13 +24,13 @@ use csl_driver::request::CitationRequest;
 use std::alloc::{AllocError, Global};
 use std::convert::Infallible;
 
-type Item<'e> = CitationItem<'e, PlainEntry, Infallible>;
+pub(crate) type Item<'e> = CitationItem<'e, PlainEntry, Infallible>;
 
 type Request<'e> = CitationRequest<'e, PlainEntry, Infallible>;
 
-type Cite<'e> = SpeculativeItemRender<'e, PlainEntry, Infallible>;
+pub(crate) type Cite<'e> = SpeculativeItemRender<'e, PlainEntry, Infallible>;
 
-type Cites<'r, 'e> = SpeculativeCiteRender<'r, 'e, PlainEntry, Infallible>;
+pub(crate) type Cites<'r, 'e> = SpeculativeCiteRender<'r, 'e, PlainEntry, Infallible>;
 
 /// The style without locales.
 fn ringless<'a>(alloc: Global, style: &'a IndependentStyle) -> Result<StyleContext<'a>, RunError>
@@ -88,7 +88,7 @@ fn written_of<'r, 'e>(alloc: Global, request: &'r Request<'e>) -> Result<Cites<'
 }
 
 /// The cites of all requests.
-fn all_written<'r, 'e>(
+pub(crate) fn all_written<'r, 'e>(
     alloc: Global,
     requests: &'r [Request<'e>],
 ) -> Result<Vec<Cites<'r, 'e>>, RunError> {

@@ -1,199 +1,288 @@
 //! Calls of a writing context, each of which leaves the stacks as high as they were where it is refused.
+//! Each is made in a context of its own, whose text fills the room that is there from the start, and is
+//! named before it is made.
+ghost use Rattle.std.specs.Prelude.{◌≡◌, ◌+◌, IfOk, length};
+ghost use Rattle.csl_context.specs.WritingState.{state};
 
 use crate::contexts::{affixes, formula, italic};
-use csl_base::element::{Affixes, InheritableNameOptions};
+use csl_base::element::Affixes;
 use csl_base::entry::{ChunkedString, PlainEntry};
 use csl_base::formatting::Display;
 use csl_base::style::IndependentStyle;
 use csl_context::context::Context;
-use csl_context::token::Heights;
+use csl_context::token::{DisplayLoc, Heights};
 use csl_context::writing::WritingContext;
 use csl_lookup::properties::CiteProperties;
 use csl_writing::lookup::StyleContext;
 use std::alloc::{AllocError, Global};
 use std::convert::Infallible;
+use std::fmt::Write;
 
 type Writing<'a> = Context<'a, PlainEntry, Infallible>;
 
-/// What is written, long enough to take memory.
-const LONG: &str = "what is longer than fifteen bytes";
+/// A text of 64 bytes, for which there is room in a new context, and for no byte more.
+const FULL: &str = "0123456789012345678901234567890123456789012345678901234567890123";
 
 /// Why the calls ended before their end.
 #[derive(Clone, Copy)]
 pub enum Ended {
-    /// A call was refused, and the stacks are as high as before it.
+    /// A call was refused, and the stacks are as high as before it; or what it needs was refused.
     Refused,
     /// The stacks aren't.
     OtherHeights,
 }
 
-/// Why they ended at a call that was refused.
-fn after_refusal(before: Heights, writing: &WritingContext<'_>) -> Ended {
-    if writing.heights() == before {
+impl From<AllocError> for Ended {
+    fn from(_error: AllocError) -> Ended {
         Ended::Refused
-    } else {
-        Ended::OtherHeights
     }
 }
 
-/// What a call came to that leaves the heights as they were in any case.
-fn held(
+/// What is written in a context of its own: the style and the entry, the affixes, a formula.
+#[derive(Clone, Copy)]
+struct Asked<'a> {
+    alloc: Global,
+    style: &'a IndependentStyle,
+    entry: &'a PlainEntry,
+    affixes: &'a Affixes,
+    formula: &'a ChunkedString,
+}
+
+/// A call that leaves the heights as they were in any case.
+#[derive(Clone, Copy)]
+enum Call {
+    EnsureSpace,
+    PushStr,
+    PushChunked,
+    PushLink,
+    PushTransparent,
+    PushQuotes,
+    PopQuotes,
+    WriteStr,
+}
+
+const CALLS: [(&str, Call); 8] = [
+    ("ensure_space", Call::EnsureSpace),
+    ("push_str", Call::PushStr),
+    ("push_chunked", Call::PushChunked),
+    ("push_link", Call::PushLink),
+    ("push_transparent", Call::PushTransparent),
+    ("push_quotes", Call::PushQuotes),
+    ("pop_quotes", Call::PopQuotes),
+    ("write_str", Call::WriteStr),
+];
+
+/// Names a call before it is made.
+fn named(rt: &impl Eprint, call: &str) {
+    let _ = eprintln!(rt; "{call}");
+}
+
+/// A context whose text fills its room.
+fn filled<'a>(rt: &impl Eprint, asked: Asked<'a>) -> Result<Writing<'a>, AllocError>
+    ensures formats { IfOk result (λ context. length (state context.writing).formats ≡ 1) }
+{
+    named(rt, "prepare");
+    let properties = CiteProperties::for_sorting(None, 0);
+    let options = &asked.style.settings.options;
+    let locales = StyleContext::new(asked.style, None, &[]);
+    let mut context: Writing<'a> = locales.ctx(asked.alloc, asked.entry, properties, options)?;
+    context.push_str(FULL)?;
+    Ok(context)
+}
+
+/// What a call gave; where it was refused, the heights have to be those of before.
+fn given<R>(
     before: Heights,
     writing: &WritingContext<'_>,
-    outcome: Result<(), AllocError>,
-) -> Result<(), Ended> {
+    outcome: Result<R, AllocError>,
+) -> Result<R, Ended> {
     match outcome {
-        Ok(()) if writing.heights() == before => Ok(()),
-        Ok(()) => Err(Ended::OtherHeights),
-        Err(_) => Err(after_refusal(before, writing)),
+        Ok(value) => Ok(value),
+        Err(_) if writing.heights() == before => Err(Ended::Refused),
+        Err(_) => Err(Ended::OtherHeights),
     }
 }
 
-/// Texts, spaces and quotes.
-fn push_texts(context: &mut Writing<'_>) -> Result<(), Ended> {
-    let before = context.writing.heights();
-    let outcome = context.push_quotes();
-    held(before, &context.writing, outcome)?;
-    let outcome = context.push_str(LONG);
-    held(before, &context.writing, outcome)?;
-    let outcome = context.pop_quotes();
-    held(before, &context.writing, outcome)?;
-    let outcome = context.ensure_space();
-    held(before, &context.writing, outcome)
-}
-
-/// Pieces, a link and a mark.
-fn push_children(
+fn make(
     context: &mut Writing<'_>,
+    call: Call,
     formula: &ChunkedString,
     url: String,
-) -> Result<(), Ended> {
-    let before = context.writing.heights();
-    let outcome = context.push_chunked(formula);
-    held(before, &context.writing, outcome)?;
-    let outcome = context.push_link(formula, url);
-    held(before, &context.writing, outcome)?;
-    let outcome = context.push_transparent(2);
-    held(before, &context.writing, outcome)
+) -> Result<(), AllocError> {
+    match call {
+        Call::EnsureSpace => context.ensure_space(),
+        Call::PushStr => context.push_str("A"),
+        Call::PushChunked => context.push_chunked(formula),
+        Call::PushLink => context.push_link(formula, url),
+        Call::PushTransparent => context.push_transparent(2),
+        Call::PushQuotes => context.push_quotes(),
+        Call::PopQuotes => context.pop_quotes(),
+        Call::WriteStr => match context.write_str("A") {
+            Ok(()) => Ok(()),
+            Err(_) => Err(AllocError),
+        },
+    }
 }
 
-/// An element that is closed, inside of another that is dropped.
-fn push_elements(context: &mut Writing<'_>) -> Result<(), Ended> {
-    let writing = &mut context.writing;
-    let before = writing.heights();
-    let Ok(outer) = writing.push_elem(italic()) else {
-        return Err(after_refusal(before, writing));
-    };
-    let before = writing.heights();
-    let Ok(inner) = writing.push_elem(italic()) else {
-        return Err(after_refusal(before, writing));
-    };
-    let before = writing.heights();
-    if writing
-        .commit_elem(inner, Some(Display::Block), None)
-        .is_err()
-    {
-        return Err(after_refusal(before, writing));
-    }
-    let before = writing.heights();
-    if writing.discard_elem(outer).is_err() {
-        return Err(after_refusal(before, writing));
+/// The calls that leave the heights as they were in any case.
+fn texts(rt: &impl Eprint, asked: Asked<'_>) -> Result<(), Ended> {
+    for (name, call) in CALLS {
+        let mut context = filled(rt, asked)?;
+        let url = String::from_str(asked.alloc, "u")?;
+        let before = context.writing.heights();
+        named(rt, name);
+        let outcome = make(&mut context, call, asked.formula, url);
+        given(before, &context.writing, outcome)?;
+        if context.writing.heights() != before {
+            return Err(Ended::OtherHeights);
+        }
     }
     Ok(())
 }
 
-/// A format, with a text in it.
-fn push_formats(context: &mut Writing<'_>) -> Result<(), Ended> {
+fn push_format(rt: &impl Eprint, asked: Asked<'_>) -> Result<(), Ended> {
+    let mut context = filled(rt, asked)?;
     let before = context.writing.heights();
-    let Ok(format) = context.writing.push_format(italic()) else {
-        return Err(after_refusal(before, &context.writing));
-    };
-    push_texts(context)?;
-    let before = context.writing.heights();
-    if context.writing.pop_format(format).is_err() {
-        return Err(after_refusal(before, &context.writing));
-    }
+    named(rt, "push_format");
+    let outcome = context.writing.push_format(italic());
+    let _token = given(before, &context.writing, outcome)?;
     Ok(())
+}
+
+fn pop_format(rt: &impl Eprint, asked: Asked<'_>) -> Result<(), Ended> {
+    let mut context = filled(rt, asked)?;
+    let format = context.writing.push_format(italic())?;
+    context.push_str(FULL)?;
+    let before = context.writing.heights();
+    named(rt, "pop_format");
+    let outcome = context.writing.pop_format(format);
+    given(before, &context.writing, outcome)
+}
+
+fn push_elem(rt: &impl Eprint, asked: Asked<'_>) -> Result<(), Ended> {
+    let mut context = filled(rt, asked)?;
+    let before = context.writing.heights();
+    named(rt, "push_elem");
+    let outcome = context.writing.push_elem(italic());
+    let _token = given(before, &context.writing, outcome)?;
+    Ok(())
+}
+
+fn commit_elem(rt: &impl Eprint, asked: Asked<'_>) -> Result<(), Ended> {
+    let mut context = filled(rt, asked)?;
+    let loc = context.writing.push_elem(italic())?;
+    context.push_str(FULL)?;
+    let before = context.writing.heights();
+    named(rt, "commit_elem");
+    let outcome = context.writing.commit_elem(loc, Some(Display::Block), None);
+    given(before, &context.writing, outcome)
+}
+
+fn discard_elem(rt: &impl Eprint, asked: Asked<'_>) -> Result<(), Ended> {
+    let mut context = filled(rt, asked)?;
+    let loc = context.writing.push_elem(italic())?;
+    context.push_str(FULL)?;
+    let before = context.writing.heights();
+    named(rt, "discard_elem");
+    let outcome = context.writing.discard_elem(loc);
+    given(before, &context.writing, outcome)
 }
 
 /// A delimiter and name options upon those before.
-fn push_settings<'a>(
-    context: &mut Writing<'a>,
-    options: &'a InheritableNameOptions,
-) -> Result<(), Ended> {
+fn push_settings(rt: &impl Eprint, asked: Asked<'_>) -> Result<(), Ended> {
+    let mut context = filled(rt, asked)?;
     let before = context.writing.heights();
-    let Ok(delimiter) = context.writing.push_delimiter(Some("; ")) else {
-        return Err(after_refusal(before, &context.writing));
-    };
+    named(rt, "push_delimiter");
+    let outcome = context.writing.push_delimiter(Some("; "));
+    let delimiter = given(before, &context.writing, outcome)?;
     context.writing.pop_delimiter(delimiter);
+    named(rt, "push_name_options");
+    let outcome = context
+        .writing
+        .push_name_options(&asked.style.settings.options);
+    given(before, &context.writing, outcome)
+}
+
+fn apply_prefix(rt: &impl Eprint, asked: Asked<'_>) -> Result<(), Ended> {
+    let mut context = filled(rt, asked)?;
     let before = context.writing.heights();
-    if context.writing.push_name_options(options).is_err() {
-        return Err(after_refusal(before, &context.writing));
-    }
+    named(rt, "apply_prefix");
+    let outcome = context.writing.apply_prefix(asked.affixes);
+    let _prefix = given(before, &context.writing, outcome)?;
     Ok(())
 }
 
-/// A text in affixes.
-fn push_affixes(context: &mut Writing<'_>, affixes: &Affixes) -> Result<(), Ended> {
+/// A context whose text fills its room behind a prefix, and the prefix.
+fn prefixed<'a>(
+    rt: &impl Eprint,
+    asked: Asked<'a>,
+) -> Result<(Writing<'a>, (DisplayLoc, usize)), AllocError>
+    ensures { IfOk result (λ made. made.1.0.frames + 1 ≡ length (state made.0.writing).frames) }
+{
+    let mut context = filled(rt, asked)?;
+    let prefix = context.writing.apply_prefix(asked.affixes)?;
+    context.push_str(FULL)?;
+    Ok((context, prefix))
+}
+
+fn has_content_since(rt: &impl Eprint, asked: Asked<'_>) -> Result<(), Ended> {
+    let (mut context, prefix) = prefixed(rt, asked)?;
     let before = context.writing.heights();
-    let Ok(prefix) = context.writing.apply_prefix(affixes) else {
-        return Err(after_refusal(before, &context.writing));
-    };
-    let before = context.writing.heights();
-    if context.push_str(LONG).is_err() || context.writing.has_content_since(&prefix).is_err() {
-        return Err(after_refusal(before, &context.writing));
-    }
-    let before = context.writing.heights();
-    if context.apply_suffix(affixes, prefix).is_err() {
-        return Err(after_refusal(before, &context.writing));
-    }
+    named(rt, "has_content_since");
+    let outcome = context.writing.has_content_since(&prefix);
+    let _shows = given(before, &context.writing, outcome)?;
     Ok(())
 }
 
-/// All of these, one after another.
-fn push_all<'a>(
-    context: &mut Writing<'a>,
-    options: &'a InheritableNameOptions,
-    affixes: &Affixes,
-    formula: &ChunkedString,
-    url: String,
+fn apply_suffix(rt: &impl Eprint, asked: Asked<'_>) -> Result<(), Ended> {
+    let (mut context, prefix) = prefixed(rt, asked)?;
+    let before = context.writing.heights();
+    named(rt, "apply_suffix");
+    let outcome = context.apply_suffix(asked.affixes, prefix);
+    given(before, &context.writing, outcome)
+}
+
+fn flush(rt: &impl Eprint, asked: Asked<'_>) -> Result<(), Ended> {
+    let context = filled(rt, asked)?;
+    named(rt, "flush");
+    let _tree = context.writing.flush()?;
+    Ok(())
+}
+
+fn elements_and_formats(rt: &impl Eprint, asked: Asked<'_>) -> Result<(), Ended> {
+    push_format(rt, asked)?;
+    pop_format(rt, asked)?;
+    push_elem(rt, asked)?;
+    commit_elem(rt, asked)?;
+    discard_elem(rt, asked)
+}
+
+fn all(rt: &impl Eprint, asked: Asked<'_>) -> Result<(), Ended> {
+    texts(rt, asked)?;
+    elements_and_formats(rt, asked)?;
+    push_settings(rt, asked)?;
+    apply_prefix(rt, asked)?;
+    has_content_since(rt, asked)?;
+    apply_suffix(rt, asked)?;
+    flush(rt, asked)
+}
+
+/// Makes the calls of a context that take memory, in this style, and tells why they ended before their
+/// end.
+pub fn keep_heights(
+    rt: &(impl Eprint + AllocGlobal),
+    style: &IndependentStyle,
+    entry: &PlainEntry,
 ) -> Result<(), Ended> {
-    push_texts(context)?;
-    push_children(context, formula, url)?;
-    push_elements(context)?;
-    push_formats(context)?;
-    push_affixes(context, affixes)?;
-    push_settings(context, options)
-}
-
-/// Makes them in this style, of these affixes and this formula.
-fn push_under<'a>(
-    rt: &(impl Eprint + AllocGlobal),
-    style: &'a IndependentStyle,
-    entry: &'a PlainEntry,
-    affixes: &Affixes,
-    formula: &ChunkedString,
-) -> Result<Result<(), Ended>, AllocError> {
-    let options = &style.settings.options;
-    let properties = CiteProperties::for_sorting(None, 0);
-    let url = String::from_str(rt.alloc(), LONG)?;
-    let _ = eprintln!(rt; "heights");
-    let mut context: Writing<'a> = StyleContext::new(style, None, &[]).ctx(
-        rt.alloc(),
-        entry,
-        properties,
-        options,
-    )?;
-    Ok(push_all(&mut context, options, affixes, formula, url))
-}
-
-/// Makes calls of a context in this style, and tells why they ended before their end.
-pub fn keep_heights<'a>(
-    rt: &(impl Eprint + AllocGlobal),
-    style: &'a IndependentStyle,
-    entry: &'a PlainEntry,
-) -> Result<Result<(), Ended>, AllocError> {
+    named(rt, "prepare");
     let affixes = affixes(rt.alloc(), "(", ")")?;
-    let formula = formula(rt.alloc(), LONG)?;
-    push_under(rt, style, entry, &affixes, &formula)
+    let formula = formula(rt.alloc(), "x")?;
+    let asked = Asked {
+        alloc: rt.alloc(),
+        style,
+        entry,
+        affixes: &affixes,
+        formula: &formula,
+    };
+    all(rt, asked)
 }

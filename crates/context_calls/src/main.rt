@@ -37,7 +37,7 @@ fn called(
             print_contexts(rt, style, locales)?;
             Ok(Ok(()))
         }
-        "heights" => Ok(keep_heights(rt, style, entry)?),
+        "heights" => Ok(keep_heights(rt, style, entry)),
         _ => Err(RunError::Document),
     }
 }

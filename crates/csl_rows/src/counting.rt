@@ -1,4 +1,4 @@
-//! The renderings as an entry sees them, which is asked for its title in each.
+//! The renderings as an entry sees them, which is asked for its title in each but those of a date alone.
 ghost use Rattle.std.specs.Prelude.{IfOk};
 ghost use Rattle.csl_base.specs.Ring.{HasNoRing};
 ghost use Rattle.csl_writing.specs.ContextSource.{context_source};
@@ -15,7 +15,10 @@ use csl_driver::request::{BibliographyRequest, CitationRequest};
 use csl_writing::counter::Renders;
 use csl_writing::lookup::StyleContext;
 use csl_writing::properties::CiteProperties;
-use row_styles::styles::{author_date, entry, no_affixes, no_formatting, text_element};
+use csl_writing::purpose::CitePurpose;
+use row_styles::styles::{
+    author_date, bibliography_of, entry, layout_of, no_affixes, no_formatting, text_element,
+};
 use std::alloc::{AllocError, Global};
 use std::cell::Cell;
 use std::convert::Infallible;
@@ -75,18 +78,18 @@ fn one_piece(alloc: Global, text: &str) -> Result<ChunkedString, AllocError> {
     Ok(ChunkedString(Seq::new(vec![in alloc; chunk]?)))
 }
 
-/// Gives an entry the title X, issued in 1999.
-fn put_title(alloc: Global, plain: &mut PlainEntry) -> Result<(), AllocError> {
-    let title = one_piece(alloc, "X")?;
+/// Gives an entry this title, issued in 1999.
+fn put_title(alloc: Global, plain: &mut PlainEntry, title: &str) -> Result<(), AllocError> {
+    let title = one_piece(alloc, title)?;
     plain.texts = Seq::new(vec![in alloc; (StandardVariable::Title, title)]?);
     plain.dates = Seq::new(vec![in alloc; (DateVariable::Issued, Date { year: 1999 })]?);
     Ok(())
 }
 
-/// An entry with that title and that date.
-fn titled(alloc: Global, key: &str) -> Result<Counting, AllocError> {
+/// An entry with this title and that date.
+fn titled(alloc: Global, key: &str, title: &str) -> Result<Counting, AllocError> {
     let mut plain = entry(alloc, key)?;
-    put_title(alloc, &mut plain)?;
+    put_title(alloc, &mut plain, title)?;
     Ok(Counting {
         plain,
         titles: Cell::new(0),
@@ -114,6 +117,14 @@ fn titles_and_years(alloc: Global) -> Result<IndependentStyle, AllocError> {
     Ok(style)
 }
 
+/// The same with a bibliography of titles.
+fn listing_titles(alloc: Global) -> Result<IndependentStyle, AllocError> {
+    let mut style = titles_and_years(alloc)?;
+    let title = text_element(TextTarget::Standard(StandardVariable::Title));
+    style.bibliography = Some(bibliography_of(layout_of(alloc, title)?));
+    Ok(style)
+}
+
 /// The style without locales.
 fn ringless<'a>(alloc: Global, style: &'a IndependentStyle) -> Result<StyleContext<'a>, Fail>
     ensures { IfOk result (λ context. HasNoRing (context_source context).style.macros) }
@@ -124,90 +135,157 @@ fn ringless<'a>(alloc: Global, style: &'a IndependentStyle) -> Result<StyleConte
     }
 }
 
+type Item<'a> = CitationItem<'a, Counting, Infallible>;
+
 /// A driver of plain cites.
 type Driver<'a> = BibliographyDriver<'a, Counting, Infallible>;
 
-/// Takes a request that cites the entry.
+/// Takes a request of these cites.
 fn take<'a>(
-    alloc: Global,
     driver: &mut Driver<'a>,
     style: &'a IndependentStyle,
-    cited: &'a Counting,
+    items: Vec<Item<'a>>,
 ) -> Result<(), Fail> {
-    let items: Vec<CitationItem<'a, Counting, Infallible>> = vec![in alloc;
-        CitationItem::with_entry(cited),
-    ]?;
     match driver.citation(CitationRequest::from_items(items, style, &[])) {
         Ok(()) => Ok(()),
         Err(_refused) => Err(Fail::new("the request was refused")),
     }
 }
 
-/// Renders one cite.
-fn render_once(alloc: Global, style: &IndependentStyle, cited: &Counting) -> Result<(), Fail> {
-    let context = ringless(alloc, style)?;
-    let properties: CiteProperties<'_, Infallible> = CiteProperties::for_sorting(None, 0);
-    let _cite = context.do_citation(
-        alloc,
-        cited,
-        &properties,
-        None,
-        None,
-        None,
-        None,
-        &mut Renders::new(),
-    )?;
-    Ok(())
-}
-
-/// How often one cite asks for the title.
-fn asked_once(alloc: Global, style: &IndependentStyle) -> Result<u64, Fail> {
-    let cited = titled(alloc, "a")?;
-    render_once(alloc, style, &cited)?;
-    Ok(cited.titles.get())
-}
-
-/// The renders of a run that cites the first entry, the second, and the first again.
-fn renders_of<'a>(
+/// A driver that has taken cites of the first entry, of the second, and of the first again.
+fn cited_thrice<'a>(
     alloc: Global,
     style: &'a IndependentStyle,
     a: &'a Counting,
     b: &'a Counting,
-) -> Result<u128, Fail> {
+) -> Result<Driver<'a>, Fail> {
     let mut driver: Driver<'a> = BibliographyDriver::new(alloc);
     for cited in [a, b, a] {
-        take(alloc, &mut driver, style, cited)?;
+        let items: Vec<Item<'a>> = vec![in alloc; CitationItem::with_entry(cited)]?;
+        take(&mut driver, style, items)?;
     }
+    Ok(driver)
+}
+
+/// A cite of the entry for each purpose.
+fn each_purpose<'a>(alloc: Global, cited: &'a Counting) -> Result<Vec<Item<'a>>, Fail> {
+    let mut items: Vec<Item<'a>> = Vec::new(alloc);
+    for purpose in [
+        CitePurpose::Author,
+        CitePurpose::Year,
+        CitePurpose::Full,
+        CitePurpose::Prose,
+    ] {
+        items.push(CitationItem::with_entry(cited).kind(purpose))?;
+    }
+    Ok(items)
+}
+
+/// What is rendered.
+#[derive(Clone, Copy)]
+enum Part {
+    Cite(Option<CitePurpose>),
+    Item,
+}
+
+fn render(
+    alloc: Global,
+    style: &IndependentStyle,
+    cited: &Counting,
+    part: Part,
+) -> Result<(), Fail> {
+    let context = ringless(alloc, style)?;
+    let properties: CiteProperties<'_, Infallible> = CiteProperties::for_sorting(None, 0);
+    let mut renders = Renders::new();
+    match part {
+        Part::Cite(purpose) => {
+            let _cite = context.do_citation(
+                alloc,
+                cited,
+                &properties,
+                None,
+                None,
+                purpose,
+                None,
+                &mut renders,
+            )?;
+        }
+        Part::Item => {
+            let _item = context.bibliography(alloc, cited, &properties, None, None, &mut renders)?;
+        }
+    }
+    Ok(())
+}
+
+/// How often one rendering asks.
+fn asked_by(alloc: Global, style: &IndependentStyle, part: Part) -> Result<u64, Fail> {
+    let cited = titled(alloc, "a", "X")?;
+    render(alloc, style, &cited, part)?;
+    Ok(cited.titles.get())
+}
+
+/// How often the first rendering and the last one of a cite for each purpose ask. The last one of a cite
+/// of the year alone is its date, which doesn't.
+fn asked_by_purposes(alloc: Global, style: &IndependentStyle) -> Result<u64, Fail> {
+    let mut asked = asked_by(alloc, style, Part::Cite(Some(CitePurpose::Year)))?;
+    for purpose in [CitePurpose::Author, CitePurpose::Full, CitePurpose::Prose] {
+        let each = asked_by(alloc, style, Part::Cite(Some(purpose)))?;
+        asked = asked.wrapping_add(each).wrapping_add(each);
+    }
+    Ok(asked)
+}
+
+/// Whether three cites of two entries that read alike are rendered nine times: at first, once more where
+/// a letter was added to each, and at last.
+fn counts_cites(alloc: Global, style: &IndependentStyle) -> Result<bool, Fail> {
+    let cite = asked_by(alloc, style, Part::Cite(None))?;
+    let a = titled(alloc, "a", "X")?;
+    let b = titled(alloc, "b", "X")?;
+    let driver = cited_thrice(alloc, style, &a, &b)?;
     let (_answer, account) = driver.finish_counted(BibliographyRequest::new(style, None, &[]))?;
+    let asked = a.titles.get().wrapping_add(b.titles.get());
+    Ok(cite > 0 && account.renders == 9 && asked == cite.wrapping_mul(9))
+}
+
+/// The renders of those cites, and of one for each purpose of a third entry, in rounds until none marks.
+fn renders_of_all<'a>(
+    alloc: Global,
+    style: &'a IndependentStyle,
+    a: &'a Counting,
+    b: &'a Counting,
+    c: &'a Counting,
+) -> Result<u128, Fail> {
+    let mut driver = cited_thrice(alloc, style, a, b)?;
+    take(&mut driver, style, each_purpose(alloc, c)?)?;
+    let (_answer, account) = driver.finish_full(BibliographyRequest::new(style, None, &[]))?;
     Ok(account.renders)
 }
 
-/// Those of a run over this entry and one more, and how often the two were asked for their titles.
-fn asked_beside(
-    alloc: Global,
-    style: &IndependentStyle,
-    a: &Counting,
-) -> Result<(u128, u64), Fail> {
-    let b = titled(alloc, "b")?;
-    let renders = renders_of(alloc, style, a, &b)?;
-    Ok((renders, a.titles.get().wrapping_add(b.titles.get())))
-}
-
-/// Those of a run over two entries.
-fn asked_in_a_run(alloc: Global, style: &IndependentStyle) -> Result<(u128, u64), Fail> {
-    asked_beside(alloc, style, &titled(alloc, "a")?)
-}
-
-/// Whether nine renders are counted, and no other is made.
+/// Whether those are nine, two for each purpose, and one for each item of the bibliography.
 fn counts_all(alloc: Global, style: &IndependentStyle) -> Result<bool, Fail> {
-    let asked = asked_once(alloc, style)?;
-    let (renders, titles) = asked_in_a_run(alloc, style)?;
-    Ok(renders == 9 && titles == asked.wrapping_mul(9))
+    let cite = asked_by(alloc, style, Part::Cite(None))?;
+    let item = asked_by(alloc, style, Part::Item)?;
+    let a = titled(alloc, "a", "X")?;
+    let b = titled(alloc, "b", "X")?;
+    let c = titled(alloc, "c", "Y")?;
+    let renders = renders_of_all(alloc, style, &a, &b, &c)?;
+    let asked = a
+        .titles
+        .get()
+        .wrapping_add(b.titles.get())
+        .wrapping_add(c.titles.get());
+    let wanted = cite
+        .wrapping_mul(9)
+        .wrapping_add(item.wrapping_mul(3))
+        .wrapping_add(asked_by_purposes(alloc, style)?);
+    Ok(cite > 0 && item > 0 && renders == 20 && asked == wanted)
 }
 
 #[test]
 fn renders_on_another_counter(rt: HostRuntime) -> Result<(), Fail> {
-    let style = titles_and_years(rt.alloc())?;
-    assert!(rt; counts_all(rt.alloc(), &style)?);
+    let cites_alone = titles_and_years(rt.alloc())?;
+    assert!(rt; counts_cites(rt.alloc(), &cites_alone)?);
+    let listing = listing_titles(rt.alloc())?;
+    assert!(rt; counts_all(rt.alloc(), &listing)?);
     Ok(())
 }
