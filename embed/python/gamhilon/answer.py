@@ -54,10 +54,12 @@ class Answer:
 def answer_of(text: str) -> Answer:
     """The answer of which this is the JSON (docs/ANSWER.md)."""
     said = _deep_json.loads(text)
-    bibliography = said.get('bibliography')
-    if bibliography is not None:
-        bibliography = Bibliography(**{**bibliography, 'items': [Item(**it) for it in bibliography['items']]})
-    return Answer([Citation(**it) for it in said['citations']], bibliography)
+    citations = [Citation(**it) for it in said['citations']]
+    if 'bibliography' not in said:
+        return Answer(citations)
+    settings: Dict[str, Any] = dict(said['bibliography'])
+    settings['items'] = [Item(**it) for it in settings['items']]
+    return Answer(citations, Bibliography(**settings))
 
 
 def plain(tree: Union[Node, Tree]) -> str:

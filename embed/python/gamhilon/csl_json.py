@@ -98,7 +98,7 @@ def summary(losses: Iterable[Loss]) -> List[str]:
 def label(entry: Entry) -> str:
     """A label for an entry without one, as labels of mathematics have it: three letters of one family name, or the first
     letters of up to four, and the last two digits of the year."""
-    persons = next((entry[it] for it in NAMES if entry.get(it)), [])
+    persons: List[List[str]] = next((entry[it] for it in NAMES if entry.get(it)), [])
     families = [re.sub(r'\W', '', it[0].split(' ')[-1]) for it in persons]
     letters = families[0][:3] if len(families) == 1 else ''.join(it[:1] for it in families[:4])
     return (letters or re.sub(r'\W', '', entry.get('title', entry['key']))[:3]) + str(abs(entry.get('issued', 0)) % 100).zfill(2)

@@ -73,7 +73,7 @@ def _letter_after(parts: Sequence[Piece], place: int) -> str:
     for at in range(place + 1, len(parts)):
         kind, node, link = parts[at]
         if kind == 'markup':
-            return node['markup'][:1]
+            return str(node['markup'])[:1]
         if link or (kind == 'text' and (formats(node) or 'url' in node)):
             return ']'
         if kind == 'text' and node['text']:
