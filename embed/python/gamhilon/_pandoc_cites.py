@@ -86,7 +86,7 @@ def citation_of(cite: Any, number: int, known: Set[str]) -> Citation:
 
 def _cited_of(part: Any) -> Cited:
     text, behind = leading_text(part['citationSuffix'])
-    locator, label, rest = _locators.split(text.replace('\u00a0', ' '))
+    locator, label, rest = _locators.split(text)
     if locator is None:
         rest = text
     suffix = joined([*words(rest), *behind])
@@ -112,15 +112,19 @@ class Written:
     lost: List[str]
 
 
-def written(citation: Citation, tree: Tree, links: bool) -> Written:
-    """The inlines of a citation, of which this is the tree of the answer."""
+def written(citation: Citation, tree: Tree, layout_suffix: str, links: bool) -> Written:
+    """The inlines of a citation, of which this is the tree of the answer. The suffix of the layout, which the driver leaves out
+    behind a cite that ends with it, stands all the same where words of the text's own come between."""
     made = Written([], [], [])
     for node in tree:
         place = _entry_of(node)
-        if place is None:
+        if place is not None:
+            made.rest += _cite(citation, place, node, links, made)
+        elif not (node is tree[-1] and node.get('text') == '.' and text_of(made.rest).endswith('.')):
             made.rest += inlines_of([node])
-            continue
-        made.rest += _cite(citation, place, node, links, made)
+    last = _entry_of(tree[-1]) if tree else None
+    if last is not None and citation.cited[last].suffix:
+        made.rest += words(layout_suffix)
     made.rest = joined(made.rest)
     return made
 

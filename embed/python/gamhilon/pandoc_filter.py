@@ -35,6 +35,8 @@ class FilterError(ValueError):
 
 def main() -> int:
     """Runs the filter as pandoc does."""
+    # texts may nest deeper than Python's own limit
+    sys.setrecursionlimit(20000)
     try:
         made = filtered(json.load(sys.stdin.buffer), _warn)
         sys.stdout.write(json.dumps(made))
@@ -182,7 +184,8 @@ class _Filter:
         document = self.document_of(requests)
         answer = render(document)
         for (place, citation), said in zip(asked, answer.citations):
-            self.written[place] = written(citation, said.content, self.links and answer.bibliography is not None)
+            links = self.links and answer.bibliography is not None
+            self.written[place] = written(citation, said.content, self.style['citation'].get('suffix', ''), links)
         self.name_authors()
         for place, citation in asked:
             for lost in self.written[place].lost:
