@@ -122,7 +122,8 @@ def link(compiler, archive, kit_folder, room, note):
     whole = ['-Wl,--whole-archive', archive, '-Wl,--no-whole-archive']
     libraries = [f'{kit_folder}/c/liblibc_c.a'] if kit_folder else []
     if not defines(archive, 'gamhilon_version'):
-        ran(*compiler, '-O2', '-fPIC', f'-I{HERE}', f'-DGAMHILON_ABOUT="{about}"', '-c', '-o', f'{room}/about.o', f'{HERE}/c/about.c')
+        ran(*compiler, '-O2', '-fPIC', f'-I{HERE}', f'-DGAMHILON_ABOUT="{about}"', '-c', '-o', f'{room}/about.o',
+            f'{HERE}/c/about.c')
         whole.append(f'{room}/about.o')
     ran(*compiler, '-r', '-nostdlib', '-o', f'{room}/gamhilon.o', *whole, *libraries)
     ran('objcopy', *[f'--keep-global-symbol={it}' for it in EXPORTS], f'{room}/gamhilon.o')

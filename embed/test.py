@@ -22,7 +22,8 @@ OUT = f'{HERE}/out'
 ROOT = os.path.dirname(HERE)
 FORMS = ('text', 'json')
 STACK_TOLD = 256 * 1024
-TEN = ['rows/*.json', 'layouts/*.json', 'disambiguation/*.json', 'grouping/*.json', 'collapsing/*.json', 'bibliography/*.json',
+TEN = ['rows/*.json', 'layouts/*.json', 'disambiguation/*.json', 'grouping/*.json', 'collapsing/*.json',
+       'bibliography/*.json',
        'parts/*.json', 'purposes/*.json', 'hostile/*.json', 'refused/*.json']
 FEW_CALLS = 300
 passed, failures, left_out = 0, [], []
@@ -96,7 +97,8 @@ def compile_all(room):
         if has_tool(tool[0], f'the header as {standard}'):
             with open(f'{room}/header.{name}', 'w', encoding='utf-8') as file:
                 file.write('#include "gamhilon.h"\n#include "gamhilon.h"\nint main(void) { return GAMHILON_OK; }\n')
-            made = ran(*tool, f'-std={standard}', *strict, '-x', name, '-c', '-o', f'{room}/header.o', f'{room}/header.{name}')
+            made = ran(*tool, f'-std={standard}', *strict, '-x', name, '-c', '-o', f'{room}/header.o',
+                       f'{room}/header.{name}')
             hold(made.returncode == 0, f'the header as {standard}: {made.stderr.decode()[:600]}')
 
 
@@ -186,7 +188,8 @@ def try_from_python(cases, jsons):
         gamhilon.render(ring)
         hold(False, 'a ring is refused')
     except gamhilon.MacroRing as refusal:
-        hold((refusal.status, refusal.request, refusal.macro_place) == (3, None, 1), 'the place of a ring of the bibliography')
+        hold((refusal.status, refusal.request, refusal.macro_place) == (3, None, 1),
+             'the place of a ring of the bibliography')
     ring['styles']['t'] = {'citation': {'elements': []}}
     ring['requests'] = [{'style': 't', 'items': []}, {'style': 's', 'items': []}]
     try:
@@ -215,7 +218,8 @@ def try_wheel(room):
     if ran(sys.executable, '-m', 'venv', f'{room}/venv').returncode:
         left_out.append('the wheel in a fresh virtual environment: venv makes none (Debian: python3-venv)')
         return
-    made = ran(sys.executable, f'{HERE}/build.py', '--archive', f'{OUT}/libgamhilon.a', '--wheel', env={**os.environ, 'PATH': without_rt(room)})
+    made = ran(sys.executable, f'{HERE}/build.py', '--archive', f'{OUT}/libgamhilon.a', '--wheel',
+               env={**os.environ, 'PATH': without_rt(room)})
     hold(made.returncode == 0, f'build.py --archive --wheel, with no toolchain: {made.stderr.decode()[-600:]}')
     wheels = glob.glob(f'{OUT}/*.whl')
     hold(len(wheels) == 1, f'one wheel: {wheels}')
@@ -232,7 +236,8 @@ def try_wheel(room):
         with open(f'{room}/refs.json', 'w', encoding='utf-8') as file:
             file.write('[{"id": "doe99", "title": "On Order", "author": [{"family": "Doe"}], "issued": {"date-parts": [[1999]]}}]')
         words = ['pandoc', '--filter', 'gamhilon-pandoc', '-M', 'bibliography=refs.json', '-t', 'plain']
-        hold(ran(*words, input=b'[@doe99, p. 4]', **how).stdout.startswith(b'(Doe 1999, 4)\n'), 'gamhilon-pandoc, from the wheel')
+        hold(ran(*words, input=b'[@doe99, p. 4]', **how).stdout.startswith(b'(Doe 1999, 4)\n'),
+             'gamhilon-pandoc, from the wheel')
 
 
 def without_rt(room):
@@ -259,7 +264,8 @@ def try_building():
     shown = ran('nm', '-D', '--defined-only', f'{OUT}/libgamhilon.so').stdout.decode().split()[2::3]
     hold(sorted(shown) == sorted(build.EXPORTS), f'the shared object shows its exports alone: {shown}')
     soname = f'libgamhilon.so.{build.version().split(".")[0]}'
-    hold(soname in ran('objdump', '-p', f'{OUT}/libgamhilon.so').stdout.decode(), f'the name of the shared object is {soname}')
+    hold(soname in ran('objdump', '-p', f'{OUT}/libgamhilon.so').stdout.decode(),
+         f'the name of the shared object is {soname}')
 
 
 def try_about(room):
@@ -269,8 +275,10 @@ def try_about(room):
     lines = ran(f'{room}/about').stdout.decode().splitlines()
     hold(lines[0] == f'{build.version()} {build.version()}', 'the version of the header')
     note = json.loads(read(f'{OUT}/gamhilon_build.json'))
-    hold(lines[1].startswith(build.version()) and all(it in lines[1] for it in note.values() if it), 'the version of the library')
-    hold(len(lines) == 10 and len(set(lines[2:])) == 7 and lines[3] == lines[9], 'each status has a text of its own, and others one')
+    hold(lines[1].startswith(build.version()) and all(it in lines[1] for it in note.values() if it),
+         'the version of the library')
+    hold(len(lines) == 10 and len(set(lines[2:])) == 7 and lines[3] == lines[9],
+         'each status has a text of its own, and others one')
 
 
 def try_cmake(room):
@@ -289,7 +297,8 @@ def try_cmake(room):
 
 def try_tests_of_the_package(room):
     """The package's own tests, by a Python that has pytest, counted one by one."""
-    pythons = [it for it in (sys.executable, '/usr/bin/python3') if os.path.exists(it) and ran(it, '-c', 'import pytest').returncode == 0]
+    pythons = [it for it in (sys.executable,
+                             '/usr/bin/python3') if os.path.exists(it) and ran(it, '-c', 'import pytest').returncode == 0]
     if not pythons:
         left_out.append('the tests of the Python package: there is no pytest (Debian: python3-pytest)')
         return
@@ -315,7 +324,8 @@ def compile_crate(room):
     for words in (['build', '--release'], ['test']):
         made = ran('cargo', *words, '--offline', '--quiet', cwd=f'{HERE}/rust', env=environment, timeout=600)
         hold(made.returncode == 0, f'cargo {words[0]}: {(made.stdout + made.stderr).decode()[-1200:]}')
-    missing = ran('cargo', 'build', '--offline', '--quiet', cwd=f'{HERE}/rust', env={**environment, 'GAMHILON_LIB_DIR': room})
+    missing = ran('cargo', 'build', '--offline', '--quiet', cwd=f'{HERE}/rust',
+                  env={**environment, 'GAMHILON_LIB_DIR': room})
     hold(missing.returncode != 0 and b'embed/build.py' in missing.stderr, 'the crate tells where the library is missing')
     return f'{room}/target/release/gamhilon-print'
 
@@ -357,11 +367,13 @@ def try_hard(room, cases, calls):
     done = ran(f'{room}/threads', *few)
     hold(done.returncode == 0, f'eight threads: {done.stdout.decode()}')
     if has_tool('valgrind', 'leaks and wrong reads'):
-        words = ['valgrind', '-q', '--error-exitcode=9', '--leak-check=full', '--errors-for-leak-kinds=all', f'{room}/calls']
+        words = ['valgrind', '-q', '--error-exitcode=9', '--leak-check=full', '--errors-for-leak-kinds=all',
+                 f'{room}/calls']
         with ThreadPoolExecutor(2) as pool:
             for form, done in zip(FORMS, pool.map(lambda it: ran(*words, it, '1', *few), FORMS)):
                 hold(done.returncode == 0, f'valgrind, {form}: {done.stderr.decode()[:900]}')
-        words = ['valgrind', '-q', '--error-exitcode=9', '--leak-check=full', '--errors-for-leak-kinds=all', '--fair-sched=yes']
+        words = ['valgrind', '-q', '--error-exitcode=9', '--leak-check=full', '--errors-for-leak-kinds=all',
+                 '--fair-sched=yes']
         done = ran(*words, f'{room}/many', str(calls), *few, timeout=3600)
         print(f'valgrind: {done.stdout.decode().strip()}')
         hold(done.returncode == 0, f'valgrind, {calls} calls in four threads: {done.stderr.decode()[:900]}')

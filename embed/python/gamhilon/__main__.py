@@ -36,7 +36,8 @@ def parser() -> argparse.ArgumentParser:
     render.add_argument('--to', choices=pages.FORMS, default='text', help='the form of what is written (text)')
     checked = commands.add_parser('check', help='what is wrong in a document, or what it holds')
     checked.add_argument('document', help='a file, or - for standard input')
-    entries = commands.add_parser('entries', help="a document's entries from CSL-JSON; what they can't hold on standard error")
+    entries = commands.add_parser('entries',
+                                  help="a document's entries from CSL-JSON; what they can't hold on standard error")
     entries.add_argument('file', help='a file of CSL-JSON')
     named = commands.add_parser('styles', help='the names of the styles, or a document in one of them')
     named.add_argument('name', nargs='?', help='a name of a style')

@@ -69,6 +69,8 @@ class _Filter:
         self.is_note = self.style.get('class') == 'note'
         self.links = self.truth('link-citations', True)
         self.entries = self.read_entries()
+        self.known = set(self.entries)
+        self.shows_locators, self.shows_labels = self.shows('variable'), self.shows('term')
         self.citations: Dict[int, Citation] = {}
         self.written: Dict[int, Written] = {}
         self.notes = 0
@@ -153,7 +155,7 @@ class _Filter:
                 self.collect(it, is_in_note or is_note)
 
     def collect_cite(self, cite: Any, is_in_note: bool) -> None:
-        citation = citation_of(cite, len(self.citations) + 1, set(self.entries))
+        citation = citation_of(cite, len(self.citations) + 1, self.known)
         citation.is_in_note = is_in_note
         citation.keeps_names = is_in_note and self.is_note
         if self.is_note and citation.cited:
@@ -162,14 +164,14 @@ class _Filter:
         for key in citation.missing:
             self.warn(f'{citation.place}: no entry has the key {key}')
         for it in citation.cited:
-            if it.locator and not self.shows('variable'):
+            if it.locator and not self.shows_locators:
                 self.warn(f'{citation.place}: the style shows no locators: {it.locator[1]}')
-            if not self.shows('term'):
+            if not self.shows_labels:
                 it.keep_label()
         self.citations[id(cite)] = citation
 
     def shows(self, what: str) -> bool:
-        """Whether the style writes locators (`variable`), and what kind they are (`term`)."""
+        """Whether the style writes locators (`variable`), or of what kind they are (`term`)."""
         return any(it.get(what) == 'locator' for _, it in _remarks.elements_of_style('', self.style))
 
     # The answer
@@ -286,7 +288,7 @@ class _Filter:
         items = [div(anchor(it.key), ['csl-entry'], [{'t': 'Para', 'c': _item(it)}]) for it in bibliography.items]
         references = div('refs', ['references', 'csl-bib-body', *hanging], items)
         title = self.meta.get('reference-section-title')
-        heading = [{'t': 'Header', 'c': [1, ['bibliography', ['unnumbered'], []], _inlines_of_meta(title)]}] if title else []
+        heading = [_heading(title)] if title else []
         found, is_put = _filled(blocks, [*heading, references])
         return found if is_put else [*found, *heading, references]
 
@@ -299,8 +301,10 @@ def _plain_meta(value: Any) -> Any:
     return text_of(value['c'])
 
 
-def _inlines_of_meta(value: Any) -> Inlines:
-    return list(value['c']) if value['t'] == 'MetaInlines' else words(str(_plain_meta(value)))
+def _heading(title: Any) -> Dict[str, Any]:
+    """The heading of the reference list, of a field of the metadata."""
+    content = list(title['c']) if title['t'] == 'MetaInlines' else words(str(_plain_meta(title)))
+    return {'t': 'Header', 'c': [1, ['bibliography', ['unnumbered'], []], content]}
 
 
 def _cites(value: Any) -> Iterator[Any]:

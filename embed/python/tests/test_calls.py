@@ -68,7 +68,8 @@ def test_a_fault_has_no_place_where_the_library_has_no_such_call(made_up):
 
 
 @pytest.mark.parametrize('error', [
-    gamhilon.MacroRing('m', None, 3), gamhilon.MacroRing('m', 2, 0), gamhilon.NumberOverflow('m'), gamhilon.OutOfMemory('m'),
+    gamhilon.MacroRing('m', None, 3), gamhilon.MacroRing('m', 2, 0), gamhilon.NumberOverflow('m'),
+    gamhilon.OutOfMemory('m'),
     gamhilon.DocumentRefused('m', '/a', 'b', 'c'), gamhilon.DocumentRefused('m'), gamhilon.LibraryMissing('m'),
 ])
 def test_errors_are_pickled_whole(error):

@@ -24,7 +24,8 @@ def test_no_words_is_not_a_command_line():
     assert status == 64 and out == '' and 'usage: gamhilon' in error and 'exit status' in error
 
 
-@pytest.mark.parametrize('words', [['rendre'], ['render'], ['render', 'a', '--to', 'pdf'], ['styles', 'apa'], ['check', 'a', 'b']])
+@pytest.mark.parametrize('words', [['rendre'], ['render'], ['render', 'a', '--to', 'pdf'], ['styles', 'apa'],
+                                   ['check', 'a', 'b']])
 def test_wrong_words_are_not_a_command_line(words):
     status, out, error = run(*words)
     assert status == 64 and out == '' and error.startswith(('usage', 'gamhilon: there is no style'))
@@ -61,14 +62,16 @@ def test_what_is_refused_has_the_status_of_the_program(built, document, status):
 
 def test_check_tells_what_a_document_holds_and_what_it_can_hardly_mean(built):
     style = {'citation': {'elements': [{'kind': 'group', 'children': [{'kind': 'text', 'macro': 'nowhere'}]}]},
-             'macros': [{'name': 'm', 'children': [{'kind': 'choose', 'branches': [{'if': [], 'children': [{'kind': 'text', 'macro': 'x'}]}],
+             'macros': [{'name': 'm', 'children': [{'kind': 'choose',
+                                                    'branches': [{'if': [], 'children': [{'kind': 'text', 'macro': 'x'}]}],
                                                     'else': [{'kind': 'text', 'macro': 'm/~'}]}]}]}
     document = {'styles': {'a/b': style}, 'entries': [{'key': 'k', 'title': 'two\nlines'}, {'key': 'k'}],
                 'requests': [{'style': 'a/b', 'items': [{'entry': 'k'}]}], 'bibliography': {'style': 'a/b'}}
     status, out, error = run('check', '-', given=json.dumps(document).encode())
     assert (status, error) == (0, '')
     lines = out.splitlines()
-    assert lines[:3] == ['style a/b: in-text, without a bibliography', 'entries: 2, of which 1 are cited', 'requests: 1, of 1 cites']
+    assert lines[:3] == ['style a/b: in-text, without a bibliography', 'entries: 2, of which 1 are cited',
+                         'requests: 1, of 1 cites']
     pointers = [it.split(' ')[1].rstrip(':') for it in lines[3:]]
     assert pointers == [
         '/styles/a~1b/macros/0/children/0/branches/0/children/0/macro', '/styles/a~1b/macros/0/children/0/else/0/macro',
@@ -79,7 +82,8 @@ def test_entries_of_csl_json(tmp_path):
     path = tmp_path / 'refs.json'
     path.write_text(json.dumps([{'id': 'a', 'title': 'Ärger', 'page': '1-2'}]))
     status, out, error = run('entries', str(path))
-    assert status == 0 and json.loads(out) == [{'key': 'a', 'title': 'Ärger'}] and 'page: entries have no such field' in error
+    assert status == 0 and json.loads(out) == [{'key': 'a', 'title': 'Ärger'}]
+    assert 'page: entries have no such field' in error
     path.write_text('{"id": "a"}')
     assert run('entries', str(path))[0] == 2
 

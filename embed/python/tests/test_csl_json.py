@@ -7,19 +7,27 @@ from gamhilon import csl_json
 
 # The variables of the CSL-JSON schema (csl-data.json, CSL 1.0.2).
 NAME_VARIABLES = [
-    'author', 'chair', 'collection-editor', 'compiler', 'composer', 'container-author', 'contributor', 'curator', 'director',
-    'editor', 'editorial-director', 'executive-producer', 'guest', 'host', 'illustrator', 'interviewer', 'narrator', 'organizer',
-    'original-author', 'performer', 'producer', 'recipient', 'reviewed-author', 'script-writer', 'series-creator', 'translator',
+    'author', 'chair', 'collection-editor', 'compiler', 'composer', 'container-author', 'contributor', 'curator',
+    'director',
+    'editor', 'editorial-director', 'executive-producer', 'guest', 'host', 'illustrator', 'interviewer', 'narrator',
+    'organizer',
+    'original-author', 'performer', 'producer', 'recipient', 'reviewed-author', 'script-writer', 'series-creator',
+    'translator',
 ]
 DATE_VARIABLES = ['accessed', 'available-date', 'event-date', 'issued', 'original-date', 'submitted']
 TEXT_VARIABLES = [
     'type', 'citation-key', 'categories', 'language', 'journalAbbreviation', 'shortTitle', 'abstract', 'annote', 'archive',
-    'archive_collection', 'archive_location', 'archive-place', 'authority', 'call-number', 'chapter-number', 'citation-number',
-    'citation-label', 'collection-number', 'collection-title', 'container-title', 'container-title-short', 'dimensions', 'division',
-    'DOI', 'edition', 'event', 'event-title', 'event-place', 'first-reference-note-number', 'genre', 'ISBN', 'ISSN', 'issue',
-    'jurisdiction', 'keyword', 'locator', 'medium', 'note', 'number', 'number-of-pages', 'number-of-volumes', 'original-publisher',
+    'archive_collection', 'archive_location', 'archive-place', 'authority', 'call-number', 'chapter-number',
+    'citation-number',
+    'citation-label', 'collection-number', 'collection-title', 'container-title', 'container-title-short', 'dimensions',
+    'division',
+    'DOI', 'edition', 'event', 'event-title', 'event-place', 'first-reference-note-number', 'genre', 'ISBN', 'ISSN',
+    'issue',
+    'jurisdiction', 'keyword', 'locator', 'medium', 'note', 'number', 'number-of-pages', 'number-of-volumes',
+    'original-publisher',
     'original-publisher-place', 'original-title', 'page', 'page-first', 'part', 'part-title', 'PMCID', 'PMID', 'printing',
-    'publisher', 'publisher-place', 'references', 'reviewed-genre', 'reviewed-title', 'scale', 'section', 'source', 'status',
+    'publisher', 'publisher-place', 'references', 'reviewed-genre', 'reviewed-title', 'scale', 'section', 'source',
+    'status',
     'supplement', 'title', 'title-short', 'URL', 'version', 'volume', 'volume-title', 'year-suffix', 'custom',
 ]
 
@@ -38,8 +46,10 @@ def test_what_entries_hold_is_kept():
     item = {'title': 'T', 'container-title': 'C', 'publisher': 'P', 'publisher-place': 'L', 'note': 'N', 'URL': 'https://u',
             'DOI': '10.1/x', 'volume': '1', 'issue': 2, 'number': 'n3', 'edition': 4, 'citation-label': 'Lab'}
     entry, losses = entry_of(**item)
-    assert entry == {'key': 'k', 'title': 'T', 'container-title': 'C', 'publisher': 'P', 'publisher-place': 'L', 'note': 'N',
-                     'url': 'https://u', 'doi': '10.1/x', 'volume': '1', 'issue': '2', 'number': 'n3', 'edition': '4', 'label': 'Lab'}
+    assert entry == {'key': 'k', 'title': 'T', 'container-title': 'C', 'publisher': 'P', 'publisher-place': 'L',
+                     'note': 'N',
+                     'url': 'https://u', 'doi': '10.1/x', 'volume': '1', 'issue': '2', 'number': 'n3', 'edition': '4',
+                     'label': 'Lab'}
     assert losses == []
 
 
@@ -66,10 +76,12 @@ def test_names_that_are_kept_whole(name, wanted):
 
 
 @pytest.mark.parametrize('name, wanted, word', [
-    ({'family': 'Humboldt', 'given': 'Alexander', 'dropping-particle': 'von'}, ['Humboldt', 'Alexander von'], 'dropping particle'),
+    ({'family': 'Humboldt', 'given': 'Alexander', 'dropping-particle': 'von'}, ['Humboldt', 'Alexander von'],
+     'dropping particle'),
     ({'family': 'Alembert', 'given': 'Jean', 'dropping-particle': "d'"}, ["d'Alembert", 'Jean'], 'dropping particle'),
     ({'family': 'King', 'given': 'Martin Luther', 'suffix': 'Jr.'}, ['King Jr.', 'Martin Luther'], 'suffix'),
-    ({'family': 'King', 'given': 'Martin Luther', 'suffix': 'Jr.', 'comma-suffix': True}, ['King, Jr.', 'Martin Luther'], 'suffix'),
+    ({'family': 'King', 'given': 'Martin Luther', 'suffix': 'Jr.', 'comma-suffix': True},
+     ['King, Jr.', 'Martin Luther'], 'suffix'),
     ({'family': 'Mao', 'given': 'Zedong', 'static-ordering': True}, ['Mao', 'Zedong'], 'static-ordering'),
     ({'family': 'Doe', 'literal': 'J. Doe'}, ['Doe'], 'literal'),
     ({}, None, 'without a family'),
@@ -81,18 +93,24 @@ def test_names_of_which_something_is_listed(name, wanted, word):
 
 
 @pytest.mark.parametrize('date, year', [
-    ({'date-parts': [[1999]]}, 1999), ({'date-parts': [['1999']]}, 1999), ({'date-parts': [[-44]]}, -43), ({'date-parts': [[-1]]}, 0),
-    ({'raw': '1999'}, 1999), ({'literal': '1999'}, 1999), ({'raw': '-0043'}, -43), ({'date-parts': [[1999]], 'circa': False}, 1999),
+    ({'date-parts': [[1999]]}, 1999), ({'date-parts': [['1999']]}, 1999), ({'date-parts': [[-44]]}, -43),
+    ({'date-parts': [[-1]]}, 0),
+    ({'raw': '1999'}, 1999), ({'literal': '1999'}, 1999), ({'raw': '-0043'}, -43),
+    ({'date-parts': [[1999]], 'circa': False}, 1999),
 ])
 def test_years_that_are_kept_whole(date, year):
     assert entry_of(issued=date) == ({'key': 'k', 'issued': year}, [])
 
 
 @pytest.mark.parametrize('date, year', [
-    ({'date-parts': [[1999, 5]]}, 1999), ({'date-parts': [['1999', '5', '1']]}, 1999), ({'date-parts': [[1999], [2001]]}, 1999),
-    ({'date-parts': [[1999]], 'circa': True}, 1999), ({'date-parts': [[1999]], 'season': 2}, 1999), ({'raw': '1999-05-01'}, 1999),
-    ({'raw': 'May 2020'}, 2020), ({'literal': 'circa 1850'}, 1850), ({'literal': 'forthcoming'}, None), ({'date-parts': [[]]}, None),
-    ({'date-parts': [['']]}, None), ({'date-parts': [[0]]}, None), ({'date-parts': [[99999999999]]}, None), ({}, None), ('1999', None),
+    ({'date-parts': [[1999, 5]]}, 1999), ({'date-parts': [['1999', '5', '1']]}, 1999),
+    ({'date-parts': [[1999], [2001]]}, 1999),
+    ({'date-parts': [[1999]], 'circa': True}, 1999), ({'date-parts': [[1999]], 'season': 2}, 1999),
+    ({'raw': '1999-05-01'}, 1999),
+    ({'raw': 'May 2020'}, 2020), ({'literal': 'circa 1850'}, 1850), ({'literal': 'forthcoming'}, None),
+    ({'date-parts': [[]]}, None),
+    ({'date-parts': [['']]}, None), ({'date-parts': [[0]]}, None), ({'date-parts': [[99999999999]]}, None), ({}, None),
+    ('1999', None),
     ({'date-parts': None}, None), ({'date-parts': [[None]]}, None),
 ])
 def test_dates_of_which_something_is_listed(date, year):
@@ -101,7 +119,8 @@ def test_dates_of_which_something_is_listed(date, year):
 
 
 @pytest.mark.parametrize('field, value', [
-    ('title', None), ('title', ['a']), ('title', True), ('volume', {}), ('author', 'Doe'), ('author', ['Doe']), ('author', [None]),
+    ('title', None), ('title', ['a']), ('title', True), ('volume', {}), ('author', 'Doe'), ('author', ['Doe']),
+    ('author', [None]),
 ])
 def test_values_that_are_not_of_their_type_are_listed(field, value):
     entry, losses = entry_of(**{field: value})
@@ -156,7 +175,8 @@ def test_labels(entry, wanted):
 def test_entries_are_entries_of_a_document(built):
     import gamhilon
     items = [{'id': 'a', 'type': 'book', 'title': 'T', 'author': [{'family': 'Doe', 'given': 'Jane', 'suffix': 'Jr.'}],
-              'issued': {'date-parts': [[-44, 3, 15]]}, 'volume': 3, 'DOI': '10.1/x', 'URL': 'https://x', 'citation-label': 'L',
+              'issued': {'date-parts': [[-44, 3, 15]]}, 'volume': 3, 'DOI': '10.1/x', 'URL': 'https://x',
+              'citation-label': 'L',
               **{it: {'date-parts': [[2000]]} for it in DATE_VARIABLES if it != 'issued'}}]
     document = gamhilon.styles.document('author-date')
     document['entries'] = csl_json.entries(json.loads(json.dumps(items))).entries

@@ -15,22 +15,31 @@ from gamhilon import _locators
 pytestmark = pytest.mark.skipif(not shutil.which('pandoc'), reason='there is no pandoc')
 
 REFERENCES = [
-    {'id': 'doe99', 'title': 'On Order', 'author': [{'family': 'Doe', 'given': 'Jane'}], 'issued': {'date-parts': [[1999]]}},
-    {'id': 'roe00', 'title': 'A Reply', 'author': [{'family': 'Roe', 'given': 'Richard'}], 'issued': {'date-parts': [[2000]]}},
+    {'id': 'doe99', 'title': 'On Order', 'author': [{'family': 'Doe', 'given': 'Jane'}],
+     'issued': {'date-parts': [[1999]]}},
+    {'id': 'roe00', 'title': 'A Reply', 'author': [{'family': 'Roe', 'given': 'Richard'}],
+     'issued': {'date-parts': [[2000]]}},
     {'id': 'doe01', 'title': 'More', 'author': [{'family': 'Doe', 'given': 'Jane'}], 'issued': {'date-parts': [[2001]]}},
     {'id': 'äh b', 'title': 'Umlauts', 'author': [{'family': 'Äh'}], 'issued': {'date-parts': [[1900]]}},
 ]
 LIKE_CITEPROC = [
-    '[@doe99]', '[@doe99; @roe00]', '[see @doe99]', '[see @doe99, pp. 33-35]', '[@doe99, 33]', '[@doe99 33]', '[@doe99, chap. 3]',
+    '[@doe99]', '[@doe99; @roe00]', '[see @doe99]', '[see @doe99, pp. 33-35]', '[@doe99, 33]', '[@doe99 33]',
+    '[@doe99, chap. 3]',
     '[@doe99, p. 3, emph]', '[@doe99, p. 3 and *passim*]', '[@doe99, pp. 33-35, 38-39 and *passim*]',
-    '[@doe99, {pp. iv, vi, (xv)-(xvii)} with suffix here]', '[@doe99{ii, A, D-Z}, with a suffix]', '[@doe99, {pp. iv} x]', '[-@doe99]',
+    '[@doe99, {pp. iv, vi, (xv)-(xvii)} with suffix here]', '[@doe99{ii, A, D-Z}, with a suffix]',
+    '[@doe99, {pp. iv} x]', '[-@doe99]',
     '[-@doe99, p. 3]', 'Doe says [-@doe99; @roe00]', '@doe99', '@doe99 [p. 4]', '@doe99 [foo]', '@doe99 [p. 4, foo]',
-    '@doe99 [see @roe00]', '@doe99 [; @roe00]', '@doe99 [p. 4; @roe00, vol. 2]', '[@doe99; @doe01]', '[see @doe99; also @doe01]',
-    '[@doe99; @roe00; @doe01]', '[e.g., @doe99]', '[@doe99 and others]', '[@doe99, and others]', '[@doe99: x]', '[@doe99, sec. 3.2]',
+    '@doe99 [see @roe00]', '@doe99 [; @roe00]', '@doe99 [p. 4; @roe00, vol. 2]', '[@doe99; @doe01]',
+    '[see @doe99; also @doe01]',
+    '[@doe99; @roe00; @doe01]', '[e.g., @doe99]', '[@doe99 and others]', '[@doe99, and others]', '[@doe99: x]',
+    '[@doe99, sec. 3.2]',
     '[@doe99, fig. 4a]', '[@doe99, l. 5]', '[@doe99, vol. 2, p. 3]', '[@doe99, p. iv]', '[@doe99, iv]', '[@doe99, p.4]',
-    '[*see* @doe99, p. 4, **bold** "quoted"]', '[@doe99, col. 3]', '[@doe99, no. 3]', '[@doe99, 2nd ed.]', '[@doe99, in press]',
-    '[@doe99, page 3]', '[@doe99, pages 3 & 5]', 'x^[@doe99]', 'x^[See [@doe99, p. 3].]', 'x^[See @doe99.]', '- a [@doe99]\n- b [@roe00]',
-    '> *emph [@doe99]*', '# Head [@doe99]', '| a | b |\n|---|---|\n| x [@doe99] | @roe00 |', '[@doe99 (really)]', '[link [@doe99]](http://x)',
+    '[*see* @doe99, p. 4, **bold** "quoted"]', '[@doe99, col. 3]', '[@doe99, no. 3]', '[@doe99, 2nd ed.]',
+    '[@doe99, in press]',
+    '[@doe99, page 3]', '[@doe99, pages 3 & 5]', 'x^[@doe99]', 'x^[See [@doe99, p. 3].]', 'x^[See @doe99.]',
+    '- a [@doe99]\n- b [@roe00]',
+    '> *emph [@doe99]*', '# Head [@doe99]', '| a | b |\n|---|---|\n| x [@doe99] | @roe00 |', '[@doe99 (really)]',
+    '[link [@doe99]](http://x)',
 ]
 
 
@@ -42,10 +51,13 @@ def pandoc(tmp_path, built):
     script.write_text('import sys\nfrom gamhilon.pandoc_filter import main\nsys.exit(main())\n')
 
     def run(text, *words, to='plain', own=True, **metadata):
-        fields = [f'--metadata={name.replace("_", "-")}={value}' for name, value in {'bibliography': 'refs.json', **metadata}.items()]
+        metadata = {'bibliography': 'refs.json', **metadata}
+        fields = [f'--metadata={name.replace("_", "-")}={value}' for name, value in metadata.items()]
         way = ['--filter', str(script)] if own else ['--citeproc']
-        environment = {**os.environ, 'PYTHONPATH': PACKAGE, 'PATH': os.path.dirname(sys.executable) + ':' + os.environ['PATH']}
-        done = subprocess.run(['pandoc', '-f', 'markdown', '-t', to, '--wrap=none', *fields, *way, *words], input=text.encode(),
+        environment = {**os.environ, 'PYTHONPATH': PACKAGE,
+                       'PATH': os.path.dirname(sys.executable) + ':' + os.environ['PATH']}
+        done = subprocess.run(['pandoc', '-f', 'markdown', '-t', to, '--wrap=none', *fields, *way, *words],
+                              input=text.encode(),
                               capture_output=True, cwd=tmp_path, env=environment, timeout=60)
         return done.stdout.decode(), done.stderr.decode(), done.returncode
     return run
@@ -63,7 +75,8 @@ def test_citations_read_as_pandoc_writes_them(pandoc):
 def test_the_reference_list_is_made_as_pandoc_makes_it(pandoc):
     text = 'A [@roe00; @doe99].\n'
     own, theirs = (pandoc(text, to='html', own=it, reference_section_title='Refs')[0] for it in (True, False))
-    for pattern in (r'<h1[^>]*>Refs</h1>', r'<div id="refs"', r'<div id="ref-\w+" class="csl-entry"', r'data-cites="roe00 doe99"'):
+    for pattern in (r'<h1[^>]*>Refs</h1>', r'<div id="refs"', r'<div id="ref-\w+" class="csl-entry"',
+                    r'data-cites="roe00 doe99"'):
         assert re.findall(pattern, own) == re.findall(pattern, theirs) != []
     assert re.findall(r'href="#([^"]+)"', own) == ['ref-roe00', 'ref-doe99']
     placed = pandoc('A [@doe99].\n\n::: {#refs}\n:::\n\nEnd.\n', to='html')[0]
@@ -86,7 +99,8 @@ def test_entries_are_listed_without_being_cited(pandoc):
 
 
 def test_ids_are_of_keys_that_have_spaces(pandoc, tmp_path):
-    cite = {'citationId': 'äh b', 'citationPrefix': [], 'citationSuffix': [], 'citationMode': {'t': 'NormalCitation'}, 'citationNoteNum': 1,
+    cite = {'citationId': 'äh b', 'citationPrefix': [], 'citationSuffix': [], 'citationMode': {'t': 'NormalCitation'},
+            'citationNoteNum': 1,
             'citationHash': 0}
     text = {'pandoc-api-version': [1, 22], 'meta': {'bibliography': {'t': 'MetaString', 'c': 'refs.json'}},
             'blocks': [{'t': 'Para', 'c': [{'t': 'Cite', 'c': [[cite], [{'t': 'Str', 'c': '@x'}]]}]}]}
@@ -95,7 +109,8 @@ def test_ids_are_of_keys_that_have_spaces(pandoc, tmp_path):
 
 
 def test_keys_that_are_not_there_are_told_with_their_place(pandoc):
-    out, said, status = pandoc('A [@doe99].\n\nB [see @nobody, p. 3; @roe00] and [@no1; @no2].', suppress_bibliography='true')
+    out, said, status = pandoc('A [@doe99].\n\nB [see @nobody, p. 3; @roe00] and [@no1; @no2].',
+                               suppress_bibliography='true')
     assert out == 'A (Doe 1999).\n\nB (nobody?; Roe 2000) and (no1?; no2?).\n' and status == 0
     assert said.splitlines() == [
         'gamhilon-pandoc: citation 2, [see @nobody, p. 3; @roe00]: no entry has the key nobody',
@@ -108,7 +123,8 @@ def test_numbers(pandoc):
     text = 'A [@roe00]. B [@roe00; @doe99; @doe01]. C [see @doe99, p. 3; @roe00]. @doe01 says.'
     out = pandoc(text, gamhilon_style='numeric')[0].split('\n')
     assert out[0] == 'A [1]. B [1–3]. C [see 2, p. 3, 1]. J. Doe [3] says.'
-    assert [it for it in out if it.startswith('[')] == ['[1] R. Roe, A Reply, 2000.', '[2] J. Doe, On Order, 1999.', '[3] J. Doe, More, 2001.']
+    assert [it for it in out if it.startswith('[')] == ['[1] R. Roe, A Reply, 2000.', '[2] J. Doe, On Order, 1999.',
+                                                        '[3] J. Doe, More, 2001.']
 
 
 def test_labels(pandoc):
@@ -124,7 +140,8 @@ def test_notes(pandoc):
     assert out.strip().split('\n\n') == [
         'A.[1] B,[2] and Richard Roe.[3] C[4] D.[5]', 'E.[6] F (nobody?).',
         '[1] see Jane Doe, On Order (1999), 3.', '[2] Ibid., 4.', '[3] A Reply (2000), 5; Jane Doe, More (2001).',
-        '[4] Own note with Roe, A Reply (see n. 3), 6 and more.', '[5] Roe, A Reply (see n. 3).', '[6] On Order (see n. 1), etc.',
+        '[4] Own note with Roe, A Reply (see n. 3), 6 and more.', '[5] Roe, A Reply (see n. 3).',
+        '[6] On Order (see n. 1), etc.',
     ]
     assert said == 'gamhilon-pandoc: citation 7, [@nobody]: no entry has the key nobody\n'
 
@@ -139,7 +156,8 @@ def test_a_style_of_a_file_and_one_that_shows_no_locators(pandoc, tmp_path):
 
 
 @pytest.mark.parametrize('metadata, word', [
-    ({'bibliography': 'nowhere.json'}, 'nowhere.json'), ({'bibliography': 'refs.bib'}, 'only CSL-JSON'), ({'gamhilon_style': 'apa'}, 'apa'),
+    ({'bibliography': 'nowhere.json'}, 'nowhere.json'), ({'bibliography': 'refs.bib'}, 'only CSL-JSON'),
+    ({'gamhilon_style': 'apa'}, 'apa'),
 ])
 def test_what_can_not_be_read_is_told(pandoc, metadata, word):
     out, said, status = pandoc('[@doe99]', **metadata)
@@ -157,7 +175,8 @@ def test_nothing_else_of_a_text_changes(pandoc):
     with open(f'{ROOT}/README.md', encoding='utf-8') as file:
         text = file.read().replace('@', '')
     own = pandoc(text, '--strip-comments', to='json', bibliography='refs.json')[0]
-    plain = subprocess.run(['pandoc', '-f', 'markdown', '-t', 'json', '--metadata=bibliography=refs.json', '--strip-comments'],
+    plain = subprocess.run(['pandoc', '-f', 'markdown', '-t', 'json', '--metadata=bibliography=refs.json',
+                            '--strip-comments'],
                            input=text.encode(), capture_output=True).stdout
     blocks = json.loads(own)['blocks']
     assert blocks[:-1] == json.loads(plain)['blocks'] and blocks[-1]['c'][0][0] == 'refs'
@@ -179,9 +198,12 @@ def test_texts_that_nest_deeply(pandoc):
 
 @pytest.mark.parametrize('suffix, locator, rest', [
     (', p. 4', ['page', '4'], ''), (', pp.\u00a033--35, x', ['page', '33–35'], ', x'), (', § 3', ['section', '3'], ''),
-    (', ¶¶ 3-4', ['paragraph', '3–4'], ''), (', col. 3', ['custom', 'col. 3'], ''), (', {} x', None, ', {} x'), (', bookish', None, ', bookish'),
-    (', pseudo 3', None, ', pseudo 3'), (', vol. 2, p. 3', ['volume', '2'], ', p. 3'), ('', None, ''), (', n. 12', ['note', '12'], ''),
-    (', supp. 2', ['supplement', '2'], ''), (', {a-b, chap. 3}', ['page', 'a–b, chap. 3'], ''), (', i think', None, ', i think'),
+    (', ¶¶ 3-4', ['paragraph', '3–4'], ''), (', col. 3', ['custom', 'col. 3'], ''), (', {} x', None, ', {} x'),
+    (', bookish', None, ', bookish'),
+    (', pseudo 3', None, ', pseudo 3'), (', vol. 2, p. 3', ['volume', '2'], ', p. 3'), ('', None, ''),
+    (', n. 12', ['note', '12'], ''),
+    (', supp. 2', ['supplement', '2'], ''), (', {a-b, chap. 3}', ['page', 'a–b, chap. 3'], ''),
+    (', i think', None, ', i think'),
 ])
 def test_locators(suffix, locator, rest):
     found, _, left = _locators.split(suffix)

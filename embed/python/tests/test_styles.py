@@ -42,7 +42,8 @@ def test_a_style_of_a_file(tmp_path, example):
     assert document['bibliography'] == {'style': 'author-date'} and document['entries'] == []
 
 
-@pytest.mark.parametrize('text', ['{}', '[]', '{"styles": {}, "bibliography": {"style": "x"}}', '{', '{"styles": [], "bibliography": 3}'])
+@pytest.mark.parametrize('text', ['{}', '[]', '{"styles": {}, "bibliography": {"style": "x"}}', '{',
+                                  '{"styles": [], "bibliography": 3}'])
 def test_a_file_without_a_style_is_an_error(tmp_path, text):
     path = tmp_path / 'style.json'
     path.write_text(text)

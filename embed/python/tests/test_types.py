@@ -34,7 +34,8 @@ gamhilon.render({}).citations[0].note_number + 1
 
 def mypy(folder, *words):
     environment = {**os.environ, 'MYPYPATH': ''}
-    done = subprocess.run([sys.executable, '-m', 'mypy', '--strict', '--cache-dir', str(folder / 'cache'), *words], cwd=folder,
+    done = subprocess.run([sys.executable, '-m', 'mypy', '--strict', '--cache-dir', str(folder / 'cache'), *words],
+                          cwd=folder,
                           env={**environment, 'PYTHONPATH': PACKAGE}, capture_output=True, text=True)
     return done.stdout
 

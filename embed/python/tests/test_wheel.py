@@ -31,7 +31,8 @@ def wheel(tmp_path, monkeypatch):
 
 def test_its_tag_tells_the_glibc_that_the_library_asks_for(wheel):
     version, python, abi, platform = wheel.name[:-len('.whl')].split('-')[1:]
-    asked = subprocess.run(['objdump', '-T', str(wheel.parent / 'out' / 'libgamhilon.so')], capture_output=True, text=True).stdout
+    asked = subprocess.run(['objdump', '-T', str(wheel.parent / 'out' / 'libgamhilon.so')], capture_output=True,
+                           text=True).stdout
     assert (python, abi) == ('py3', 'none') and platform.startswith('manylinux_2_')
     assert f'GLIBC_2.{platform.split("_")[2]}' in asked or platform.split('_')[2] == '17'
     with zipfile.ZipFile(wheel) as archive:
@@ -42,7 +43,8 @@ def test_it_has_what_a_user_needs(wheel):
     with zipfile.ZipFile(wheel) as archive:
         names = archive.namelist()
         info = next(it.split('/')[0] for it in names if '.dist-info/' in it)
-        for name in ('__init__.py', '__main__.py', 'py.typed', 'libgamhilon.so', 'gamhilon_build.json', 'style_documents/note.json'):
+        for name in ('__init__.py', '__main__.py', 'py.typed', 'libgamhilon.so', 'gamhilon_build.json',
+                     'style_documents/note.json'):
             assert f'gamhilon/{name}' in names
         assert not any('__pycache__' in it or it.endswith('.pyc') for it in names)
         with open(f'{ROOT}/LICENSE', 'rb') as file:

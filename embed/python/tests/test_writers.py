@@ -13,13 +13,19 @@ import gamhilon
 from gamhilon._writing import anchor, safe_url
 
 HOSTILE = [
-    '<script>alert(1)</script>', '& &amp; &#60;', '"quoted" \'single\'', '</p><div id="x">', '*stars* **two** _under_ __two__',
+    '<script>alert(1)</script>', '& &amp; &#60;', '"quoted" \'single\'', '</p><div id="x">',
+    '*stars* **two** _under_ __two__',
     '`code` ``code``', '[a](javascript:x) ![b](c)', r'\textbf{x} \input{/etc/passwd} {x} \\', '$x^2$ 100% #1 ~a~ ^b^ a_b',
-    '# not a heading', '- not a list', '+ not a list', '1. not a list', '(1) not a list', 'a) not a list', 'iv. no list', '(@) no list',
-    '> not a quote', '    not code', '| not | a table |', '---', '===', ': not a definition', '% not a title', '@doe99 [@roe]',
-    '``` not code', '~~~ not code', '<!-- no comment -->', 'a -- b --- c ... d', "''a'' ,,b,, <<c>> ?`d !`e", 'a\tb\nc\r\nd',
-    'O’Brien & “Sons” – 50 €', '\\', '~', '^', 'a\\', ':smile: a:b', 'http://example.org/a_b*c', '[^1]: no note', '[x]: y', '', ' ', 'e.g. x',
-    'C. Darwin', 'II. x', '\\begin{document}', '\u2028\u2029\x00\x1b[0m', 'A.  b', '10% 5 * 6 * 7', '{#id .class}', '<a@b.c> <http://x.y>', '\u00a0x',
+    '# not a heading', '- not a list', '+ not a list', '1. not a list', '(1) not a list', 'a) not a list',
+    'iv. no list', '(@) no list',
+    '> not a quote', '    not code', '| not | a table |', '---', '===', ': not a definition', '% not a title',
+    '@doe99 [@roe]',
+    '``` not code', '~~~ not code', '<!-- no comment -->', 'a -- b --- c ... d', "''a'' ,,b,, <<c>> ?`d !`e",
+    'a\tb\nc\r\nd',
+    'O’Brien & “Sons” – 50 €', '\\', '~', '^', 'a\\', ':smile: a:b', 'http://example.org/a_b*c', '[^1]: no note',
+    '[x]: y', '', ' ', 'e.g. x',
+    'C. Darwin', 'II. x', '\\begin{document}', '\u2028\u2029\x00\x1b[0m', 'A.  b', '10% 5 * 6 * 7', '{#id .class}',
+    '<a@b.c> <http://x.y>', '\u00a0x',
 ]
 FORMATS = [('normal', 'normal'), ('italic', 'normal'), ('normal', 'bold'), ('italic', 'bold')]
 # Commands of LaTeX's kernel that Debian's pandoc doesn't read, and what it reads as the same.
@@ -68,7 +74,8 @@ def test_html_has_the_letters_and_no_tags_but_its_own(text, style, weight):
 
 
 @pytest.mark.parametrize('url', [
-    'javascript:alert(1)', 'JavaScript:alert(1)', ' javascript:alert(1)', 'java\nscript:alert(1)', '\x01javascript:x', 'data:text/html,x',
+    'javascript:alert(1)', 'JavaScript:alert(1)', ' javascript:alert(1)', 'java\nscript:alert(1)', '\x01javascript:x',
+    'data:text/html,x',
     'vbscript:x', 'file:///etc/passwd', '//example.org', 'example.org', '', 'https', 'ht\ttps://x', 'https://x\x00y',
 ])
 def test_only_safe_addresses_are_links(url):
@@ -147,7 +154,8 @@ def test_markdown_keeps_formats_beside_letters(form):
     for first, middle, last, (style, weight) in cases:
         tree = [node(first), node(middle, style, weight), node(last, 'normal', 'bold'), node('d')]
         written.append(gamhilon.to_markdown(tree))
-    done = subprocess.run(['pandoc', '-f', form, '-t', 'json'], input='\n\n'.join(written).encode(), capture_output=True, check=True)
+    done = subprocess.run(['pandoc', '-f', form, '-t', 'json'], input='\n\n'.join(written).encode(),
+                          capture_output=True, check=True)
     blocks = json.loads(done.stdout)['blocks']
     assert len(blocks) == len(cases)
     for block, text, (first, middle, last, (style, _)) in zip(blocks, written, cases):
@@ -199,7 +207,8 @@ def test_cites_link_to_their_items():
 
 
 def test_ids_are_of_safe_characters_and_differ():
-    keys = ['doe99', 'doe 99', 'doe_99', 'doe__20_99', 'doe__99', 'doe_', 'doe__', 'a"b', '<x>', 'é', '', 'doe/99', '_', '__5f_', 'a#b', 'a%20b']
+    keys = ['doe99', 'doe 99', 'doe_99', 'doe__20_99', 'doe__99', 'doe_', 'doe__', 'a"b', '<x>', 'é', '', 'doe/99', '_',
+            '__5f_', 'a#b', 'a%20b']
     ids = [anchor(it) for it in keys]
     assert len(set(ids)) == len(keys) and all(it.replace('-', 'a').replace('_', 'a').isascii() for it in ids)
     assert all(not set(it) & set(' "\'<>#%&/') for it in ids)
