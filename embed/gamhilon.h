@@ -27,7 +27,8 @@
  * stream.
  *
  * Callers. No call may be made from a signal handler, nor in a forked child of a process with several threads before it
- * calls exec. malloc and realloc have to give memory aligned for every type of C (16 bytes on x86-64), as C asks of them.
+ * calls exec. malloc, realloc and free have to be of one allocator, and to align a block to each power of two up to 16 that
+ * divides its size, as to 8 for 24 bytes.
  * The processor has to be an x86-64 of level v2 (SSE4.2 and POPCNT: those made since 2009) or above.
  *
  * Stack. A call takes more of it the deeper the document's elements nest. Give a thread that calls 256 KiB: of the documents that

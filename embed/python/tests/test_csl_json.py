@@ -1,7 +1,10 @@
 """Entries from CSL-JSON. What is expected follows the CSL-JSON schema and the CSL specification."""
 import json
 
+from random import Random
+
 import pytest
+from conftest import ROOT
 
 from gamhilon import csl_json
 
@@ -170,6 +173,27 @@ def test_a_summary_has_a_line_for_each_field_and_reason():
 ])
 def test_labels(entry, wanted):
     assert csl_json.label(entry) == wanted
+
+
+def test_whatever_stands_in_items_their_entries_are_of_the_form_of_entries():
+    jsonschema = pytest.importorskip('jsonschema', reason='there is no jsonschema')
+    with open(f'{ROOT}/docs/document.schema.json', encoding='utf-8') as file:
+        schema = json.load(file)
+    of_entries = jsonschema.Draft202012Validator({**schema['properties']['entries'], '$defs': schema.get('$defs', {})})
+    random = Random(1)
+    values = [None, True, 0, -3, 1.5, 10 ** 400, '', 'x', '<i>x</i>', '1999', 'a\nb', [], {}, [[]], [None], ['x'], {'family': 'Doe'},
+              [{'family': 'Doe', 'given': 3}], [{'family': ['x'], 'suffix': {}}], [{'literal': 'x', 'given': ''}], [{'given': ' '}],
+              {'date-parts': [[1999, None]]}, {'date-parts': [['x']]}, {'date-parts': 'x'}, {'date-parts': [3]}, {'raw': []},
+              {'literal': '12345678901'}, {'raw': '2147483648'}, {'date-parts': [[2147483647]]}, {'date-parts': [[-2147483649]]}]
+    for _ in range(3000):
+        fields = random.sample(NAME_VARIABLES + DATE_VARIABLES + TEXT_VARIABLES + list(csl_json.TEXTS), 6)
+        item = {'id': random.choice([*values, 'k']), **{it: random.choice(values) for it in fields}}
+        converted = csl_json.entries([item])
+        assert not list(of_entries.iter_errors(converted.entries)), item
+        listed = {it.field for it in converted.losses}
+        assert 'id' in listed or all(it in listed or csl_json.TEXTS.get(it, it) in converted.entries[0] for it in fields)
+        assert all(map(str, converted.losses)) and all(map(csl_json.label, converted.entries))
+        assert bool(csl_json.summary(converted.losses)) == bool(converted.losses)
 
 
 def test_entries_are_entries_of_a_document(built):

@@ -86,6 +86,7 @@ def test_the_reference_list_is_made_as_pandoc_makes_it(pandoc):
 def test_links_and_the_list_can_be_left_out(pandoc):
     text = '[@doe99]'
     assert '<a ' not in pandoc(text, to='html', link_citations='false')[0]
+    assert pandoc('[link [@doe99]](http://x)', to='html')[0].count('<a ') == 1
     assert 'csl-entry' not in pandoc(text, to='html', suppress_bibliography='true')[0]
 
 
@@ -169,6 +170,20 @@ def test_what_entries_can_not_hold_is_told(pandoc, tmp_path):
     said = pandoc('[@doe99]', bibliography='more.json', csl='x.csl')[1].splitlines()
     assert said == ['gamhilon-pandoc: csl: is not read: gamhilon-style: names a style of its own form',
                     'gamhilon-pandoc: more.json: not or not wholly kept: page, type (python -m gamhilon entries more.json tells more)']
+
+
+def test_the_example_page(pandoc, tmp_path):
+    for name in ('page.md', 'references.json'):
+        shutil.copy(f'{PACKAGE}/example/{name}', tmp_path)
+    with open(f'{PACKAGE}/example/page.md', encoding='utf-8') as file:
+        out, said, status = pandoc(file.read(), to='html', bibliography='references.json')
+    shown = [re.sub('<[^>]*>', '', it) for it in re.findall(r'<span class="citation"[^>]*>(.*?)</span>', out)]
+    assert shown == [
+        '(Darwin 1859, 84)', '(Einstein 1905a, b)', 'Watson &amp; Crick (1953, 737)', '(see also Darwin 1859, chap. 4, on inheritance)',
+        '(1859, 129)', '(van Gogh 1914)', '(Alvarez et al. 1980; Einstein 1905b, sec. 3; Watson &amp; Crick 1953)',
+        '(compare Alvarez et al. 1980, 1095–1108)',
+    ]
+    assert status == 0 and said.startswith('gamhilon-pandoc: references.json: not or not wholly kept: issued, page, type')
 
 
 def test_nothing_else_of_a_text_changes(pandoc):
