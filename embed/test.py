@@ -6,6 +6,7 @@ It needs the toolchain and a C compiler. What else it would use (c++, cargo, cma
 mypy, python3-pandocfilters, python3-jsonschema) is left out where it is missing, and a line says so. --many N has valgrind watch N
 calls in four threads, where it is 300 else.
 The last line is 'N passed, M failed', and the exit status is 1 where a test failed."""
+import collections
 import glob
 import json
 import os
@@ -308,12 +309,14 @@ def try_tests_of_the_package(room):
     words = ['-m', 'pytest', '-q', '-p', 'no:cacheprovider', f'--junitxml={report}', 'tests']
     done = ran(pythons[0], *words, cwd=f'{HERE}/python', env=environment, timeout=900)
     hold(done.returncode == 0, f'pytest ends well: {done.stdout.decode()[-3000:]}')
+    reasons = collections.Counter()
     for case in xml.etree.ElementTree.parse(report).iter('testcase') if os.path.exists(report) else []:
         name, skipped = f'{case.get("classname")}.{case.get("name")}', case.find('skipped')
         if skipped is not None:
-            left_out.append(f'{name}: {skipped.get("message")}')
+            reasons[skipped.get('message')] += 1
         else:
             hold(case.find('failure') is None and case.find('error') is None, name)
+    left_out.extend(f'{count} tests of the Python package: {reason}' for reason, count in reasons.items())
 
 
 def compile_crate(room):

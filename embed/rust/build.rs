@@ -8,7 +8,10 @@ fn main() {
     let archive = folder.join("libgamhilon.a");
     println!("cargo:rerun-if-changed={}", archive.display());
     if !archive.is_file() {
-        eprintln!("{} is not there: build it by embed/build.py, or name its folder as GAMHILON_LIB_DIR", archive.display());
+        eprintln!(
+            "{} is not there: build it by embed/build.py, or name its folder as GAMHILON_LIB_DIR",
+            archive.display()
+        );
         std::process::exit(1);
     }
     println!("cargo:rustc-link-search=native={}", folder.display());

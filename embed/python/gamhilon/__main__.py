@@ -44,6 +44,12 @@ def parser() -> argparse.ArgumentParser:
     return made
 
 
+def say(message: str) -> None:
+    """A line on standard error, where there is one."""
+    if sys.stderr is not None:
+        print(f'gamhilon: {message}', file=sys.stderr, flush=True)
+
+
 @contextmanager
 def telling(what: str) -> Iterator[None]:
     """Tells on standard error what goes on, where that takes longer than a second."""
@@ -52,7 +58,7 @@ def telling(what: str) -> Iterator[None]:
     def tell() -> None:
         began, pause = time.monotonic(), 1.0
         while not done.wait(pause):
-            print(f'gamhilon: {what}, {time.monotonic() - began:.0f} s', file=sys.stderr, flush=True)
+            say(f'{what}, {time.monotonic() - began:.0f} s')
             pause = 5.0
 
     teller = threading.Thread(target=tell, daemon=True)
@@ -67,6 +73,8 @@ def telling(what: str) -> Iterator[None]:
 def read(path: str) -> bytes:
     """The bytes of a file, or of standard input."""
     if path == '-':
+        if sys.stdin is None:
+            raise OSError('standard input is closed')
         return sys.stdin.buffer.read()
     with open(path, 'rb') as file:
         return file.read()
@@ -74,6 +82,8 @@ def read(path: str) -> bytes:
 
 def write(text: str) -> None:
     """Writes to standard output, all of it or with an OSError."""
+    if sys.stdout is None:
+        raise OSError('standard output is closed')
     sys.stdout.buffer.write(text.encode('utf-8', 'replace'))
     sys.stdout.buffer.flush()
 
@@ -105,7 +115,7 @@ def entries_command(path: str) -> None:
     converted = csl_json.entries(csl_json.load(path))
     write(dumped(converted.entries))
     for line in csl_json.summary(converted.losses):
-        print(f'gamhilon: {path}: {line}', file=sys.stderr)
+        say(f'{path}: {line}')
 
 
 def styles_command(name: Optional[str]) -> None:
@@ -147,7 +157,7 @@ def main(arguments: Optional[List[str]] = None) -> int:
         _close_output()
     except ValueError as error:
         message, status = str(error), BAD_COMMAND_LINE if words.command == 'styles' else 2
-    print(f'gamhilon: {message}', file=sys.stderr)
+    say(message)
     return status
 
 
@@ -155,7 +165,7 @@ def _close_output() -> None:
     """Keeps Python from writing the rest once more, and from failing again, as it ends."""
     try:
         os.dup2(os.open(os.devnull, os.O_WRONLY), sys.stdout.fileno())
-    except (OSError, ValueError):
+    except (AttributeError, OSError, ValueError):
         pass
 
 

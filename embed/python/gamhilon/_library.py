@@ -47,7 +47,10 @@ class Library:
             raise self._refusal(status, document)
 
     def fault(self, document: bytes) -> Optional[Tuple[str, str, str]]:
-        """Pointer, found and wanted of a document's first fault; None where there is none, or no call that tells."""
+        """Pointer, found and wanted of a document's first fault; None where there is none, or no call that tells.
+
+        `gamhilon_fault` is called as `gamhilon_print` is, and puts an object with these three texts into its room.
+        """
         if not hasattr(self._functions, 'gamhilon_fault'):
             return None
         status, told = self._called(self._functions.gamhilon_fault, document, len(document) + 4096)

@@ -112,6 +112,13 @@ def test_output_that_cannot_be_written_is_status_1():
     assert status == 1 and error.count('\n') == 1
 
 
+def test_closed_streams_are_status_1(tmp_path):
+    environment = {**os.environ, 'PYTHONPATH': PACKAGE}
+    for words in ('styles >&-', 'render - <&-', 'styles >&- 2>&-'):
+        done = subprocess.run(['sh', '-c', f'exec "$0" -m gamhilon {words}', sys.executable], env=environment, capture_output=True)
+        assert done.returncode == 1 and done.stdout == b'' and b'Traceback' not in done.stderr
+
+
 def test_a_missing_library_has_a_status_of_its_own(tmp_path):
     path = tmp_path / 'a.json'
     path.write_text('{}')

@@ -14,8 +14,20 @@ use std::os::raw::c_char;
 type Call = unsafe extern "C" fn(*const u8, usize, *mut u8, usize, *mut usize) -> u32;
 
 extern "C" {
-    fn gamhilon_print(document: *const u8, document_length: usize, room: *mut u8, room_length: usize, length: *mut usize) -> u32;
-    fn gamhilon_print_json(document: *const u8, document_length: usize, room: *mut u8, room_length: usize, length: *mut usize) -> u32;
+    fn gamhilon_print(
+        document: *const u8,
+        document_length: usize,
+        room: *mut u8,
+        room_length: usize,
+        length: *mut usize,
+    ) -> u32;
+    fn gamhilon_print_json(
+        document: *const u8,
+        document_length: usize,
+        room: *mut u8,
+        room_length: usize,
+        length: *mut usize,
+    ) -> u32;
     fn gamhilon_ring(document: *const u8, document_length: usize, ring: *mut Ring) -> u32;
     fn gamhilon_version() -> *const c_char;
 }
@@ -83,7 +95,9 @@ impl fmt::Display for Refusal {
             }
             Refusal::NumberOverflow => write!(f, "the citation numbers don't fit 64 bits"),
             Refusal::OutOfMemory => write!(f, "memory was refused"),
-            Refusal::Unknown(status) => write!(f, "the library ended with status {status}, which this crate does not know"),
+            Refusal::Unknown(status) => {
+                write!(f, "the library ended with status {status}, which this crate does not know")
+            }
         }
     }
 }
