@@ -296,18 +296,26 @@ def try_cmake(room):
     hold(text == read(f'{ROOT}/examples/first.txt'), 'the program that CMake built')
 
 
+def python_with_pytest():
+    """This Python, or Debian's: the one that has more of what the package's tests use; None where neither has pytest."""
+    def has(python, module):
+        return os.path.exists(python) and ran(python, '-c', f'import {module}').returncode == 0
+
+    pythons = [it for it in (sys.executable, '/usr/bin/python3') if has(it, 'pytest')]
+    return max(pythons, key=lambda it: sum(has(it, name) for name in ('mypy', 'pandocfilters', 'jsonschema')), default=None)
+
+
 def try_tests_of_the_package(room):
-    """The package's own tests, by a Python that has pytest, counted one by one."""
-    pythons = [it for it in (sys.executable,
-                             '/usr/bin/python3') if os.path.exists(it) and ran(it, '-c', 'import pytest').returncode == 0]
-    if not pythons:
+    """The package's own tests, counted one by one."""
+    python = python_with_pytest()
+    if not python:
         left_out.append('the tests of the Python package: there is no pytest (Debian: python3-pytest)')
         return
     global passed
     report = f'{room}/pytest.xml'
     environment = {name: it for name, it in os.environ.items() if name != 'GAMHILON_LIBRARY'}
     words = ['-m', 'pytest', '-q', '-p', 'no:cacheprovider', f'--junitxml={report}', 'tests']
-    done = ran(pythons[0], *words, cwd=f'{HERE}/python', env=environment, timeout=900)
+    done = ran(python, *words, cwd=f'{HERE}/python', env=environment, timeout=900)
     hold(done.returncode == 0, f'pytest ends well: {done.stdout.decode()[-3000:]}')
     reasons = collections.Counter()
     for case in xml.etree.ElementTree.parse(report).iter('testcase') if os.path.exists(report) else []:

@@ -69,10 +69,12 @@ class Library:
         """The status of a call, and what it put into its room, which grows where it is too small."""
         length = ctypes.c_size_t(room_length)
         while True:
-            room = ctypes.create_string_buffer(max(length.value, 1))
-            status = function(document, len(document), room, length.value, ctypes.byref(length))
+            # (of a bytearray only what is written takes memory)
+            room = bytearray(max(length.value, 1))
+            shared = (ctypes.c_char * len(room)).from_buffer(room)
+            status = function(document, len(document), shared, length.value, ctypes.byref(length))
             if status != ROOM_TOO_SMALL:
-                return status, ctypes.string_at(room, length.value) if status == OK else b''
+                return status, bytes(memoryview(room)[:length.value]) if status == OK else b''
 
     def _ring(self, document: bytes) -> Tuple[int, RingPlace]:
         ring = RingPlace()

@@ -48,14 +48,14 @@ def pandoc(tmp_path, built):
     """Runs pandoc over a text, and gives what it writes and what it says."""
     (tmp_path / 'refs.json').write_text(json.dumps(REFERENCES))
     script = tmp_path / 'filter.py'
-    script.write_text('import sys\nfrom gamhilon.pandoc_filter import main\nsys.exit(main())\n')
+    script.write_text(f'#!{sys.executable}\nimport sys\nfrom gamhilon.pandoc_filter import main\nsys.exit(main())\n')
+    script.chmod(0o755)
 
     def run(text, *words, to='plain', own=True, **metadata):
         metadata = {'bibliography': 'refs.json', **metadata}
         fields = [f'--metadata={name.replace("_", "-")}={value}' for name, value in metadata.items()]
         way = ['--filter', str(script)] if own else ['--citeproc']
-        environment = {**os.environ, 'PYTHONPATH': PACKAGE,
-                       'PATH': os.path.dirname(sys.executable) + ':' + os.environ['PATH']}
+        environment = {**os.environ, 'PYTHONPATH': PACKAGE}
         done = subprocess.run(['pandoc', '-f', 'markdown', '-t', to, '--wrap=none', *fields, *way, *words],
                               input=text.encode(),
                               capture_output=True, cwd=tmp_path, env=environment, timeout=60)
@@ -64,6 +64,9 @@ def pandoc(tmp_path, built):
 
 
 def test_citations_read_as_pandoc_writes_them(pandoc):
+    version = subprocess.run(['pandoc', '--version'], capture_output=True, text=True).stdout.split()[1]
+    if not version.startswith('2.17'):
+        pytest.skip(f'pandoc is {version}, and what it writes is known of 2.17')
     # (each between lines of its own, since the notes stand at the end)
     text = '\n\n'.join(f'{it}\n\n-- {place} --' for place, it in enumerate(LIKE_CITEPROC))
     wanted, said, _ = pandoc(text, own=False, suppress_bibliography='true')
