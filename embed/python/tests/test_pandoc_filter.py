@@ -6,6 +6,7 @@ import re
 import shutil
 import subprocess
 import sys
+from random import Random
 
 import pytest
 from conftest import PACKAGE, ROOT
@@ -42,6 +43,9 @@ LIKE_CITEPROC = [
     '[link [@doe99]](http://x)',
 ]
 
+LOCATORS = ['p. 3', 'pp. 3-5', 'chap. 2', '3', 'vol. 2', 'sec. 1.2', 'l. 4', 'fig. 3', 'iv', 'pp. iv-vi', 'p. 3, 5', '12a', 'bk. 2',
+            'pt. 4', 'col. 3', 'n. 3']
+
 
 @pytest.fixture
 def pandoc(tmp_path, built):
@@ -63,16 +67,49 @@ def pandoc(tmp_path, built):
     return run
 
 
-def test_citations_read_as_pandoc_writes_them(pandoc):
+@pytest.fixture
+def known():
+    """For tests that compare with what pandoc's own --citeproc writes."""
     version = subprocess.run(['pandoc', '--version'], capture_output=True, text=True).stdout.split()[1]
     if not version.startswith('2.17'):
         pytest.skip(f'pandoc is {version}, and what it writes is known of 2.17')
+
+
+def test_citations_read_as_pandoc_writes_them(pandoc, known):
     # (each between lines of its own, since the notes stand at the end)
     text = '\n\n'.join(f'{it}\n\n-- {place} --' for place, it in enumerate(LIKE_CITEPROC))
     wanted, said, _ = pandoc(text, own=False, suppress_bibliography='true')
     assert said == ''
     out, said, status = pandoc(text, suppress_bibliography='true')
     assert out.split('\n\n') == wanted.split('\n\n') and (said, status) == ('', 0)
+
+
+def random_citation(random):
+    """A citation of up to three entries of different authors, with words around them."""
+    parts = []
+    for key in random.sample(range(5), random.choice([1, 1, 2, 3])):
+        prefix = random.choice(['', '', 'see ', 'e.g., ', '*cf.* ', '“q” ']) + random.choice(['', '', '', '-'])
+        locator = random.choice(['', '', ', ' + random.choice(LOCATORS)])
+        suffix = random.choice(['', '', ' and *so* on', ', emph', ' (really)', ' “quote”', '. Dot', ', see Smith'])
+        parts.append(f'{prefix}@k{key}{locator}{suffix}')
+    if random.random() < 0.7:
+        return f'T [{"; ".join(parts)}] end.'
+    inner = '; '.join([random.choice(['', *LOCATORS]), *parts[1:]])
+    return f'T {parts[0][parts[0].index("@"):][:3]}' + (f' [{inner}]' if inner else '') + ' end.'
+
+
+def test_random_citations_read_as_pandoc_writes_them(pandoc, known, tmp_path):
+    authors = ['Doe', 'Roe', 'Äbc', 'van Dyke', 'Li']
+    (tmp_path / 'random.json').write_text(json.dumps([
+        {'id': f'k{place}', 'title': f'T{place}', 'author': [{'family': it, 'given': 'A.'}], 'issued': {'date-parts': [[1990 + place]]}}
+        for place, it in enumerate(authors)]))
+    random = Random(7)
+    texts = [random_citation(random) for _ in range(150)]
+    how = {'bibliography': 'random.json', 'suppress_bibliography': 'true'}
+    wanted, own = (pandoc('\n\n'.join(texts), own=it, **how) for it in (False, True))
+    assert own[1:] == ('', 0)
+    for text, one, other in zip(texts, wanted[0].split('\n\n'), own[0].split('\n\n')):
+        assert other.replace('\u00a0', ' ') == one.replace('\u00a0', ' '), text
 
 
 def test_the_reference_list_is_made_as_pandoc_makes_it(pandoc):
