@@ -1,12 +1,17 @@
 #!/usr/bin/env python3
-"""build.py: builds out/libgamhilon.a and out/libgamhilon.so, which programs in C, Python, Rust and others link or load.
+"""build.py: builds the library that programs in C, Python, Rust and others link or load, in out/: libgamhilon.a,
+libgamhilon.so.0 (and libgamhilon.so, which leads to it), gamhilon.h, gamhilon.pc for pkg-config, and gamhilon_build.json,
+which tells the commit and the toolchain.
 
 It has `rt lib` prove and compile crates/gamhilon_c first, over what earlier checks kept, and needs a C compiler (CC, or
 cc) with its binutils.
     --after-ci      take the libraries that `rt ci` left, and prove and compile crates/gamhilon_c alone over them
-    --archive FILE  take this archive as it is
+    --archive FILE  take this archive as it is, as out/libgamhilon.a of another machine; no toolchain is needed
+    --wheel         build the Python package's wheel too, in out/
 """
+import json
 import os
+import re
 import shutil
 import subprocess
 import sys
@@ -17,7 +22,14 @@ ROOT = os.path.dirname(HERE)
 OUT = f'{HERE}/out'
 CRATE = f'{ROOT}/crates/gamhilon_c'
 ARCHIVE = f'{CRATE}/out/libgamhilon_c.a'
-EXPORTS = ['gamhilon_print', 'gamhilon_print_json', 'gamhilon_ring']
+NOTE = 'gamhilon_build.json'
+EXPORTS = [
+    'gamhilon_print',
+    'gamhilon_print_json',
+    'gamhilon_ring',
+    'gamhilon_status_text',
+    'gamhilon_version',
+]
 
 
 def ran(*words, where=HERE):
@@ -27,12 +39,19 @@ def ran(*words, where=HERE):
         sys.exit(f'build.py: {words[0]} ended with status {status}')
 
 
+def told(*words):
+    """The first line that a command prints, or None where it fails or isn't there."""
+    try:
+        done = subprocess.run(words, cwd=ROOT, capture_output=True, text=True)
+    except OSError:
+        return None
+    return (done.stdout.splitlines() or [''])[0] if done.returncode == 0 else None
+
+
 def kit():
-    """The folder of the toolchain, of which rt stands in bin/."""
+    """The folder of the toolchain, of which rt stands in bin/; None where there is no rt."""
     rt = shutil.which('rt')
-    if not rt:
-        sys.exit('build.py: there is no rt in the PATH: the toolchain builds the archive')
-    return os.path.dirname(os.path.dirname(os.path.realpath(rt)))
+    return rt and os.path.dirname(os.path.dirname(os.path.realpath(rt)))
 
 
 def libraries_below(name):
@@ -67,34 +86,101 @@ def compile_after_ci(kit_folder):
     ran(f'{kit_folder}/bin/rattle', 'build', *words, '-o', ARCHIVE, where=CRATE)
 
 
-def link(archive, kit_folder):
-    """One object that shows the exports alone, as an archive and as a shared object."""
+def version():
+    """The version of the library, as the header has it."""
+    with open(f'{HERE}/gamhilon.h', encoding='utf-8') as file:
+        return re.search(r'#define GAMHILON_VERSION "(.+)"', file.read()).group(1)
+
+
+def note_of(archive):
+    """The commit and the toolchain: of what is built here, or those noted beside an archive; None where nothing tells."""
+    if archive == ARCHIVE:
+        changed = told('git', 'status', '--porcelain', 'crates', 'crates.txt')
+        commit = told('git', 'rev-parse', 'HEAD')
+        return {'commit': commit and commit + (' and changes' if changed else ''), 'toolchain': told('rt', 'version')}
+    try:
+        with open(f'{os.path.dirname(archive)}/{NOTE}', encoding='utf-8') as file:
+            return json.load(file)
+    except (OSError, ValueError):
+        return {'commit': None, 'toolchain': None}
+
+
+def written(path, text):
+    with open(path, 'w', encoding='utf-8') as file:
+        file.write(text)
+
+
+def defines(archive, name):
+    """Whether an archive has a function of its own by this name, as the archives have that were built here."""
+    done = subprocess.run(['nm', '--defined-only', archive], capture_output=True, text=True)
+    return any(it.split()[-1:] == [name] for it in done.stdout.splitlines())
+
+
+def link(compiler, archive, kit_folder, room, note):
+    """One object that shows the exports alone, as an archive and as a shared object, in a folder."""
+    about = '; '.join(f'{name} {said}' for name, said in note.items() if said)
+    whole = ['-Wl,--whole-archive', archive, '-Wl,--no-whole-archive']
+    libraries = [f'{kit_folder}/c/liblibc_c.a'] if kit_folder else []
+    if not defines(archive, 'gamhilon_version'):
+        ran(*compiler, '-O2', '-fPIC', f'-I{HERE}', f'-DGAMHILON_ABOUT="{about}"', '-c', '-o', f'{room}/about.o',
+            f'{HERE}/c/about.c')
+        whole.append(f'{room}/about.o')
+    ran(*compiler, '-r', '-nostdlib', '-o', f'{room}/gamhilon.o', *whole, *libraries)
+    ran('objcopy', *[f'--keep-global-symbol={it}' for it in EXPORTS], f'{room}/gamhilon.o')
+    ran('ar', 'rcs', f'{room}/libgamhilon.a', 'gamhilon.o', where=room)
+    soname = f'libgamhilon.so.{version().split(".")[0]}'
+    own = [f'-Wl,-soname,{soname}', '-Wl,--gc-sections', '-Wl,-z,defs', '-Wl,-z,relro,-z,now']
+    ran(*compiler, '-shared', '-o', f'{room}/{soname}', f'{room}/gamhilon.o', *own)
+    os.symlink(soname, f'{room}/libgamhilon.so')
+
+
+def build(archive, kit_folder):
+    """Links the archive, and puts all that was built into out/ once it is there."""
     compiler = os.environ.get('CC', 'cc').split()
     if not shutil.which(compiler[0]):
         sys.exit(f'build.py: there is no C compiler {compiler[0]}: set CC')
-    shutil.rmtree(OUT, ignore_errors=True)
-    os.makedirs(OUT)
-    with tempfile.TemporaryDirectory() as room:
-        whole = ['-Wl,--whole-archive', archive, '-Wl,--no-whole-archive']
-        ran(*compiler, '-r', '-nostdlib', '-o', f'{room}/gamhilon.o', *whole, f'{kit_folder}/c/liblibc_c.a')
-        ran('objcopy', *[f'--keep-global-symbol={it}' for it in EXPORTS], f'{room}/gamhilon.o')
-        ran('ar', 'rcs', f'{OUT}/libgamhilon.a', 'gamhilon.o', where=room)
-        own = ['-Wl,-soname,libgamhilon.so', '-Wl,--gc-sections', '-Wl,-z,defs', '-Wl,-z,relro,-z,now']
-        ran(*compiler, '-shared', '-o', f'{OUT}/libgamhilon.so', f'{room}/gamhilon.o', *own)
+    with tempfile.TemporaryDirectory(dir=HERE, prefix='.out-') as room:
+        note = note_of(archive)
+        link(compiler, archive, kit_folder, room, note)
+        for name in ('gamhilon.o', 'about.o'):
+            if os.path.exists(f'{room}/{name}'):
+                os.remove(f'{room}/{name}')
+        shutil.copy(f'{HERE}/gamhilon.h', room)
+        with open(f'{HERE}/c/gamhilon.pc.in', encoding='utf-8') as file:
+            written(f'{room}/gamhilon.pc', file.read().replace('@VERSION@', version()))
+        written(f'{room}/{NOTE}', json.dumps(note) + '\n')
+        shutil.rmtree(OUT, ignore_errors=True)
+        os.chmod(room, 0o755)
+        shutil.copytree(room, OUT, symlinks=True)
     print(f'built {os.path.relpath(OUT)}/libgamhilon.a and libgamhilon.so')
 
 
+def build_wheel():
+    """The wheel of the Python package, in out/."""
+    sys.path.insert(0, f'{HERE}/python')
+    import gamhilon_wheel
+    print(f'built {os.path.relpath(OUT)}/{gamhilon_wheel.build_wheel(OUT)}')
+
+
 def main(words):
+    with_wheel = '--wheel' in words
+    words = [it for it in words if it != '--wheel']
     kit_folder, archive = kit(), ARCHIVE
     if words[:1] == ['--archive'] and len(words) == 2:
         archive = os.path.abspath(words[1])
-    elif words == ['--after-ci']:
-        compile_after_ci(kit_folder)
-    elif words:
+        if not os.path.isfile(archive):
+            sys.exit(f'build.py: there is no archive {words[1]}')
+    elif words and words != ['--after-ci']:
         sys.exit(__doc__)
+    elif not kit_folder:
+        sys.exit('build.py: there is no rt in the PATH: the toolchain builds the archive, or --archive names one')
+    elif words:
+        compile_after_ci(kit_folder)
     else:
         ran('rt', 'lib', where=CRATE)
-    link(archive, kit_folder)
+    build(archive, kit_folder)
+    if with_wheel:
+        build_wheel()
 
 
 if __name__ == '__main__':

@@ -14,7 +14,7 @@
  *     }
  *
  * Each such call does the whole work, so give it room at once that will mostly do: text is rarely longer than its
- * document, and JSON rarely longer than ten times that.
+ * document, and JSON is mostly four to five times as long, and rarely more than eight times.
  *
  * Ownership. Document, room, `length` and `ring` are the caller's before and after a call, and must not overlap. The
  * library keeps no pointer to them. A pointer may be null where its length is 0; `length` and `ring` must not be null.
@@ -26,12 +26,20 @@
  * may call at once, on rooms of their own. No call reads a file, the environment, the locale or a clock, or writes to a
  * stream.
  *
+ * Callers. No call may be made from a signal handler, nor in a forked child of a process with several threads before it
+ * calls exec. malloc, realloc and free have to be of one allocator, and to align a block to each power of two up to 16 that
+ * divides its size, as to 8 for 24 bytes.
+ * The processor has to be an x86-64 of level v2 (SSE4.2 and POPCNT: those made since 2009) or above.
+ *
  * Stack. A call takes more of it the deeper the document's elements nest. Give a thread that calls 256 KiB: of the documents that
  * the tests try the deepest take 145 KiB, and embed/test.py holds all of them to 256. JSON nests no deeper than 127, but macros
  * that call one another deepen trees further. Running out of stack ends the process, as everywhere in C.
  *
  * What each call does with document, room, `length` and `ring` is proved, for callers that keep to the lines above
- * (crates/gamhilon_c). The C compiler and malloc are trusted. */
+ * (crates/gamhilon_c). The C compiler and malloc are trusted. gamhilon_version and gamhilon_status_text are plain C.
+ *
+ * Versions. As long as the first number of GAMHILON_VERSION stays, so do the calls, the statuses and the name of the
+ * shared object, libgamhilon.so.0; new ones may be added. */
 #ifndef GAMHILON_H
 #define GAMHILON_H
 
@@ -41,6 +49,12 @@
 #ifdef __cplusplus
 extern "C" {
 #endif
+
+/* The version of this header. */
+#define GAMHILON_VERSION "0.1.0"
+#define GAMHILON_VERSION_MAJOR 0
+#define GAMHILON_VERSION_MINOR 1
+#define GAMHILON_VERSION_PATCH 0
 
 /* What a call ends with. At every status but GAMHILON_OK the room is as it was; at GAMHILON_OK it begins with the answer,
  * and the rest of it is as it was. `*length` is the length of the whole answer at GAMHILON_OK and at
@@ -70,6 +84,13 @@ typedef struct {
 /* Ends with a status as gamhilon_print does, and never with GAMHILON_ROOM_TOO_SMALL. At GAMHILON_MACRO_RING `*ring` is the
  * place of the first ring, and at every other status it is as it was. */
 uint32_t gamhilon_ring(const uint8_t *document, size_t document_length, gamhilon_ring_place *ring);
+
+/* What a status means: a text for people, with no line feed, that is never freed. */
+const char *gamhilon_status_text(uint32_t status);
+
+/* The version of the library, and the commit and the toolchain that it was proved and built by, where those are known: a
+ * text that begins with its GAMHILON_VERSION and is never freed. */
+const char *gamhilon_version(void);
 
 #ifdef __cplusplus
 }

@@ -1,10 +1,12 @@
 #!/usr/bin/env python3
-"""test.py [--after-ci | --archive FILE]: builds the library (build.py, with these words), and tries it as its users would:
-from C, Python and Rust, on each document of documents/ and examples/.
+"""test.py [--many N] [--after-ci | --archive FILE]: builds the library (build.py, with these words), and tries it as its users
+would: from C, Python and Rust, on each document of documents/ and examples/; then it runs the tests of the Python package.
 
-It needs the toolchain and a C compiler. What else it would use (c++, rustc, valgrind, pip, python3-jsonschema) is left out where
-it is missing, and a line says so.
+It needs the toolchain and a C compiler. What else it would use (c++, cargo, cmake, pkg-config, valgrind, pip, venv, pandoc, pytest,
+mypy, python3-pandocfilters, python3-jsonschema) is left out where it is missing, and a line says so. --many N has valgrind watch N
+calls in four threads, where it is 300 else.
 The last line is 'N passed, M failed', and the exit status is 1 where a test failed."""
+import collections
 import glob
 import json
 import os
@@ -13,14 +15,18 @@ import subprocess
 import sys
 import tempfile
 import time
+import xml.etree.ElementTree
 from concurrent.futures import ThreadPoolExecutor
 
 HERE = os.path.dirname(os.path.abspath(__file__))
+OUT = f'{HERE}/out'
 ROOT = os.path.dirname(HERE)
 FORMS = ('text', 'json')
 STACK_TOLD = 256 * 1024
-TEN = ['rows/*.json', 'layouts/*.json', 'disambiguation/*.json', 'grouping/*.json', 'collapsing/*.json', 'bibliography/*.json',
+TEN = ['rows/*.json', 'layouts/*.json', 'disambiguation/*.json', 'grouping/*.json', 'collapsing/*.json',
+       'bibliography/*.json',
        'parts/*.json', 'purposes/*.json', 'hostile/*.json', 'refused/*.json']
+FEW_CALLS = 300
 passed, failures, left_out = 0, [], []
 
 
@@ -34,8 +40,8 @@ def hold(holds, what):
         print(f'FAILED: {what}')
 
 
-def ran(*words, **how):
-    return subprocess.run(words, capture_output=True, timeout=170, **how)
+def ran(*words, timeout=170, **how):
+    return subprocess.run(words, capture_output=True, timeout=timeout, **how)
 
 
 def read(path):
@@ -82,7 +88,7 @@ def compile_all(room):
     compiler = os.environ.get('CC', 'cc').split()
     strict = ['-Wall', '-Wextra', '-pedantic', '-Werror', f'-I{HERE}']
     wraps = ['-Wl,--wrap=malloc,--wrap=realloc,--wrap=free']
-    sources = {'calls': [], 'stack': [], 'threads': [], 'failing': wraps, '../c/print': []}
+    sources = {'calls': [], 'stack': [], 'threads': [], 'many': [], 'about': [], 'failing': wraps, '../c/print': []}
     for name, more in sources.items():
         standard = '-std=c99' if name.startswith('..') else '-std=gnu11'
         made = ran(*compiler, standard, '-O1', '-g', '-pthread', *strict, *more, '-o', f'{room}/{os.path.basename(name)}',
@@ -92,7 +98,8 @@ def compile_all(room):
         if has_tool(tool[0], f'the header as {standard}'):
             with open(f'{room}/header.{name}', 'w', encoding='utf-8') as file:
                 file.write('#include "gamhilon.h"\n#include "gamhilon.h"\nint main(void) { return GAMHILON_OK; }\n')
-            made = ran(*tool, f'-std={standard}', *strict, '-x', name, '-c', '-o', f'{room}/header.o', f'{room}/header.{name}')
+            made = ran(*tool, f'-std={standard}', *strict, '-x', name, '-c', '-o', f'{room}/header.o',
+                       f'{room}/header.{name}')
             hold(made.returncode == 0, f'the header as {standard}: {made.stderr.decode()[:600]}')
 
 
@@ -161,10 +168,9 @@ def try_from_python(cases, jsons):
     import gamhilon
 
     def tried(case, answer, room):
-        library = gamhilon._library
+        library = gamhilon._library.library()
         try:
-            text = gamhilon._called(library.gamhilon_print, case.bytes, room)
-            return text == case.text and gamhilon._called(library.gamhilon_print_json, case.bytes, room) == answer
+            return library.print_document(case.bytes, room) == case.text and library.print_json(case.bytes, room) == answer
         except gamhilon.Refused as refusal:
             return refusal.status == case.status
 
@@ -183,7 +189,8 @@ def try_from_python(cases, jsons):
         gamhilon.render(ring)
         hold(False, 'a ring is refused')
     except gamhilon.MacroRing as refusal:
-        hold((refusal.status, refusal.request, refusal.macro_place) == (3, None, 1), 'the place of a ring of the bibliography')
+        hold((refusal.status, refusal.request, refusal.macro_place) == (3, None, 1),
+             'the place of a ring of the bibliography')
     ring['styles']['t'] = {'citation': {'elements': []}}
     ring['requests'] = [{'style': 't', 'items': []}, {'style': 's', 'items': []}]
     try:
@@ -203,26 +210,156 @@ def try_package(room):
     words = 'import gamhilon, sys; sys.stdout.write(gamhilon.print_document(sys.stdin.read())); print(gamhilon.__file__)'
     how = {'cwd': room, 'env': {'PYTHONPATH': f'{room}/site', 'PATH': os.environ['PATH']}}
     done = ran(sys.executable, '-c', words, input=read(f'{ROOT}/examples/first.json'), **how)
-    wanted = read(f'{ROOT}/examples/first.txt') + f'{room}/site/gamhilon.py\n'.encode()
+    wanted = read(f'{ROOT}/examples/first.txt') + f'{room}/site/gamhilon/__init__.py\n'.encode()
     hold(done.stdout == wanted, 'the installed package')
 
 
+def try_wheel(room):
+    """The wheel in a fresh virtual environment, used as its user would."""
+    if ran(sys.executable, '-m', 'venv', f'{room}/venv').returncode:
+        left_out.append('the wheel in a fresh virtual environment: venv makes none (Debian: python3-venv)')
+        return
+    made = ran(sys.executable, f'{HERE}/build.py', '--archive', f'{OUT}/libgamhilon.a', '--wheel',
+               env={**os.environ, 'PATH': without_rt(room)})
+    hold(made.returncode == 0, f'build.py --archive --wheel, with no toolchain: {made.stderr.decode()[-600:]}')
+    wheels = glob.glob(f'{OUT}/*.whl')
+    hold(len(wheels) == 1, f'one wheel: {wheels}')
+    bin_folder = f'{room}/venv/bin'
+    how = {'cwd': room, 'env': {'PATH': f'{bin_folder}:{os.environ["PATH"]}'}}
+    made = ran(f'{bin_folder}/pip', 'install', '-q', '--no-index', '--disable-pip-version-check', *wheels, **how)
+    hold(made.returncode == 0, f'pip install of the wheel: {made.stderr.decode()[-600:]}')
+    first, text = f'{ROOT}/examples/first.json', read(f'{ROOT}/examples/first.txt')
+    hold(ran('gamhilon', 'render', first, **how).stdout == text, 'gamhilon render, from the wheel')
+    told = ran('python', '-m', 'gamhilon', '--version', **how).stdout.decode()
+    note = json.loads(read(f'{OUT}/gamhilon_build.json'))
+    hold(all(str(it or 'unknown') in told for it in note.values()), f'the version of the wheel: {told}')
+    if has_tool('pandoc', 'the filter from the wheel'):
+        with open(f'{room}/refs.json', 'w', encoding='utf-8') as file:
+            file.write('[{"id": "doe99", "title": "On Order", "author": [{"family": "Doe"}], "issued": {"date-parts": [[1999]]}}]')
+        words = ['pandoc', '--filter', 'gamhilon-pandoc', '-M', 'bibliography=refs.json', '-t', 'plain']
+        hold(ran(*words, input=b'[@doe99, p. 4]', **how).stdout.startswith(b'(Doe 1999, 4)\n'),
+             'gamhilon-pandoc, from the wheel')
+
+
+def without_rt(room):
+    """A PATH in which there is all but the toolchain."""
+    os.makedirs(f'{room}/bin', exist_ok=True)
+    for folder in reversed(os.environ['PATH'].split(':')):
+        for name in os.listdir(folder) if os.path.isdir(folder) else []:
+            at = f'{room}/bin/{name}'
+            if name not in ('rt', 'rattle'):
+                if os.path.lexists(at):
+                    os.remove(at)
+                os.symlink(f'{folder}/{name}', at)
+    return f'{room}/bin'
+
+
+def try_building():
+    """What build.py makes, and that it leaves that alone where it can't build."""
+    before = sorted(os.listdir(OUT))
+    done = ran(sys.executable, f'{HERE}/build.py', '--archive', 'nofile.a')
+    hold(done.returncode == 1 and b'nofile.a' in done.stderr, 'an archive that is not there is told')
+    hold(sorted(os.listdir(OUT)) == before, 'out/ stays where there is no archive')
+    sys.path.insert(0, HERE)
+    import build
+    shown = ran('nm', '-D', '--defined-only', f'{OUT}/libgamhilon.so').stdout.decode().split()[2::3]
+    hold(sorted(shown) == sorted(build.EXPORTS), f'the shared object shows its exports alone: {shown}')
+    soname = f'libgamhilon.so.{build.version().split(".")[0]}'
+    hold(soname in ran('objdump', '-p', f'{OUT}/libgamhilon.so').stdout.decode(),
+         f'the name of the shared object is {soname}')
+
+
+def try_about(room):
+    """The version and the texts of the statuses."""
+    sys.path.insert(0, HERE)
+    import build
+    lines = ran(f'{room}/about').stdout.decode().splitlines()
+    hold(lines[0] == f'{build.version()} {build.version()}', 'the version of the header')
+    note = json.loads(read(f'{OUT}/gamhilon_build.json'))
+    hold(lines[1].startswith(build.version()) and all(it in lines[1] for it in note.values() if it),
+         'the version of the library')
+    hold(len(lines) == 10 and len(set(lines[2:])) == 7 and lines[3] == lines[9],
+         'each status has a text of its own, and others one')
+
+
+def try_cmake(room):
+    """pkg-config, and the CMake example."""
+    if not (has_tool('pkg-config', 'gamhilon.pc') and has_tool('cmake', 'the CMake example')):
+        return
+    environment = {**os.environ, 'PKG_CONFIG_PATH': OUT}
+    told = ran('pkg-config', '--cflags', '--libs', 'gamhilon', env=environment).stdout.decode().split()
+    hold(told == [f'-I{OUT}', f'-L{OUT}', '-lgamhilon'], f'gamhilon.pc: {told}')
+    for words in (['-S', f'{HERE}/c', '-B', f'{room}/cmake'], ['--build', f'{room}/cmake']):
+        made = ran('cmake', *words, env=environment)
+        hold(made.returncode == 0, f'cmake {words[0]}: {made.stderr.decode()[-600:]}')
+    text = ran(f'{room}/cmake/print', input=read(f'{ROOT}/examples/first.json')).stdout
+    hold(text == read(f'{ROOT}/examples/first.txt'), 'the program that CMake built')
+
+
+def python_with_pytest():
+    """This Python, or Debian's: the one that has more of what the package's tests use; None where neither has pytest."""
+    def has(python, module):
+        return os.path.exists(python) and ran(python, '-c', f'import {module}').returncode == 0
+
+    pythons = [it for it in (sys.executable, '/usr/bin/python3') if has(it, 'pytest')]
+    return max(pythons, key=lambda it: sum(has(it, name) for name in ('mypy', 'pandocfilters', 'jsonschema')), default=None)
+
+
+def try_tests_of_the_package(room):
+    """The package's own tests, counted one by one."""
+    python = python_with_pytest()
+    if not python:
+        left_out.append('the tests of the Python package: there is no pytest (Debian: python3-pytest)')
+        return
+    global passed
+    report = f'{room}/pytest.xml'
+    environment = {name: it for name, it in os.environ.items() if name != 'GAMHILON_LIBRARY'}
+    words = ['-m', 'pytest', '-q', '-p', 'no:cacheprovider', f'--junitxml={report}', 'tests']
+    done = ran(python, *words, cwd=f'{HERE}/python', env=environment, timeout=900)
+    hold(done.returncode == 0, f'pytest ends well: {done.stdout.decode()[-3000:]}')
+    reasons = collections.Counter()
+    for case in xml.etree.ElementTree.parse(report).iter('testcase') if os.path.exists(report) else []:
+        name, skipped = f'{case.get("classname")}.{case.get("name")}', case.find('skipped')
+        if skipped is not None:
+            reasons[skipped.get('message')] += 1
+        else:
+            hold(case.find('failure') is None and case.find('error') is None, name)
+    left_out.extend(f'{count} tests of the Python package: {reason}' for reason, count in reasons.items())
+
+
+def compile_crate(room):
+    """The crate of Rust, with no network, and its tests. Gives its program, or none where there is no cargo."""
+    if not has_tool('cargo', 'the crate in Rust'):
+        return None
+    environment = {**os.environ, 'CARGO_TARGET_DIR': f'{room}/target'}
+    for words in (['build', '--release'], ['test']):
+        made = ran('cargo', *words, '--offline', '--quiet', cwd=f'{HERE}/rust', env=environment, timeout=600)
+        hold(made.returncode == 0, f'cargo {words[0]}: {(made.stdout + made.stderr).decode()[-1200:]}')
+    missing = ran('cargo', 'build', '--offline', '--quiet', cwd=f'{HERE}/rust',
+                  env={**environment, 'GAMHILON_LIB_DIR': room})
+    hold(missing.returncode != 0 and b'embed/build.py' in missing.stderr, 'the crate tells where the library is missing')
+    return f'{room}/target/release/gamhilon-print'
+
+
 def try_callers(room):
-    """The callers in C and in Rust, as programs, and the example to_html."""
-    programs = {'c/print.c': f'{room}/print'}
-    if has_tool('rustc', 'the caller in Rust'):
-        words = ['--edition', '2021', '-O', '-L', f'native={HERE}/out', '-l', 'static=gamhilon']
-        made = ran('rustc', *words, '-o', f'{room}/rust', f'{HERE}/rust/gamhilon.rs')
-        hold(made.returncode == 0, f'rust/gamhilon.rs compiles: {made.stderr.decode()[:600]}')
-        programs['rust/gamhilon.rs'] = f'{room}/rust'
+    """The callers in C and in Rust, as programs."""
+    programs = {'c/print.c': f'{room}/print', 'rust': compile_crate(room)}
     first, text = read(f'{ROOT}/examples/first.json'), read(f'{ROOT}/examples/first.txt')
     for name, program in programs.items():
+        if not program:
+            continue
         hold(ran(program, input=first).stdout == text, f'{name}: examples/first.json')
         answer = ran(program, 'json', input=first).stdout
         hold(answer[:1] == b'{' and printed(json.loads(answer)).encode() == text, f'{name}: JSON of examples/first.json')
-        hold(ran(program, input=b'{').returncode == 2, f'{name}: the status of what is no document')
-    shown = ran(sys.executable, f'{HERE}/python/to_html.py', input=first).stdout.decode()
-    hold('<i>On the Origin of Species</i>' in shown, 'python/to_html.py: italics')
+        done = ran(program, input=b'{')
+        hold(done.returncode == 2 and b'not of the form of a document' in done.stderr, f'{name}: what is no document')
+        with open('/dev/full', 'wb') as full:
+            done = subprocess.run([program], input=first, stdout=full, stderr=subprocess.PIPE, timeout=60)
+        hold(done.returncode == 1 and done.stderr.count(b'\n') == 1, f'{name}: output that is full is status 1')
+        folder = os.open(HERE, os.O_RDONLY)
+        done = ran(program, stdin=folder)
+        os.close(folder)
+        hold(done.returncode == 1 and done.stderr.count(b'\n') == 1, f'{name}: a folder for input is status 1')
 
 
 def ten(cases):
@@ -232,7 +369,7 @@ def ten(cases):
     return [it for it in cases if it.path in chosen]
 
 
-def try_hard(room, cases):
+def try_hard(room, cases, calls):
     """Memory refused, threads, valgrind, and the need of stack."""
     few = [it.path for it in ten(cases)]
     done = ran(f'{room}/failing', *few)
@@ -241,10 +378,16 @@ def try_hard(room, cases):
     done = ran(f'{room}/threads', *few)
     hold(done.returncode == 0, f'eight threads: {done.stdout.decode()}')
     if has_tool('valgrind', 'leaks and wrong reads'):
-        words = ['valgrind', '-q', '--error-exitcode=9', '--leak-check=full', '--errors-for-leak-kinds=all', f'{room}/calls']
+        words = ['valgrind', '-q', '--error-exitcode=9', '--leak-check=full', '--errors-for-leak-kinds=all',
+                 f'{room}/calls']
         with ThreadPoolExecutor(2) as pool:
             for form, done in zip(FORMS, pool.map(lambda it: ran(*words, it, '1', *few), FORMS)):
                 hold(done.returncode == 0, f'valgrind, {form}: {done.stderr.decode()[:900]}')
+        words = ['valgrind', '-q', '--error-exitcode=9', '--leak-check=full', '--errors-for-leak-kinds=all',
+                 '--fair-sched=yes']
+        done = ran(*words, f'{room}/many', str(calls), *few, timeout=3600)
+        print(f'valgrind: {done.stdout.decode().strip()}')
+        hold(done.returncode == 0, f'valgrind, {calls} calls in four threads: {done.stderr.decode()[:900]}')
     done = ran(f'{room}/stack', *[it.path for it in cases])
     hold(done.returncode == 0, 'the need of stack is measured')
     for line in done.stdout.decode().strip().split('\n'):
@@ -254,7 +397,9 @@ def try_hard(room, cases):
 
 
 def main(words):
-    began = time.time()
+    began, calls = time.time(), FEW_CALLS
+    if words[:1] == ['--many']:
+        calls, words = int(words[1]), words[2:]
     built = subprocess.run([sys.executable, f'{HERE}/build.py', *words]).returncode
     hold(built == 0, 'the library is built')
     if built == 0:
@@ -266,9 +411,14 @@ def main(words):
             if not failures:
                 jsons = try_from_c(room, cases)
                 try_from_python(cases, jsons)
+                try_building()
+                try_about(room)
                 try_package(room)
                 try_callers(room)
-                try_hard(room, cases)
+                try_cmake(room)
+                try_hard(room, cases, calls)
+                try_tests_of_the_package(room)
+                try_wheel(room)
         print(f'{len(cases)} documents, {time.time() - began:.0f} s')
     for it in left_out:
         print(f'left out: {it}')

@@ -1,0 +1,22 @@
+/* What the library says of itself. build.py compiles it, and gives GAMHILON_ABOUT: the commit and the toolchain. */
+#include "gamhilon.h"
+
+#ifndef GAMHILON_ABOUT
+#define GAMHILON_ABOUT ""
+#endif
+
+const char *gamhilon_version(void) {
+    return sizeof GAMHILON_ABOUT > 1 ? GAMHILON_VERSION " (" GAMHILON_ABOUT ")" : GAMHILON_VERSION;
+}
+
+const char *gamhilon_status_text(uint32_t status) {
+    switch (status) {
+    case GAMHILON_OK: return "answered";
+    case GAMHILON_DOCUMENT_REFUSED: return "not of the form of a document";
+    case GAMHILON_MACRO_RING: return "the macros of a style call each other in a ring";
+    case GAMHILON_NUMBER_OVERFLOW: return "the citation numbers don't fit 64 bits";
+    case GAMHILON_OUT_OF_MEMORY: return "memory was refused";
+    case GAMHILON_ROOM_TOO_SMALL: return "the room is too small for the answer";
+    default: return "a status that this version does not know";
+    }
+}

@@ -1,0 +1,147 @@
+"""The calls of the shared library libgamhilon.so, which is loaded at the first of them.
+
+It is the one that the environment names as GAMHILON_LIBRARY, else the one beside this file, else the one that
+embed/build.py left. Calls may be made from any number of threads at once.
+"""
+from __future__ import annotations
+
+import ctypes
+import json
+import os
+from typing import Any, List, Optional, Tuple
+
+from .errors import DocumentRefused, LibraryMissing, MacroRing, NumberOverflow, OutOfMemory
+
+HERE = os.path.dirname(os.path.abspath(__file__))
+NAME = 'libgamhilon.so'
+OK, ROOM_TOO_SMALL = 0, 6
+
+
+class RingPlace(ctypes.Structure):
+    """gamhilon_ring_place of gamhilon.h."""
+
+    _fields_ = [('of_bibliography', ctypes.c_size_t), ('request', ctypes.c_size_t), ('macro_place', ctypes.c_size_t)]
+
+
+class Library:
+    """The calls, of a library that ctypes loaded or of what stands in for one."""
+
+    def __init__(self, functions: Any) -> None:
+        self._functions = functions
+
+    def print_document(self, document: bytes, room_length: Optional[int] = None) -> bytes:
+        """The text of the document's answer. Its room at first: text is rarely longer than its document."""
+        room_length = 2 * len(document) + 4096 if room_length is None else room_length
+        return self._text(self._functions.gamhilon_print, document, room_length)
+
+    def print_json(self, document: bytes, room_length: Optional[int] = None) -> bytes:
+        """The JSON of the document's answer. Its room at first: JSON is mostly four to five times as long as its document,
+        and a room that is too small costs the whole work once more."""
+        room_length = 8 * len(document) + 4096 if room_length is None else room_length
+        return self._text(self._functions.gamhilon_print_json, document, room_length)
+
+    def check(self, document: bytes) -> None:
+        """Raises what `render` would raise, and gives nothing where there is an answer."""
+        status, _ = self._ring(document)
+        if status != OK:
+            raise self._refusal(status, document)
+
+    def fault(self, document: bytes) -> Optional[Tuple[str, str, str]]:
+        """Pointer, found and wanted of a document's first fault; None where there is none, or no call that tells.
+
+        `gamhilon_fault` is called as `gamhilon_print` is, and puts an object with these three texts into its room.
+        """
+        if not hasattr(self._functions, 'gamhilon_fault'):
+            return None
+        status, told = self._called(self._functions.gamhilon_fault, document, len(document) + 4096)
+        if status != OK or not told:
+            return None
+        said = json.loads(told)
+        return said['pointer'], said['found'], said['wanted']
+
+    def _text(self, function: Any, document: bytes, room_length: int) -> bytes:
+        status, text = self._called(function, document, room_length)
+        if status != OK:
+            raise self._refusal(status, document)
+        return text
+
+    def _called(self, function: Any, document: bytes, room_length: int) -> Tuple[int, bytes]:
+        """The status of a call, and what it put into its room, which grows where it is too small."""
+        length = ctypes.c_size_t(room_length)
+        while True:
+            # (of a bytearray only what is written takes memory)
+            room = bytearray(max(length.value, 1))
+            shared = (ctypes.c_char * len(room)).from_buffer(room)
+            status = function(document, len(document), shared, length.value, ctypes.byref(length))
+            if status != ROOM_TOO_SMALL:
+                return status, bytes(memoryview(room)[:length.value]) if status == OK else b''
+
+    def _ring(self, document: bytes) -> Tuple[int, RingPlace]:
+        ring = RingPlace()
+        return self._functions.gamhilon_ring(document, len(document), ctypes.byref(ring)), ring
+
+    def _refusal(self, status: int, document: bytes) -> Exception:
+        if status == DocumentRefused.status:
+            return self._document_refused(document)
+        if status == MacroRing.status:
+            return self._macro_ring(document)
+        if status == NumberOverflow.status:
+            return NumberOverflow("the citation numbers don't fit 64 bits")
+        if status == OutOfMemory.status:
+            return OutOfMemory('memory was refused')
+        return RuntimeError(f'{NAME} ended a call with status {status}, which this package does not know')
+
+    def _document_refused(self, document: bytes) -> DocumentRefused:
+        fault = self.fault(document)
+        if fault is None:
+            return DocumentRefused('not of the form of a document')
+        pointer, found, wanted = fault
+        return DocumentRefused(f'{pointer or "the whole document"}: found {found}, wanted {wanted}', *fault)
+
+    def _macro_ring(self, document: bytes) -> Exception:
+        status, ring = self._ring(document)
+        if status != MacroRing.status:
+            return OutOfMemory('memory was refused')
+        where = 'the bibliography' if ring.of_bibliography else f'request {ring.request}'
+        message = f'the macros of the style of {where} call each other in a ring, macro {ring.macro_place} the first'
+        return MacroRing(message, None if ring.of_bibliography else ring.request, ring.macro_place)
+
+
+def path() -> str:
+    """Where the library is looked for: the first of the places that has it, or the first of all."""
+    named = os.environ.get('GAMHILON_LIBRARY')
+    if named:
+        return named
+    places = [os.path.join(HERE, NAME), os.path.normpath(os.path.join(HERE, '..', '..', 'out', NAME))]
+    return next((it for it in places if os.path.exists(it)), places[0])
+
+
+def _loaded() -> ctypes.CDLL:
+    place = path()
+    try:
+        library = ctypes.CDLL(place)
+        texts = [library.gamhilon_print, library.gamhilon_print_json]
+        rings = [library.gamhilon_ring]
+    except (OSError, AttributeError) as error:
+        raise LibraryMissing(f'{error}: install the wheel of gamhilon, build {NAME} by embed/build.py, or name it in '
+                             'the environment as GAMHILON_LIBRARY') from error
+    if hasattr(library, 'gamhilon_fault'):
+        texts.append(library.gamhilon_fault)
+    given: List[Any] = [ctypes.c_char_p, ctypes.c_size_t]
+    for function in texts:
+        function.restype = ctypes.c_uint32
+        function.argtypes = [*given, ctypes.c_void_p, ctypes.c_size_t, ctypes.POINTER(ctypes.c_size_t)]
+    for function in rings:
+        function.restype, function.argtypes = ctypes.c_uint32, [*given, ctypes.POINTER(RingPlace)]
+    return library
+
+
+_library: Optional[Library] = None
+
+
+def library() -> Library:
+    """The library, loaded where it isn't yet. Raises LibraryMissing where it can't be."""
+    global _library
+    if _library is None:
+        _library = Library(_loaded())
+    return _library

@@ -1,0 +1,140 @@
+"""The calls, what they raise, and how these errors travel."""
+import json
+import os
+import pickle
+import subprocess
+import sys
+from concurrent.futures import ProcessPoolExecutor
+
+import pytest
+from conftest import PACKAGE
+
+import gamhilon
+
+RING = {'styles': {'s': {'citation': {'elements': []}, 'macros': [
+    {'name': 'a', 'children': []}, {'name': 'b', 'children': [{'kind': 'text', 'macro': 'b'}]}]}},
+    'entries': [], 'requests': [], 'bibliography': {'style': 's'}}
+EMPTY = {'styles': {'s': {'citation': {'elements': []}}}, 'entries': [], 'requests': [], 'bibliography': {'style': 's'}}
+
+
+def test_an_answer_of_five_times_its_document_is_computed_once(made_up):
+    document = json.dumps(EMPTY) + ' ' * 100000
+    answer = json.dumps({'citations': [{'content': [{'text': 'x' * 5 * len(document)}]}]}).encode()
+    library = made_up(text=answer)
+    assert len(gamhilon.render(document).citations) == 1
+    assert len(library.calls) == 1
+
+
+def test_a_room_that_is_too_small_grows_to_what_is_told(made_up):
+    library = made_up(text=b'x' * 100000)
+    assert gamhilon.print_document('{}') == 'x' * 100000
+    assert [room for _, room in library.calls][1] == 100000 and len(library.calls) == 2
+
+
+@pytest.mark.parametrize('status, kind, base', [
+    (2, gamhilon.DocumentRefused, ValueError), (3, gamhilon.MacroRing, ValueError),
+    (4, gamhilon.NumberOverflow, OverflowError), (5, gamhilon.OutOfMemory, MemoryError),
+])
+def test_each_status_has_its_error(made_up, status, kind, base):
+    made_up(status=status)
+    for call in (gamhilon.render, gamhilon.print_json, gamhilon.print_document, gamhilon.check):
+        with pytest.raises(kind) as refusal:
+            call(EMPTY)
+        assert refusal.value.status == status
+        assert isinstance(refusal.value, base) and isinstance(refusal.value, gamhilon.Refused)
+
+
+def test_a_status_of_a_later_library_is_told(made_up):
+    made_up(status=17)
+    with pytest.raises(RuntimeError, match='17'):
+        gamhilon.render(EMPTY)
+
+
+def test_a_fault_has_its_place_where_the_library_tells_it(made_up):
+    made_up(status=2, fault={'pointer': '/entries/0/titel', 'found': 'an unknown key', 'wanted': 'a key of an entry'})
+    with pytest.raises(gamhilon.DocumentRefused) as refusal:
+        gamhilon.check(EMPTY)
+    said = refusal.value
+    assert (said.pointer, said.found, said.wanted) == ('/entries/0/titel', 'an unknown key', 'a key of an entry')
+    assert all(it in str(said) for it in ('/entries/0/titel', 'an unknown key', 'a key of an entry'))
+
+
+def test_a_fault_has_no_place_where_the_library_has_no_such_call(made_up):
+    made_up(status=2)
+    with pytest.raises(gamhilon.DocumentRefused) as refusal:
+        gamhilon.render(EMPTY)
+    assert (refusal.value.pointer, refusal.value.found, refusal.value.wanted) == (None, None, None)
+    assert str(refusal.value) == 'not of the form of a document'
+
+
+@pytest.mark.parametrize('error', [
+    gamhilon.MacroRing('m', None, 3), gamhilon.MacroRing('m', 2, 0), gamhilon.NumberOverflow('m'),
+    gamhilon.OutOfMemory('m'),
+    gamhilon.DocumentRefused('m', '/a', 'b', 'c'), gamhilon.DocumentRefused('m'), gamhilon.LibraryMissing('m'),
+])
+def test_errors_are_pickled_whole(error):
+    again = pickle.loads(pickle.dumps(error))
+    assert type(again) is type(error) and str(again) == str(error) == 'm' and vars(again) == vars(error)
+
+
+def test_a_document_that_is_a_value_is_its_json(made_up):
+    library = made_up(text=b'{"citations":[]}')
+    gamhilon.render({'a': 'é'})
+    assert json.loads(library.calls[0][0]) == {'a': 'é'}
+
+
+def test_half_of_a_surrogate_pair_is_refused_in_a_text_and_in_a_value(built):
+    value = {**EMPTY, 'entries': [{'key': 'a\ud800'}]}
+    for document in (value, json.dumps(value), json.dumps(value, ensure_ascii=False)):
+        with pytest.raises(gamhilon.DocumentRefused):
+            gamhilon.render(document)
+
+
+def test_a_value_that_nests_too_deep_is_refused(built):
+    value = []
+    for _ in range(100000):
+        value = [value]
+    with pytest.raises(gamhilon.DocumentRefused):
+        gamhilon.render({'styles': value})
+
+
+def test_a_ring_comes_out_of_a_process_pool(built):
+    with ProcessPoolExecutor(2) as pool:
+        waiting = [pool.submit(gamhilon.render, it) for it in (RING, EMPTY, b'{')]
+        with pytest.raises(gamhilon.MacroRing) as refusal:
+            waiting[0].result(timeout=60)
+        assert (refusal.value.request, refusal.value.macro_place) == (None, 1)
+        assert waiting[1].result(timeout=60) == gamhilon.Answer([])
+        with pytest.raises(gamhilon.DocumentRefused):
+            waiting[2].result(timeout=60)
+
+
+def test_an_answer_is_pickled_whole(built, example):
+    answer = gamhilon.render(example('first.json'))
+    assert pickle.loads(pickle.dumps(answer)) == answer
+
+
+def test_macros_that_nest_deeply_are_rendered(made_up):
+    depth = 5000
+    tree = '{"children":[' * depth + '{"font_style":"normal","font_weight":"normal","text":"a\\"]"}' + ']}' * depth
+    made_up(text=f'{{"citations":[{{"content":[{tree}]}}]}}'.encode())
+    content = gamhilon.render(EMPTY).citations[0].content
+    assert gamhilon.plain(content) == 'a"]'
+    assert gamhilon.to_html(content) == 'a&quot;]' and gamhilon.to_latex(content) == r'a"{}{]}'
+    assert gamhilon.to_markdown(content) == r'a\"\]'
+
+
+def test_a_missing_library_is_told_at_the_first_call():
+    words = ('import gamhilon\nprint(len(gamhilon.styles.names()))\n'
+             'try: gamhilon.render({})\nexcept gamhilon.LibraryMissing as error: print(error)')
+    environment = {**os.environ, 'PYTHONPATH': PACKAGE, 'GAMHILON_LIBRARY': '/nowhere/libgamhilon.so'}
+    done = subprocess.run([sys.executable, '-c', words], env=environment, capture_output=True, text=True)
+    assert done.returncode == 0, done.stderr
+    first, message = done.stdout.splitlines()[:2]
+    assert first == '4' and '/nowhere/libgamhilon.so' in message and 'GAMHILON_LIBRARY' in message
+
+
+def test_the_version_is_told():
+    assert str(gamhilon.version()).startswith(f'gamhilon {gamhilon.__version__} (commit ')
+    with open(f'{PACKAGE}/../gamhilon.h', encoding='utf-8') as header:
+        assert f'#define GAMHILON_VERSION "{gamhilon.__version__}"' in header.read()

@@ -1,0 +1,143 @@
+"""python -m gamhilon, as a process."""
+import json
+import os
+import subprocess
+import sys
+
+import pytest
+from conftest import PACKAGE, ROOT, MadeUpLibrary
+
+import gamhilon
+from gamhilon import __main__ as command_line
+from gamhilon import _library
+
+
+def run(*words, given=None, **how):
+    environment = {**os.environ, 'PYTHONPATH': PACKAGE, 'PYTHONIOENCODING': 'ascii'}
+    done = subprocess.run([sys.executable, '-m', 'gamhilon', *words], input=given, env=environment, timeout=120,
+                          **{'stdout': subprocess.PIPE, 'stderr': subprocess.PIPE, **how})
+    return done.returncode, (done.stdout or b'').decode(), done.stderr.decode()
+
+
+def test_no_words_is_not_a_command_line():
+    status, out, error = run()
+    assert status == 64 and out == '' and 'usage: gamhilon' in error and 'exit status' in error
+
+
+@pytest.mark.parametrize('words', [['rendre'], ['render'], ['render', 'a', '--to', 'pdf'], ['styles', 'apa'],
+                                   ['check', 'a', 'b']])
+def test_wrong_words_are_not_a_command_line(words):
+    status, out, error = run(*words)
+    assert status == 64 and out == '' and error.startswith(('usage', 'gamhilon: there is no style'))
+
+
+def test_the_version():
+    assert run('--version')[:2] == (0, f'{gamhilon.version()}\n')
+
+
+def test_render_in_each_form(built, example):
+    path = f'{ROOT}/examples/first.json'
+    assert run('render', path) == (0, example('first.txt'), '')
+    assert run('render', '-', given=example('first.json').encode()) == (0, example('first.txt'), '')
+    outputs = {it: run('render', path, '--to', it) for it in ('html', 'markdown', 'latex', 'json')}
+    assert all(status == 0 and error == '' for status, _, error in outputs.values())
+    assert '<i>On the Origin of Species</i>' in outputs['html'][1] and '<div id="ref-darwin" class="csl-entry">' in outputs['html'][1]
+    assert '<a href="#ref-darwin">Darwin 1859, p. 84</a>' in outputs['html'][1]
+    assert '*On the Origin of Species*' in outputs['markdown'][1] and r'\textit{On the Origin of Species}' in outputs['latex'][1]
+    assert len(json.loads(outputs['json'][1])['citations']) == 4
+
+
+@pytest.mark.parametrize('document, status', [
+    ('{', 2), ('{}', 2),
+    ('{"styles": {"s": {"citation": {"elements": []}, "macros": [{"name": "b", "children": [{"kind": "text", "macro": "b"}]}]}}, '
+     '"entries": [], "requests": [], "bibliography": {"style": "s"}}', 3),
+    ('{"styles": {"s": {"citation": {"elements": []}}}, "entries": [{"key": "a"}], "requests": [{"style": "s", "items": '
+     '[{"entry": "a"}]}], "bibliography": {"style": "s"}, "offset": 18446744073709551615}', 4),
+])
+def test_what_is_refused_has_the_status_of_the_program(built, document, status):
+    for words in (['render', '-'], ['render', '-', '--to', 'html'], ['check', '-']):
+        got, out, error = run(*words, given=document.encode())
+        assert got == status and out == '' and error.startswith('gamhilon: ') and error.count('\n') == 1
+
+
+def test_check_tells_what_a_document_holds_and_what_it_can_hardly_mean(built):
+    style = {'citation': {'elements': [{'kind': 'group', 'children': [{'kind': 'text', 'macro': 'nowhere'}]}]},
+             'macros': [{'name': 'm', 'children': [{'kind': 'choose',
+                                                    'branches': [{'if': [], 'children': [{'kind': 'text', 'macro': 'x'}]}],
+                                                    'else': [{'kind': 'text', 'macro': 'm/~'}]}]}]}
+    document = {'styles': {'a/b': style}, 'entries': [{'key': 'k', 'title': 'two\nlines'}, {'key': 'k'}],
+                'requests': [{'style': 'a/b', 'items': [{'entry': 'k'}]}], 'bibliography': {'style': 'a/b'}}
+    status, out, error = run('check', '-', given=json.dumps(document).encode())
+    assert (status, error) == (0, '')
+    lines = out.splitlines()
+    assert lines[:3] == ['style a/b: in-text, without a bibliography', 'entries: 2, of which 1 are cited',
+                         'requests: 1, of 1 cites']
+    pointers = [it.split(' ')[1].rstrip(':') for it in lines[3:]]
+    assert pointers == [
+        '/styles/a~1b/macros/0/children/0/branches/0/children/0/macro', '/styles/a~1b/macros/0/children/0/else/0/macro',
+        '/styles/a~1b/citation/elements/0/children/0/macro', '/entries/0/title', '/entries/1']
+
+
+def test_entries_of_csl_json(tmp_path):
+    path = tmp_path / 'refs.json'
+    path.write_text(json.dumps([{'id': 'a', 'title': 'Ärger', 'page': '1-2'}]))
+    status, out, error = run('entries', str(path))
+    assert status == 0 and json.loads(out) == [{'key': 'a', 'title': 'Ärger'}]
+    assert 'page: entries have no such field' in error
+    path.write_text('{"id": "a"}')
+    assert run('entries', str(path))[0] == 2
+
+
+def test_styles():
+    assert run('styles') == (0, 'alphanumeric\nauthor-date\nnote\nnumeric\n', '')
+    assert json.loads(run('styles', 'note')[1]) == gamhilon.styles.document('note')
+
+
+def test_files_that_are_not_there_or_are_folders_are_status_1():
+    for words in (['render', '/nowhere.json'], ['check', '/'], ['entries', '/nowhere.json']):
+        status, out, error = run(*words)
+        assert status == 1 and out == '' and error.startswith('gamhilon: input or output failed: ')
+
+
+def test_output_that_cannot_be_written_is_status_1():
+    with open('/dev/full', 'wb') as full:
+        status, _, error = run('styles', 'note', stdout=full)
+    assert status == 1 and error.count('\n') == 1
+    reader, writer = os.pipe()
+    os.close(reader)
+    try:
+        status, _, error = run('styles', 'note', stdout=writer)
+    finally:
+        os.close(writer)
+    assert status == 1 and error.count('\n') == 1
+
+
+def test_closed_streams_are_status_1(tmp_path):
+    environment = {**os.environ, 'PYTHONPATH': PACKAGE}
+    for words in ('styles >&-', 'render - <&-', 'styles >&- 2>&-'):
+        done = subprocess.run(['sh', '-c', f'exec "$0" -m gamhilon {words}', sys.executable], env=environment, capture_output=True)
+        assert done.returncode == 1 and done.stdout == b'' and b'Traceback' not in done.stderr
+
+
+def test_a_missing_library_has_a_status_of_its_own(tmp_path):
+    path = tmp_path / 'a.json'
+    path.write_text('{}')
+    environment = {**os.environ, 'PYTHONPATH': PACKAGE, 'GAMHILON_LIBRARY': '/nowhere.so'}
+    done = subprocess.run([sys.executable, '-m', 'gamhilon', 'render', str(path)], env=environment, capture_output=True)
+    assert done.returncode == 69 and b'GAMHILON_LIBRARY' in done.stderr and done.stderr.count(b'\n') == 1
+
+
+def test_what_takes_longer_than_a_second_tells_so(monkeypatch, tmp_path, capfd):
+    import time
+
+    class SlowLibrary(MadeUpLibrary):
+        def gamhilon_print(self, *given):
+            time.sleep(1.3)
+            return super().gamhilon_print(*given)
+
+    monkeypatch.setattr(_library, '_library', _library.Library(SlowLibrary(text=b'(Doe)\n')))
+    path = tmp_path / 'a.json'
+    path.write_text('{}')
+    assert command_line.main(['render', str(path)]) == 0
+    out, error = capfd.readouterr()
+    assert out == '(Doe)\n' and error == f'gamhilon: answering {path}, 1 s\n'

@@ -1,0 +1,54 @@
+"""The package's types, by mypy --strict."""
+import os
+import subprocess
+import sys
+
+import pytest
+from conftest import PACKAGE
+
+pytest.importorskip('mypy', reason='there is no mypy')
+
+USER = '''
+from typing import List, Optional
+import gamhilon
+
+def pages(path: str) -> List[str]:
+    document = gamhilon.styles.document('note')
+    document['entries'] = gamhilon.csl_json.entries(gamhilon.csl_json.load(path)).entries
+    try:
+        answer = gamhilon.render(document)
+    except gamhilon.MacroRing as ring:
+        place: Optional[int] = ring.request
+        raise SystemExit(f'{place}, {ring.macro_place + 1}')
+    except gamhilon.DocumentRefused as refusal:
+        raise SystemExit(refusal.pointer or '')
+    items = answer.bibliography.items if answer.bibliography else []
+    return [it.key + gamhilon.to_html(it.content) for it in items] + [str(gamhilon.version())]
+'''
+WRONG = '''
+import gamhilon
+gamhilon.render(3)
+gamhilon.render({}).citations[0].note_number + 1
+'''
+
+
+def mypy(folder, *words):
+    environment = {**os.environ, 'MYPYPATH': ''}
+    done = subprocess.run([sys.executable, '-m', 'mypy', '--strict', '--cache-dir', str(folder / 'cache'), *words],
+                          cwd=folder,
+                          env={**environment, 'PYTHONPATH': PACKAGE}, capture_output=True, text=True)
+    return done.stdout
+
+
+def test_the_package_passes(tmp_path):
+    assert mypy(tmp_path, f'{PACKAGE}/gamhilon').startswith('Success')
+
+
+def test_callers_see_the_types(tmp_path):
+    for name, text in (('user.py', USER), ('wrong.py', WRONG)):
+        (tmp_path / name).write_text(text)
+    (tmp_path / 'gamhilon').symlink_to(f'{PACKAGE}/gamhilon')
+    assert os.path.exists(f'{PACKAGE}/gamhilon/py.typed')
+    assert mypy(tmp_path, 'user.py').startswith('Success')
+    told = mypy(tmp_path, 'wrong.py')
+    assert told.count('wrong.py:3: error') == 1 and 'wrong.py:4: error' in told

@@ -1,0 +1,81 @@
+"""The wheel, from a library that stands in for the shared one."""
+import base64
+import hashlib
+import json
+import shutil
+import subprocess
+import sys
+import zipfile
+
+import pytest
+from conftest import PACKAGE, ROOT
+
+sys.path.insert(0, PACKAGE)
+import gamhilon_wheel  # noqa: E402
+
+pytestmark = pytest.mark.skipif(not shutil.which('cc') or not shutil.which('objdump'), reason='there is no C compiler')
+
+
+@pytest.fixture
+def wheel(tmp_path, monkeypatch):
+    """A wheel with a library that calls a function of glibc 2.34, and a note."""
+    out = tmp_path / 'out'
+    out.mkdir()
+    (tmp_path / 'a.c').write_text('#include <pthread.h>\nint f(void) { return pthread_detach(pthread_self()); }\n')
+    subprocess.run(['cc', '-shared', '-fPIC', '-o', str(out / 'libgamhilon.so'), str(tmp_path / 'a.c')], check=True)
+    (out / 'gamhilon_build.json').write_text(json.dumps({'commit': 'c0ffee', 'toolchain': 'kit-1'}))
+    monkeypatch.setattr(gamhilon_wheel, 'OUT', str(out))
+    name = gamhilon_wheel.build_wheel(str(tmp_path))
+    return tmp_path / name
+
+
+def test_its_tag_tells_the_glibc_that_the_library_asks_for(wheel):
+    version, python, abi, platform = wheel.name[:-len('.whl')].split('-')[1:]
+    asked = subprocess.run(['objdump', '-T', str(wheel.parent / 'out' / 'libgamhilon.so')], capture_output=True,
+                           text=True).stdout
+    assert (python, abi) == ('py3', 'none') and platform.startswith('manylinux_2_')
+    assert f'GLIBC_2.{platform.split("_")[2]}' in asked or platform.split('_')[2] == '17'
+    with zipfile.ZipFile(wheel) as archive:
+        assert f'Tag: py3-none-{platform}\n' in archive.read(f'gamhilon-{version}.dist-info/WHEEL').decode()
+
+
+def test_it_has_what_a_user_needs(wheel):
+    with zipfile.ZipFile(wheel) as archive:
+        names = archive.namelist()
+        info = next(it.split('/')[0] for it in names if '.dist-info/' in it)
+        for name in ('__init__.py', '__main__.py', 'py.typed', 'libgamhilon.so', 'gamhilon_build.json',
+                     'style_documents/note.json'):
+            assert f'gamhilon/{name}' in names
+        assert not any('__pycache__' in it or it.endswith('.pyc') for it in names)
+        with open(f'{ROOT}/LICENSE', 'rb') as file:
+            assert archive.read(f'{info}/LICENSE') == file.read()
+        assert 'gamhilon-pandoc = gamhilon.pandoc_filter:main' in archive.read(f'{info}/entry_points.txt').decode()
+        for line in archive.read(f'{info}/RECORD').decode().splitlines():
+            name, checksum, size = line.rsplit(',', 2)
+            if checksum:
+                data = archive.read(name)
+                told = base64.urlsafe_b64encode(hashlib.sha256(data).digest()).rstrip(b'=').decode()
+                assert (checksum, size) == (f'sha256={told}', str(len(data)))
+        assert len(archive.read(f'{info}/RECORD').decode().splitlines()) == len(names)
+
+
+def test_one_library_makes_one_wheel(wheel, tmp_path):
+    other = tmp_path / 'other'
+    other.mkdir()
+    gamhilon_wheel.build_wheel(str(other))
+    assert (other / wheel.name).read_bytes() == wheel.read_bytes()
+
+
+def test_its_version_tells_the_commit_and_the_toolchain(wheel, tmp_path):
+    with zipfile.ZipFile(wheel) as archive:
+        archive.extractall(tmp_path / 'site')
+    words = 'import gamhilon; print(gamhilon.version()); print(gamhilon.version().commit)'
+    how = {'cwd': tmp_path, 'env': {'PYTHONPATH': str(tmp_path / 'site')}}
+    done = subprocess.run([sys.executable, '-c', words], capture_output=True, text=True, **how)
+    assert done.stdout == f'gamhilon {gamhilon_wheel.version()} (commit c0ffee, proved by kit-1)\nc0ffee\n'
+
+
+def test_a_library_that_is_not_there_is_told(tmp_path, monkeypatch):
+    monkeypatch.setattr(gamhilon_wheel, 'OUT', str(tmp_path))
+    with pytest.raises(FileNotFoundError, match='embed/build.py'):
+        gamhilon_wheel.build_wheel(str(tmp_path))

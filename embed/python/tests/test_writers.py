@@ -1,0 +1,231 @@
+"""HTML, Markdown and LaTeX of trees, with texts that try to be more than texts. HTML is read by html.parser, the others
+by pandoc, where it is installed."""
+import html.parser
+import itertools
+import json
+import shutil
+import subprocess
+import unicodedata
+
+import pytest
+
+import gamhilon
+from gamhilon._writing import anchor, safe_url
+
+HOSTILE = [
+    '<script>alert(1)</script>', '& &amp; &#60;', '"quoted" \'single\'', '</p><div id="x">',
+    '*stars* **two** _under_ __two__',
+    '`code` ``code``', '[a](javascript:x) ![b](c)', r'\textbf{x} \input{/etc/passwd} {x} \\', '$x^2$ 100% #1 ~a~ ^b^ a_b',
+    '# not a heading', '- not a list', '+ not a list', '1. not a list', '(1) not a list', 'a) not a list',
+    'iv. no list', '(@) no list',
+    '> not a quote', '    not code', '| not | a table |', '---', '===', ': not a definition', '% not a title',
+    '@doe99 [@roe]',
+    '``` not code', '~~~ not code', '<!-- no comment -->', 'a -- b --- c ... d', "''a'' ,,b,, <<c>> ?`d !`e",
+    'a\tb\nc\r\nd',
+    'O’Brien & “Sons” – 50 €', '\\', '~', '^', 'a\\', ':smile: a:b', 'http://example.org/a_b*c', '[^1]: no note',
+    '[x]: y', '', ' ', 'e.g. x',
+    'C. Darwin', 'II. x', '\\begin{document}', '\u2028\u2029\x00\x1b[0m', 'A.  b', '10% 5 * 6 * 7', '{#id .class}',
+    '<a@b.c> <http://x.y>', '\u00a0x',
+]
+FORMATS = [('normal', 'normal'), ('italic', 'normal'), ('normal', 'bold'), ('italic', 'bold')]
+# Commands of LaTeX's kernel that Debian's pandoc doesn't read, and what it reads as the same.
+UNKNOWN_TO_PANDOC = [(r'\textasciigrave{}', r'\`{}'), (r'\textbar{}', '|')]
+PANDOC = pytest.mark.skipif(not shutil.which('pandoc'), reason='there is no pandoc')
+
+
+def node(text, style='normal', weight='normal', **more):
+    return {'text': text, 'font_style': style, 'font_weight': weight, **more}
+
+
+def spaced(text):
+    """A text as it is compared: with single spaces, and no characters that show nothing."""
+    shown = ''.join(' ' if unicodedata.category(it) in ('Cc', 'Zl', 'Zp') and it in '\t\n\v\f\r\x85\u2028\u2029' else it
+                    for it in text if unicodedata.category(it) != 'Cc' or it in '\t\n\v\f\r\x85')
+    return ' '.join(shown.split())
+
+
+class Reader(html.parser.HTMLParser):
+    """The text and the tags of HTML."""
+
+    def __init__(self, text):
+        super().__init__()
+        self.text, self.tags, self.open = '', [], []
+        self.feed(text)
+        self.close()
+
+    def handle_starttag(self, tag, attributes):
+        self.tags.append((tag, dict(attributes)))
+        self.open.append(tag)
+
+    def handle_endtag(self, tag):
+        assert self.open.pop() == tag
+
+    def handle_data(self, data):
+        self.text += data
+
+
+@pytest.mark.parametrize('text', HOSTILE)
+@pytest.mark.parametrize('style, weight', FORMATS)
+def test_html_has_the_letters_and_no_tags_but_its_own(text, style, weight):
+    read = Reader(gamhilon.to_html([node(text, style, weight)]))
+    assert spaced(read.text) == spaced(text)
+    formats = {'i': 'Emph', 'b': 'Strong'}
+    assert {formats[tag] for tag, _ in read.tags} == wanted_formats(text, style, weight) and not read.open
+
+
+@pytest.mark.parametrize('url', [
+    'javascript:alert(1)', 'JavaScript:alert(1)', ' javascript:alert(1)', 'java\nscript:alert(1)', '\x01javascript:x',
+    'data:text/html,x',
+    'vbscript:x', 'file:///etc/passwd', '//example.org', 'example.org', '', 'https', 'ht\ttps://x', 'https://x\x00y',
+])
+def test_only_safe_addresses_are_links(url):
+    tree = [node('shown', url=url)]
+    assert safe_url(url) is None
+    assert gamhilon.to_html(tree) == gamhilon.to_markdown(tree) == gamhilon.to_latex(tree) == 'shown'
+
+
+@pytest.mark.parametrize('url, wanted', [
+    ('https://example.org/a?b="c"&d=<e>', 'https://example.org/a?b=%22c%22&d=%3Ce%3E'),
+    ('HTTP://example.org/', 'HTTP://example.org/'), ('mailto:a@b.example', 'mailto:a@b.example'),
+    ('doi:10.1000/182', 'https://doi.org/10.1000/182'), ('https://example.org/é %41', 'https://example.org/%C3%A9%20%41'),
+])
+def test_safe_addresses_are_written_as_addresses(url, wanted):
+    tree = [node('shown', url=url)]
+    assert Reader(gamhilon.to_html(tree)).tags == [('a', {'href': wanted})]
+    assert gamhilon.to_markdown(tree) == f'[shown](<{wanted}>)'
+
+
+def inlines_by_pandoc(text, form):
+    done = subprocess.run(['pandoc', '-f', form, '-t', 'json'], input=text.encode(), capture_output=True, check=True)
+    blocks = json.loads(done.stdout)['blocks']
+    assert [it['t'] for it in blocks] in ([], ['Para']), text
+    return blocks[0]['c'] if blocks else []
+
+
+def letters(inlines):
+    """The letters of pandoc's inlines, and the formats in them; anything else than texts and formats fails."""
+    text, formats = '', set()
+    for it in inlines:
+        if it['t'] == 'Str':
+            text += it['c']
+        elif it['t'] in ('Space', 'SoftBreak'):
+            text += ' '
+        elif it['t'] == 'RawInline' and it['c'][1] in ('<em>', '</em>', '<strong>', '</strong>'):
+            formats.add({'em': 'Emph', 'strong': 'Strong'}[it['c'][1].strip('</>')])
+        elif it['t'] == 'Span' and it['c'][0] == ['', [], []]:
+            inside, more = letters(it['c'][1])
+            text, formats = text + inside, formats | more
+        elif it['t'] == 'Quoted':
+            inside, more = letters(it['c'][1])
+            marks = '\u201c\u201d' if it['c'][0]['t'] == 'DoubleQuote' else '\u2018\u2019'
+            text, formats = text + marks[0] + inside + marks[1], formats | more
+        else:
+            assert it['t'] in ('Emph', 'Strong'), it
+            inside, more = letters(it['c'])
+            text, formats = text + inside, formats | more | {it['t']}
+    return text, formats
+
+
+def wanted_formats(text, style, weight):
+    """The formats that a text is to have where it shows something."""
+    return {it for it, has in (('Emph', style == 'italic'), ('Strong', weight == 'bold')) if has and spaced(text)}
+
+
+@PANDOC
+@pytest.mark.parametrize('form', ['markdown-raw_tex', 'commonmark', 'gfm'])
+@pytest.mark.parametrize('style, weight', FORMATS)
+def test_markdown_is_read_as_its_letters(form, style, weight):
+    for text in HOSTILE:
+        written = gamhilon.to_markdown([node(text, style, weight)])
+        if not written.strip():
+            assert not spaced(text)
+            continue
+        read, formats = letters(inlines_by_pandoc(written, form))
+        assert spaced(read.replace('\u00a0', ' ')) == spaced(text.replace('\u00a0', ' ')), written
+        assert formats == wanted_formats(text, style, weight), written
+
+
+@PANDOC
+@pytest.mark.parametrize('form', ['markdown', 'commonmark'])
+def test_markdown_keeps_formats_beside_letters(form):
+    cases = list(itertools.product(('a', 'a ', 'a(', '“', 'a*', '-', '1.'), ('b', ' b ', '“b”', '*b*', '-'),
+                                   ('c', ' c', '”', '.', '*', '-'), FORMATS[1:]))
+    written = []
+    for first, middle, last, (style, weight) in cases:
+        tree = [node(first), node(middle, style, weight), node(last, 'normal', 'bold'), node('d')]
+        written.append(gamhilon.to_markdown(tree))
+    done = subprocess.run(['pandoc', '-f', form, '-t', 'json'], input='\n\n'.join(written).encode(),
+                          capture_output=True, check=True)
+    blocks = json.loads(done.stdout)['blocks']
+    assert len(blocks) == len(cases)
+    for block, text, (first, middle, last, (style, _)) in zip(blocks, written, cases):
+        read, formats = letters(block['c'])
+        assert block['t'] == 'Para' and spaced(read) == spaced(first + middle + last + 'd'), text
+        assert formats == {'Strong'} | ({'Emph'} if style == 'italic' else set()), text
+
+
+@PANDOC
+@pytest.mark.parametrize('style, weight', FORMATS)
+def test_latex_is_read_as_its_letters(style, weight):
+    for text in HOSTILE:
+        written = gamhilon.to_latex([node(text, style, weight)])
+        for command, same in UNKNOWN_TO_PANDOC:
+            written = written.replace(command, same)
+        # (an apostrophe is read as a quotation mark)
+        read, formats = letters(inlines_by_pandoc(written, 'latex'))
+        plain = text.replace('\u00a0', ' ').replace("'", '’')
+        assert spaced(read.replace('\u00a0', ' ').replace("'", '’')) == spaced(plain), written
+        assert formats == wanted_formats(text, style, weight), written
+
+
+def test_latex_writes_no_ligatures():
+    assert gamhilon.to_latex([node('a--b---c')]) == 'a-{}-b-{}-{}-c'
+    assert gamhilon.to_latex([node('a-'), node('-b')]) == 'a-{}-b'
+    assert gamhilon.to_latex([node("''")]) == "'{}'"
+
+
+def test_latex_escapes_addresses():
+    tree = [node('a_b', url='https://example.org/a_b?c=1&d=%20#e~f')]
+    assert gamhilon.to_latex(tree) == r'\href{https://example.org/a_b?c=1\&d=\%20\#e\%7Ef}{a\_b}'
+
+
+CITE = [node('('), {'meta': {'entry': 0}, 'children': [node('Doe 1999')]}, node('; '),
+        {'meta': {'entry': 1}, 'children': [node('Roe', url='https://example.org')]}, node(')')]
+
+
+def test_cites_link_to_their_items():
+    keys = ['doe 99', 'roe']
+    bibliography = gamhilon.Bibliography([gamhilon.Item(it, [node('x')]) for it in keys], True, 1, 1)
+    links = [it for it in Reader(gamhilon.to_html(CITE, keys)).tags if it[0] == 'a']
+    entries = [it for it in Reader(gamhilon.bibliography_to_html(bibliography)).tags if it[1].get('class') == 'csl-entry']
+    assert links == [('a', {'href': '#' + entries[0][1]['id']}), ('a', {'href': 'https://example.org'})]
+    assert len(entries) == 2 and not any(it.isspace() for it in entries[0][1]['id'])
+    assert gamhilon.to_markdown(CITE, keys) == f'([Doe 1999](#{anchor(keys[0])}); [Roe](<https://example.org>))'
+    assert rf'\hyperlink{{{anchor(keys[0])}}}{{Doe 1999}}' in gamhilon.to_latex(CITE, keys)
+    assert rf'\hypertarget{{{anchor(keys[0])}}}' in gamhilon.bibliography_to_latex(bibliography)
+    assert f'<div id="{anchor(keys[0])}" class="csl-entry">' in gamhilon.bibliography_to_markdown(bibliography)
+
+
+def test_ids_are_of_safe_characters_and_differ():
+    keys = ['doe99', 'doe 99', 'doe_99', 'doe__20_99', 'doe__99', 'doe_', 'doe__', 'a"b', '<x>', 'é', '', 'doe/99', '_',
+            '__5f_', 'a#b', 'a%20b']
+    ids = [anchor(it) for it in keys]
+    assert len(set(ids)) == len(keys) and all(it.replace('-', 'a').replace('_', 'a').isascii() for it in ids)
+    assert all(not set(it) & set(' "\'<>#%&/') for it in ids)
+    assert anchor('doe_99') == 'ref-doe_99'
+
+
+def test_displays_stand_where_html_lets_them():
+    tree = [{'display': 'block', 'children': [node('a')]}, {'display': 'left-margin', 'children': [node('b')]}]
+    assert gamhilon.to_html(tree) == '<span class="csl-block">a</span><span class="csl-left-margin">b</span>'
+    item = gamhilon.Item('k', tree, {'children': [node('1')]})
+    written = gamhilon.bibliography_to_html(gamhilon.Bibliography([item], False, 1, 1))
+    assert '<div class="csl-left-margin">1</div><div class="csl-right-inline"><div class="csl-block">a</div>' in written
+
+
+def test_markup_shows_its_letters_unless_the_caller_writes_it():
+    tree = [{'markup': '<b>x</b>'}]
+    assert gamhilon.to_html(tree) == '&lt;b&gt;x&lt;/b&gt;'
+    assert gamhilon.to_html(tree, markup=lambda it: it) == '<b>x</b>'
+    assert gamhilon.to_latex([{'markup': '$x$'}]) == r'\$x\$' and gamhilon.to_markdown([{'markup': '$x$'}]) == r'\$x\$'
+    assert gamhilon.plain(tree) == '<b>x</b>'

@@ -1,0 +1,184 @@
+//! Gamhilon for Rust: a safe wrapper over the static library.
+//!
+//! ```no_run
+//! let document = std::fs::read("examples/first.json").unwrap();
+//! match gamhilon::print(&document) {
+//!     Ok(text) => print!("{text}"),
+//!     Err(refusal) => eprintln!("{refusal}"),
+//! }
+//! ```
+use std::ffi::CStr;
+use std::fmt;
+use std::os::raw::c_char;
+
+type Call = unsafe extern "C" fn(*const u8, usize, *mut u8, usize, *mut usize) -> u32;
+
+extern "C" {
+    fn gamhilon_print(
+        document: *const u8,
+        document_length: usize,
+        room: *mut u8,
+        room_length: usize,
+        length: *mut usize,
+    ) -> u32;
+    fn gamhilon_print_json(
+        document: *const u8,
+        document_length: usize,
+        room: *mut u8,
+        room_length: usize,
+        length: *mut usize,
+    ) -> u32;
+    fn gamhilon_ring(document: *const u8, document_length: usize, ring: *mut Ring) -> u32;
+    fn gamhilon_version() -> *const c_char;
+}
+
+/// Where the first ring of macros is.
+#[repr(C)]
+#[derive(Debug, Clone, Copy, PartialEq, Eq, Default)]
+pub struct Ring {
+    /// 1 where the style is that of the bibliography, and else 0.
+    pub of_bibliography: usize,
+    /// The place of the request whose style it is, from 0.
+    pub request: usize,
+    /// The place of the first macro on a ring, among the macros of its style, from 0.
+    pub macro_place: usize,
+}
+
+/// Why there is no answer.
+#[derive(Debug, Clone, Copy, PartialEq, Eq)]
+#[non_exhaustive]
+pub enum Refusal {
+    /// The document isn't JSON, or not of the form of a document.
+    Document,
+    /// The macros of a style call each other in a ring.
+    MacroRing(Ring),
+    /// The citation numbers don't fit 64 bits.
+    NumberOverflow,
+    /// Memory was refused: to the library, or for the room of the answer.
+    OutOfMemory,
+    /// The library ended the call with a status that this crate doesn't know.
+    Unknown(u32),
+}
+
+impl Refusal {
+    /// The status of gamhilon.h.
+    pub fn status(self) -> u32 {
+        match self {
+            Refusal::Document => 2,
+            Refusal::MacroRing(_) => 3,
+            Refusal::NumberOverflow => 4,
+            Refusal::OutOfMemory => 5,
+            Refusal::Unknown(status) => status,
+        }
+    }
+
+    fn of(status: u32, document: &[u8]) -> Refusal {
+        match status {
+            2 => Refusal::Document,
+            3 => ring_of(document),
+            4 => Refusal::NumberOverflow,
+            5 => Refusal::OutOfMemory,
+            _ => Refusal::Unknown(status),
+        }
+    }
+}
+
+impl fmt::Display for Refusal {
+    fn fmt(&self, f: &mut fmt::Formatter<'_>) -> fmt::Result {
+        match self {
+            Refusal::Document => write!(f, "not of the form of a document"),
+            Refusal::MacroRing(Ring { of_bibliography: 0, request, macro_place }) => {
+                write!(f, "the macros of the style of request {request} call each other in a ring, macro {macro_place} the first")
+            }
+            Refusal::MacroRing(Ring { macro_place, .. }) => {
+                write!(f, "the macros of the style of the bibliography call each other in a ring, macro {macro_place} the first")
+            }
+            Refusal::NumberOverflow => write!(f, "the citation numbers don't fit 64 bits"),
+            Refusal::OutOfMemory => write!(f, "memory was refused"),
+            Refusal::Unknown(status) => {
+                write!(f, "the library ended with status {status}, which this crate does not know")
+            }
+        }
+    }
+}
+
+impl std::error::Error for Refusal {}
+
+/// The refusal of a document that has a ring. Finding its place may be refused memory.
+fn ring_of(document: &[u8]) -> Refusal {
+    let mut ring = Ring::default();
+    // SAFETY: a slice is valid for its length, and the ring is this function's own.
+    match unsafe { gamhilon_ring(document.as_ptr(), document.len(), &mut ring) } {
+        3 => Refusal::MacroRing(ring),
+        _ => Refusal::OutOfMemory,
+    }
+}
+
+/// A room of so many bytes, if there is memory for it.
+fn room_of(length: usize) -> Result<Vec<u8>, Refusal> {
+    let mut room = Vec::new();
+    room.try_reserve_exact(length).map_err(|_| Refusal::OutOfMemory)?;
+    room.resize(length, 0);
+    Ok(room)
+}
+
+fn called(call: Call, document: &[u8], mut length: usize) -> Result<String, Refusal> {
+    loop {
+        let mut room = room_of(length)?;
+        // SAFETY: slices are valid for their lengths, and three borrows of their own don't overlap.
+        match unsafe { call(document.as_ptr(), document.len(), room.as_mut_ptr(), room.len(), &mut length) } {
+            0 => {
+                room.truncate(length);
+                return Ok(String::from_utf8(room).expect("an answer is UTF-8"));
+            }
+            6 => continue,
+            status => return Err(Refusal::of(status, document)),
+        }
+    }
+}
+
+/// The text that a document prints.
+pub fn print(document: &[u8]) -> Result<String, Refusal> {
+    called(gamhilon_print, document, document.len().saturating_mul(2).saturating_add(4096))
+}
+
+/// The answer to a document as JSON.
+pub fn print_json(document: &[u8]) -> Result<String, Refusal> {
+    // Each call does the whole work, so the room is one that mostly does.
+    called(gamhilon_print_json, document, document.len().saturating_mul(8).saturating_add(4096))
+}
+
+/// The version of the library, and the commit and the toolchain that it was proved and built by, where those are known.
+pub fn version() -> &'static str {
+    // SAFETY: the library gives a text that ends with a NUL and is never freed.
+    let text = unsafe { CStr::from_ptr(gamhilon_version()) };
+    text.to_str().unwrap_or("unknown")
+}
+
+#[cfg(test)]
+mod tests {
+    use super::*;
+
+    unsafe extern "C" fn asks_for_all_memory(_: *const u8, _: usize, _: *mut u8, _: usize, length: *mut usize) -> u32 {
+        *length = isize::MAX as usize;
+        6
+    }
+
+    unsafe extern "C" fn ends_with_seventeen(_: *const u8, _: usize, _: *mut u8, _: usize, _: *mut usize) -> u32 {
+        17
+    }
+
+    #[test]
+    fn a_room_that_cannot_be_had_is_out_of_memory() {
+        assert_eq!(called(asks_for_all_memory, b"", 0), Err(Refusal::OutOfMemory));
+        assert_eq!(called(asks_for_all_memory, b"", usize::MAX), Err(Refusal::OutOfMemory));
+    }
+
+    #[test]
+    fn a_status_of_a_later_library_is_told() {
+        let refusal = called(ends_with_seventeen, b"", 0).unwrap_err();
+        assert_eq!(refusal, Refusal::Unknown(17));
+        assert_eq!(refusal.status(), 17);
+        assert!(refusal.to_string().contains("17"));
+    }
+}

@@ -1,0 +1,34 @@
+//! The crate over the library, on documents of the repository.
+use std::error::Error;
+
+const FIRST: &[u8] = include_bytes!("../../../examples/first.json");
+
+#[test]
+fn the_first_example_is_printed() -> Result<(), Box<dyn Error>> {
+    assert_eq!(gamhilon::print(FIRST)?, include_str!("../../../examples/first.txt"));
+    assert!(gamhilon::print_json(FIRST)?.starts_with("{\"bibliography\":"));
+    Ok(())
+}
+
+#[test]
+fn what_is_no_document_is_refused() {
+    let refusal = gamhilon::print(b"{").unwrap_err();
+    assert_eq!(refusal, gamhilon::Refusal::Document);
+    assert_eq!(refusal.to_string(), "not of the form of a document");
+}
+
+#[test]
+fn a_ring_has_its_place() {
+    let document = br#"{"styles": {"s": {"citation": {"elements": []}, "macros": [
+        {"name": "a", "children": []}, {"name": "b", "children": [{"kind": "text", "macro": "b"}]}]}},
+        "entries": [], "requests": [], "bibliography": {"style": "s"}}"#;
+    let ring = gamhilon::Ring { of_bibliography: 1, request: 0, macro_place: 1 };
+    assert_eq!(gamhilon::print(document), Err(gamhilon::Refusal::MacroRing(ring)));
+}
+
+#[test]
+fn the_version_is_that_of_the_header() {
+    let header = include_str!("../../gamhilon.h");
+    let version = gamhilon::version().split(' ').next().unwrap_or("");
+    assert!(header.contains(&format!("#define GAMHILON_VERSION \"{version}\"")));
+}
