@@ -22,3 +22,5 @@ pub mod Rings
 pub mod Tops
 pub mod Orders
 pub mod GivenNames
+pub mod Seen
+pub mod ToldElements

@@ -5,6 +5,7 @@ pub mod Answers
 pub mod Found
 pub mod PlainEntry
 pub mod Finds
+pub mod Tells
 pub mod EqualEntries
 pub mod Element
 pub mod ElementView

@@ -15,6 +15,7 @@ pub mod formatting;
 mod graph;
 pub mod initials;
 pub mod last_text;
+pub mod laws;
 pub mod locale;
 pub mod names;
 mod order;
