@@ -1,15 +1,14 @@
 -- The derived tests of equality on states, locators and properties find what is equal.
-use Rattle.std.specs.Prelude.{◌≡◌, Bool, true, Option, Some, None, option_map, refl}
-use Rattle.std.specs.Option.{option_eq}
-use Rattle.std.specs.Cmp.{unsigned_Decides}
+use Rattle.std.specs.Prelude.{◌≡◌, true, refl}
+use Rattle.std.specs.Cmp.{booleans_Decides, unsigned_Decides}
 use Rattle.std.proofs.Common.{ap, sym, true≢false}
 use denote.Enum.Bare.{same_true, true_same}
-use Rattle.csl_base.specs.Finds.{Finds, lists_find}
+use Rattle.csl_base.specs.Finds.{Finds, both, and-true, finds, lists_find, options_find}
 use Rattle.csl_base.specs.contracts.names.DisambiguatedNameForm as form
 use Rattle.csl_base.specs.contracts.names.DisambiguatedNameFormPartialEq.TheImpl as form_eq
 use Rattle.csl_base.specs.contracts.names.NameDisambiguationPropertiesPartialEq.TheImpl as names_eq
-use Rattle.csl_lookup.specs.ValueLaws.{TellsSeen}
 use Rattle.csl_lookup.specs.declared.state.DisambiguateState.{DisambiguateState}
+use Rattle.csl_lookup.specs.contracts.properties.CertainCitePropertiesPartialEq.TheImpl as certain_eq
 use Rattle.csl_lookup.specs.contracts.state.IbidState as ibid
 use Rattle.csl_lookup.specs.contracts.state.IdentifierUsage as usage
 use Rattle.csl_lookup.specs.contracts.state.IbidStatePartialEq.TheImpl as ibid_eq
@@ -47,17 +46,24 @@ states_find = record { equal = equal; self = self }
     self DisambiguateState.Choose = refl
     self (DisambiguateState.YearSuffix m) = (unsigned_Decides m m).1 refl
 
--- where values are told by what is seen of them, so are values that may be missing
-pub some_seen : {A V : Type 0} {view : A → V} {test : A → A → Bool} → TellsSeen view test → TellsSeen (option_map view) (option_eq test)
-some_seen {A = A} {V = V} {view = view} {test = test} told = λ a b. (to a b, from a b)
-  where
-    to : (a b : Option A) → option_eq test a b ≡ true → option_map view a ≡ option_map view b
-    to None None e = refl
-    to (Some x) (Some y) e = ap Some ((told x y).0 e)
-    to _ _ e = absurd (true≢false (sym e))
-
-    from : (a b : Option A) → option_map view a ≡ option_map view b → option_eq test a b ≡ true
-    from None None p = refl
-    from (Some x) (Some y) p = let same : view x ≡ view y = cc in (told x y).1 same
-    from None (Some y) p = cc
-    from (Some x) None p = cc
+pub certain_find : Finds (certain_eq.ghosts).eq
+certain_find =
+    let numbers = finds unsigned_Decides in
+    let notes = options_find numbers in
+    let truths = finds booleans_Decides in
+    record {
+      equal = λ a b e.
+          let p = both _ _ e in let q = both _ _ p.1 in let r = both _ _ q.1 in let s = both _ _ r.1 in
+          λ i. record {
+            note_number = notes.equal a.note_number b.note_number p.0 i;
+            first_note_number = notes.equal a.first_note_number b.first_note_number q.0 i;
+            is_near_note = truths.equal a.is_near_note b.is_near_note r.0 i;
+            is_first = truths.equal a.is_first b.is_first s.0 i;
+            initial_idx = numbers.equal a.initial_idx b.initial_idx s.1 i;
+          };
+      self = λ a.
+          and-true _ _ (notes.self a.note_number)
+          (and-true _ _ (notes.self a.first_note_number)
+          (and-true _ _ (truths.self a.is_near_note)
+          (and-true _ _ (truths.self a.is_first) (numbers.self a.initial_idx))));
+    }

@@ -1,6 +1,5 @@
--- Laws of operations on small values, and of tests.
-use Rattle.std.specs.Prelude.{◌≡◌, Bool, false}
-use Rattle.std.specs.Bool.{Decides}
+-- Laws of operations on small values.
+use Rattle.std.specs.Prelude.{◌≡◌, false}
 use Rattle.std.specs.Ordering.{is_gt}
 use Rattle.std.specs.declared.cmp.Ordering.{Ordering}
 
@@ -25,11 +24,3 @@ module _ {A : Type 0} where
   -- in either order
   abbrev pub Commute : (A → A) → (A → A) → Type 0
   Commute change other = (a : A) → change (other a) ≡ other (change a)
-
-  -- the test is true exactly of equal values
-  abbrev pub TellsEqual : (A → A → Bool) → Type 0
-  TellsEqual test = (a b : A) → Decides (test a b) (a ≡ b)
-
-  -- the test is true exactly of values that are seen as equal
-  abbrev pub TellsSeen : {V : Type 0} → (A → V) → (A → A → Bool) → Type 0
-  TellsSeen view test = (a b : A) → Decides (test a b) (view a ≡ view b)

@@ -1,21 +1,26 @@
 //! Laws of the small values, each on a call of its own.
 ghost use Rattle.std.specs.Prelude.{◌≡◌};
 ghost use Rattle.csl_base.specs.Ordered.{IsValueOrder};
+ghost use Rattle.csl_base.specs.Tells.{TellsEqual, TellsSeen};
 ghost use Rattle.csl_lookup.specs.PropertiesView.{payload_view, locator_view, speculative_view};
 ghost use Rattle.csl_lookup.specs.declared.locator.LocatorPayload.{LocatorPayload};
 ghost use Rattle.csl_lookup.specs.declared.locator.SpecificLocator.{SpecificLocator};
+ghost use Rattle.csl_lookup.specs.declared.properties.CertainCiteProperties.{CertainCiteProperties};
 ghost use Rattle.csl_lookup.specs.declared.properties.CiteProperties.{CiteProperties};
 ghost use Rattle.csl_lookup.specs.declared.properties.SpeculativeCiteProperties.{SpeculativeCiteProperties};
 ghost use Rattle.csl_lookup.specs.declared.state.DisambiguateState.{DisambiguateState};
 ghost use Rattle.csl_lookup.specs.declared.state.IdentifierUsage.{IdentifierUsage};
 ghost use Rattle.csl_lookup.specs.GoingOn.{GoesFarther, GoesOn, GreaterIsOne};
+ghost use Rattle.csl_lookup.specs.NoProperties.{nothing_certain};
 ghost use Rattle.csl_lookup.specs.States.{with_label, with_number, state_cmp, greater};
 ghost use Rattle.csl_lookup.specs.SuffixLetters.{SuffixesDiffer};
-ghost use Rattle.csl_lookup.specs.ValueLaws.{IsCommutative, IsAssociative, IsIdempotent, IsNeverBelow, IsOnce, Commute, TellsEqual, TellsSeen};
+ghost use Rattle.csl_lookup.specs.ValueLaws.{IsCommutative, IsAssociative, IsIdempotent, IsNeverBelow, IsOnce, Commute};
 
+use crate::brackets::Brackets;
 use crate::locator::{LocatorPayload, SpecificLocator, TransparentLocator};
-use crate::properties::{CiteProperties, SpeculativeCiteProperties};
-use crate::state::{DisambiguateState, IdentifierUsage};
+use crate::properties::{CertainCiteProperties, CiteProperties, SpeculativeCiteProperties};
+use crate::purpose::CitePurpose;
+use crate::state::{CollapseVerdict, DisambiguateState, IbidState, IdentifierUsage};
 use csl_base::names::forms_are_in_order;
 
 /// A law: what was written counts once, in whatever order.
@@ -63,6 +68,18 @@ pub fn copies_are_equal<P: Drop>()
     ensures properties { (a b : CiteProperties P) → ⟦<CiteProperties<'static, P> as Clone>⟧.is_clone a b → b ≡ a }
 {}
 
+/// A law: `==` of brackets, of purposes, of states and of what is certain of a cite is true exactly
+/// of equal values.
+pub fn state_equality_decides()
+    ensures brackets { TellsEqual ⟦<Brackets as PartialEq>⟧.eq }
+    ensures purpose { TellsEqual ⟦<CitePurpose as PartialEq>⟧.eq }
+    ensures usage { TellsEqual ⟦<IdentifierUsage as PartialEq>⟧.eq }
+    ensures ibid { TellsEqual ⟦<IbidState as PartialEq>⟧.eq }
+    ensures verdict { TellsEqual ⟦<CollapseVerdict as PartialEq>⟧.eq }
+    ensures state { TellsEqual ⟦<DisambiguateState as PartialEq>⟧.eq }
+    ensures certain { TellsEqual ⟦<CertainCiteProperties as PartialEq>⟧.eq }
+{}
+
 /// A law: `==` of locators, of their payloads and of what may change of a cite is true exactly where
 /// the plain data is equal, if that of the caller's own payloads is.
 pub fn equality_decides<P: PartialEq>()
@@ -72,8 +89,10 @@ pub fn equality_decides<P: PartialEq>()
     ensures speculative { TellsEqual P.eq → TellsSeen speculative_view ⟦<SpeculativeCiteProperties<'static, P> as PartialEq>⟧.eq }
 {}
 
-/// A law: at first a cite has written no identifier, and nothing tells its entry apart.
+/// A law: at first a cite has written no identifier, nothing tells its entry apart, and it stands in
+/// no note, neither near another nor first, at place 0.
 pub fn defaults_are_none()
     ensures usage { (u : IdentifierUsage) → ⟦<IdentifierUsage as Default>⟧.is_default u → u ≡ IdentifierUsage.None }
     ensures state { (s : DisambiguateState) → ⟦<DisambiguateState as Default>⟧.is_default s → s ≡ DisambiguateState.None }
+    ensures certain { (c : CertainCiteProperties) → ⟦<CertainCiteProperties as Default>⟧.is_default c → c ≡ nothing_certain }
 {}

@@ -1,22 +1,15 @@
--- What the derived tests of codes, lists, orders and locators tell.
+-- What the derived tests of lists, orders and locators tell.
 use Rattle.std.proofs.Common.{◌≡◌, Bool, true, ◌&&◌, List, [], ◌∷◌, Option, Some, None, Bor, map, option_map, refl, ap, sym, true≢false}
 use Rattle.std.specs.Bool.{Decides}
 use Rattle.std.specs.Cmp.Lexicographic.{pointwise}
 use Rattle.std.specs.List.{AllZip}
 use Rattle.std.specs.Option.{option_eq}
-use Rattle.std.proofs.lemmas.Slice.Eq.{bytes_eq-Decides}
 use Rattle.csl_base.specs.Finds.{both, and-true}
-use Rattle.csl_base.specs.StyleView.{code_view}
-use Rattle.csl_base.specs.contracts.locale.LocaleCodePartialEq.TheImpl as code_eq
 use Rattle.csl_lookup.specs.PropertiesView.{locator_view}
-use Rattle.csl_lookup.specs.ValueLaws.{TellsSeen}
 use Rattle.csl_lookup.specs.declared.locator.SpecificLocator.{SpecificLocator}
 use Rattle.csl_passes.specs.Positions.{same_locators}
 use Rattle.csl_passes.specs.RequestView.{entries_view, order_view}
 use Rattle.csl_passes.specs.declared.request.Order.{Order}
-
-pub codes_told : TellsSeen code_view (code_eq.ghosts).eq
-codes_told a b = bytes_eq-Decides (code_view a) (code_view b)
 
 -- where a test tells what is seen of two values, so it does of lists, one by one
 pub lists_tell : {A B : Type 0} {view : A → B} {test : A → A → Bool} (R : B → B → Type 0)

@@ -1,12 +1,10 @@
 -- What `==` of cites and of requests tells: entries are equal by their own `==`, payloads of the
--- caller's, styles and locales by theirs, and all else is the same. What was prepared isn't looked at.
-use Rattle.std.specs.Prelude.{◌≡◌, Bool, IsTrue, option_map}
+-- caller's, and all else is the same, as plain data. What was prepared isn't looked at.
+use Rattle.std.specs.Prelude.{◌≡◌, Bool, IsTrue, map, option_map}
 use Rattle.std.specs.Cmp.Lexicographic.{pointwise}
 use Rattle.std.specs.List.{AllZip}
 use Rattle.std.specs.Option.{option_eq}
-use Rattle.csl_base.specs.StyleView.{code_view}
-use Rattle.csl_base.specs.contracts.locale.LocalePartialEq.TheImpl as locale_eq
-use Rattle.csl_base.specs.contracts.style.IndependentStylePartialEq.TheImpl as style_eq
+use Rattle.csl_base.specs.StyleView.{code_view, locale_view, style_view}
 use Rattle.csl_passes.specs.Positions.{same_locators}
 use Rattle.csl_passes.specs.Request.{RequestedCite}
 use Rattle.csl_passes.specs.RequestView.{cites_view, order_view}
@@ -24,14 +22,14 @@ module _ {T P : Type 0} (entry_eq : T → T → Bool) (payload_eq : P → P → 
 
   pub record IsSameRequest (a b : CitationRequest T P) : Type 0 where
     pub cites : AllZip IsSameCite (cites_view a.items.items) (cites_view b.items.items)
-    pub style : IsTrue ((style_eq.ghosts).eq a.style.now b.style.now)
+    pub style : style_view a.style.now ≡ style_view b.style.now
     pub locale : option_map code_view a.locale ≡ option_map code_view b.locale
-    pub locales : IsTrue (pointwise (locale_eq.ghosts).eq a.locale_files.now b.locale_files.now)
+    pub locales : map locale_view a.locale_files.now ≡ map locale_view b.locale_files.now
     pub note_number : a.note_number ≡ b.note_number
 
 -- of requests for a bibliography
 pub record IsSameWanted {T : Type 0} (entry_eq : T → T → Bool) (a b : BibliographyRequest T) : Type 0 where
-  pub style : IsTrue ((style_eq.ghosts).eq a.style.now b.style.now)
+  pub style : style_view a.style.now ≡ style_view b.style.now
   pub locale : option_map code_view a.locale ≡ option_map code_view b.locale
-  pub locales : IsTrue (pointwise (locale_eq.ghosts).eq a.locale_files.now b.locale_files.now)
+  pub locales : map locale_view a.locale_files.now ≡ map locale_view b.locale_files.now
   pub order : IsTrue (option_eq (pointwise entry_eq) (order_view a.order) (order_view b.order))

@@ -1,8 +1,8 @@
 //! Laws of what a caller asks for.
 ghost use Rattle.std.specs.Prelude.{◌≡◌};
 ghost use Rattle.std.specs.Bool.{Decides};
+ghost use Rattle.csl_base.specs.Tells.{TellsEqual, TellsSeen};
 ghost use Rattle.csl_lookup.specs.PropertiesView.{properties_view};
-ghost use Rattle.csl_lookup.specs.ValueLaws.{TellsEqual, TellsSeen};
 ghost use Rattle.csl_lookup.specs.declared.properties.CiteProperties.{CiteProperties};
 ghost use Rattle.csl_passes.specs.RequestView.{cite_view};
 ghost use Rattle.csl_passes.specs.Same.{IsSameCite, IsSameRequest, IsSameWanted};
@@ -12,7 +12,8 @@ ghost use Rattle.csl_passes.specs.declared.request.CitationRequest.{CitationRequ
 
 use crate::item::CitationItem;
 use crate::request::{BibliographyRequest, CitationRequest};
-use csl_lookup::laws::equality_decides;
+use csl_base::laws::{locale_equality_decides, style_equality_decides};
+use csl_lookup::laws::{equality_decides, state_equality_decides};
 use csl_lookup::properties::CiteProperties;
 
 /// A law: a copy of a cite is equal to it.
@@ -25,28 +26,37 @@ pub fn items_copy_equal<'a, T: 'a, P: Drop + 'a>()
 pub fn item_equality_decides<'a, T: PartialEq + 'a, P: PartialEq + 'a>()
     ensures { (a b : CitationItem T P) → Decides (⟦<CitationItem<'a, T, P> as PartialEq>⟧.eq a b)
         (IsSameCite T.eq P.eq (cite_view a) (cite_view b)) }
-{}
+{
+    state_equality_decides();
+}
 
-/// A law: `==` of requests for citations is true exactly where cites, styles and locales are equal by
-/// their own `==`, and the note numbers are the same. What was prepared isn't looked at.
+/// A law: `==` of requests for citations is true exactly where cites are equal by their own `==`, and
+/// styles, locales and note numbers are the same, as plain data. What was prepared isn't looked at.
 pub fn request_equality_decides<'a, T: PartialEq + 'a, P: PartialEq + 'a>()
     ensures { (a b : CitationRequest T P) → Decides (⟦<CitationRequest<'a, T, P> as PartialEq>⟧.eq a b)
         (IsSameRequest T.eq P.eq a b) }
 {
     item_equality_decides::<T, P>();
+    locale_equality_decides();
+    style_equality_decides();
 }
 
-/// A law: `==` of requests for bibliographies is true exactly where styles, locales and the entries of
-/// the orders are equal by their own `==`. What was prepared isn't looked at.
+/// A law: `==` of requests for bibliographies is true exactly where styles and locales are the same,
+/// as plain data, and the entries of the orders are equal by their own `==`. What was prepared isn't
+/// looked at.
 pub fn wanted_equality_decides<'a, T: PartialEq + 'a>()
     ensures { (a b : BibliographyRequest T) → Decides (⟦<BibliographyRequest<'a, 'a, T> as PartialEq>⟧.eq a b)
         (IsSameWanted T.eq a b) }
-{}
+{
+    locale_equality_decides();
+    style_equality_decides();
+}
 
 /// A law: `==` of the properties of a cite is true exactly where the plain data is equal, if that of
 /// the caller's own payloads is.
 pub fn properties_equality_decides<'a, P: PartialEq + 'a>()
     ensures { TellsEqual P.eq → TellsSeen properties_view ⟦<CiteProperties<'a, P> as PartialEq>⟧.eq }
 {
+    state_equality_decides();
     equality_decides::<P>();
 }

@@ -1,20 +1,14 @@
-use Rattle.std.proofs.Common.{◌≡◌, refl, rules, sym, ◌∙◌}
+use Rattle.std.proofs.Common.{◌≡◌, rules, sym, ◌∙◌}
 use Rattle.std.specs.Cmp.{booleans_Decides, unsigned_Decides}
 use Rattle.std.specs.Prelude.{Some}
-use denote.Enum.Bare.{same_true, true_same}
-use Rattle.csl_base.specs.Finds.{Finds, both, and-true, decides, options_find}
-use Rattle.csl_lookup.proofs.Equal.{some_seen}
+use Rattle.csl_base.specs.Finds.{both, and-true}
+use Rattle.csl_base.proofs.Seen.{codes_told, option_told, some_seen}
 use Rattle.csl_lookup.specs.PropertiesView.{locator_view}
 use Rattle.csl_lookup.specs.contracts.locator.SpecificLocatorPartialEq.TheImpl as locator_eq
-use Rattle.csl_lookup.specs.contracts.purpose.CitePurpose as purpose
-use Rattle.csl_lookup.specs.contracts.purpose.CitePurposePartialEq.TheImpl as purpose_eq
 use Rattle.csl_lookup.specs.declared.locator.SpecificLocator.{SpecificLocator}
-use Rattle.csl_passes.proofs.Same.{codes_told, some_locators}
+use Rattle.csl_passes.proofs.Same.{some_locators}
 use Rattle.csl_passes.specs.Positions.{same_locators}
 use Rattle.csl_passes.proofs.laws.item_equality_decides.Goals as goal
-
-purposes_find : Finds (purpose_eq.ghosts).eq
-purposes_find = record { equal = λ a b e. same_true purpose.the_type tt a b e; self = λ a. true_same purpose.the_type a a refl }
 
 pub returns : goal.returns
 returns g c a b =
@@ -22,14 +16,14 @@ returns g c a b =
     let one : (x y : SpecificLocator g.row.P.Denot) → test x y ≡ same_locators g.P.PartialEq.eq (Some (locator_view x)) (Some (locator_view y)) = search rules in
     let locators = some_locators g.P.PartialEq.eq test one a.locator b.locator in
     let codes = some_seen codes_told in
-    let purposes = options_find purposes_find in (
+    let purposes = option_told c.state_equality_decides.ensures.purpose a.purpose b.purpose in (
       λ e. let p = both _ _ e in let q = both _ _ p.1 in let r = both _ _ q.1 in let s = both _ _ r.1 in let t = both _ _ s.1 in
           record {
             entry = p.0;
             locator = sym locators ∙ q.0;
             locale = (codes a.locale b.locale).0 r.0;
             hidden = (booleans_Decides a.hidden b.hidden).0 s.0;
-            purpose = purposes.equal a.purpose b.purpose t.0;
+            purpose = purposes.0 t.0;
             place = (unsigned_Decides a.initial_idx b.initial_idx).0 t.1;
           },
       λ e.
@@ -37,6 +31,6 @@ returns g c a b =
           (and-true _ _ (locators ∙ e.locator)
           (and-true _ _ ((codes a.locale b.locale).1 e.locale)
           (and-true _ _ ((booleans_Decides a.hidden b.hidden).1 e.hidden)
-          (and-true _ _ ((decides purposes a.purpose b.purpose).1 e.purpose)
+          (and-true _ _ (purposes.1 e.purpose)
           ((unsigned_Decides a.initial_idx b.initial_idx).1 e.place))))),
     )
