@@ -1,14 +1,15 @@
 -- Equal data comes of equal values.
-use Rattle.std.proofs.Common.{◌≡◌, ◌<◌, ℕ, ℤ, pos, negsuc, List, [], ◌∷◌, Option, Some, None, map, option_map, refl, ap}
+use Rattle.std.proofs.Common.{◌≡◌, ◌<◌, ℕ, ℤ, pos, negsuc, true, List, [], ◌∷◌, Option, Some, None, map, option_map, refl, ap, sym, ◌∙◌, true≢false}
 use Rattle.std.proofs.Math.Bridge.{le_prop}
-use Rattle.std.specs.Prelude.{unsigned_abs}
+use Rattle.std.specs.Prelude.{codes, nat_eq, slice_index, unsigned_abs}
+use Rattle.std.specs.Cmp.{unsigned_Decides}
 use Rattle.std.specs.declared.num.NonZeroI16.{NonZeroI16}
 use mathlib.Core.HLevel.{is_prop→PathP}
-use Rattle.serde_json.specs.Data.{Data, Items, string, number}
+use Rattle.serde_json.specs.Data.{Data, Items, Members, member, no_members, number, string}
 use Rattle.serde_json.specs.Find.{of_integer}
 use Rattle.serde_json.specs.View.{items_of}
 use Rattle.csl_base.proofs.Compare.{child_view-inj, kids_of-inj}
-use Rattle.csl_base.specs.Child.{Child, text, elem, markup, link, transparent, Kids, no_kids, kid}
+use Rattle.csl_base.specs.Child.{Child, text, elem, markup, link, transparent, Kids, no_kids, kid, kids_of}
 use Rattle.csl_base.specs.ChildView.{child_view}
 use Rattle.csl_base.specs.declared.elem.ElemChild.{ElemChild}
 use Rattle.csl_base.specs.declared.elem.ElemMeta.{ElemMeta}
@@ -31,6 +32,7 @@ use Rattle.csl_assembly.specs.declared.rendered.Rendered.{Rendered}
 use Rattle.csl_assembly.specs.declared.rendered.RenderedBibliography.{RenderedBibliography}
 use Rattle.csl_assembly.specs.declared.rendered.RenderedCitation.{RenderedCitation}
 use Rattle.answer_json.specs.AnswerData.{align_name, item_data, bibliography_data, citation_data, answer_data}
+use Rattle.answer_json.specs.Members.{member_if}
 use Rattle.answer_json.specs.MetaData.{variable_name, person_data, names_data, meta_data}
 use Rattle.answer_json.specs.TreeData.{style_name, weight_name, display_name, child_data, kids_data, children_data}
 
@@ -54,33 +56,37 @@ options_tell f tells (Some x) (Some y) p = let same : f x ≡ f y = cc in ap Som
 options_tell f tells None (Some y) p = cc
 options_tell f tells (Some x) None p = cc
 
+-- names that begin differently are different
+first-same : (a b : List ℕ) → a ≡ b → nat_eq (slice_index a 0) (slice_index b 0) ≡ true
+first-same a b p = ap (λ l. nat_eq (slice_index a 0) (slice_index l 0)) (sym p) ∙ (unsigned_Decides (slice_index a 0) (slice_index a 0)).1 refl
+
 styles_tell : Tells style_name
 styles_tell style.Normal style.Normal p = refl
 styles_tell style.Italic style.Italic p = refl
-styles_tell _ _ p = cc
+styles_tell _ _ p = absurd (true≢false (sym (first-same _ _ p)))
 
 weights_tell : Tells weight_name
 weights_tell weight.Normal weight.Normal p = refl
 weights_tell weight.Bold weight.Bold p = refl
-weights_tell _ _ p = cc
+weights_tell _ _ p = absurd (true≢false (sym (first-same _ _ p)))
 
 displays_tell : Tells display_name
 displays_tell shown.Block shown.Block p = refl
 displays_tell shown.LeftMargin shown.LeftMargin p = refl
 displays_tell shown.RightInline shown.RightInline p = refl
 displays_tell shown.Indent shown.Indent p = refl
-displays_tell _ _ p = cc
+displays_tell _ _ p = absurd (true≢false (sym (first-same _ _ p)))
 
 aligns_tell : Tells align_name
 aligns_tell align.Flush align.Flush p = refl
 aligns_tell align.Margin align.Margin p = refl
-aligns_tell _ _ p = cc
+aligns_tell _ _ p = absurd (true≢false (sym (first-same _ _ p)))
 
 variables_tell : Tells variable_name
 variables_tell variable.Author variable.Author p = refl
 variables_tell variable.Editor variable.Editor p = refl
 variables_tell variable.Translator variable.Translator p = refl
-variables_tell _ _ p = cc
+variables_tell _ _ p = absurd (true≢false (sym (first-same _ _ p)))
 
 integers_tell : Tells of_integer
 integers_tell (pos m) (pos n) p = let same : m ≡ n = cc in ap pos same
@@ -136,24 +142,46 @@ formattings_tell f g p q =
     let y = weights_tell f.font_weight g.font_weight q in
     λ i. record { font_style = x i; font_weight = y i }
 
--- what is absent has no key, so the two may stand in one list
-absences_tell : (d e : Option Display) (m n : Option ElemMeta) (ks ls : Kids) → child_data (elem ks d m) ≡ child_data (elem ls e n)
+no-member : (k : List ℕ) (d : Data) (ms : Members) → no_members ≡ member k d ms → ⊥
+no-member k d ms p = cc
+
+-- two members that may be absent, under different keys
+two_tell : (k l : List ℕ) → (k ≡ l → ⊥) → (x y u v : Option Data) → member_if k x (member_if l u no_members) ≡ member_if k y (member_if l v no_members)
+    → (x ≡ y) × (u ≡ v)
+two_tell k l apart None None None None p = (refl, refl)
+two_tell k l apart None None (Some u) (Some v) p = let same : u ≡ v = cc in (refl, ap Some same)
+two_tell k l apart None None None (Some v) p = absurd (no-member l v no_members p)
+two_tell k l apart None None (Some u) None p = absurd (no-member l u no_members (sym p))
+two_tell k l apart (Some x) (Some y) None None p = let same : x ≡ y = cc in (ap Some same, refl)
+two_tell k l apart (Some x) (Some y) (Some u) (Some v) p =
+    let first : x ≡ y = cc in
+    let second : u ≡ v = cc in
+    (ap Some first, ap Some second)
+two_tell k l apart (Some x) (Some y) None (Some v) p = let rest : no_members ≡ member l v no_members = cc in absurd (no-member l v no_members rest)
+two_tell k l apart (Some x) (Some y) (Some u) None p = let rest : no_members ≡ member l u no_members = cc in absurd (no-member l u no_members rest)
+two_tell k l apart None (Some y) None v p = absurd (no-member k y (member_if l v no_members) p)
+two_tell k l apart None (Some y) (Some u) v p = let same : k ≡ l = cc in absurd (apart same)
+two_tell k l apart (Some x) None u None p = absurd (no-member k x (member_if l u no_members) (sym p))
+two_tell k l apart (Some x) None u (Some v) p = let same : k ≡ l = cc in absurd (apart same)
+
+shown_data : Display → Data
+shown_data d = string (display_name d)
+
+shown_tell : Tells shown_data
+unfolding shown_data
+shown_tell a b p = let same : display_name a ≡ display_name b = cc in displays_tell a b same
+
+-- of an element
+elements_tell : (d e : Option Display) (m n : Option ElemMeta) (ks ls : Kids) → child_data (elem ks d m) ≡ child_data (elem ls e n)
     → (kids_data ks ≡ kids_data ls) × (d ≡ e) × (m ≡ n)
-absences_tell None None None None ks ls p = let same : kids_data ks ≡ kids_data ls = cc in (same, refl, refl)
-absences_tell None None (Some m) (Some n) ks ls p =
+unfolding shown_data
+elements_tell d e m n ks ls p =
     let same : kids_data ks ≡ kids_data ls = cc in
-    let metas : meta_data m ≡ meta_data n = cc in
-    (same, refl, ap Some (metas_tell m n metas))
-absences_tell (Some d) (Some e) None None ks ls p =
-    let same : kids_data ks ≡ kids_data ls = cc in
-    let displays : display_name d ≡ display_name e = cc in
-    (same, ap Some (displays_tell d e displays), refl)
-absences_tell (Some d) (Some e) (Some m) (Some n) ks ls p =
-    let same : kids_data ks ≡ kids_data ls = cc in
-    let displays : display_name d ≡ display_name e = cc in
-    let metas : meta_data m ≡ meta_data n = cc in
-    (same, ap Some (displays_tell d e displays), ap Some (metas_tell m n metas))
-absences_tell _ _ _ _ ks ls p = cc
+    let rest : member_if (codes "display") (option_map shown_data d) (member_if (codes "meta") (option_map meta_data m) no_members)
+    ≡ member_if (codes "display") (option_map shown_data e) (member_if (codes "meta") (option_map meta_data n) no_members) = cc in
+    let two = two_tell (codes "display") (codes "meta") (λ q. true≢false (sym (first-same (codes "display") (codes "meta") q)))
+    (option_map shown_data d) (option_map shown_data e) (option_map meta_data m) (option_map meta_data n) rest in
+    (same, options_tell shown_data shown_tell d e two.0, options_tell meta_data metas_tell m n two.1)
 
 mutual
   children_tell : (c d : Child) → child_data c ≡ child_data d → c ≡ d
@@ -164,9 +192,9 @@ mutual
       let formatting = formattings_tell f.formatting g.formatting styles weights in
       λ i. text (record { text = texts i; formatting = formatting i })
   children_tell (elem ks d m) (elem ls e n) p =
-      let same = absences_tell d e m n ks ls p in
+      let same = elements_tell d e m n ks ls p in
       let inside = kids_tell ks ls same.0 in
-      λ i. elem (inside i) (same.1.0 i) (same.1.1 i)
+      λ i. elem (inside i) (same.1 i) (same.2 i)
   children_tell (markup s) (markup t) p = let same : s ≡ t = cc in ap markup same
   children_tell (link f s) (link g t) p =
       let texts : f.text ≡ g.text = cc in
@@ -202,7 +230,7 @@ fields_tell : (a b : ElemChild) → child_data (child_view a) ≡ child_data (ch
 fields_tell a b p = child_view-inj a b (children_tell (child_view a) (child_view b) p)
 
 bibliography_items_tell : Tells item_data
-bibliography_items_tell a b p = let same = parts a.first_field b.first_field p in λ i. record { key = same.0 i; first_field = same.1.0 i; content = same.1.1 i }
+bibliography_items_tell a b p = let same = parts a.first_field b.first_field p in λ i. record { key = same.0 i; first_field = same.1 i; content = same.2 i }
   where
     parts : (x y : Option ElemChild) → item_data (record { key = a.key; first_field = x; content = a.content }) ≡ item_data (record { key = b.key; first_field = y; content = b.content })
         → (a.key ≡ b.key) × (x ≡ y) × (a.content ≡ b.content)
@@ -247,7 +275,7 @@ bibliographies_tell a b p =
   where
     aligned_tell : (x y : Option SecondFieldAlign)
         → bibliography_data (record { hanging_indent = a.hanging_indent; second_field_align = x; line_spacing = a.line_spacing; entry_spacing = a.entry_spacing; items = a.items })
-          ≡ bibliography_data (record { hanging_indent = b.hanging_indent; second_field_align = y; line_spacing = b.line_spacing; entry_spacing = b.entry_spacing; items = b.items })
+        ≡ bibliography_data (record { hanging_indent = b.hanging_indent; second_field_align = y; line_spacing = b.line_spacing; entry_spacing = b.entry_spacing; items = b.items })
         → x ≡ y
     aligned_tell None None p = refl
     aligned_tell (Some x) (Some y) p = let names : align_name x ≡ align_name y = cc in ap Some (aligns_tell x y names)
