@@ -1,3 +1,4 @@
 pub mod Floats
 pub mod Kids
 pub mod Ordered
+pub mod Injective

@@ -4,6 +4,7 @@
 #![tactic(auto)]
 
 mod answers;
+pub mod laws;
 mod metas;
 mod objects;
 pub mod printing;

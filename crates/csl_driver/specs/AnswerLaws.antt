@@ -21,8 +21,9 @@ use Rattle.csl_rounds.specs.RunLaws.{IsLawful, last_shown}
 use Rattle.csl_rounds.specs.Tables.{last_table}
 use Rattle.csl_rounds.specs.declared.mode.RoundMode.{RoundMode}
 
--- the entries of an account, no two of which are equal, have the offset and the numbers that follow, each once
-pub record HaveNumbersOnce {E : Type 0} (eq : E → E → Bool) (offset : ℕ) (entries : List E) (numbers : List ℕ) : Type 0 where
+-- entries of which no two are equal have the offset and the numbers that follow, each once
+pub record HaveNumbersOnce {E : Type 0} (eq : E → E → Bool) (offset : ℕ)
+    (entries : List E) (numbers : List ℕ) : Type 0 where
   pub apart : NoTwoEqual eq entries
   pub each_once : IsPermutation (range_with_len offset (length entries)) numbers
 
@@ -57,7 +58,8 @@ module _ {E P : Type 0} where
         → CanBeReadBack cites.items drawn.items cites.request.style.citation.collapse
 
   -- how the citations of an answer came from the cites as they were told apart
-  pub record ComeFrom (answers : E → Answers) (asked : Asked E P) (told : List (CiteRender E P)) (citations : List RenderedCitation) : Type 0 where
+  pub record ComeFrom (answers : E → Answers) (asked : Asked E P)
+      (told : List (CiteRender E P)) (citations : List RenderedCitation) : Type 0 where
     -- the cites of each request in a final order, then with final positions and numbers, then collapsed
     pub ordered : List (CiteRender E P)
     pub settled : List (CiteRender E P)
@@ -70,8 +72,9 @@ module _ {E P : Type 0} where
     pub made : citations ≡ map (citation_of answers) drawn
 
 -- what holds of every answer and its account
-pub record KeepsLaws {E P : Type 0} (eq : E → E → Bool) (payload_eq : P → P → Bool) (answers : E → Answers) (mode : RoundMode) (asked : Asked E P) (r : Rendered × Account E) : Type 0 where
-  -- the tables of states: one behind the empty one for each round that marked, and at the last the account's states
+pub record KeepsLaws {E P : Type 0} (eq : E → E → Bool) (payload_eq : P → P → Bool) (answers : E → Answers)
+    (mode : RoundMode) (asked : Asked E P) (r : Rendered × Account E) : Type 0 where
+  -- the tables of states: the empty one, one more for each round that marked, and last the account's states
   pub tables : List (StateTable E)
   pub first_is_empty : slice_get tables 0 ≡ Some no_states
   pub one_for_each_round : r.1.rounds ≡ min (length tables - 1) (2 ^ 128 - 1)

@@ -10,7 +10,8 @@ use Rattle.csl_entries.specs.Entries.{distinct}
 use Rattle.csl_passes.specs.Request.{cited}
 use Rattle.csl_rounds.specs.declared.mode.RoundMode.{RoundMode}
 
-module _ {E P : Type 0} (eq : E → E → Bool) (payload_eq : P → P → Bool) (answers : E → Answers) (mode : RoundMode) (asked : Asked E P) (r : Rendered × Account E) where
+module _ {E P : Type 0} (eq : E → E → Bool) (payload_eq : P → P → Bool) (answers : E → Answers)
+    (mode : RoundMode) (asked : Asked E P) (r : Rendered × Account E) where
   -- the answer to what is asked, with its account
   pub record IsExactly : Type 0 where
     pub ok : r.0 ≡ rendered eq payload_eq answers mode asked
@@ -19,8 +20,10 @@ module _ {E P : Type 0} (eq : E → E → Bool) (payload_eq : P → P → Bool) 
     pub rounds : r.1.rounds ≡ min (marking eq payload_eq answers mode asked) (2 ^ 128 - 1)
     -- the distinct entries, in the order of their first cites; and at the same places their states and numbers
     pub entries : map (λ e. e.now) r.1.entries.items ≡ distinct eq (cited asked.requests)
-    pub states : r.1.states.items ≡ map (final_state eq payload_eq answers mode asked) (distinct eq (cited asked.requests))
-    pub numbers : r.1.numbers.items ≡ map (final_number eq payload_eq answers mode asked) (distinct eq (cited asked.requests))
+    pub states : r.1.states.items
+        ≡ map (final_state eq payload_eq answers mode asked) (distinct eq (cited asked.requests))
+    pub numbers : r.1.numbers.items
+        ≡ map (final_number eq payload_eq answers mode asked) (distinct eq (cited asked.requests))
 
   -- it is that, and the laws hold of it
   pub record IsAnswer : Type 0 where

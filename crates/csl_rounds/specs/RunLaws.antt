@@ -15,7 +15,8 @@ use Rattle.csl_rounds.specs.Rounds.{StateTable, at_table, entries_cited, told_by
 use Rattle.csl_rounds.specs.Tables.{last_table, marks_at, most_forms}
 use Rattle.csl_rounds.specs.declared.mode.RoundMode.{RoundMode}
 
--- where so many rounds marked, they came to an end by themselves: in mode three fewer than three, in mode full any number
+-- where so many rounds marked, they came to an end by themselves: in mode three fewer than three, in mode full
+-- any number
 abbrev pub Ended : RoundMode → ℕ → Type 0
 Ended RoundMode.Three marked = marked < 3
 Ended RoundMode.Full marked = ⊤
@@ -25,7 +26,8 @@ abbrev pub IsInNoGroup : {E P : Type 0} → (E → E → Bool) → List (CiteRen
 IsInNoGroup eq cites e =
     All (λ group. All (λ m. eq e (entry_of m) ≡ false) (members cites group)) (ambiguous_groups eq cites)
 
-module _ {E P : Type 0} (mode : RoundMode) (eq : E → E → Bool) (answers : E → Answers) (firsts : List (CiteRender E P)) where
+module _ {E P : Type 0} (mode : RoundMode) (eq : E → E → Bool) (answers : E → Answers)
+    (firsts : List (CiteRender E P)) where
   -- the cites as they stand at a table
   abbrev pub shown_at : StateTable E → List (CiteRender E P)
   shown_at table = at_table answers table firsts
@@ -48,7 +50,7 @@ module _ {E P : Type 0} (mode : RoundMode) (eq : E → E → Bool) (answers : E 
     pub one_of_them : Contains own mark
     pub is_suffix : mark.1 ≡ YearSuffix suffix
 
-  -- the distinct entries that the group cites have the suffixes 0, 1, 2 and on, in the order of their first cites in it
+  -- the distinct entries that the group cites have the suffixes 0, 1, 2 and on, by their first cites in it
   abbrev pub HasSuffixesInOrder : StateTable E → StateTable E → List Place → Type 0
   HasSuffixesInOrder table next group =
       let entries = distinct eq (map entry_of (members (shown_at table) group)) in
@@ -78,7 +80,8 @@ module _ {E P : Type 0} (mode : RoundMode) (eq : E → E → Bool) (answers : E 
       pub stay : AllPairs (λ t later. (e : E) (n : ℕ)
           → t e ≡ Some (YearSuffix n) → later e ≡ Some (YearSuffix n)) tables
       -- and is in no ambiguous group
-      pub apart : All (λ t. (e : E) (n : ℕ) → t e ≡ Some (YearSuffix n) → IsInNoGroup eq (shown_at t) e) tables
+      pub apart : All (λ t. (e : E) (n : ℕ)
+          → t e ≡ Some (YearSuffix n) → IsInNoGroup eq (shown_at t) e) tables
       -- a group that gets suffixes has them in order in the next table
       pub in_order : OfEachAndTheNext
           (λ t next. (group : List Place) → GetsSuffixes t group → HasSuffixesInOrder t next group)
@@ -90,11 +93,13 @@ module _ {E P : Type 0} (mode : RoundMode) (eq : E → E → Bool) (answers : E 
     -- only the ambiguous are marked, and nothing is left, where so many rounds marked
     pub record NothingLeft (marked : ℕ) : Type 0 where
       -- an entry that is in no ambiguous group of a table but the last has no state in the last one
-      pub only_ambiguous : (e : E) → All (λ t. IsInNoGroup eq (shown_at t) e) (take (length tables - 1) tables)
+      pub only_ambiguous : (e : E)
+          → All (λ t. IsInNoGroup eq (shown_at t) e) (take (length tables - 1) tables)
           → last_table tables e ≡ None
       -- where the rounds came to an end, no ambiguous group can be marked
       pub none_left : Ended mode marked
-          → All (CannotBeMarked (ways eq last_shown (shows_dates answers last_shown) mode)) (ambiguous_groups eq last_shown)
+          → All (CannotBeMarked (ways eq last_shown (shows_dates answers last_shown) mode))
+          (ambiguous_groups eq last_shown)
       -- and where dates are shown, two ambiguous cites are of styles that add no suffixes
       pub told_apart : Ended mode marked → shows_dates answers last_shown ≡ true
           → (a b : Member E P) → AreAmbiguous eq last_shown a b → adds_suffix (a ∷ b ∷ []) ≡ false
@@ -104,9 +109,11 @@ module _ {E P : Type 0} (mode : RoundMode) (eq : E → E → Bool) (answers : E 
       -- from each table to the next no entry's rank falls
       pub none_falls : OfEachAndTheNext (λ t next. (e : E) → rank_at t e ≤ rank_at next e)
       -- and that of some cited entry rises
-      pub one_rises : OfEachAndTheNext (λ t next. Any (λ e. rank_at t e < rank_at next e) (entries_cited firsts))
+      pub one_rises : OfEachAndTheNext
+          (λ t next. Any (λ e. rank_at t e < rank_at next e) (entries_cited firsts))
       -- of n distinct entries, where no first name has more than F forms, at most n times 3F + 3 rounds mark
-      pub bound : length tables - 1 ≤ length (distinct eq (entries_cited firsts)) * (3 * most_forms firsts + 3)
+      pub bound : length tables - 1
+          ≤ length (distinct eq (entries_cited firsts)) * (3 * most_forms firsts + 3)
 
     -- all of these; ranks are those of mode full
     pub record IsLawful (marked : ℕ) : Type 0 where

@@ -30,7 +30,8 @@ pub fn states_go_on<T: EntryLike, P>()
 /// shows dates are of styles that add no suffixes.
 pub fn nothing_is_left<T: EntryLike, P>()
     ensures { (mode : RoundMode) (firsts : List (CiteRender T P)) → AreBegun firsts
-        → NothingLeft mode T.eq T.answers firsts (tables mode T.eq T.answers firsts) (rounds mode T.eq T.answers firsts) }
+        → NothingLeft mode T.eq T.answers firsts (tables mode T.eq T.answers firsts)
+        (rounds mode T.eq T.answers firsts) }
 {
     csl_lookup::laws::states_have_a_greatest();
     csl_lookup::laws::states_go_on();
@@ -66,7 +67,8 @@ pub fn ranks_rise<T: EntryLike, P>()
 pub fn runs_are_lawful<T: EntryLike, P>()
     ensures { (mode : RoundMode) (requests : List (Request T P)) (properties : List (List FirstProperties))
         → let firsts = first_renders T.answers requests properties in
-        IsLawful mode T.eq T.answers firsts (tables mode T.eq T.answers firsts) (rounds mode T.eq T.answers firsts) }
+        IsLawful mode T.eq T.answers firsts (tables mode T.eq T.answers firsts)
+        (rounds mode T.eq T.answers firsts) }
 {
     states_go_on::<T, P>();
     suffixes_stay::<T, P>();

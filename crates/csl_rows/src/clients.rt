@@ -27,7 +27,8 @@ fn place_of(numbers: &[usize], number: usize) -> Option<usize>
 /// from the offset on, as many as there are entries, is that of an entry.
 pub fn entry_of_number<'a, T: EntryLike>(account: &Account<'a, T>, number: usize) -> Option<&'a T>
     ensures own { IfSome result (λ e. StandAtOnePlace account.now e.now number) }
-    ensures each { (offset : ℕ) → HaveNumbersOnce T.eq offset (map (λ e. e.now) account.now.entries.items) account.now.numbers.items
+    ensures each { (offset : ℕ)
+        → HaveNumbersOnce T.eq offset (map (λ e. e.now) account.now.entries.items) account.now.numbers.items
         → offset ≤ number → number < offset + length account.now.entries.items → IsSome result }
 {
     let place = place_of(&account.numbers, number)?;
@@ -88,7 +89,8 @@ pub fn letters_of_two<'a, T: EntryLike, P: Eq>(
     second: usize,
 ) -> Result<Option<(String, String)>, AllocError>
     ensures differ { IfOk result (λ o. IfSome o (λ letters.
-        (mode : RoundMode) (asked : Asked T P) (rendered : Rendered) (laws : KeepsLaws T.eq P.eq T.answers mode asked (rendered, account.now))
+        (mode : RoundMode) (asked : Asked T P) (rendered : Rendered)
+        (laws : KeepsLaws T.eq P.eq T.answers mode asked (rendered, account.now))
         → GotSuffixesTogether T.eq P.eq T.answers mode asked (rendered, account.now) laws first second
         → string_bytes letters.0 ≢ string_bytes letters.1)) }
 {

@@ -16,9 +16,11 @@ use csl_rounds::laws::{nothing_is_left, states_go_on, suffixes_stay};
 /// 1 and 2, where they are to get 0 and 1.
 pub fn suffix_by_cite()
     ensures refuted { ¬ SuffixesStay RoundMode.Three same_sample silent alike by_cite }
-    ensures right { SuffixesStay RoundMode.Three same_sample silent alike (tables RoundMode.Three same_sample silent alike) }
+    ensures right { SuffixesStay RoundMode.Three same_sample silent alike
+        (tables RoundMode.Three same_sample silent alike) }
     ensures right_states { let next = slice_index_or (tables RoundMode.Three same_sample silent alike) 1 no_states in
-        (next (entry 0) ≡ Some (DisambiguateState.YearSuffix 0)) × (next (entry 1) ≡ Some (DisambiguateState.YearSuffix 1)) }
+        (next (entry 0) ≡ Some (DisambiguateState.YearSuffix 0))
+        × (next (entry 1) ≡ Some (DisambiguateState.YearSuffix 1)) }
 {
     suffixes_stay::<Sample, u64>();
 }
@@ -35,7 +37,8 @@ pub fn state_on_every_entry()
 /// the choice: the choice is the greater one, and is to stay.
 pub fn later_mark_overwrites()
     ensures refuted { ¬ StatesGoOn RoundMode.Three same_sample silent in_two_groups overwritten_at_once }
-    ensures right { StatesGoOn RoundMode.Three same_sample silent in_two_groups (tables RoundMode.Three same_sample silent in_two_groups) }
+    ensures right { StatesGoOn RoundMode.Three same_sample silent in_two_groups
+        (tables RoundMode.Three same_sample silent in_two_groups) }
     ensures right_state { let next = slice_index_or (tables RoundMode.Three same_sample silent in_two_groups) 1 no_states in
         next (entry 0) ≡ Some DisambiguateState.Choose }
 {
