@@ -166,7 +166,7 @@ fn answer_of<'e>(
 fn answer_value(alloc: Global, value: Value) -> Result<Rendered, RunError>
     ensures { Answers result (document_form (view value)) }
 {
-    let object = top_of(&value)?;
+    let object = top_of(alloc, &value)?;
     let styles = styles_of(alloc, object)?;
     let locales = locales_at(alloc, object, "locales")?;
     let entries = entries_of(alloc, object)?;
@@ -181,7 +181,7 @@ fn answer_value(alloc: Global, value: Value) -> Result<Rendered, RunError>
 pub fn answer_bytes(alloc: Global, bytes: &[u8]) -> Result<Rendered, RunError>
     ensures { Answers result (form bytes.now) }
 {
-    let text = utf8_text(bytes)?;
+    let text = utf8_text(alloc, bytes)?;
     let value = value_of(alloc, text)?;
     answer_value(alloc, value)
 }
