@@ -1,4 +1,0 @@
-pub mod Floats
-pub mod Kids
-pub mod Ordered
-pub mod Injective

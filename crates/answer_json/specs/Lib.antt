@@ -1,4 +1,0 @@
-pub mod Members
-pub mod MetaData
-pub mod TreeData
-pub mod AnswerData

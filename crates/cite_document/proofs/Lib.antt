@@ -1,3 +1,0 @@
-pub mod Consumed
-pub mod Refusals
-pub mod Written

@@ -1,4 +1,0 @@
-pub mod Joined
-pub mod Taken
-pub mod Equal
-pub mod CountedNext

@@ -1,6 +1,0 @@
-pub mod Assembly
-pub mod LastTree
-pub mod CitationTree
-pub mod ShownView
-pub mod ChildOf
-pub mod BibliographyItems

@@ -1,5 +1,0 @@
-pub mod CutSteps
-pub mod TextSteps
-pub mod OpenSteps
-pub mod FrameSteps
-pub mod WordingSteps

@@ -1,8 +1,0 @@
-pub mod Entries
-pub mod Laws
-pub mod Table
-pub mod TableView
-pub mod Listed
-pub mod ListingView
-pub mod Gathering
-pub mod PlacedItems

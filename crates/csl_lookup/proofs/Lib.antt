@@ -1,7 +1,0 @@
-pub mod Greater
-pub mod StateOrder
-pub mod FirstAnswers
-pub mod Letters
-pub mod Copies
-pub mod Equal
-pub mod GoingOn

@@ -1,9 +1,0 @@
-pub mod Class
-pub mod Request
-pub mod RequestView
-pub mod Renders
-pub mod RendersView
-pub mod Places
-pub mod Positions
-pub mod Same
-pub mod Unprepared

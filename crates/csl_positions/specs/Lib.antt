@@ -1,4 +1,0 @@
-pub mod FirstProperties
-pub mod Seen
-pub mod FinalProperties
-pub mod FinalSteps

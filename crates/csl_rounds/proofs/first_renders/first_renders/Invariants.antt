@@ -1,8 +1,0 @@
-use Rattle.std.proofs.Common.{map}
-use Rattle.csl_passes.specs.RendersView.{renders_view}
-use Rattle.csl_passes.specs.RequestView.{requests_view}
-use Rattle.csl_rounds.proofs.FirstSteps.{RendersMade, row_of}
-use Rattle.csl_rounds.proofs.first_renders.first_renders.Given as goal
-
-abbrev pub invariant-loop-k : goal.invariant-loop-k
-invariant-loop-k g l = RendersMade g.T.EntryLike.answers (requests_view l.requests) (map row_of l.firsts) l.k l.fn.renders (renders_view l.made.renders.items) l.renders

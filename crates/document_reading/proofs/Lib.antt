@@ -1,4 +1,0 @@
-pub mod FirstKeyed
-pub mod Pairs
-pub mod Rows
-pub mod Utf8

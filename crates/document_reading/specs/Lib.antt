@@ -1,9 +1,0 @@
-pub mod Prepared
-pub mod FoundView
-pub mod Entries
-pub mod Requests
-pub mod Finders
-pub mod WantedView
-pub mod AskedView
-pub mod Form
-pub mod DocumentView

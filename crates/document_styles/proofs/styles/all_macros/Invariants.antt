@@ -1,8 +1,0 @@
--- Macros are read one after another.
-use Rattle.csl_base.specs.ElementView.{macros_view}
-use Rattle.document_styles.specs.Styles.{macro_form}
-use Rattle.document_words.proofs.Progress.{Progress}
-use Rattle.document_styles.proofs.styles.all_macros.Given as goal
-
-abbrev pub invariant-loop-item : goal.invariant-loop-item
-invariant-loop-item l = Progress macro_form l.items l.item-index (macros_view l.macros.items)

@@ -1,4 +1,0 @@
-pub mod Reads
-pub mod Words
-pub mod Tables
-pub mod Names
