@@ -50,36 +50,16 @@ fn lettered(alloc: Global) -> Result<IndependentStyle, AllocError> {
     Ok(style)
 }
 
-/// Whether the entry of a number has this key.
-fn is_key_of(account: &Account<'_, PlainEntry>, number: usize, key: &str) -> bool {
-    match entry_of_number(account, number) {
-        Some(entry) => entry.key.as_str() == key,
-        None => false,
-    }
-}
-
-/// Whether 2, 3 and 4 are the numbers of a, b and c, and 1 is that of none.
-fn are_numbered(
-    alloc: Global,
-    style: &IndependentStyle,
-    entries: &[PlainEntry],
-) -> Result<bool, Fail> {
-    let account = account_of(alloc, style, entries)?;
-    let all = is_key_of(&account, 2, "a")
-        && is_key_of(&account, 3, "b")
-        && is_key_of(&account, 4, "c");
-    Ok(all && entry_of_number(&account, 1).is_none())
-}
-
-/// The same in the numeric style.
-fn are_numbered_in_numeric(alloc: Global, entries: &[PlainEntry]) -> Result<bool, Fail> {
-    are_numbered(alloc, &numeric(alloc)?, entries)
-}
-
 #[test]
 fn numbers_have_entries(rt: HostRuntime) -> Result<(), Fail> {
     let entries = issued(rt.alloc(), &["a", "b", "c"])?;
-    assert!(rt; are_numbered_in_numeric(rt.alloc(), &entries)?);
+    let style = numeric(rt.alloc())?;
+    let account = account_of(rt.alloc(), &style, &entries)?;
+    for (number, key) in [(2, "a"), (3, "b"), (4, "c")] {
+        let found = entry_of_number(&account, number).ok_or("no entry has the number")?;
+        assert!(rt; found.key.as_str() == key);
+    }
+    assert!(rt; entry_of_number(&account, 1).is_none());
     Ok(())
 }
 
@@ -90,32 +70,13 @@ fn hidden_numbers_are_read(rt: HostRuntime) -> Result<(), Fail> {
     Ok(())
 }
 
-/// Whether the letters of two texts, if they are there, are a and b.
-fn are_a_and_b(letters: Option<(String, String)>) -> bool {
-    match letters {
-        Some((one, other)) => one.as_str() == "a" && other.as_str() == "b",
-        None => false,
-    }
-}
-
-/// Whether the first two entries have the letters a and b.
-fn are_lettered(
-    alloc: Global,
-    style: &IndependentStyle,
-    entries: &[PlainEntry],
-) -> Result<bool, Fail> {
-    let account = account_of(alloc, style, entries)?;
-    Ok(are_a_and_b(letters_of_two::<PlainEntry, Infallible>(alloc, &account, 0, 1)?))
-}
-
-/// The same in the style of years and letters.
-fn are_lettered_in_years(alloc: Global, entries: &[PlainEntry]) -> Result<bool, Fail> {
-    are_lettered(alloc, &lettered(alloc)?, entries)
-}
-
 #[test]
 fn suffixes_have_letters(rt: HostRuntime) -> Result<(), Fail> {
     let entries = issued(rt.alloc(), &["a", "b"])?;
-    assert!(rt; are_lettered_in_years(rt.alloc(), &entries)?);
+    let style = lettered(rt.alloc())?;
+    let account = account_of(rt.alloc(), &style, &entries)?;
+    let letters = letters_of_two::<PlainEntry, Infallible>(rt.alloc(), &account, 0, 1)?;
+    let (one, other) = letters.ok_or("no suffixes")?;
+    assert!(rt; one.as_str() == "a" && other.as_str() == "b");
     Ok(())
 }
