@@ -5,7 +5,7 @@ use Rattle.csl_passes.specs.Renders.{ItemRender}
 use Rattle.wrong_answers.specs.Samples.{cite, with_number}
 use Rattle.wrong_answers.specs.declared.sample.Sample.{Sample}
 
--- a cite that shows this number
+-- a cite with this number; its text, here a letter, tells nothing of runs
 abbrev pub numbered : ℕ → ItemRender Sample ℕ
 numbered n = cite n n (with_number (codes "n") ∷ [])
 

@@ -1,9 +1,8 @@
 //! Numbers that aren't those of the entries, and renderings that are too many.
-ghost use Rattle.std.specs.Prelude.{◌≡◌, ◌-◌, ◌^◌, min};
+ghost use Rattle.std.specs.Prelude.{◌≡◌, ◌-◌, ◌^◌, min, nat_eq};
 ghost use Rattle.csl_driver.specs.Account.{cost};
 ghost use Rattle.csl_driver.specs.AnswerLaws.{AreInOrder, HaveNumbersOnce};
 ghost use Rattle.csl_rounds.specs.declared.mode.RoundMode.{RoundMode};
-ghost use Rattle.std.specs.Prelude.{nat_eq};
 ghost use Rattle.wrong_answers.specs.Counts.{asked};
 ghost use Rattle.wrong_answers.specs.Numbers.{after_grouping, entries, numbers_before, numbers_of_cites, right_numbers};
 ghost use Rattle.wrong_answers.specs.Silent.{same_sample, silent};
