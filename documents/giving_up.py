@@ -21,7 +21,7 @@ OUT_OF_MEMORY = 'Err(DriverError::OutOfMemory(std::alloc::AllocError))'
 FINISH = [
     ('csl_driver/src/finish.rt', 'let result = checked_answer(alloc, &citations, &request, mode, offset);',
      'let _ = (alloc, &request, mode, offset); let result = %s;' % OUT_OF_MEMORY),
-    ('csl_driver/src/standalone.rt', 'let cites = lone_cites(alloc, &request)?;', 'if true { return %s; } let cites = lone_cites(alloc, &request)?;' % OUT_OF_MEMORY),
+    ('csl_driver/src/standalone.rt', 'let cites = lone_cites(alloc, acyclic)?;', 'if true { return %s; } let cites = lone_cites(alloc, acyclic)?;' % OUT_OF_MEMORY),
 ]
 CITATION = [('csl_driver/src/driver.rt', 'if let Err(_) = self.citations.try_reserve(1) {', 'if true {')]
 RUN = [('cite_document/src/running.rt', 'let text = print_bytes(alloc, bytes)?;', 'if true { return Err(RunError::OutOfMemory); } let text = print_bytes(alloc, bytes)?;')]

@@ -7,7 +7,8 @@ answer the documents by the public calls: each by `finish` or, where it says so,
 NAME.account, by `finish_counted` or `finish_full` once more, of which the account is printed, or why there is none; where
 there is a NAME.alone, each request by `standalone_citation`; where there is a NAME.passes, by the passes themselves, on cites
 that are written without a driver; where there is a NAME.equality, it is told which requests are equal to the first, and whether that
-for the bibliography is one for its style alone. A copy of each answer has to be equal to it. Where there is a NAME.context,
+for the bibliography is one for its style alone. A copy of each answer has to be equal to it. It tells where each document that is
+refused is wrong, which faults.txt has for most of them, and nothing of the others. Where there is a NAME.context,
 crates/context_calls prints what calls of a writing context give in its first style. It refuses each growth of memory in turn
 (refuse.c, for which a C compiler must be there), in all three programs; each such sweep is for some calls, and fails where one of
 them met no refusal.
@@ -207,6 +208,43 @@ def call_by_call(calls, contexts, bases):
             made.append(('copies: ' + name_of(base), by_calls, calls, 'copies', base, 0, b'copy: equal\n'))
     ring = HERE + '/rows/ring_of_one_macro'
     return [*made, ('standalone: ' + name_of(ring), by_calls, calls, 'standalone_citation', ring, 3, b'')]
+
+
+def faults_wanted():
+    """The fault that each document of faults.txt must name."""
+    rows = [it.split(' | ') for it in read(HERE + '/faults.txt').decode().splitlines() if it and not it.startswith('#')]
+    return {HERE + '/' + base: {'pointer': pointer, 'found': found, 'wanted': asked} for base, pointer, found, asked in rows}
+
+
+def pointed_to(value, pointer):
+    """What a JSON Pointer leads to."""
+    for part in pointer.split('/')[1:]:
+        part = part.replace('~1', '/').replace('~0', '~')
+        value = value[int(part)] if isinstance(value, list) else value[part]
+    return value
+
+
+def fault(calls, base, must):
+    """A refused document's fault is told, and leads to a part of it; of any other document nothing is told."""
+    status, _ = wanted(base)
+    got = ended(calls, b'fault\n' + read(base + '.json'))
+    if got[0] != 0 or bool(got[1]) != (status == 2):
+        raise Failed('status %d, and %r told' % (got[0], shortened(got[1])))
+    if status != 2:
+        return
+    told = json.loads(got[1])
+    if must not in (None, told):
+        raise Failed('told %s, and not %s' % (told, must))
+    if not told['found'].startswith('no '):
+        pointed_to(json.loads(read(base + '.json')), told['pointer'])
+
+
+def faults(calls, bases):
+    must = faults_wanted()
+    lost = sorted(set(must) - set(bases))
+    if lost:
+        raise Failed('no document is there for ' + ', '.join(lost))
+    return [('fault: ' + name_of(it), fault, calls, it, must.get(it)) for it in bases]
 
 
 def failing_writer(calls):
@@ -750,6 +788,7 @@ def main():
         except Failed as error:
             tests.append(('growths of memory', cannot, str(error)))
         tests += call_by_call(calls, contexts, bases)
+        tests += faults(calls, bases)
         tests += [('process: ' + it.__name__.replace('_', ' '), it, calls) for it in (failing_writer, slow_reader, most_reads)]
     else:
         tests.append(('programs of calls', cannot, 'crates/call_by_call and crates/context_calls are not both built'))

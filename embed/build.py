@@ -24,6 +24,7 @@ CRATE = f'{ROOT}/crates/gamhilon_c'
 ARCHIVE = f'{CRATE}/out/libgamhilon_c.a'
 NOTE = 'gamhilon_build.json'
 EXPORTS = [
+    'gamhilon_fault',
     'gamhilon_print',
     'gamhilon_print_json',
     'gamhilon_ring',

@@ -60,7 +60,7 @@ extern "C" {
  * and the rest of it is as it was. `*length` is the length of the whole answer at GAMHILON_OK and at
  * GAMHILON_ROOM_TOO_SMALL, and else 0. There is no status 1: that is the program's, where reading or writing fails. */
 #define GAMHILON_OK 0u
-#define GAMHILON_DOCUMENT_REFUSED 2u /* not JSON, or not of the form of a document */
+#define GAMHILON_DOCUMENT_REFUSED 2u /* not JSON, or not of the form of a document: gamhilon_fault tells where */
 #define GAMHILON_MACRO_RING 3u       /* the macros of a style call each other in a ring: gamhilon_ring tells where */
 #define GAMHILON_NUMBER_OVERFLOW 4u  /* the citation numbers don't fit 64 bits */
 #define GAMHILON_OUT_OF_MEMORY 5u    /* memory was refused */
@@ -73,6 +73,17 @@ uint32_t gamhilon_print(const uint8_t *document, size_t document_length,
 /* Puts the answer to the document, as JSON, into the room. */
 uint32_t gamhilon_print_json(const uint8_t *document, size_t document_length,
                              uint8_t *room, size_t room_length, size_t *length);
+
+/* Tells where the document is wrong: puts its first fault into the room, as a JSON object of three texts, as
+ *
+ *     {"found":"a number","pointer":"/entries/0/author/1/1","wanted":"a text"}
+ *
+ * `pointer` is a JSON Pointer (RFC 6901) to the part of the document, `found` what stands there, and `wanted` what is asked
+ * for there (docs/DOCUMENT.md, "Where a document is wrong"). A document that isn't refused has no fault: then `*length` is 0.
+ * Ends with GAMHILON_OK, GAMHILON_OUT_OF_MEMORY or GAMHILON_ROOM_TOO_SMALL, and treats room and `*length` as the calls above.
+ * It reads the document, and renders nothing. */
+uint32_t gamhilon_fault(const uint8_t *document, size_t document_length,
+                        uint8_t *room, size_t room_length, size_t *length);
 
 /* Where the first ring of macros is. */
 typedef struct {

@@ -141,11 +141,22 @@ def try_from_c(room, cases):
             hold(printed(value) == case.text.decode(), f'{case.name}: the text that is read off its JSON')
             if schema:
                 hold(schema.is_valid(value), f'{case.name}: its JSON against docs/answer.schema.json')
+    try_faults(room, cases)
     one = Case(f'{HERE}/tests/every_kind.json')
     status, answer = answers_of(room, 'json', big, [one])[0]
     wanted = json.loads(read(f'{HERE}/tests/every_kind.answer.json'))
     hold(status == 0 and json.loads(answer) == wanted, 'the JSON that was worked out by hand for tests/every_kind.json')
     return [it[1] for it in texts['json']]
+
+
+def try_faults(room, cases):
+    """The first fault of each refused document, which is the one of documents/faults.txt where that has it; of others none."""
+    rows = [it.split(' | ') for it in read(f'{ROOT}/documents/faults.txt').decode().splitlines() if it and it[0] != '#']
+    must = {f'documents/{base}.json': dict(zip(('pointer', 'found', 'wanted'), row)) for base, *row in rows}
+    for length in (1 << 12, 1):
+        for case, (status, told) in zip(cases, answers_of(room, 'fault', length, cases)):
+            hold(status == 0 and bool(told) == (case.status == 2), f'{case.name}: fault, status {status}, {told!r}')
+            hold(must.get(case.name) in (None, json.loads(told or 'null')), f'{case.name}: the fault is {told!r}')
 
 
 def members(part):

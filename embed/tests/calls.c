@@ -1,6 +1,6 @@
 /* calls FORM ROOM FILE..: answers each document in a room of ROOM bytes, and where that is too small in one that fits, and
  * holds each call to what gamhilon.h says of the room and of the length. Writes of each a line "STATUS LENGTH", and the
- * answer. FORM is text or json. */
+ * answer. FORM is text, json or fault. */
 #include "gamhilon.h"
 
 #include <stdio.h>
@@ -43,7 +43,7 @@ static uint32_t tried(call *f, const char *file, const uint8_t *document, size_t
 }
 
 int main(int argc, char **argv) {
-    call *f = strcmp(argv[1], "json") == 0 ? gamhilon_print_json : gamhilon_print;
+    call *f = strcmp(argv[1], "json") == 0 ? gamhilon_print_json : strcmp(argv[1], "fault") == 0 ? gamhilon_fault : gamhilon_print;
     size_t given_room = strtoul(argv[2], NULL, 10);
     for (int i = 3; i < argc; i++) {
         FILE *file = fopen(argv[i], "rb");

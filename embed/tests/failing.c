@@ -1,5 +1,5 @@
-/* failing FILE..: each allocation of a call refused in turn, and each refused with all that come after it; of both texts and of
- * the place of a ring. Linked with --wrap=malloc,--wrap=realloc,--wrap=free. */
+/* failing FILE..: each allocation of a call refused in turn, and each refused with all that come after it; of both texts, of
+ * the fault and of the place of a ring. Linked with --wrap=malloc,--wrap=realloc,--wrap=free. */
 #include "gamhilon.h"
 
 #include <stdio.h>
@@ -52,6 +52,7 @@ static uint32_t called(int form, uint8_t *into, size_t *length) {
     *length = 0;
     if (form == 0) return gamhilon_print(document, n, into, ROOM, length);
     if (form == 1) return gamhilon_print_json(document, n, into, ROOM, length);
+    if (form == 2) return gamhilon_fault(document, n, into, ROOM, length);
     return gamhilon_ring(document, n, &ring);
 }
 
@@ -68,7 +69,7 @@ int main(int argc, char **argv) {
         FILE *file = fopen(argv[i], "rb");
         n = fread(document, 1, sizeof document, file);
         fclose(file);
-        for (int form = 0; form < 3; form++) {
+        for (int form = 0; form < 4; form++) {
             size_t whole_length, length;
             left = -1, made = open_blocks = 0;
             uint32_t whole_status = called(form, answer, &whole_length);

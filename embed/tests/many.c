@@ -1,5 +1,5 @@
-/* many COUNT FILE..: COUNT calls in four threads, for valgrind: of each document the text, the JSON and the place of a ring,
- * in rooms of every length around the right one, and in none. */
+/* many COUNT FILE..: COUNT calls in four threads, for valgrind: of each document the text, the JSON, the fault and the place of
+ * a ring, in rooms of every length around the right one, and in none. */
 #include "gamhilon.h"
 
 #include <pthread.h>
@@ -13,11 +13,11 @@ typedef uint32_t call(const uint8_t *, size_t, uint8_t *, size_t, size_t *);
 
 typedef struct {
     uint8_t *document;
-    size_t n, lengths[2];
-    uint32_t statuses[2];
+    size_t n, lengths[3];
+    uint32_t statuses[3];
 } work;
 
-static call *const calls[2] = {gamhilon_print, gamhilon_print_json};
+static call *const calls[3] = {gamhilon_print, gamhilon_print_json, gamhilon_fault};
 static work *works;
 static int count, times;
 
@@ -35,9 +35,9 @@ static void *worker(void *first) {
     size_t wrong = 0;
     for (int t = *(int *)first; t < times; t += THREADS) {
         const work *it = &works[t % count];
-        int form = t / count % 3, step = t / count / 3 % (2 * AROUND + 1) - AROUND;
+        int form = t / count % 4, step = t / count / 4 % (2 * AROUND + 1) - AROUND;
         gamhilon_ring_place ring;
-        if (form == 2) wrong += gamhilon_ring(it->document, it->n, &ring) != it->statuses[0];
+        if (form == 3) wrong += gamhilon_ring(it->document, it->n, &ring) != it->statuses[0];
         else if (step < 0 && it->lengths[form] < (size_t)-step) wrong += tried(it, form, 0);
         else wrong += tried(it, form, it->lengths[form] + (size_t)step);
     }
@@ -59,7 +59,7 @@ int main(int argc, char **argv) {
         works[i].document = malloc(n > 0 ? n : 1);
         works[i].n = n;
         memcpy(works[i].document, room, n);
-        for (int form = 0; form < 2; form++)
+        for (int form = 0; form < 3; form++)
             works[i].statuses[form] = calls[form](works[i].document, n, room, ROOM, &works[i].lengths[form]);
     }
     for (int i = 0; i < THREADS; i++) {

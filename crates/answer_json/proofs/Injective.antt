@@ -1,11 +1,11 @@
 -- Equal data comes of equal values.
-use Rattle.std.proofs.Common.{◌≡◌, ◌<◌, ℕ, ℤ, pos, negsuc, true, List, [], ◌∷◌, Option, Some, None, map, option_map, refl, ap, sym, ◌∙◌, true≢false}
+use Rattle.std.proofs.Common.{◌≡◌, ◌<◌, ℕ, pos, negsuc, true, List, [], ◌∷◌, Option, Some, None, map, option_map, refl, ap, sym, ◌∙◌, true≢false}
 use Rattle.std.proofs.Math.Bridge.{le_prop}
 use Rattle.std.specs.Prelude.{codes, nat_eq, slice_index, unsigned_abs}
 use Rattle.std.specs.Cmp.{unsigned_Decides}
 use Rattle.std.specs.declared.num.NonZeroI16.{NonZeroI16}
 use mathlib.Core.HLevel.{is_prop→PathP}
-use Rattle.serde_json.specs.Data.{Data, Items, Members, member, no_members, number, string}
+use Rattle.serde_json.specs.Data.{Data, Members, member, no_members, string}
 use Rattle.serde_json.specs.Find.{of_integer}
 use Rattle.serde_json.specs.View.{items_of}
 use Rattle.csl_base.proofs.Compare.{child_view-inj, kids_of-inj}
@@ -14,23 +14,15 @@ use Rattle.csl_base.specs.ChildView.{child_view}
 use Rattle.csl_base.specs.declared.elem.ElemChild.{ElemChild}
 use Rattle.csl_base.specs.declared.elem.ElemMeta.{ElemMeta}
 use Rattle.csl_base.specs.declared.elem.ElemMeta.TheVariants as meta
-use Rattle.csl_base.specs.declared.entry.Person.{Person}
 use Rattle.csl_base.specs.declared.formatting.Display.{Display}
 use Rattle.csl_base.specs.declared.formatting.Display.TheVariants as shown
-use Rattle.csl_base.specs.declared.formatting.FontStyle.{FontStyle}
 use Rattle.csl_base.specs.declared.formatting.FontStyle.TheVariants as style
-use Rattle.csl_base.specs.declared.formatting.FontWeight.{FontWeight}
 use Rattle.csl_base.specs.declared.formatting.FontWeight.TheVariants as weight
-use Rattle.csl_base.specs.declared.formatting.Formatted.{Formatted}
 use Rattle.csl_base.specs.declared.formatting.Formatting.{Formatting}
 use Rattle.csl_base.specs.declared.style.SecondFieldAlign.{SecondFieldAlign}
 use Rattle.csl_base.specs.declared.style.SecondFieldAlign.TheVariants as align
-use Rattle.csl_base.specs.declared.taxonomy.NameVariable.{NameVariable}
 use Rattle.csl_base.specs.declared.taxonomy.NameVariable.TheVariants as variable
-use Rattle.csl_assembly.specs.declared.rendered.BibliographyItem.{BibliographyItem}
-use Rattle.csl_assembly.specs.declared.rendered.Rendered.{Rendered}
 use Rattle.csl_assembly.specs.declared.rendered.RenderedBibliography.{RenderedBibliography}
-use Rattle.csl_assembly.specs.declared.rendered.RenderedCitation.{RenderedCitation}
 use Rattle.answer_json.specs.AnswerData.{align_name, item_data, bibliography_data, citation_data, answer_data}
 use Rattle.answer_json.specs.Members.{member_if}
 use Rattle.answer_json.specs.MetaData.{variable_name, person_data, names_data, meta_data}

@@ -1,4 +1,7 @@
-pub mod Floats
+pub mod AnswerObjects
+pub mod Closing
+pub mod Escaped
+pub mod Items
 pub mod Kids
-pub mod Ordered
+pub mod Objects
 pub mod Injective

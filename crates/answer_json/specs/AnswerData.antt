@@ -19,12 +19,16 @@ align_name align.Margin = codes "margin"
 
 abbrev pub item_data : BibliographyItem → Data
 item_data i = object (member (codes "content") (children_data i.content)
-    (member_if (codes "first_field") (option_map (λ c. child_data (child_view c)) i.first_field) (member (codes "key") (string i.key) no_members)))
+    (member_if (codes "first_field") (option_map (λ c. child_data (child_view c)) i.first_field)
+    (member (codes "key") (string i.key) no_members)))
 
 abbrev pub bibliography_data : RenderedBibliography → Data
-bibliography_data b = object (member (codes "entry_spacing") (number (of_integer b.entry_spacing)) (member (codes "hanging_indent") (boolean b.hanging_indent)
-    (member (codes "items") (array (items_of (map item_data b.items))) (member (codes "line_spacing") (number (of_integer (b.line_spacing).value))
-    (member_if (codes "second_field_align") (option_map (λ a. string (align_name a)) b.second_field_align) no_members)))))
+bibliography_data b = object (member (codes "entry_spacing") (number (of_integer b.entry_spacing))
+    (member (codes "hanging_indent") (boolean b.hanging_indent)
+    (member (codes "items") (array (items_of (map item_data b.items)))
+    (member (codes "line_spacing") (number (of_integer (b.line_spacing).value))
+    (member_if (codes "second_field_align") (option_map (λ a. string (align_name a)) b.second_field_align)
+    no_members)))))
 
 abbrev pub citation_data : RenderedCitation → Data
 citation_data c = object (member (codes "content") (children_data c.citation)

@@ -2,3 +2,4 @@ pub mod Members
 pub mod MetaData
 pub mod TreeData
 pub mod AnswerData
+pub mod Pieces

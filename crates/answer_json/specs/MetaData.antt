@@ -23,14 +23,18 @@ person_data p = array (item (string p.name) (given_items p.given_name))
 
 -- the persons of a variable
 abbrev pub names_data : List Person × NameVariable → Data
-names_data n = object (member (codes "persons") (array (items_of (map person_data n.0))) (member (codes "variable") (string (variable_name n.1)) no_members))
+names_data n = object (member (codes "persons") (array (items_of (map person_data n.0)))
+    (member (codes "variable") (string (variable_name n.1)) no_members))
 
 -- one name of a variable, and its place
 abbrev pub name_data : NameVariable → ℕ → Data
-name_data v place = object (member (codes "place") (number (unsigned place)) (member (codes "variable") (string (variable_name v)) no_members))
+name_data v place = object
+    (member (codes "place") (number (unsigned place))
+    (member (codes "variable") (string (variable_name v)) no_members))
 
 abbrev pub meta_data : ElemMeta → Data
-meta_data (meta.Names names) = object (member (codes "names") (array (items_of (map names_data names))) no_members)
+meta_data (meta.Names names) =
+    object (member (codes "names") (array (items_of (map names_data names))) no_members)
 meta_data (meta.Name v place) = object (member (codes "name") (name_data v place) no_members)
 meta_data meta.Date = string (codes "date")
 meta_data meta.CitationNumber = string (codes "citation-number")

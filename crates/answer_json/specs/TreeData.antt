@@ -29,20 +29,26 @@ display_name shown.Indent = codes "indent"
 
 -- the members of a formatting, and then these
 abbrev pub with_formatting : Formatting → Members → Members
-with_formatting f ms = member (codes "font_style") (string (style_name f.font_style)) (member (codes "font_weight") (string (weight_name f.font_weight)) ms)
+with_formatting f ms = member (codes "font_style") (string (style_name f.font_style))
+    (member (codes "font_weight") (string (weight_name f.font_weight)) ms)
 
 -- an element whose children are these
 abbrev pub element_data : Data → Option Display → Option ElemMeta → Data
 element_data children d m = object (member (codes "children") children
-    (member_if (codes "display") (option_map (λ x. string (display_name x)) d) (member_if (codes "meta") (option_map meta_data m) no_members)))
+    (member_if (codes "display") (option_map (λ x. string (display_name x)) d)
+    (member_if (codes "meta") (option_map meta_data m) no_members)))
 
 abbrev mutual
   pub child_data : Child → Data
-  child_data (text f) = object (with_formatting f.formatting (member (codes "text") (string f.text) no_members))
+  child_data (text f) = object
+      (with_formatting f.formatting (member (codes "text") (string f.text) no_members))
   child_data (elem ks d m) = element_data (array (kids_data ks)) d m
   child_data (markup s) = object (member (codes "markup") (string s) no_members)
-  child_data (link f url) = object (with_formatting f.formatting (member (codes "text") (string f.text) (member (codes "url") (string url) no_members)))
-  child_data (transparent i f) = object (member (codes "cite") (number (unsigned i)) (with_formatting f no_members))
+  child_data (link f url) = object
+      (with_formatting f.formatting
+      (member (codes "text") (string f.text) (member (codes "url") (string url) no_members)))
+  child_data (transparent i f) =
+      object (member (codes "cite") (number (unsigned i)) (with_formatting f no_members))
 
   pub kids_data : Kids → Items
   kids_data no_kids = no_items

@@ -1,163 +1,158 @@
-//! Answers as JSON values.
-ghost use Rattle.std.specs.Prelude.{◌≡◌, map, IfOk, option_map};
-ghost use Rattle.serde_json.specs.Data.{string, number, unsigned};
-ghost use Rattle.serde_json.specs.View.{view};
+//! Answers as JSON.
+ghost use Rattle.std.specs.Prelude.{◌≡◌, ◌∷◌, ◌++◌, map, codes, OnOk, option_map, string_bytes};
+ghost use Rattle.serde_json.specs.Data.{array, string, boolean, number, unsigned};
+ghost use Rattle.serde_json.specs.View.{items_of};
+ghost use Rattle.serde_json.specs.Written.{compact_text};
 ghost use Rattle.csl_base.specs.ChildView.{child_view};
 ghost use Rattle.answer_json.specs.TreeData.{child_data};
 ghost use Rattle.answer_json.specs.AnswerData.{align_name, item_data, bibliography_data, citation_data, answer_data};
+ghost use Rattle.answer_json.specs.Pieces.{member_text, later_member};
 
-use crate::objects::put_some;
-use crate::trees::{child_value, children_value};
+use crate::numbers::{write_comma, write_count, write_short};
+use crate::strings::write_string;
+use crate::trees::{write_child, write_children};
 use csl_assembly::rendered::{BibliographyItem, Rendered, RenderedBibliography, RenderedCitation};
 use csl_base::elem::ElemChild;
 use csl_base::style::SecondFieldAlign;
-use serde_json::{Map, Value, put};
-use std::alloc::{AllocError, Global};
+use std::alloc::AllocError;
 
-fn align_word(align: SecondFieldAlign) -> &'static str
-    ensures { result.now ≡ align_name align }
+#[tactic(auto, unfolding(json::specs::Print::escape_byte))]
+fn align_member(align: SecondFieldAlign) -> &'static str
+    ensures { result.now ≡ codes "," ++ member_text (codes "second_field_align") (string (align_name align)) }
 {
     match align {
-        SecondFieldAlign::Flush => "flush",
-        SecondFieldAlign::Margin => "margin",
+        SecondFieldAlign::Flush => ",\"second_field_align\":\"flush\"",
+        SecondFieldAlign::Margin => ",\"second_field_align\":\"margin\"",
     }
 }
 
-fn align_value(alloc: Global, align: &Option<SecondFieldAlign>) -> Result<Option<Value>, AllocError>
-    ensures { IfOk result (λ o. option_map view o ≡ option_map (λ a. string (align_name a)) align.now) }
+fn write_align(out: &mut String, align: &Option<SecondFieldAlign>) -> Result<(), AllocError>
+    ensures { OnOk result (string_bytes out.new ≡ string_bytes out.old
+        ++ later_member (codes "second_field_align") (option_map (λ a. string (align_name a)) align.now)) }
 {
     match align {
-        None => Ok(None),
-        Some(align) => Ok(Some(Value::try_from_str(alloc, align_word(*align))?)),
+        None => Ok(()),
+        Some(align) => out.push_str(align_member(*align)),
     }
 }
 
-fn note_value(note: &Option<usize>) -> Option<Value>
-    ensures { option_map view result ≡ option_map (λ n. number (unsigned n)) note.now }
+fn write_note(out: &mut String, note: &Option<usize>) -> Result<(), AllocError>
+    ensures { OnOk result (string_bytes out.new ≡ string_bytes out.old
+        ++ later_member (codes "note_number") (option_map (λ n. number (unsigned n)) note.now)) }
 {
     match note {
-        None => None,
-        Some(number) => Some(Value::from(*number)),
+        None => Ok(()),
+        Some(number) => {
+            out.push_str(",\"note_number\":")?;
+            write_count(out, *number)
+        }
     }
 }
 
-fn field_value(alloc: Global, field: &Option<ElemChild>) -> Result<Option<Value>, AllocError>
-    ensures { IfOk result (λ o. option_map view o ≡ option_map (λ c. child_data (child_view c)) field.now) }
+fn write_field(out: &mut String, field: &Option<ElemChild>) -> Result<(), AllocError>
+    ensures { OnOk result (string_bytes out.new ≡ string_bytes out.old
+        ++ later_member (codes "first_field") (option_map (λ c. child_data (child_view c)) field.now)) }
 {
     match field {
-        None => Ok(None),
-        Some(child) => Ok(Some(child_value(alloc, child)?)),
+        None => Ok(()),
+        Some(child) => {
+            out.push_str(",\"first_field\":")?;
+            write_child(out, child)
+        }
     }
 }
 
-#[tactic(auto, using(crate::proofs::Ordered::item_in_order))]
-fn item_value(alloc: Global, item: &BibliographyItem) -> Result<Value, AllocError>
-    ensures { IfOk result (λ v. view v ≡ item_data item.now) }
+fn write_item(out: &mut String, item: &BibliographyItem) -> Result<(), AllocError>
+    ensures { OnOk result (string_bytes out.new ≡ string_bytes out.old ++ compact_text (item_data item.now)) }
 {
-    let content = children_value(alloc, &item.content)?;
-    let first_field = field_value(alloc, &item.first_field)?;
-    let mut object = Map::new(alloc);
-    put(&mut object, alloc, "content", content)?;
-    put_some(&mut object, alloc, "first_field", first_field)?;
-    put(
-        &mut object,
-        alloc,
-        "key",
-        Value::try_from_str(alloc, item.key.as_str())?,
-    )?;
-    Ok(Value::Object(object))
+    out.push_str("{\"content\":")?;
+    write_children(out, &item.content)?;
+    write_field(out, &item.first_field)?;
+    out.push_str(",\"key\":")?;
+    write_string(out, item.key.as_str())?;
+    out.push('}')
 }
 
-fn item_values(alloc: Global, items: &[BibliographyItem]) -> Result<Vec<Value>, AllocError>
-    ensures { IfOk result (λ vs. map view vs.items ≡ map item_data items.now) }
+fn write_items(out: &mut String, items: &[BibliographyItem]) -> Result<(), AllocError>
+    ensures { OnOk result (string_bytes out.new
+        ≡ string_bytes out.old ++ compact_text (array (items_of (map item_data items.now)))) }
 {
-    let mut values = Vec::new(alloc);
+    out.push('[')?;
+    let mut later = false;
     for item in items {
-        values.push(item_value(alloc, item)?)?;
+        write_comma(out, later)?;
+        write_item(out, item)?;
+        later = true;
     }
-    Ok(values)
+    out.push(']')
 }
 
-#[tactic(auto, using(crate::proofs::Ordered::bibliography_in_order))]
-fn bibliography_value(
-    alloc: Global,
+fn indent_text(hanging_indent: bool) -> &'static str
+    ensures { result.now ≡ compact_text (boolean hanging_indent) }
+{
+    if hanging_indent { "true" } else { "false" }
+}
+
+fn write_bibliography(
+    out: &mut String,
     bibliography: &RenderedBibliography,
-) -> Result<Value, AllocError>
-    ensures { IfOk result (λ v. view v ≡ bibliography_data bibliography.now) }
+) -> Result<(), AllocError>
+    ensures { OnOk result (string_bytes out.new
+        ≡ string_bytes out.old ++ compact_text (bibliography_data bibliography.now)) }
 {
-    let items = Value::Array(item_values(alloc, bibliography.items.as_slice())?);
-    let align = align_value(alloc, &bibliography.second_field_align)?;
-    let line_spacing = Value::from(bibliography.line_spacing.get());
-    let mut object = Map::new(alloc);
-    put(
-        &mut object,
-        alloc,
-        "entry_spacing",
-        Value::from(bibliography.entry_spacing),
-    )?;
-    put(
-        &mut object,
-        alloc,
-        "hanging_indent",
-        Value::from(bibliography.hanging_indent),
-    )?;
-    put(&mut object, alloc, "items", items)?;
-    put(&mut object, alloc, "line_spacing", line_spacing)?;
-    put_some(&mut object, alloc, "second_field_align", align)?;
-    Ok(Value::Object(object))
+    out.push_str("{\"entry_spacing\":")?;
+    write_short(out, bibliography.entry_spacing)?;
+    out.push_str(",\"hanging_indent\":")?;
+    out.push_str(indent_text(bibliography.hanging_indent))?;
+    out.push_str(",\"items\":")?;
+    write_items(out, bibliography.items.as_slice())?;
+    out.push_str(",\"line_spacing\":")?;
+    write_short(out, bibliography.line_spacing.get())?;
+    write_align(out, &bibliography.second_field_align)?;
+    out.push('}')
 }
 
-fn optional_bibliography(
-    alloc: Global,
-    bibliography: &Option<RenderedBibliography>,
-) -> Result<Option<Value>, AllocError>
-    ensures { IfOk result (λ o. option_map view o ≡ option_map bibliography_data bibliography.now) }
+fn write_citation(out: &mut String, citation: &RenderedCitation) -> Result<(), AllocError>
+    ensures { OnOk result (string_bytes out.new
+        ≡ string_bytes out.old ++ compact_text (citation_data citation.now)) }
 {
-    match bibliography {
-        None => Ok(None),
-        Some(bibliography) => Ok(Some(bibliography_value(alloc, bibliography)?)),
-    }
+    out.push_str("{\"content\":")?;
+    write_children(out, &citation.citation)?;
+    write_note(out, &citation.note_number)?;
+    out.push('}')
 }
 
-#[tactic(auto, using(crate::proofs::Ordered::citation_in_order))]
-fn citation_value(alloc: Global, citation: &RenderedCitation) -> Result<Value, AllocError>
-    ensures { IfOk result (λ v. view v ≡ citation_data citation.now) }
+fn write_citations(out: &mut String, citations: &[RenderedCitation]) -> Result<(), AllocError>
+    ensures { OnOk result (string_bytes out.new
+        ≡ string_bytes out.old ++ compact_text (array (items_of (map citation_data citations.now)))) }
 {
-    let mut object = Map::new(alloc);
-    put(
-        &mut object,
-        alloc,
-        "content",
-        children_value(alloc, &citation.citation)?,
-    )?;
-    put_some(
-        &mut object,
-        alloc,
-        "note_number",
-        note_value(&citation.note_number),
-    )?;
-    Ok(Value::Object(object))
-}
-
-fn citation_values(alloc: Global, citations: &[RenderedCitation]) -> Result<Vec<Value>, AllocError>
-    ensures { IfOk result (λ vs. map view vs.items ≡ map citation_data citations.now) }
-{
-    let mut values = Vec::new(alloc);
+    out.push('[')?;
+    let mut later = false;
     for citation in citations {
-        values.push(citation_value(alloc, citation)?)?;
+        write_comma(out, later)?;
+        write_citation(out, citation)?;
+        later = true;
     }
-    Ok(values)
+    out.push(']')
 }
 
-/// The answer as a value.
-#[tactic(auto, using(crate::proofs::Ordered::answer_in_order))]
-pub(crate) fn answer_value(alloc: Global, answer: &Rendered) -> Result<Value, AllocError>
-    ensures { IfOk result (λ v. view v ≡ answer_data answer.now) }
+/// Appends the answer.
+pub(crate) fn write_answer(out: &mut String, answer: &Rendered) -> Result<(), AllocError>
+    ensures { OnOk result (string_bytes out.new
+        ≡ string_bytes out.old ++ compact_text (answer_data answer.now)) }
 {
-    let bibliography = optional_bibliography(alloc, &answer.bibliography)?;
-    let citations = Value::Array(citation_values(alloc, answer.citations.as_slice())?);
-    let mut object = Map::new(alloc);
-    put_some(&mut object, alloc, "bibliography", bibliography)?;
-    put(&mut object, alloc, "citations", citations)?;
-    Ok(Value::Object(object))
+    match &answer.bibliography {
+        None => {
+            out.push_str("{\"citations\":")?;
+            write_citations(out, answer.citations.as_slice())?;
+            out.push('}')
+        }
+        Some(bibliography) => {
+            out.push_str("{\"bibliography\":")?;
+            write_bibliography(out, bibliography)?;
+            out.push_str(",\"citations\":")?;
+            write_citations(out, answer.citations.as_slice())?;
+            out.push('}')
+        }
+    }
 }

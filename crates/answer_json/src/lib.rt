@@ -6,6 +6,7 @@
 mod answers;
 pub mod laws;
 mod metas;
-mod objects;
+mod numbers;
 pub mod printing;
+mod strings;
 mod trees;

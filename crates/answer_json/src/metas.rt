@@ -1,86 +1,116 @@
 //! What an element was rendered for, as JSON.
-ghost use Rattle.std.specs.Prelude.{◌≡◌, map, IfOk};
-ghost use Rattle.serde_json.specs.View.{view};
+ghost use Rattle.std.specs.Prelude.{◌≡◌, ◌++◌, map, OnOk, string_bytes};
+ghost use Rattle.json.specs.Print.{quoted};
+ghost use Rattle.serde_json.specs.Data.{array, string};
+ghost use Rattle.serde_json.specs.View.{items_of};
+ghost use Rattle.serde_json.specs.Written.{compact_text};
 ghost use Rattle.answer_json.specs.MetaData.{variable_name, person_data, names_data, name_data, meta_data};
 
+use crate::numbers::{write_comma, write_count};
+use crate::strings::write_string;
 use csl_base::elem::ElemMeta;
 use csl_base::entry::Person;
 use csl_base::seq::Seq;
 use csl_base::taxonomy::NameVariable;
-use serde_json::{Value, json};
-use std::alloc::{AllocError, Global};
+use std::alloc::AllocError;
 
-fn variable_word(variable: NameVariable) -> &'static str
-    ensures { result.now ≡ variable_name variable }
+#[tactic(auto, unfolding(json::specs::Print::escape_byte))]
+fn variable_text(variable: NameVariable) -> &'static str
+    ensures { result.now ≡ compact_text (string (variable_name variable)) }
 {
     match variable {
-        NameVariable::Author => "author",
-        NameVariable::Editor => "editor",
-        NameVariable::Translator => "translator",
+        NameVariable::Author => "\"author\"",
+        NameVariable::Editor => "\"editor\"",
+        NameVariable::Translator => "\"translator\"",
     }
 }
 
-fn person_value(alloc: Global, person: &Person) -> Result<Value, AllocError>
-    ensures { IfOk result (λ v. view v ≡ person_data person.now) }
+fn write_person(out: &mut String, person: &Person) -> Result<(), AllocError>
+    ensures { OnOk result (string_bytes out.new
+        ≡ string_bytes out.old ++ compact_text (person_data person.now)) }
 {
-    match &person.given_name {
-        None => json!(in alloc; [person.name.as_str()]),
-        Some(given) => json!(in alloc; [person.name.as_str(), given.as_str()]),
+    out.push('[')?;
+    write_string(out, person.name.as_str())?;
+    if let Some(given) = &person.given_name {
+        out.push(',')?;
+        write_string(out, given.as_str())?;
     }
+    out.push(']')
 }
 
-fn person_values(alloc: Global, persons: &[Person]) -> Result<Vec<Value>, AllocError>
-    ensures { IfOk result (λ vs. map view vs.items ≡ map person_data persons.now) }
+fn write_persons(out: &mut String, persons: &[Person]) -> Result<(), AllocError>
+    ensures { OnOk result (string_bytes out.new
+        ≡ string_bytes out.old ++ compact_text (array (items_of (map person_data persons.now)))) }
 {
-    let mut values = Vec::new(alloc);
+    out.push('[')?;
+    let mut later = false;
     for person in persons {
-        values.push(person_value(alloc, person)?)?;
+        write_comma(out, later)?;
+        write_person(out, person)?;
+        later = true;
     }
-    Ok(values)
+    out.push(']')
 }
 
-fn names_value(alloc: Global, names: &(Seq<Person>, NameVariable)) -> Result<Value, AllocError>
-    ensures { IfOk result (λ v. view v ≡ names_data names.now) }
+fn write_names(out: &mut String, names: &(Seq<Person>, NameVariable)) -> Result<(), AllocError>
+    ensures { OnOk result (string_bytes out.new
+        ≡ string_bytes out.old ++ compact_text (names_data names.now)) }
 {
-    let persons = Value::Array(person_values(alloc, names.0.as_slice())?);
-    json!(in alloc; {"persons": persons, "variable": variable_word(names.1)})
+    out.push_str("{\"persons\":")?;
+    write_persons(out, names.0.as_slice())?;
+    out.push_str(",\"variable\":")?;
+    out.push_str(variable_text(names.1))?;
+    out.push('}')
 }
 
-fn names_values(
-    alloc: Global,
-    names: &[(Seq<Person>, NameVariable)],
-) -> Result<Vec<Value>, AllocError>
-    ensures { IfOk result (λ vs. map view vs.items ≡ map names_data names.now) }
+fn write_all_names(out: &mut String, all: &[(Seq<Person>, NameVariable)]) -> Result<(), AllocError>
+    ensures { OnOk result (string_bytes out.new
+        ≡ string_bytes out.old ++ compact_text (array (items_of (map names_data all.now)))) }
 {
-    let mut values = Vec::new(alloc);
-    for one in names {
-        values.push(names_value(alloc, one)?)?;
+    out.push('[')?;
+    let mut later = false;
+    for names in all {
+        write_comma(out, later)?;
+        write_names(out, names)?;
+        later = true;
     }
-    Ok(values)
+    out.push(']')
 }
 
-fn name_value(alloc: Global, variable: NameVariable, place: usize) -> Result<Value, AllocError>
-    ensures { IfOk result (λ v. view v ≡ name_data variable place) }
+fn write_name(out: &mut String, variable: NameVariable, place: usize) -> Result<(), AllocError>
+    ensures { OnOk result (string_bytes out.new
+        ≡ string_bytes out.old ++ compact_text (name_data variable place)) }
 {
-    json!(in alloc; {"place": place, "variable": variable_word(variable)})
+    out.push_str("{\"place\":")?;
+    write_count(out, place)?;
+    out.push_str(",\"variable\":")?;
+    out.push_str(variable_text(variable))?;
+    out.push('}')
 }
 
-/// What an element was rendered for.
-pub(crate) fn meta_value(alloc: Global, meta: &ElemMeta) -> Result<Value, AllocError>
-    ensures { IfOk result (λ v. view v ≡ meta_data meta.now) }
+/// Appends what an element was rendered for.
+#[tactic(auto, unfolding(json::specs::Print::escape_byte))]
+pub(crate) fn write_meta(out: &mut String, meta: &ElemMeta) -> Result<(), AllocError>
+    ensures { OnOk result (string_bytes out.new ≡ string_bytes out.old ++ compact_text (meta_data meta.now)) }
 {
     match meta {
-        ElemMeta::Names(names) => {
-            let names = Value::Array(names_values(alloc, names.as_slice())?);
-            json!(in alloc; {"names": names})
+        ElemMeta::Names(all) => {
+            out.push_str("{\"names\":")?;
+            write_all_names(out, all.as_slice())?;
+            out.push('}')
         }
         ElemMeta::Name(variable, place) => {
-            let name = name_value(alloc, *variable, *place)?;
-            json!(in alloc; {"name": name})
+            out.push_str("{\"name\":")?;
+            write_name(out, *variable, *place)?;
+            out.push('}')
         }
-        ElemMeta::Date => Value::try_from_str(alloc, "date"),
-        ElemMeta::CitationNumber => Value::try_from_str(alloc, "citation-number"),
-        ElemMeta::CitationLabel => Value::try_from_str(alloc, "citation-label"),
-        ElemMeta::Entry(place) => json!(in alloc; {"entry": *place}),
+        ElemMeta::Date => out.push_str("\"date\""),
+        ElemMeta::CitationNumber => out.push_str("\"citation-number\""),
+        ElemMeta::CitationLabel => out.push_str("\"citation-label\""),
+        ElemMeta::Entry(place) => {
+            out.push_str("{\"entry\":")?;
+            write_count(out, *place)?;
+            out.push('}')
+        }
     }
 }

@@ -3,7 +3,7 @@ ghost use Rattle.std.specs.Prelude.{◌≡◌, IfOk, string_bytes};
 ghost use Rattle.serde_json.specs.Written.{compact_text};
 ghost use Rattle.answer_json.specs.AnswerData.{answer_data};
 
-use crate::answers::answer_value;
+use crate::answers::write_answer;
 use csl_assembly::rendered::Rendered;
 use std::alloc::{AllocError, Global};
 
@@ -14,5 +14,7 @@ use std::alloc::{AllocError, Global};
 pub fn print_json(alloc: Global, answer: &Rendered) -> Result<String, AllocError>
     ensures { IfOk result (λ s. string_bytes s ≡ compact_text (answer_data answer.now)) }
 {
-    answer_value(alloc, answer)?.to_string(alloc)
+    let mut text = String::new(alloc);
+    write_answer(&mut text, answer)?;
+    Ok(text)
 }

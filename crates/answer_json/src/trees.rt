@@ -1,122 +1,162 @@
 //! Trees as JSON.
-ghost use Rattle.std.specs.Prelude.{◌≡◌, IfOk, option_map};
+ghost use Rattle.std.specs.Prelude.{◌≡◌, ◌∷◌, ◌++◌, codes, OnOk, option_map, string_bytes};
 ghost use Rattle.serde_json.specs.Data.{string};
-ghost use Rattle.serde_json.specs.View.{view};
+ghost use Rattle.serde_json.specs.Written.{compact_text};
+ghost use Rattle.csl_base.specs.Child as tree;
 ghost use Rattle.csl_base.specs.ChildView.{child_view};
 ghost use Rattle.answer_json.specs.MetaData.{meta_data};
+ghost use Rattle.answer_json.specs.Pieces.{member_text, later_member, formatting_text};
 ghost use Rattle.answer_json.specs.TreeData.{style_name, weight_name, display_name, element_data, child_data, children_data};
 
-use crate::metas::meta_value;
-use crate::objects::put_some;
-use csl_base::elem::{ElemChild, ElemChildren, ElemMeta};
-use csl_base::formatting::{Display, FontStyle, FontWeight};
-use serde_json::{Map, Value, json, put};
-use std::alloc::{AllocError, Global};
+use crate::metas::write_meta;
+use crate::numbers::{write_comma, write_count};
+use crate::strings::write_string;
+use csl_base::elem::{Elem, ElemChild, ElemChildren, ElemMeta};
+use csl_base::formatting::{Display, FontStyle, FontWeight, Formatted, Formatting};
+use std::alloc::AllocError;
 
-fn style_word(style: FontStyle) -> &'static str
-    ensures { result.now ≡ style_name style }
+/// The members of a formatting.
+fn formatting_members(format: Formatting) -> &'static str
+    ensures { result.now ≡ formatting_text format }
 {
-    match style {
-        FontStyle::Normal => "normal",
-        FontStyle::Italic => "italic",
+    match (format.font_style, format.font_weight) {
+        (FontStyle::Normal, FontWeight::Normal) => {
+            "\"font_style\":\"normal\",\"font_weight\":\"normal\""
+        }
+        (FontStyle::Normal, FontWeight::Bold) => {
+            "\"font_style\":\"normal\",\"font_weight\":\"bold\""
+        }
+        (FontStyle::Italic, FontWeight::Normal) => {
+            "\"font_style\":\"italic\",\"font_weight\":\"normal\""
+        }
+        (FontStyle::Italic, FontWeight::Bold) => {
+            "\"font_style\":\"italic\",\"font_weight\":\"bold\""
+        }
     }
 }
 
-fn weight_word(weight: FontWeight) -> &'static str
-    ensures { result.now ≡ weight_name weight }
-{
-    match weight {
-        FontWeight::Normal => "normal",
-        FontWeight::Bold => "bold",
-    }
-}
-
-fn display_word(display: Display) -> &'static str
-    ensures { result.now ≡ display_name display }
-{
-    match display {
-        Display::Block => "block",
-        Display::LeftMargin => "left-margin",
-        Display::RightInline => "right-inline",
-        Display::Indent => "indent",
-    }
-}
-
-fn display_value(alloc: Global, display: &Option<Display>) -> Result<Option<Value>, AllocError>
-    ensures { IfOk result (λ o. option_map view o ≡ option_map (λ d. string (display_name d)) display.now) }
+#[tactic(auto, unfolding(json::specs::Print::escape_byte))]
+fn display_member(display: Display) -> &'static str
+    ensures { result.now ≡ codes "," ++ member_text (codes "display") (string (display_name display)) }
 {
     match display {
-        None => Ok(None),
-        Some(display) => Ok(Some(Value::try_from_str(alloc, display_word(*display))?)),
+        Display::Block => ",\"display\":\"block\"",
+        Display::LeftMargin => ",\"display\":\"left-margin\"",
+        Display::RightInline => ",\"display\":\"right-inline\"",
+        Display::Indent => ",\"display\":\"indent\"",
     }
 }
 
-fn optional_meta(alloc: Global, meta: &Option<ElemMeta>) -> Result<Option<Value>, AllocError>
-    ensures { IfOk result (λ o. option_map view o ≡ option_map meta_data meta.now) }
+fn write_display(out: &mut String, display: &Option<Display>) -> Result<(), AllocError>
+    ensures { OnOk result (string_bytes out.new
+        ≡ string_bytes out.old
+        ++ later_member (codes "display") (option_map (λ d. string (display_name d)) display.now)) }
+{
+    match display {
+        None => Ok(()),
+        Some(display) => out.push_str(display_member(*display)),
+    }
+}
+
+#[tactic(auto, unfolding(json::specs::Print::escape_byte))]
+fn write_optional_meta(out: &mut String, meta: &Option<ElemMeta>) -> Result<(), AllocError>
+    ensures { OnOk result (string_bytes out.new
+        ≡ string_bytes out.old ++ later_member (codes "meta") (option_map meta_data meta.now)) }
 {
     match meta {
-        None => Ok(None),
-        Some(meta) => Ok(Some(meta_value(alloc, meta)?)),
+        None => Ok(()),
+        Some(meta) => {
+            out.push_str(",\"meta\":")?;
+            write_meta(out, meta)
+        }
     }
 }
 
-/// An element whose children are these.
-#[tactic(auto, using(crate::proofs::Ordered::element_in_order))]
-fn element_value(
-    alloc: Global,
-    children: Value,
-    display: &Option<Display>,
-    meta: &Option<ElemMeta>,
-) -> Result<Value, AllocError>
-    ensures { IfOk result (λ v. view v ≡ element_data (view children) display.now meta.now) }
+fn write_text(out: &mut String, text: &Formatted) -> Result<(), AllocError>
+    ensures { OnOk result (string_bytes out.new
+        ≡ string_bytes out.old ++ compact_text (child_data (tree.text text.now))) }
 {
-    let display = display_value(alloc, display)?;
-    let meta = optional_meta(alloc, meta)?;
-    let mut object = Map::new(alloc);
-    put(&mut object, alloc, "children", children)?;
-    put_some(&mut object, alloc, "display", display)?;
-    put_some(&mut object, alloc, "meta", meta)?;
-    Ok(Value::Object(object))
+    out.push('{')?;
+    out.push_str(formatting_members(text.formatting))?;
+    out.push_str(",\"text\":")?;
+    write_string(out, text.text.as_str())?;
+    out.push('}')
 }
 
-/// A child of an element.
-#[cycle(value)]
-pub(crate) fn child_value(alloc: Global, child: &ElemChild) -> Result<Value, AllocError>
-    ensures { IfOk result (λ v. view v ≡ child_data (child_view child.now)) }
+fn write_markup(out: &mut String, markup: &str) -> Result<(), AllocError>
+    ensures { OnOk result (string_bytes out.new
+        ≡ string_bytes out.old ++ compact_text (child_data (tree.markup markup.now))) }
+{
+    out.push_str("{\"markup\":")?;
+    write_string(out, markup)?;
+    out.push('}')
+}
+
+fn write_link(out: &mut String, text: &Formatted, url: &str) -> Result<(), AllocError>
+    ensures { OnOk result (string_bytes out.new
+        ≡ string_bytes out.old ++ compact_text (child_data (tree.link text.now url.now))) }
+{
+    out.push('{')?;
+    out.push_str(formatting_members(text.formatting))?;
+    out.push_str(",\"text\":")?;
+    write_string(out, text.text.as_str())?;
+    out.push_str(",\"url\":")?;
+    write_string(out, url)?;
+    out.push('}')
+}
+
+fn write_cite(out: &mut String, cite: usize, format: Formatting) -> Result<(), AllocError>
+    ensures { OnOk result (string_bytes out.new
+        ≡ string_bytes out.old ++ compact_text (child_data (tree.transparent cite format))) }
+{
+    out.push_str("{\"cite\":")?;
+    write_count(out, cite)?;
+    out.push(',')?;
+    out.push_str(formatting_members(format))?;
+    out.push('}')
+}
+
+/// Appends a child of an element.
+#[cycle(write)]
+pub(crate) fn write_child(out: &mut String, child: &ElemChild) -> Result<(), AllocError>
+    ensures { OnOk result (string_bytes out.new
+        ≡ string_bytes out.old ++ compact_text (child_data (child_view child.now))) }
 {
     match child {
-        ElemChild::Text(text) => json!(in alloc; {
-            "font_style": style_word(text.formatting.font_style),
-            "font_weight": weight_word(text.formatting.font_weight),
-            "text": text.text.as_str()
-        }),
-        ElemChild::Elem(element) => {
-            let children = children_value(alloc, &element.children)?;
-            element_value(alloc, children, &element.display, &element.meta)
-        }
-        ElemChild::Markup(markup) => json!(in alloc; {"markup": markup.as_str()}),
-        ElemChild::Link { text, url } => json!(in alloc; {
-            "font_style": style_word(text.formatting.font_style),
-            "font_weight": weight_word(text.formatting.font_weight),
-            "text": text.text.as_str(),
-            "url": url.as_str()
-        }),
-        ElemChild::Transparent { cite_idx, format } => json!(in alloc; {
-            "cite": *cite_idx,
-            "font_style": style_word(format.font_style),
-            "font_weight": weight_word(format.font_weight)
-        }),
+        ElemChild::Text(text) => write_text(out, text),
+        ElemChild::Elem(element) => write_element(out, element),
+        ElemChild::Markup(markup) => write_markup(out, markup.as_str()),
+        ElemChild::Link { text, url } => write_link(out, text, url.as_str()),
+        ElemChild::Transparent { cite_idx, format } => write_cite(out, *cite_idx, *format),
     }
 }
 
-/// The children, as an array.
-#[cycle(value)]
-pub(crate) fn children_value(alloc: Global, children: &ElemChildren) -> Result<Value, AllocError>
-    ensures { IfOk result (λ v. view v ≡ children_data children.now) }
+#[cycle(write)]
+fn write_element(out: &mut String, element: &Elem) -> Result<(), AllocError>
+    ensures { OnOk result (string_bytes out.new
+        ≡ string_bytes out.old
+        ++ compact_text (element_data
+        (children_data element.now.children) element.now.display element.now.meta)) }
 {
-    let mut items = Vec::new(alloc);
+    out.push_str("{\"children\":")?;
+    write_children(out, &element.children)?;
+    write_display(out, &element.display)?;
+    write_optional_meta(out, &element.meta)?;
+    out.push('}')
+}
+
+/// Appends the children, as an array.
+#[cycle(write)]
+pub(crate) fn write_children(out: &mut String, children: &ElemChildren) -> Result<(), AllocError>
+    ensures { OnOk result (string_bytes out.new
+        ≡ string_bytes out.old ++ compact_text (children_data children.now)) }
+{
+    out.push('[')?;
+    let mut later = false;
     for child in &children.0 {
-        items.push(child_value(alloc, child)?)?;
+        write_comma(out, later)?;
+        write_child(out, child)?;
+        later = true;
     }
-    Ok(Value::Array(items))
+    out.push(']')
 }

@@ -6,6 +6,7 @@ use crate::free::calls_without_memory;
 use crate::passes::by_passes;
 use crate::streams::{Failing, Slow};
 use cite_document::error::RunError;
+use cite_document::faults::print_fault_bytes;
 use cite_document::input::read_input;
 use cite_document::running::run;
 use csl_base::entry::PlainEntry;
@@ -17,7 +18,7 @@ use csl_driver::rendered::{Rendered, RenderedBibliography};
 use csl_driver::request::{BibliographyRequest, CitationRequest, Order};
 use csl_driver::standalone::standalone_citation;
 use csl_driver::terms::TermTables;
-use csl_rounds::mode::RoundMode;
+use csl_round_laws::mode::RoundMode;
 use document_reading::document::{Asked, asked_in, top_of, utf8_text, value_of};
 use document_reading::entries::entries_of;
 use document_reading::finders::found_styles;
@@ -419,7 +420,7 @@ pub fn answered(
 ) -> Result<Seen, RunError> {
     let _ = eprintln!(rt; "prepare");
     let value = value_of(rt.alloc(), document)?;
-    answered_in(rt, top_of(&value)?, how)
+    answered_in(rt, top_of(rt.alloc(), &value)?, how)
 }
 
 /// Answers the document by `run`, into memory that is there.
@@ -436,7 +437,7 @@ pub fn written_out(
         return Ok(Seen::Amiss("something was written"));
     }
     result?;
-    let _ = print!(rt; "{}", utf8_text(&out)?);
+    let _ = print!(rt; "{}", utf8_text(alloc, &out)?);
     Ok(Seen::Answer)
 }
 
@@ -452,7 +453,7 @@ pub fn written_until(
     };
     let result = run(rt.alloc(), document.as_bytes(), &mut out);
     let Failing { left: _, got } = out;
-    let _ = print!(rt; "{}", utf8_text(&got)?);
+    let _ = print!(rt; "{}", utf8_text(rt.alloc(), &got)?);
     result?;
     Ok(Seen::Answer)
 }
@@ -468,6 +469,12 @@ pub fn read_slowly(
         fails,
     };
     let bytes = read_input(rt.alloc(), &mut reader)?;
-    let _ = print!(rt; "{}", utf8_text(&bytes)?);
+    let _ = print!(rt; "{}", utf8_text(rt.alloc(), &bytes)?);
+    Ok(Seen::Answer)
+}
+
+/// Prints the fault of the document, or nothing where it has none.
+pub fn fault_told(rt: &(impl Print + AllocGlobal), document: &[u8]) -> Result<Seen, RunError> {
+    let _ = print!(rt; "{}", print_fault_bytes(rt.alloc(), document)?);
     Ok(Seen::Answer)
 }

@@ -15,7 +15,7 @@ mod free;
 mod passes;
 mod streams;
 
-use calls::{How, Seen, answered, read_slowly, written_out, written_until};
+use calls::{How, Seen, answered, fault_told, read_slowly, written_out, written_until};
 use cite_document::error::RunError;
 use cite_document::input::read_input;
 use document_reading::document::utf8_text;
@@ -51,7 +51,10 @@ fn answer_to(rt: &(impl Print + Eprint + AllocGlobal), text: &str) -> Result<See
 fn answer(rt: &(impl Input + Print + Eprint + AllocGlobal)) -> Result<Seen, RunError> {
     let _ = eprintln!(rt; "read");
     let bytes = read_input(rt.alloc(), &mut rt.reader())?;
-    answer_to(rt, utf8_text(&bytes)?)
+    match bytes.as_slice().strip_prefix(b"fault\n") {
+        Some(document) => fault_told(rt, document),
+        None => answer_to(rt, utf8_text(rt.alloc(), &bytes)?),
+    }
 }
 
 fn main(rt: HostRuntime) -> ExitCode {

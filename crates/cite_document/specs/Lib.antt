@@ -1,3 +1,5 @@
 pub mod Status
 pub mod Print
 pub mod Run
+pub mod FaultText
+pub mod TellsFault

@@ -46,11 +46,13 @@ HasFirstRing place i d = IsFirstRingOf (accepted d.requests) d.style place i
 
 -- no style of a document has a ring, and its numbers are not above the greatest usize
 abbrev pub HasAnswer : Document → Type 0
-HasAnswer d = NoRingAtAll (accepted d.requests) d.style × (d.offset + length (distinct same_entry (cited (accepted d.requests))) < 2 ^ 64)
+HasAnswer d = NoRingAtAll (accepted d.requests) d.style
+    × (d.offset + length (distinct same_entry (cited (accepted d.requests))) < 2 ^ 64)
 
 -- no style of a document has a ring, and its numbers are above the greatest usize
 abbrev pub HasTooLargeNumbers : Document → Type 0
-HasTooLargeNumbers d = NoRingAtAll (accepted d.requests) d.style × Overflows same_entry (accepted d.requests) d.offset
+HasTooLargeNumbers d = NoRingAtAll (accepted d.requests) d.style
+    × Overflows same_entry (accepted d.requests) d.offset
 
 -- there is a document, and it is such
 abbrev pub IsDocumentThat : Option Document → (Document → Type 0) → Type 0
@@ -71,5 +73,6 @@ Answers (Err e) read = IsRefused e read
 
 -- the text that is made of the answer, or why there is none
 abbrev pub Prints : (Rendered → List ℕ) → Result (String Global) RunError → Option Document → Type 0
-Prints text_of (Ok text) read = IsDocumentThat read (λ d. HasAnswer d × (string_bytes text ≡ text_of (answer d)))
+Prints text_of (Ok text) read =
+    IsDocumentThat read (λ d. HasAnswer d × (string_bytes text ≡ text_of (answer d)))
 Prints text_of (Err e) read = IsRefused e read

@@ -15,5 +15,5 @@ status errors.OutOfMemory = 5
 
 -- what isn't of its form makes the whole no document
 abbrev pub refusal : ReadError → RunError
-refusal parts.Document = errors.Document
+refusal (parts.Document fault) = errors.Document
 refusal parts.OutOfMemory = errors.OutOfMemory

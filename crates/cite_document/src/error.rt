@@ -74,7 +74,7 @@ impl From<ReadError> for RunError {
 
     fn from(error: ReadError) -> RunError {
         match error {
-            ReadError::Document => RunError::Document,
+            ReadError::Document(_) => RunError::Document,
             ReadError::OutOfMemory => RunError::OutOfMemory,
         }
     }

@@ -19,7 +19,8 @@ fn zeros(alloc: Global, count: usize) -> Result<Vec<u8>, AllocError>
 
 /// All that the reader has left, by reads into a buffer that isn't empty.
 fn read_by<R: Read>(alloc: Global, reader: &mut R, buffer: &mut [u8]) -> Result<Vec<u8>, RunError>
-    ensures whole { IfOk result (λ bytes. 0 < length buffer.old → IfSome (R.remaining reader.old) (λ left. bytes.items ≡ left)) }
+    ensures whole { IfOk result (λ bytes. 0 < length buffer.old
+        → IfSome (R.remaining reader.old) (λ left. bytes.items ≡ left)) }
 {
     let mut bytes = Vec::new(alloc);
     for _ in 0..READS {

@@ -6,6 +6,7 @@
 #![tactic(auto)]
 
 pub mod error;
+pub mod faults;
 pub mod input;
 mod printing;
 pub mod running;

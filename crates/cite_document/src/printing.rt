@@ -10,7 +10,8 @@ use csl_driver::rendered::{BibliographyItem, Rendered, RenderedBibliography, Ren
 use std::alloc::{AllocError, Global};
 
 fn push_child(text: &mut String, child: &ElemChild) -> Result<(), AllocError>
-    ensures { OnOk result (string_bytes text.new ≡ string_bytes text.old ++ child_plain (child_view child.now)) }
+    ensures { OnOk result (string_bytes text.new
+        ≡ string_bytes text.old ++ child_plain (child_view child.now)) }
 {
     match child.write_buf(text, BufWriteFormat::Plain) {
         Ok(()) => Ok(()),
@@ -36,7 +37,8 @@ fn print_citation(text: &mut String, citation: &RenderedCitation) -> Result<(), 
 }
 
 fn print_citations(text: &mut String, citations: &[RenderedCitation]) -> Result<(), AllocError>
-    ensures { OnOk result (string_bytes text.new ≡ string_bytes text.old ++ flat_map citation_line citations.now) }
+    ensures { OnOk result (string_bytes text.new
+        ≡ string_bytes text.old ++ flat_map citation_line citations.now) }
 {
     for citation in citations {
         print_citation(text, citation)?;
@@ -68,7 +70,8 @@ fn print_bibliography(
     text: &mut String,
     bibliography: &Option<RenderedBibliography>,
 ) -> Result<(), AllocError>
-    ensures { OnOk result (string_bytes text.new ≡ string_bytes text.old ++ bibliography_lines bibliography.now) }
+    ensures { OnOk result (string_bytes text.new
+        ≡ string_bytes text.old ++ bibliography_lines bibliography.now) }
 {
     if let Some(bibliography) = bibliography {
         text.push_str("\n")?;

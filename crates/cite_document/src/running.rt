@@ -1,5 +1,5 @@
 //! The program's work, over any writer.
-ghost use Rattle.std.specs.Prelude.{◌≡◌, ◌+◌, ◌<◌, ◌^◌, ◌++◌, ℕ, None, Some, length, map, option_map, OnOk, IfOk, IfErr, IsErrOf};
+ghost use Rattle.std.specs.Prelude.{◌≡◌, ◌++◌, ℕ, None, Some, map, option_map, OnOk, IfOk, IfErr, IsErrOf};
 ghost use Rattle.std.specs.Io.KnownBytes.{Appends, Keeps};
 ghost use Rattle.serde_json.specs.View.{view};
 ghost use Rattle.csl_base.specs.PlainEntry.{plain_answers};
@@ -7,9 +7,7 @@ ghost use Rattle.csl_base.specs.StyleView.{locale_view};
 ghost use Rattle.csl_driver.specs.Answer.{rendered};
 ghost use Rattle.csl_driver.specs.AskedView.{asked_of};
 ghost use Rattle.csl_driver.specs.DriverView.{driver_view};
-ghost use Rattle.csl_driver.specs.Rings.{NoRingAtAll, Refuses};
-ghost use Rattle.csl_entries.specs.Entries.{distinct};
-ghost use Rattle.csl_passes.specs.Request.{cited};
+ghost use Rattle.csl_driver.specs.Promised.{Finishes};
 ghost use Rattle.csl_passes.specs.RequestView.{entries_view, order_view, wanted_view};
 ghost use Rattle.csl_driver.specs.declared.error.RingPlace.{RingPlace};
 ghost use Rattle.csl_styles.specs.TablesView.{locales_of};
@@ -32,7 +30,7 @@ use csl_driver::error::DriverError;
 use csl_driver::rendered::Rendered;
 use csl_driver::request::{BibliographyRequest, Order};
 use csl_driver::terms::TermTables;
-use csl_rounds::mode::RoundMode;
+use csl_round_laws::mode::RoundMode;
 use document_reading::document::{Asked, asked_in, top_of, utf8_text, value_of};
 use document_reading::entries::entries_of;
 use document_reading::finders::found_styles;
@@ -50,8 +48,11 @@ fn add_all<'e, 'f: 'e>(
     requests: &'e [AskedRequest<'f>],
     files: &'e TermTables<'f>,
 ) -> Result<(), RunError>
-    ensures added { OnOk result
-        (driver_view driver.new ≡ record (driver_view driver.old) { requests = (driver_view driver.old).requests ++ accepted (asked_requests_view (map locale_view (locales_of files.now)) requests.now) }) }
+    ensures added { OnOk result (driver_view driver.new
+        ≡ record (driver_view driver.old) {
+          requests = (driver_view driver.old).requests
+              ++ accepted (asked_requests_view (map locale_view (locales_of files.now)) requests.now);
+        }) }
     ensures memory { IfErr result (λ e. e ≡ RunError.OutOfMemory) }
 {
     for request in requests {
@@ -72,7 +73,12 @@ fn filled_driver<'e, 'f: 'e>(
     files: &'e TermTables<'f>,
     offset: usize,
 ) -> Result<BibliographyDriver<'e, PlainEntry, Infallible>, RunError>
-    ensures filled { IfOk result (λ d. driver_view d ≡ record { requests = accepted (asked_requests_view (map locale_view (locales_of files.now)) requests.now); offset = offset }) }
+    ensures filled { IfOk result (λ d. driver_view d
+        ≡ record {
+          requests = accepted
+              (asked_requests_view (map locale_view (locales_of files.now)) requests.now);
+          offset = offset;
+        }) }
     ensures memory { IfErr result (λ e. e ≡ RunError.OutOfMemory) }
 {
     let mut driver = BibliographyDriver::new(alloc).with_citation_number_offset(offset);
@@ -114,10 +120,9 @@ fn answer_in<'e>(
     request: BibliographyRequest<'_, 'e, PlainEntry>,
     rounds: RoundMode,
 ) -> Result<Rendered, DriverError>
-    ensures ok { IfOk result (λ r. r ≡ rendered same_entry same_payload plain_answers rounds (asked_of driver.entry request.entry)) }
-    ensures ringless { OnOk result (NoRingAtAll (driver_view driver.entry).requests (wanted_view request.entry).style) }
-    ensures fits { OnOk result ((driver_view driver.entry).offset + length (distinct same_entry (cited (driver_view driver.entry).requests)) < 2 ^ 64) }
-    ensures refused { IfErr result (Refuses same_entry (driver_view driver.entry).requests (wanted_view request.entry).style (driver_view driver.entry).offset) }
+    ensures { Finishes
+        (λ r. r ≡ rendered same_entry same_payload plain_answers rounds (asked_of driver.entry request.entry))
+        same_entry (asked_of driver.entry request.entry) result }
 {
     match rounds {
         RoundMode::Three => driver.finish(request),
@@ -154,7 +159,8 @@ fn answer_of<'e>(
     entries: &'e [PlainEntry],
     locales: &'e [Locale],
 ) -> Result<Rendered, RunError>
-    ensures { Answers result (asked_form (style_named (named_styles_view styles.now)) (entry_named entries.now) (map locale_view locales.now) (view value)) }
+    ensures { Answers result (asked_form (style_named (named_styles_view styles.now))
+        (entry_named entries.now) (map locale_view locales.now) (view value)) }
 {
     let found = found_styles(alloc, styles, &value)?;
     let asked = asked_in(alloc, &found, entries, locales, &value)?;
@@ -166,7 +172,7 @@ fn answer_of<'e>(
 fn answer_value(alloc: Global, value: Value) -> Result<Rendered, RunError>
     ensures { Answers result (document_form (view value)) }
 {
-    let object = top_of(&value)?;
+    let object = top_of(alloc, &value)?;
     let styles = styles_of(alloc, object)?;
     let locales = locales_at(alloc, object, "locales")?;
     let entries = entries_of(alloc, object)?;
@@ -181,7 +187,7 @@ fn answer_value(alloc: Global, value: Value) -> Result<Rendered, RunError>
 pub fn answer_bytes(alloc: Global, bytes: &[u8]) -> Result<Rendered, RunError>
     ensures { Answers result (form bytes.now) }
 {
-    let text = utf8_text(bytes)?;
+    let text = utf8_text(alloc, bytes)?;
     let value = value_of(alloc, text)?;
     answer_value(alloc, value)
 }
@@ -220,11 +226,13 @@ pub fn run<W: Write>(alloc: Global, bytes: &[u8], out: &mut W) -> Result<(), Run
         (λ d. Appends (W.contents out.old) (W.contents out.new) (print (answer d)))) }
     ensures answered { OnOk result (IsDocumentThat (form bytes.now) HasAnswer) }
     ensures document { IsErrOf result RunError.Document → form bytes.now ≡ None }
-    ensures overflow { IsErrOf result RunError.NumberOverflow → IsDocumentThat (form bytes.now) HasTooLargeNumbers }
+    ensures overflow { IsErrOf result RunError.NumberOverflow
+        → IsDocumentThat (form bytes.now) HasTooLargeNumbers }
     ensures ring { (place : RingPlace) (i : ℕ) → IsErrOf result (RunError.MacroRing place i)
         → IsDocumentThat (form bytes.now) (HasFirstRing place i) }
     ensures output { IsErrOf result RunError.Output → IsDocumentThat (form bytes.now) HasAnswer }
-    ensures nothing { IfErr result (λ e. (e ≡ RunError.Output → ⊥) → Keeps (W.contents out.old) (W.contents out.new)) }
+    ensures nothing { IfErr result (λ e. (e ≡ RunError.Output → ⊥)
+        → Keeps (W.contents out.old) (W.contents out.new)) }
 {
     let text = print_bytes(alloc, bytes)?;
     match out.write_all(text.as_bytes()) {

@@ -67,14 +67,14 @@ fn called_in(
     };
     let _ = eprintln!(rt; "prepare");
     let value = value_of(rt.alloc(), document)?;
-    called_of(rt, asked, top_of(&value)?)
+    called_of(rt, asked, top_of(rt.alloc(), &value)?)
 }
 
 /// Does what the first line says with the document behind it.
 fn answer(rt: &(impl Input + Print + Eprint + AllocGlobal)) -> Result<Result<(), Ended>, RunError> {
     let _ = eprintln!(rt; "read");
     let bytes = read_input(rt.alloc(), &mut rt.reader())?;
-    called_in(rt, utf8_text(&bytes)?)
+    called_in(rt, utf8_text(rt.alloc(), &bytes)?)
 }
 
 fn main(rt: HostRuntime) -> ExitCode {

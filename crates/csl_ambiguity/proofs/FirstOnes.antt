@@ -6,16 +6,21 @@ use Rattle.csl_lookup.specs.declared.state.DisambiguateState.{DisambiguateState}
 use Rattle.csl_lookup.specs.declared.state.DisambiguateState.TheVariants.{YearSuffix}
 use Rattle.csl_entries.specs.Entries.{distinct, place, with_all_new, with_new}
 use Rattle.csl_passes.specs.Renders.{CiteRender, ItemRender, Place}
-use Rattle.csl_entries.specs.Gathering.{same_entry}
-use Rattle.csl_ambiguity.specs.FirstCites.{first_cite_of, firsts_view}
+use Rattle.csl_ambiguity.specs.FirstCites.{first_cite_of, firsts_view, same_entry}
 use Rattle.csl_ambiguity.specs.Members.{Member, entry_of, members}
 use Rattle.csl_ambiguity.specs.SuffixMarks.{first_cites, suffix_among, suffix_marks}
-use Rattle.csl_entries.specs.declared.first_cite.FirstCite.{FirstCite}
+use Rattle.csl_ambiguity.specs.declared.first_cites.FirstCite.{FirstCite}
 use Rattle.csl_entries.proofs.Distinct.{all_new_is_distinct}
-use Rattle.csl_entries.proofs.Placed.{same_entry-laws}
 use Rattle.csl_entries.proofs.Sets.{insert-view}
 use Rattle.csl_ambiguity.proofs.Distinct.{are-distinct, distinct-map, own-places}
 use Rattle.csl_ambiguity.proofs.Walks.{IsNext, rest-end}
+
+same_entry-laws : {E : Type 0} (eq : E → E → Bool) → IsEquivalence eq → IsEquivalence (same_entry eq)
+same_entry-laws eq laws = record {
+  refl = λ p. laws.refl p.0;
+  symm = λ p q. laws.symm p.0 q.0;
+  congr = λ p q r. laws.congr p.0 q.0 r.0;
+}
 
 module _ {T P : Type 0} (eq : T → T → Bool) (renders : List (CiteRender T P)) (ps : List Place) (k : ℕ) where
   -- what the gathered cites come to, with those from the k-th place on
@@ -23,7 +28,7 @@ module _ {T P : Type 0} (eq : T → T → Bool) (renders : List (CiteRender T P)
   gathered firsts n = with_all_new (same_entry eq) firsts (map first_cite_of (members renders (drop n ps)))
 
   -- one more cite
-  pub first-more : (d : Place) (i : ItemRender T P) (x : FirstCite T Place) (keys new : List (FirstCite T Place)) (all : List (T × Place)) → IsNext renders ps k d (λ m. m.item) i
+  pub first-more : (d : Place) (i : ItemRender T P) (x : FirstCite T) (keys new : List (FirstCite T)) (all : List (T × Place)) → IsNext renders ps k d (λ m. m.item) i
       → i.entry ≡ x.entry.now → get_or ps k d ≡ x.place
       → new ≡ cond (list_any (λ f. eq x.entry.now f.entry.now) keys) keys (keys ++ x ∷ [])
       → gathered (firsts_view keys) k ≡ all → gathered (firsts_view new) (k + 1) ≡ all
@@ -69,7 +74,7 @@ module _ {T P : Type 0} (eq : T → T → Bool) (laws : IsEquivalence eq) (cites
       ∙ own-places entry_of eq laws {Z = Mark} (λ m n. (m.place, YearSuffix n)) 0 (first_cites eq cites) (are-distinct (λ a b. eq (entry_of a) (entry_of b)) cites)
       ∙ same-places (first_cites eq cites)
 
-  pub suffixes-made : (keys firsts : List (FirstCite T Place)) (marks : List Mark) → marks ≡ map (λ p. (p.1.1, YearSuffix p.0)) (enumerate_from 0 (firsts_view firsts)) → firsts ≡ keys
+  pub suffixes-made : (keys firsts : List (FirstCite T)) (marks : List Mark) → marks ≡ map (λ p. (p.1.1, YearSuffix p.0)) (enumerate_from 0 (firsts_view firsts)) → firsts ≡ keys
       → firsts_view keys ≡ map first_cite_of (first_cites eq cites) → marks ≡ suffix_marks eq cites
   suffixes-made keys firsts marks made same found =
       made ∙ ap (λ fs. map {B = Mark} (λ p. (p.1.1, YearSuffix p.0)) (enumerate_from 0 fs)) (ap firsts_view same ∙ found) ∙ numbered-firsts

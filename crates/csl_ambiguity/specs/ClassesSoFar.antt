@@ -42,7 +42,8 @@ module _ {E P : Type 0} (cites : List (Member E P)) where
 
 -- this class is found of the text from now on, and of other texts what was found before
 abbrev pub SetsClass : Class → HeapText → Classes → Classes → Type 0
-SetsClass class text old new = (q : HeapText) → class_at new q ≡ (if string_eq text q then Some class else class_at old q)
+SetsClass class text old new = (q : HeapText)
+    → class_at new q ≡ (if string_eq text q then Some class else class_at old q)
 
 -- a cite at p was added whose text is found nowhere
 pub record StartsClass (p : Place) (text : HeapText) (old new : Classes) : Type 0 where

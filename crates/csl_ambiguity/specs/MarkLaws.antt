@@ -43,20 +43,26 @@ module _ {E P : Type 0} where
 
     -- the cites of the ambiguous groups have no suffix
     abbrev pub GroupsHaveNoSuffix : List (CiteRender E P) → Type 0
-    GroupsHaveNoSuffix renders = All (λ group. HaveNoSuffix (members renders group)) (ambiguous_groups eq renders)
+    GroupsHaveNoSuffix renders =
+        All (λ group. HaveNoSuffix (members renders group)) (ambiguous_groups eq renders)
 
     -- two such cites stand in one of these groups
     abbrev pub AmbiguousStandTogether : List (CiteRender E P) → Type 0
-    AmbiguousStandTogether renders = (a b : Member E P) → AreAmbiguous renders a b → StandInOneGroup (ambiguous_groups eq renders) (place_of a) (place_of b)
+    AmbiguousStandTogether renders = (a b : Member E P) → AreAmbiguous renders a b
+        → StandInOneGroup (ambiguous_groups eq renders) (place_of a) (place_of b)
 
-    -- of cites without suffix each choose mark, and each suffix mark, is a mark to which the state of its cite goes on
+    -- of cites without suffix each choose mark, and each suffix mark, is a mark to which the state of its
+    -- cite goes on
     abbrev pub ChooseMarksGoOn : List (Member E P) → Type 0
     ChooseMarksGoOn cites = HaveNoSuffix cites → All (IsMarkOf cites) (choose_marks eq cites)
 
     abbrev pub SuffixMarksGoOn : List (Member E P) → Type 0
-    SuffixMarksGoOn cites = (dated : Bool) → HaveNoSuffix cites → All (IsMarkOf cites) (year_suffix_marks eq dated cites)
+    SuffixMarksGoOn cites = (dated : Bool) → HaveNoSuffix cites
+        → All (IsMarkOf cites) (year_suffix_marks eq dated cites)
 
-    -- the distinct entries of cites get the suffixes 0, 1, 2 and on, at their first cites, in the order of these
+    -- the distinct entries of cites get the suffixes 0, 1, 2 and on, at their first cites, in the order of
+    -- these
     pub record SuffixesCountEntries (cites : List (Member E P)) : Type 0 where
       pub one_each : map entry_of (first_cites eq cites) ≡ distinct eq (map entry_of cites)
-      pub in_order : suffix_marks eq cites ≡ map (λ p. (place_of p.1, YearSuffix p.0)) (enumerate_from 0 (first_cites eq cites))
+      pub in_order : suffix_marks eq cites
+          ≡ map (λ p. (place_of p.1, YearSuffix p.0)) (enumerate_from 0 (first_cites eq cites))

@@ -29,7 +29,8 @@ module _ {E P : Type 0} where
 
   -- the cites of the r-th request
   abbrev pub request_cites : ℕ → CiteRender E P → List (Member E P)
-  request_cites r c = map (λ p. record { place = (r, p.0); item = p.1; style = c.request.style }) (enumerate_from 0 c.items)
+  request_cites r c = map (λ p. record { place = (r, p.0); item = p.1; style = c.request.style })
+      (enumerate_from 0 c.items)
 
   -- the cites of the whole document, in order
   abbrev pub document : List (CiteRender E P) → List (Member E P)
@@ -37,7 +38,8 @@ module _ {E P : Type 0} where
 
   -- the cite at a place, if there is one
   abbrev pub member_at : List (CiteRender E P) → Place → Option (Member E P)
-  member_at renders place = option_map (λ cite. record { place = place; item = cite.1; style = cite.0.style }) (cite_at renders place)
+  member_at renders place = option_map (λ cite. record { place = place; item = cite.1; style = cite.0.style })
+      (cite_at renders place)
 
   -- a list of it, if there is one
   abbrev pub one_or_none : Option (Member E P) → List (Member E P)

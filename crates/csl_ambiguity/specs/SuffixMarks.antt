@@ -20,12 +20,14 @@ shows m tree = is_some (find_elem (has_meta m) tree)
 
 -- the entry has a date
 abbrev pub has_date : Answers → Bool
-has_date answers = list_any (λ v. is_some (answers.date v)) (Issued ∷ Accessed ∷ AvailableDate ∷ EventDate ∷ Submitted ∷ OriginalDate ∷ [])
+has_date answers = list_any (λ v. is_some (answers.date v))
+    (Issued ∷ Accessed ∷ AvailableDate ∷ EventDate ∷ Submitted ∷ OriginalDate ∷ [])
 
 module _ {E P : Type 0} where
   -- the cite shows a date, or the citation label of an entry that has one
   abbrev pub shows_date : (E → Answers) → ItemRender E P → Bool
-  shows_date answers i = shows meta.Date i.rendered || (shows meta.CitationLabel i.rendered && has_date (answers i.entry))
+  shows_date answers i = shows meta.Date i.rendered
+      || (shows meta.CitationLabel i.rendered && has_date (answers i.entry))
 
   -- some cite of the whole document does
   abbrev pub shows_dates : (E → Answers) → List (CiteRender E P) → Bool

@@ -30,8 +30,9 @@ fn add_cite<T, P>(
     item: &SpeculativeItemRender<'_, T, P>,
     text: &mut String,
 ) -> Result<(), AllocError>
-    ensures { OnOk result ((cites : List (Member T P)) (m : Member T P) → m.place ≡ place → m.item ≡ item_view item.now
-        → AreClassesOf (without_suffix cites) classes.old → AreClassesOf (without_suffix (cites ++ m ∷ [])) classes.new) }
+    ensures { OnOk result ((cites : List (Member T P)) (m : Member T P) → m.place ≡ place
+        → m.item ≡ item_view item.now → AreClassesOf (without_suffix cites) classes.old
+        → AreClassesOf (without_suffix (cites ++ m ∷ [])) classes.new) }
 {
     if has_no_suffix(item) {
         text.clear();
@@ -49,8 +50,9 @@ fn add_cites<T, P>(
     render: &SpeculativeCiteRender<'_, '_, T, P>,
     text: &mut String,
 ) -> Result<(), AllocError>
-    ensures { OnOk result ((cites : List (Member T P))
-        → AreClassesOf (without_suffix cites) classes.old → AreClassesOf (without_suffix (cites ++ request_cites request (render_view render.now))) classes.new) }
+    ensures { OnOk result ((cites : List (Member T P)) → AreClassesOf (without_suffix cites) classes.old
+        → AreClassesOf (without_suffix (cites ++ request_cites request (render_view render.now)))
+        classes.new) }
 {
     for (k, item) in render.items.iter().enumerate() {
         add_cite(alloc, classes, (request, k), item, text)?;
@@ -64,7 +66,8 @@ fn classes<T, P>(
     alloc: Global,
     renders: &[SpeculativeCiteRender<'_, '_, T, P>],
 ) -> Result<Vec<AmbiguousGroup>, AllocError>
-    ensures { IfOk result (λ v. map (λ g. g.items) v.items ≡ map (map place_of) (classes (without_suffix (document (renders_view renders.now))))) }
+    ensures { IfOk result (λ v. map (λ g. g.items) v.items
+        ≡ map (map place_of) (classes (without_suffix (document (renders_view renders.now))))) }
 {
     let mut classes = Classes::new(alloc);
     let mut text = String::new(alloc);
@@ -81,7 +84,8 @@ fn cites_another<T: EntryLike, P>(
     entry: &T,
 ) -> bool
     requires exist { All (IsPlace (renders_view renders.now)) places.now }
-    ensures { result ≡ list_any (λ m. not (T.eq entry.now (entry_of m))) (members (renders_view renders.now) places.now) }
+    ensures { result ≡ list_any (λ m. not (T.eq entry.now (entry_of m)))
+        (members (renders_view renders.now) places.now) }
 {
     for place in places {
         if !(*entry == *cite_at(renders, *place).entry) {
@@ -113,7 +117,9 @@ fn keep_if_different<T: EntryLike, P>(
 ) -> Result<(), AllocError>
     requires exist { All (IsPlace (renders_view renders.now)) places.items }
     ensures { OnOk result (map (λ g. g.items) groups.new.items
-        ≡ map (λ g. g.items) groups.old.items ++ (if cite_different T.eq (members (renders_view renders.now) places.items) then places.items ∷ [] else [])) }
+        ≡ map (λ g. g.items) groups.old.items
+        ++ (if cite_different T.eq (members (renders_view renders.now) places.items) then places.items ∷ []
+        else [])) }
 {
     if cite_different(renders, &places) {
         groups.push(places)?;
@@ -133,7 +139,8 @@ pub fn find_ambiguous_sets<T: EntryLike, P>(
     alloc: Global,
     renders: &[SpeculativeCiteRender<'_, '_, T, P>],
 ) -> Result<Vec<AmbiguousGroup>, AllocError>
-    ensures groups { IfOk result (λ v. map (λ g. g.items) v.items ≡ ambiguous_groups T.eq (renders_view renders.now)) }
+    ensures groups { IfOk result (λ v. map (λ g. g.items) v.items
+        ≡ ambiguous_groups T.eq (renders_view renders.now)) }
     ensures exist { IfOk result (λ v. All (λ g. All (IsPlace (renders_view renders.now)) g.items) v.items) }
     ensures distinct { IfOk result (λ v. All (λ g. AreDistinct g.items) v.items) }
 {

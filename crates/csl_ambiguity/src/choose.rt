@@ -15,7 +15,8 @@ use std::alloc::{AllocError, Global};
 
 /// Whether the cite asks and is in no state or in that of names.
 fn may_ask<T, P>(item: &SpeculativeItemRender<'_, T, P>) -> bool
-    ensures { result ≡ (item.now.checked_disambiguate && may_get_names item.now.cite_props.speculative.disambiguation) }
+    ensures { result ≡ (item.now.checked_disambiguate
+        && may_get_names item.now.cite_props.speculative.disambiguation) }
 {
     let state = &item.cite_props.speculative.disambiguation;
     item.checked_disambiguate && state.may_disambiguate_with_choose()
@@ -43,7 +44,8 @@ fn first_asking<'a, T, P>(
     group: &[(usize, usize)],
 ) -> Option<&'a T>
     requires exist { All (IsPlace (renders_view renders.now)) group.now }
-    ensures { option_map (λ e. e.now) result ≡ option_map entry_of (find asks (members (renders_view renders.now) group.now)) }
+    ensures { option_map (λ e. e.now) result
+        ≡ option_map entry_of (find asks (members (renders_view renders.now) group.now)) }
 {
     for place in group {
         let item = cite_at(renders, *place);
@@ -70,7 +72,9 @@ fn marks_of_others<T: EntryLike, P>(
 ) -> Result<Marks, AllocError>
     requires exist { All (IsPlace (renders_view renders.now)) group.now }
     ensures { IfOk result (λ v. v.items
-        ≡ map (λ m. (m.place, Choose)) (filter (λ m. asks m && not (T.eq spared.now (entry_of m))) (members (renders_view renders.now) group.now))) }
+        ≡ map (λ m. (m.place, Choose))
+        (filter (λ m. asks m && not (T.eq spared.now (entry_of m)))
+        (members (renders_view renders.now) group.now))) }
 {
     let mut marks = Vec::new(alloc);
     for place in group {
@@ -112,7 +116,8 @@ pub fn disambiguate_with_choose<T: EntryLike, P>(
     group: &AmbiguousGroup,
 ) -> Result<Marks, AllocError>
     requires exist { All (IsPlace (renders_view renders.now)) group.now.items }
-    ensures { IfOk result (λ v. v.items ≡ choose_marks T.eq (members (renders_view renders.now) group.now.items)) }
+    ensures { IfOk result (λ v. v.items
+        ≡ choose_marks T.eq (members (renders_view renders.now) group.now.items)) }
 {
     choose_marks(alloc, renders, group)
 }

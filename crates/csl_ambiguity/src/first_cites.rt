@@ -8,22 +8,60 @@ ghost use Rattle.csl_passes.specs.RendersView.{renders_view};
 
 use crate::members::cite_at;
 use csl_base::entry::EntryLike;
-use csl_entries::first_cite::FirstCite;
 use csl_passes::renders::SpeculativeCiteRender;
 use indexmap::IndexSet;
 use std::alloc::{AllocError, Global};
+use std::hash::{Hash, Hasher};
 
-/// The first cite of an entry in a group, at its place in the document.
-pub(crate) type FirstOfGroup<'a, T> = FirstCite<'a, T, (usize, usize)>;
+/// A cite of an entry, at its place in the document. Two are equal where their entries are, so a set keeps
+/// of the cites of an entry the one that came first.
+#[derive(Drop)]
+pub(crate) struct FirstCite<'a, T> {
+    pub(crate) entry: &'a T,
+    pub(crate) place: (usize, usize),
+}
+
+impl<'a, T: EntryLike> PartialEq for FirstCite<'a, T> {
+    ghost use Rattle.std.specs.Cmp.Rules.{comparing};
+    ghost use Rattle.std.proofs.Common.{rules};
+
+    ghost eq = { λ a b. T.eq a.entry.now b.entry.now };
+
+    ghost laws = { Prim.search (comparing, rules) };
+
+    fn eq(&self, other: &FirstCite<'a, T>) -> bool {
+        *self.entry == *other.entry
+    }
+}
+
+impl<'a, T: EntryLike> Eq for FirstCite<'a, T> {
+    ghost use Rattle.std.proofs.Common.{rules};
+
+    ghost laws = { Prim.search rules };
+}
+
+impl<'a, T: EntryLike> Hash for FirstCite<'a, T> {
+    ghost use Rattle.std.specs.Cmp.Rules.{hashing};
+    ghost use Rattle.std.proofs.Common.{rules};
+
+    ghost hash_input = { λ a. T.hash_input a.entry.now };
+
+    ghost respects_eq = { Prim.search (hashing, rules) };
+
+    fn hash<H: Hasher>(&self, state: &mut H) {
+        self.entry.hash(state);
+    }
+}
 
 /// The first cite of each entry that is cited at these places, in order.
 pub(crate) fn first_cites<'a, T: EntryLike, P>(
     alloc: Global,
     renders: &[SpeculativeCiteRender<'_, 'a, T, P>],
     group: &[(usize, usize)],
-) -> Result<IndexSet<FirstOfGroup<'a, T>>, AllocError>
+) -> Result<IndexSet<FirstCite<'a, T>>, AllocError>
     requires exist { All (IsPlace (renders_view renders.now)) group.now }
-    ensures { IfOk result (λ v. firsts_view v.keys ≡ map first_cite_of (first_cites T.eq (members (renders_view renders.now) group.now))) }
+    ensures { IfOk result (λ v. firsts_view v.keys
+        ≡ map first_cite_of (first_cites T.eq (members (renders_view renders.now) group.now))) }
 {
     let mut firsts = IndexSet::new(alloc);
     for place in group {

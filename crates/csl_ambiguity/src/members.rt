@@ -14,7 +14,8 @@ pub(crate) fn cite_at<'x, 'a, T, P>(
     place: (usize, usize),
 ) -> &'x SpeculativeItemRender<'a, T, P>
     requires exists { IsPlace (renders_view renders.now) place }
-    ensures { option_map (λ m. m.item) (member_at (renders_view renders.now) place) ≡ Some (item_view result.now) }
+    ensures { option_map (λ m. m.item) (member_at (renders_view renders.now) place)
+        ≡ Some (item_view result.now) }
 {
     let (request, cite) = place;
     &renders[request].items[cite]
@@ -26,7 +27,8 @@ pub(crate) fn style_at<'a, T, P>(
     place: (usize, usize),
 ) -> &'a IndependentStyle
     requires exists { IsPlace (renders_view renders.now) place }
-    ensures { option_map (λ m. m.style) (member_at (renders_view renders.now) place) ≡ Some (style_view result.now) }
+    ensures { option_map (λ m. m.style) (member_at (renders_view renders.now) place)
+        ≡ Some (style_view result.now) }
 {
     let (request, _) = place;
     renders[request].request.style()

@@ -8,7 +8,7 @@ ghost use Rattle.csl_lookup.specs.declared.state.DisambiguateState.TheVariants.{
 ghost use Rattle.csl_passes.specs.Places.{IsPlace};
 ghost use Rattle.csl_passes.specs.RendersView.{item_view, items_view, renders_view};
 
-use crate::first_cites::{FirstOfGroup, first_cites};
+use crate::first_cites::{FirstCite, first_cites};
 use crate::members::style_at;
 use csl_base::elem::{ElemChildren, ElemMeta};
 use csl_base::entry::EntryLike;
@@ -99,8 +99,9 @@ fn adds_suffix<T, P>(
 }
 
 /// A mark for each of the cites, whose suffix is its place among them.
-fn numbered<T>(alloc: Global, firsts: &[FirstOfGroup<'_, T>]) -> Result<Marks, AllocError>
-    ensures { IfOk result (λ v. v.items ≡ map (λ p. (p.1.1, YearSuffix p.0)) (enumerate_from 0 (firsts_view firsts.now))) }
+fn numbered<T>(alloc: Global, firsts: &[FirstCite<'_, T>]) -> Result<Marks, AllocError>
+    ensures { IfOk result (λ v. v.items
+        ≡ map (λ p. (p.1.1, YearSuffix p.0)) (enumerate_from 0 (firsts_view firsts.now))) }
 {
     let mut marks = Vec::with_capacity(alloc, firsts.len())?;
     for (k, first) in firsts.iter().enumerate() {
@@ -137,7 +138,8 @@ pub fn disambiguate_year_suffix<T: EntryLike, P>(
 ) -> Result<Marks, AllocError>
     requires exist { All (IsPlace (renders_view renders.now)) group.now.items }
     ensures { IfOk result (λ v. v.items
-        ≡ year_suffix_marks T.eq (shows_dates T.answers (renders_view renders.now)) (members (renders_view renders.now) group.now.items)) }
+        ≡ year_suffix_marks T.eq (shows_dates T.answers (renders_view renders.now))
+        (members (renders_view renders.now) group.now.items)) }
 {
     disambiguate_dated_year_suffix(alloc, renders, group, shows_dates(renders))
 }
@@ -154,7 +156,8 @@ pub fn disambiguate_dated_year_suffix<T: EntryLike, P>(
     dated: bool,
 ) -> Result<Marks, AllocError>
     requires exist { All (IsPlace (renders_view renders.now)) group.now.items }
-    ensures { IfOk result (λ v. v.items ≡ year_suffix_marks T.eq dated (members (renders_view renders.now) group.now.items)) }
+    ensures { IfOk result (λ v. v.items
+        ≡ year_suffix_marks T.eq dated (members (renders_view renders.now) group.now.items)) }
 {
     if dated && adds_suffix(renders, group) {
         suffix_marks(alloc, renders, group)

@@ -40,13 +40,15 @@ text_ends_with suffix last = elim last [ None ↦ false | Some f ↦ ends_with n
 -- the suffix behind a tree, unless its last text ends with it
 abbrev pub with_suffix : Formatting → Option (List ℕ) → List Child → List Child
 with_suffix f None cs = cs
-with_suffix f (Some suffix) cs = if text_ends_with suffix (last_text cs) then cs else cs ++ text_child f (Some suffix)
+with_suffix f (Some suffix) cs = if text_ends_with suffix (last_text cs) then cs
+    else cs ++ text_child f (Some suffix)
 
 -- cites joined, and between the layout's prefix and suffix where it encloses them
 abbrev pub enclosed : Bool → LayoutValue → List Shown → List Child
 enclosed encloses layout cites =
     let f = layout_formatting layout in
-    if encloses then with_suffix f layout.suffix (text_child f layout.prefix ++ joined_cites f cites) else joined_cites f cites
+    if encloses then with_suffix f layout.suffix (text_child f layout.prefix ++ joined_cites f cites)
+    else joined_cites f cites
 
 -- the tree of a citation from its shown cites: nothing where there is none
 abbrev pub assembled : Bool → LayoutValue → List Shown → List Child

@@ -16,11 +16,15 @@ use Rattle.csl_assembly.specs.ChildOf.{child_of}
 use Rattle.csl_assembly.specs.declared.rendered.BibliographyItem.{BibliographyItem}
 use Rattle.csl_assembly.specs.declared.rendered.RenderedBibliography.{RenderedBibliography}
 
--- an item of the bibliography from its tree and its key: where second fields are aligned, its first field, which is the
--- first child that stands for something, stands apart
+-- an item of the bibliography from its tree and its key: where second fields are aligned, its first field,
+-- which is the first child that stands for something, stands apart
 abbrev pub with_first_field : Bool → Item → BibliographyItem
 with_first_field aligned (tree, key) =
-    if aligned then record { key = key; first_field = option_map child_of (find child_has_any_meta tree); content = remove tree (position_or_len child_has_any_meta tree) }
+    if aligned then record {
+      key = key;
+      first_field = option_map child_of (find child_has_any_meta tree);
+      content = remove tree (position_or_len child_has_any_meta tree);
+    }
     else record { key = key; first_field = None; content = tree }
 
 -- the cites at these places
@@ -34,7 +38,10 @@ unlocated i = record i.properties { speculative = record i.properties.speculativ
 module _ {E P : Type 0} (answers : E → Answers) (source : Source) where
   -- the entry of a cite as the bibliography writes it by what holds of the cite, and its key
   abbrev pub written_item : ItemRender E P → Item
-  written_item i = (simplified (unwrap_or (bibliography_text source (answers i.entry) (unlocated i)) []), (answers i.entry).key)
+  written_item i = (
+    simplified (unwrap_or (bibliography_text source (answers i.entry) (unlocated i)) []),
+    (answers i.entry).key,
+  )
 
   -- the bibliography, where these are the first cites of its entries, in its order
   abbrev pub bibliography_of : BibliographyValue → List (ItemRender E P) → RenderedBibliography
@@ -44,5 +51,6 @@ module _ {E P : Type 0} (answers : E → Answers) (source : Source) where
     line_spacing = bibliography.line_spacing;
     entry_spacing = bibliography.entry_spacing;
     items = map (with_first_field (is_some bibliography.second_field_align))
-        (substituted bibliography.subsequent_author_substitute bibliography.subsequent_author_substitute_rule (map written_item firsts));
+        (substituted bibliography.subsequent_author_substitute bibliography.subsequent_author_substitute_rule
+        (map written_item firsts));
   }

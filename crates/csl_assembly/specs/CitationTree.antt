@@ -31,10 +31,12 @@ module _ {E P : Type 0} where
   module _ (answers : E → Answers) where
     -- a cite as it is put into its citation
     abbrev pub shown_cite : Source → LayoutValue → ItemRender E P → Shown
-    shown_cite source layout i = record { delimiter = delimiter_before layout i; tree = marked_cite i (last_tree answers source i) }
+    shown_cite source layout i =
+        record { delimiter = delimiter_before layout i; tree = marked_cite i (last_tree answers source i) }
 
     -- the citation; the layout encloses it where no cite has a purpose
     abbrev pub citation_tree : CiteRender E P → List Child
     citation_tree c =
         let layout = c.request.style.citation.layout in
-        assembled (has_no_purpose c.items) layout (map (shown_cite (source_of c.request) layout) (shown c.items))
+        assembled (has_no_purpose c.items) layout
+        (map (shown_cite (source_of c.request) layout) (shown c.items))

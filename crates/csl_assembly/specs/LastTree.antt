@@ -15,10 +15,13 @@ is_for_year _ = false
 
 -- a cite is written at last by its properties, with its own locator
 abbrev pub last_properties : {E P : Type 0} → ItemRender E P → Properties P
-last_properties i = record i.properties { speculative = record i.properties.speculative { locator = i.locator } }
+last_properties i =
+    record i.properties { speculative = record i.properties.speculative { locator = i.locator } }
 
--- the date text where a cite is written for the year alone, else the cite text for its purpose and its verdict
-abbrev pub tree_for_purpose : {P : Type 0} → Source → Answers → Properties P → Option CitePurpose → Option CollapseVerdict → List Child
+-- the date text where a cite is written for the year alone, else the cite text for its purpose and its
+-- verdict
+abbrev pub tree_for_purpose : {P : Type 0} → Source → Answers → Properties P → Option CitePurpose
+    → Option CollapseVerdict → List Child
 tree_for_purpose source entry properties purpose verdict =
     if is_for_year purpose then date_text source entry
     else cite_text source entry properties purpose verdict

@@ -48,7 +48,8 @@ fn push_optional_text(
     text: Option<&str>,
     formatting: Formatting,
 ) -> Result<(), AllocError>
-    ensures { OnOk result (tree.new ≡ tree.old ++ text_child formatting (option_map (λ t. t.now) text.entry)) }
+    ensures { OnOk result (tree.new
+        ≡ tree.old ++ text_child formatting (option_map (λ t. t.now) text.entry)) }
 {
     match text {
         Some(text) => push_text(alloc, tree, text, formatting),
@@ -75,7 +76,8 @@ fn push_cite(
     formatting: Formatting,
 ) -> Result<(), AllocError>
     ensures { OnOk result (tree.new
-        ≡ tree.old ++ (if is_first then (shown_view cite.entry).tree else delimited formatting (shown_view cite.entry))) }
+        ≡ tree.old ++ (if is_first then (shown_view cite.entry).tree
+        else delimited formatting (shown_view cite.entry))) }
 {
     if !is_first {
         push_optional_text(alloc, tree, cite.delimiter, formatting)?;
@@ -145,7 +147,8 @@ fn enclosed(
     cites: Vec<ShownCite<'_>>,
     encloses: bool,
 ) -> Result<ElemChildren, AllocError>
-    ensures { IfOk result (λ tree. tree ≡ enclosed encloses (layout_view layout.now) (shown_views cites.entry.items)) }
+    ensures { IfOk result (λ tree. tree
+        ≡ enclosed encloses (layout_view layout.now) (shown_views cites.entry.items)) }
 {
     let formatting = layout_formatting(layout);
     let mut tree = room_for(alloc, cites.len())?;
@@ -171,7 +174,8 @@ pub fn assembled(
     cites: Vec<ShownCite<'_>>,
     encloses: bool,
 ) -> Result<ElemChildren, AllocError>
-    ensures { IfOk result (λ tree. tree ≡ assembled encloses (layout_view layout.now) (shown_views cites.entry.items)) }
+    ensures { IfOk result (λ tree. tree
+        ≡ assembled encloses (layout_view layout.now) (shown_views cites.entry.items)) }
 {
     if cites.is_empty() {
         return Ok(ElemChildren::new(alloc));

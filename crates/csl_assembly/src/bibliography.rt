@@ -1,15 +1,13 @@
 //! The bibliography of an answer.
 ghost use Rattle.std.specs.Prelude.{◌≡◌, All, IfOk, OnOk, length, map, option_map, Some, string_bytes};
 ghost use Rattle.csl_base.specs.Metas.{child_has_any_meta};
-ghost use Rattle.csl_base.specs.Ring.{HasNoRing};
-ghost use Rattle.csl_base.specs.StyleView.{bibliography_view, style_view};
+ghost use Rattle.csl_base.specs.StyleView.{bibliography_view};
 ghost use Rattle.csl_lookup.specs.PropertiesView.{properties_view};
 ghost use Rattle.csl_passes.specs.Places.{IsPlace, cite_at};
 ghost use Rattle.csl_passes.specs.RendersView.{item_view, renders_view};
 ghost use Rattle.csl_passes.specs.Request.{wanted_source};
 ghost use Rattle.csl_passes.specs.RequestView.{wanted_view};
 ghost use Rattle.csl_substitution.specs.ItemView.{items_view};
-ghost use Rattle.csl_writing.specs.ContextSource.{context_source};
 ghost use Rattle.csl_writing.specs.Counted.{counted, counted_times};
 ghost use Rattle.std.specs.List.{find, position_or_len, remove};
 ghost use Rattle.csl_assembly.specs.ChildOf.{child_of};
@@ -18,12 +16,11 @@ ghost use Rattle.csl_assembly.specs.BibliographyItems.{bibliography_of, cites_at
 use crate::rendered::{BibliographyItem, RenderedBibliography};
 use csl_base::elem::{ElemChild, ElemChildren};
 use csl_base::entry::EntryLike;
-use csl_base::locale::LocaleCode;
 use csl_base::seq::Seq;
 use csl_base::style::Bibliography;
 use csl_base::text::Text;
+use csl_passes::acyclic::AcyclicWanted;
 use csl_passes::renders::{SpeculativeCiteRender, SpeculativeItemRender};
-use csl_passes::request::BibliographyRequest;
 use csl_substitution::substitution::substitute_subsequent_authors;
 use csl_writing::counter::Renders;
 use csl_writing::lookup::StyleContext;
@@ -46,27 +43,22 @@ fn unlocated<'a, T, P: Drop>(
     })
 }
 
-/// The style of a request for a bibliography, with its locales.
-fn wanted_context<'w, T>(wanted: &'w BibliographyRequest<'_, '_, T>) -> StyleContext<'w>
-    ensures { context_source result ≡ wanted_source (wanted_view wanted.now) }
-{
-    StyleContext::of_locales(wanted.source())
-}
-
 /// The entry of a cite as the bibliography writes it, and its key.
 fn written_item<T: EntryLike, P: Drop>(
     alloc: Global,
-    context: &StyleContext<'_>,
-    locale: Option<&LocaleCode>,
+    wanted: AcyclicWanted<'_, '_, '_, T>,
     first: &SpeculativeItemRender<'_, T, P>,
-    renders: &mut Renders,
+    counter: &mut Renders,
 ) -> Result<(ElemChildren, String), AllocError>
-    requires no_ring { HasNoRing (context_source context.now).style.macros }
-    ensures item { IfOk result (λ item. (item.0, string_bytes item.1) ≡ written_item T.answers (context_source context.now) (item_view first.now)) }
-    ensures counted { OnOk result (renders.new ≡ counted renders.old) }
+    ensures item { IfOk result (λ item. (item.0, string_bytes item.1)
+        ≡ written_item T.answers (wanted_source (wanted_view wanted.entry.wanted.now))
+        (item_view first.now)) }
+    ensures counted { OnOk result (counter.new ≡ counted counter.old) }
 {
+    let context = StyleContext::of_locales(wanted.source());
+    let locale = wanted.wanted.locale.as_ref();
     let properties = unlocated(first)?;
-    let text = context.bibliography(alloc, first.entry, &properties, None, locale, renders)?;
+    let text = context.bibliography(alloc, first.entry, &properties, None, locale, counter)?;
     let mut content = text.unwrap_or(ElemChildren::new(alloc));
     content.simplify_children()?;
     Ok((content, String::from_str(alloc, first.entry.key())?))
@@ -87,23 +79,21 @@ fn cite_at<'c, 'a, T, P>(
 /// The entries of the cites at these places, as the bibliography writes them.
 fn written_items<T: EntryLike, P: Drop>(
     alloc: Global,
-    wanted: &BibliographyRequest<'_, '_, T>,
+    wanted: AcyclicWanted<'_, '_, '_, T>,
     cites: &[SpeculativeCiteRender<'_, '_, T, P>],
     firsts: &[(usize, usize)],
-    renders: &mut Renders,
+    counter: &mut Renders,
 ) -> Result<Vec<(ElemChildren, String)>, AllocError>
-    requires no_ring { HasNoRing (style_view wanted.now.style.now).macros }
     requires exist { All (IsPlace (renders_view cites.now)) firsts.now }
     ensures items { IfOk result (λ made. items_view made.items
-        ≡ map (written_item T.answers (wanted_source (wanted_view wanted.now))) (cites_at (renders_view cites.now) firsts.now)) }
-    ensures counted { OnOk result (renders.new ≡ counted_times (length firsts.now) renders.old) }
+        ≡ map (written_item T.answers (wanted_source (wanted_view wanted.entry.wanted.now)))
+        (cites_at (renders_view cites.now) firsts.now)) }
+    ensures counted { OnOk result (counter.new ≡ counted_times (length firsts.now) counter.old) }
 {
-    let context = wanted_context(wanted);
-    let locale = wanted.locale.as_ref();
     let mut items = Vec::with_capacity(alloc, firsts.len())?;
     for place in firsts {
         let first = cite_at(cites, *place);
-        items.push(written_item(alloc, &context, locale, first, renders)?)?;
+        items.push(written_item(alloc, wanted, first, counter)?)?;
     }
     Ok(items)
 }
@@ -152,28 +142,27 @@ fn with_first_fields(
 }
 
 /// The bibliography of a style: an item for each of the cites at these places, which are the first ones of
-/// its entries, in its order. Each is written by what holds of its cite, but without a locator; then names that it shares
-/// with one before it are substituted, and where second fields are aligned its first field, the first child
-/// of its tree that stands for something, is taken out. Each rendering is counted. The style may have
-/// no macros that call each other in a ring.
+/// its entries, in its order. Each is written by what holds of its cite, but without a locator; then names
+/// that it shares with one before it are substituted, and where second fields are aligned its first field,
+/// the first child of its tree that stands for something, is taken out. Each rendering is counted.
 ///
 /// # Errors
 /// Where memory is refused.
 pub fn bibliography_of<T: EntryLike, P: Drop>(
     alloc: Global,
-    wanted: &BibliographyRequest<'_, '_, T>,
+    wanted: AcyclicWanted<'_, '_, '_, T>,
     bibliography: &Bibliography,
     cites: &[SpeculativeCiteRender<'_, '_, T, P>],
     firsts: &[(usize, usize)],
-    renders: &mut Renders,
+    counter: &mut Renders,
 ) -> Result<RenderedBibliography, AllocError>
-    requires no_ring { HasNoRing (style_view wanted.now.style.now).macros }
     requires exist { All (IsPlace (renders_view cites.now)) firsts.now }
     ensures bibliography { IfOk result (λ r. r
-        ≡ bibliography_of T.answers (wanted_source (wanted_view wanted.now)) (bibliography_view bibliography.now) (cites_at (renders_view cites.now) firsts.now)) }
-    ensures counted { OnOk result (renders.new ≡ counted_times (length firsts.now) renders.old) }
+        ≡ bibliography_of T.answers (wanted_source (wanted_view wanted.entry.wanted.now))
+        (bibliography_view bibliography.now) (cites_at (renders_view cites.now) firsts.now)) }
+    ensures counted { OnOk result (counter.new ≡ counted_times (length firsts.now) counter.old) }
 {
-    let mut items = written_items(alloc, wanted, cites, firsts, renders)?;
+    let mut items = written_items(alloc, wanted, cites, firsts, counter)?;
     let substitute = bibliography.subsequent_author_substitute.as_deref();
     let rule = bibliography.subsequent_author_substitute_rule;
     substitute_subsequent_authors(alloc, substitute, rule, &mut items)?;

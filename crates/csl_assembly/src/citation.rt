@@ -1,11 +1,9 @@
 //! The citation of a request, from its cites as they stand in the end.
 ghost use Rattle.std.specs.Prelude.{◌≡◌, IfOk, OnOk, length, map, option_map};
-ghost use Rattle.csl_base.specs.Ring.{HasNoRing};
-ghost use Rattle.csl_base.specs.StyleView.{layout_view, style_view};
+ghost use Rattle.csl_base.specs.StyleView.{layout_view};
 ghost use Rattle.csl_passes.specs.Request.{source_of};
 ghost use Rattle.csl_passes.specs.RequestView.{request_view};
-ghost use Rattle.csl_passes.specs.RendersView.{item_view, items_view, render_view};
-ghost use Rattle.csl_writing.specs.ContextSource.{context_source};
+ghost use Rattle.csl_passes.specs.RendersView.{item_view, items_view};
 ghost use Rattle.csl_assembly.specs.CitationTree.{citation_tree, delimiter_before, has_no_purpose, marked_cite, shown, shown_cite};
 ghost use Rattle.csl_assembly.specs.LastTree.{last_tree};
 ghost use Rattle.csl_assembly.specs.ShownView.{shown_views};
@@ -15,12 +13,10 @@ use crate::assemble::{ShownCite, assembled};
 use crate::last_tree::last_tree;
 use csl_base::elem::{Elem, ElemChild, ElemChildren, ElemMeta};
 use csl_base::entry::EntryLike;
-use csl_base::locale::LocaleCode;
 use csl_base::style::Layout;
-use csl_passes::renders::{SpeculativeCiteRender, SpeculativeItemRender};
-use csl_passes::request::CitationRequest;
+use csl_passes::acyclic::AcyclicRequest;
+use csl_passes::renders::SpeculativeItemRender;
 use csl_writing::counter::Renders;
-use csl_writing::lookup::StyleContext;
 use std::alloc::{AllocError, Global};
 
 /// Whether no cite is written for a purpose of its own.
@@ -35,19 +31,13 @@ pub fn has_no_purpose<T, P>(items: &[SpeculativeItemRender<'_, T, P>]) -> bool
     true
 }
 
-/// The style of a request, with its locales.
-pub fn request_context<'r, T, P>(request: &'r CitationRequest<'_, T, P>) -> StyleContext<'r>
-    ensures { context_source result ≡ source_of (request_view request.now) }
-{
-    StyleContext::of_locales(request.source())
-}
-
 /// What stands before a cite that isn't the first that shows: its override, else the layout's delimiter.
 fn delimiter_before<'a, T, P>(
     layout: &'a Layout,
     item: &SpeculativeItemRender<'a, T, P>,
 ) -> Option<&'a str>
-    ensures { option_map (λ d. d.now) result ≡ delimiter_before (layout_view layout.now) (item_view item.now) }
+    ensures { option_map (λ d. d.now) result
+        ≡ delimiter_before (layout_view layout.now) (item_view item.now) }
 {
     item.delim_override.or(layout.delimiter.as_deref())
 }
@@ -55,17 +45,17 @@ fn delimiter_before<'a, T, P>(
 /// The tree of a cite, marked with its place in its request.
 fn marked_cite<T: EntryLike, P: Drop>(
     alloc: Global,
-    context: &StyleContext<'_>,
-    locale: Option<&LocaleCode>,
+    request: AcyclicRequest<'_, '_, T, P>,
     item: &SpeculativeItemRender<'_, T, P>,
-    renders: &mut Renders,
+    counter: &mut Renders,
 ) -> Result<ElemChildren, AllocError>
-    requires no_ring { HasNoRing (context_source context.now).style.macros }
-    ensures tree { IfOk result (λ tree. tree ≡ marked_cite (item_view item.now) (last_tree T.answers (context_source context.now) (item_view item.now))) }
-    ensures counted { OnOk result (renders.new ≡ counted renders.old) }
+    ensures tree { IfOk result (λ tree. tree
+        ≡ marked_cite (item_view item.now)
+        (last_tree T.answers (source_of (request_view request.entry.request.now)) (item_view item.now))) }
+    ensures counted { OnOk result (counter.new ≡ counted counter.old) }
 {
     let cite = Elem {
-        children: last_tree(alloc, context, locale, item, renders)?,
+        children: last_tree(alloc, request, item, counter)?,
         display: None,
         meta: Some(ElemMeta::Entry(item.cite_props.certain.initial_idx)),
     };
@@ -77,21 +67,19 @@ fn marked_cite<T: EntryLike, P: Drop>(
 /// The shown cites, each with its tree and its delimiter. The others are rendered too.
 fn shown_cites<'a, T: EntryLike, P: Drop>(
     alloc: Global,
-    render: &SpeculativeCiteRender<'_, 'a, T, P>,
-    renders: &mut Renders,
+    request: AcyclicRequest<'_, 'a, T, P>,
+    items: &[SpeculativeItemRender<'a, T, P>],
+    counter: &mut Renders,
 ) -> Result<Vec<ShownCite<'a>>, AllocError>
-    requires no_ring { HasNoRing (render_view render.now).request.style.macros }
     ensures cites { IfOk result (λ cites. shown_views cites.items
-        ≡ map (shown_cite T.answers (source_of (render_view render.now).request) (render_view render.now).request.style.citation.layout)
-        (shown (render_view render.now).items)) }
-    ensures counted { OnOk result (renders.new ≡ counted_times (length (render_view render.now).items) renders.old) }
+        ≡ map (shown_cite T.answers (source_of (request_view request.entry.request.now))
+        (request_view request.entry.request.now).style.citation.layout) (shown (items_view items.now))) }
+    ensures counted { OnOk result (counter.new ≡ counted_times (length items.now) counter.old) }
 {
-    let context = request_context(render.request);
-    let locale = render.request.locale.as_ref();
-    let layout = &render.request.style().citation.layout;
-    let mut cites = Vec::with_capacity(alloc, render.items.len())?;
-    for item in &render.items {
-        let tree = marked_cite(alloc, &context, locale, item, renders)?;
+    let layout = &request.request.style().citation.layout;
+    let mut cites = Vec::with_capacity(alloc, items.len())?;
+    for item in items {
+        let tree = marked_cite(alloc, request, item, counter)?;
         if !item.hidden {
             let delimiter = delimiter_before(layout, item);
             cites.push(ShownCite { delimiter, tree })?;
@@ -103,21 +91,22 @@ fn shown_cites<'a, T: EntryLike, P: Drop>(
 /// The citation of a request: its shown cites, each written for its purpose and as its verdict cuts it, by
 /// all that holds of it in the end, behind its override or else the layout's delimiter; between the layout's
 /// prefix and suffix where no cite has a purpose. Each is an element with meta `Entry(i)`, where i is its
-/// place in the items of the request. Hidden cites are rendered too; each rendering is counted. The
-/// request's style may have no macros that call each other in a ring.
+/// place in the items of the request. Hidden cites are rendered too; each rendering is counted.
 ///
 /// # Errors
 /// Where memory is refused.
-pub fn citation_tree<T: EntryLike, P: Drop>(
+pub fn citation_tree<'a, T: EntryLike, P: Drop>(
     alloc: Global,
-    render: &SpeculativeCiteRender<'_, '_, T, P>,
-    renders: &mut Renders,
+    request: AcyclicRequest<'_, 'a, T, P>,
+    items: &[SpeculativeItemRender<'a, T, P>],
+    counter: &mut Renders,
 ) -> Result<ElemChildren, AllocError>
-    requires no_ring { HasNoRing (render_view render.now).request.style.macros }
-    ensures tree { IfOk result (λ tree. tree ≡ citation_tree T.answers (render_view render.now)) }
-    ensures counted { OnOk result (renders.new ≡ counted_times (length (render_view render.now).items) renders.old) }
+    ensures tree { IfOk result (λ tree. tree
+        ≡ citation_tree T.answers
+        (record { items = items_view items.now; request = request_view request.entry.request.now })) }
+    ensures counted { OnOk result (counter.new ≡ counted_times (length items.now) counter.old) }
 {
-    let cites = shown_cites(alloc, render, renders)?;
-    let layout = &render.request.style().citation.layout;
-    assembled(alloc, layout, cites, has_no_purpose(&render.items))
+    let cites = shown_cites(alloc, request, items, counter)?;
+    let layout = &request.request.style().citation.layout;
+    assembled(alloc, layout, cites, has_no_purpose(items))
 }

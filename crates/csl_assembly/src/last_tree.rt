@@ -1,10 +1,10 @@
 //! The tree of a cite once nothing of it changes any more.
 ghost use Rattle.std.specs.Prelude.{◌≡◌, IfOk, OnOk};
-ghost use Rattle.csl_base.specs.Ring.{HasNoRing};
 ghost use Rattle.csl_lookup.specs.PropertiesView.{properties_view};
 ghost use Rattle.csl_passes.specs.RendersView.{item_view};
+ghost use Rattle.csl_passes.specs.Request.{source_of};
+ghost use Rattle.csl_passes.specs.RequestView.{request_view};
 ghost use Rattle.csl_assembly.specs.LastTree.{last_properties, last_tree, tree_for_purpose};
-ghost use Rattle.csl_writing.specs.ContextSource.{context_source};
 ghost use Rattle.csl_writing.specs.Counted.{counted};
 
 use csl_base::elem::ElemChildren;
@@ -13,6 +13,7 @@ use csl_base::locale::LocaleCode;
 use csl_lookup::properties::{CiteProperties, SpeculativeCiteProperties};
 use csl_lookup::purpose::CitePurpose;
 use csl_lookup::state::CollapseVerdict;
+use csl_passes::acyclic::AcyclicRequest;
 use csl_passes::renders::SpeculativeItemRender;
 use csl_writing::counter::Renders;
 use csl_writing::lookup::StyleContext;
@@ -37,32 +38,32 @@ fn last_properties<'a, T, P: Drop>(
     })
 }
 
-/// The tree of a cite of this entry: the date text where it is written for the year alone, else the cite
-/// for its purpose and its verdict. Counts a rendering.
-///
-/// The two locales are looked at by nothing; the context's own counts. The style may have no macros that
-/// call each other in a ring.
+/// The tree of a cite of this entry in the style of the request: the date text where it is written for the
+/// year alone, else the cite for its purpose and its verdict. Counts a rendering. The item's locale is looked
+/// at by nothing; that of the request counts.
 ///
 /// # Errors
 /// Where memory is refused.
 pub fn tree_for_purpose<T: EntryLike, P>(
     alloc: Global,
-    context: &StyleContext<'_>,
+    request: AcyclicRequest<'_, '_, T, P>,
     entry: &T,
     properties: &CiteProperties<'_, P>,
     item_locale: Option<&LocaleCode>,
-    locale: Option<&LocaleCode>,
     purpose: Option<CitePurpose>,
     verdict: Option<CollapseVerdict>,
-    renders: &mut Renders,
+    counter: &mut Renders,
 ) -> Result<ElemChildren, AllocError>
-    requires no_ring { HasNoRing (context_source context.now).style.macros }
-    ensures tree { IfOk result (λ tree. tree ≡ tree_for_purpose (context_source context.now) (T.answers entry.now) (properties_view properties.now) purpose verdict) }
-    ensures counted { OnOk result (renders.new ≡ counted renders.old) }
+    ensures tree { IfOk result (λ tree. tree
+        ≡ tree_for_purpose (source_of (request_view request.entry.request.now)) (T.answers entry.now)
+        (properties_view properties.now) purpose verdict) }
+    ensures counted { OnOk result (counter.new ≡ counted counter.old) }
 {
+    let context = StyleContext::of_locales(request.source());
+    let locale = request.request.locale.as_ref();
     match purpose {
         Some(CitePurpose::Year) => {
-            context.date_replacement(alloc, entry, properties, item_locale, locale, renders)
+            context.date_replacement(alloc, entry, properties, item_locale, locale, counter)
         }
         purpose => context.citation(
             alloc,
@@ -72,37 +73,35 @@ pub fn tree_for_purpose<T: EntryLike, P>(
             locale,
             purpose,
             verdict,
-            renders,
+            counter,
         ),
     }
 }
 
 /// The tree of a cite in the style of its request, for its purpose, by its properties with its own locator.
-/// Counts a rendering. The style may have no macros that call each other in a ring.
+/// Counts a rendering.
 ///
 /// # Errors
 /// Where memory is refused.
 pub fn last_tree<T: EntryLike, P: Drop>(
     alloc: Global,
-    context: &StyleContext<'_>,
-    locale: Option<&LocaleCode>,
+    request: AcyclicRequest<'_, '_, T, P>,
     item: &SpeculativeItemRender<'_, T, P>,
-    renders: &mut Renders,
+    counter: &mut Renders,
 ) -> Result<ElemChildren, AllocError>
-    requires no_ring { HasNoRing (context_source context.now).style.macros }
-    ensures tree { IfOk result (λ tree. tree ≡ last_tree T.answers (context_source context.now) (item_view item.now)) }
-    ensures counted { OnOk result (renders.new ≡ counted renders.old) }
+    ensures tree { IfOk result (λ tree. tree
+        ≡ last_tree T.answers (source_of (request_view request.entry.request.now)) (item_view item.now)) }
+    ensures counted { OnOk result (counter.new ≡ counted counter.old) }
 {
     let properties = last_properties(item)?;
     tree_for_purpose(
         alloc,
-        context,
+        request,
         item.entry,
         &properties,
         item.locale.as_ref(),
-        locale,
         item.purpose,
         item.collapse_verdict,
-        renders,
+        counter,
     )
 }

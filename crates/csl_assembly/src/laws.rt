@@ -12,7 +12,8 @@ use crate::rendered::{BibliographyItem, Rendered, RenderedBibliography, Rendered
 pub fn answers_copy_equal()
     ensures citation { (a b : RenderedCitation) → ⟦<RenderedCitation as Clone>⟧.is_clone a b → b ≡ a }
     ensures item { (a b : BibliographyItem) → ⟦<BibliographyItem as Clone>⟧.is_clone a b → b ≡ a }
-    ensures bibliography { (a b : RenderedBibliography) → ⟦<RenderedBibliography as Clone>⟧.is_clone a b → b ≡ a }
+    ensures bibliography { (a b : RenderedBibliography) → ⟦<RenderedBibliography as Clone>⟧.is_clone a b
+        → b ≡ a }
     ensures answer { (a b : Rendered) → ⟦<Rendered as Clone>⟧.is_clone a b → b ≡ a }
 {}
 
@@ -20,6 +21,7 @@ pub fn answers_copy_equal()
 pub fn answer_equality_decides()
     ensures citation { (a b : RenderedCitation) → Decides (⟦<RenderedCitation as PartialEq>⟧.eq a b) (a ≡ b) }
     ensures item { (a b : BibliographyItem) → Decides (⟦<BibliographyItem as PartialEq>⟧.eq a b) (a ≡ b) }
-    ensures bibliography { (a b : RenderedBibliography) → Decides (⟦<RenderedBibliography as PartialEq>⟧.eq a b) (a ≡ b) }
+    ensures bibliography { (a b : RenderedBibliography)
+        → Decides (⟦<RenderedBibliography as PartialEq>⟧.eq a b) (a ≡ b) }
     ensures answer { (a b : Rendered) → Decides (⟦<Rendered as PartialEq>⟧.eq a b) (a ≡ b) }
 {}

@@ -60,7 +60,8 @@ meta_code = coded_option (meta.the_row).coded
 abbrev mutual
   pub child_code : Child → Gv
   child_code (text f) = gcons (gnum 0) (formatted_code.code f)
-  child_code (elem ks d m) = gcons (gnum 1) (gcons (kids_code ks) (gcons (shown_code.code d) (meta_code.code m)))
+  child_code (elem ks d m) =
+      gcons (gnum 1) (gcons (kids_code ks) (gcons (shown_code.code d) (meta_code.code m)))
   child_code (markup s) = gcons (gnum 2) (bytes_code.code s)
   child_code (link f s) = gcons (gnum 3) (gcons (formatted_code.code f) (bytes_code.code s))
   child_code (transparent i f) = gcons (gnum 4) (gcons (gnum i) (formatting_code.code f))
@@ -92,8 +93,12 @@ mutual
       (shown_code.inj d e (ap (λ g. first (second (second g))) p) i)
       (meta_code.inj m n (ap (λ g. second (second (second g))) p) i)
   child_inj (markup s) (markup t) p = ap markup (bytes_code.inj s t (ap second p))
-  child_inj (link f s) (link g t) p = λ i. link (formatted_code.inj f g (ap (λ v. first (second v)) p) i) (bytes_code.inj s t (ap (λ v. second (second v)) p) i)
-  child_inj (transparent a f) (transparent b g) p = λ i. transparent (ap (λ v. number (first (second v))) p i) (formatting_code.inj f g (ap (λ v. second (second v)) p) i)
+  child_inj (link f s) (link g t) p =
+      λ i. link (formatted_code.inj f g (ap (λ v. first (second v)) p) i)
+      (bytes_code.inj s t (ap (λ v. second (second v)) p) i)
+  child_inj (transparent a f) (transparent b g) p =
+      λ i. transparent (ap (λ v. number (first (second v))) p i)
+      (formatting_code.inj f g (ap (λ v. second (second v)) p) i)
   child_inj _ _ p = cc
 
   pub kids_inj : (x y : Kids) → kids_code x ≡ kids_code y → x ≡ y

@@ -41,15 +41,23 @@ target_view (TextTarget.Term t form plural) = term_target t form plural
 
 -- one level, with each element inside already seen as plain data
 abbrev pub element_step : LayoutRenderingElement-F Element Branch → Element
-element_step (LayoutRenderingElement-F.Text target quotes strip a f d) = text_element (target_view target) quotes strip (look a f d)
+element_step (LayoutRenderingElement-F.Text target quotes strip a f d) =
+    text_element (target_view target) quotes strip (look a f d)
 element_step (LayoutRenderingElement-F.Number variable a f d) = number_element variable (look a f d)
 element_step (LayoutRenderingElement-F.Date variable a f d) = date_element variable (look a f d)
-element_step (LayoutRenderingElement-F.Names variables substitute options a f d) = names_element variables.items substitute.items (options_view options) (look a f d)
-element_step (LayoutRenderingElement-F.Group children delimiter a f d) = group_element (elements_of children.items) (text_view delimiter) (look a f d)
-element_step (LayoutRenderingElement-F.Choose branches last) = choose_element (branches_of branches.items (elements_of last.items))
+element_step (LayoutRenderingElement-F.Names variables substitute options a f d) =
+    names_element variables.items substitute.items (options_view options) (look a f d)
+element_step (LayoutRenderingElement-F.Group children delimiter a f d) =
+    group_element (elements_of children.items) (text_view delimiter) (look a f d)
+element_step (LayoutRenderingElement-F.Choose branches last) =
+    choose_element (branches_of branches.items (elements_of last.items))
 
 abbrev pub branch_step : ChooseBranch-F Element Branch → Branch
-branch_step b = record { conditions = b.conditions.items; rule = b.rule; children = elements_of b.children.items }
+branch_step b = record {
+  conditions = b.conditions.items;
+  rule = b.rule;
+  children = elements_of b.children.items;
+}
 
 abbrev pub element_view : LayoutRenderingElement → Element
 element_view = fold-LayoutRenderingElement Element Branch element_step branch_step

@@ -29,4 +29,5 @@ Answered may_give answer e = (r : Bor Elem) × (r.now ≡ e) × may_give r answe
 abbrev pub IsFirstAccepted : (Bor Elem → Bool → Type 0) → List Elem → Option Elem → Type 0
 IsFirstAccepted may_give es None = All (Answered may_give false) es
 IsFirstAccepted may_give es (Some e) =
-    (before : List Elem) × (after : List Elem) × (es ≡ before ++ e ∷ after) × All (Answered may_give false) before × Answered may_give true e
+    (before : List Elem) × (after : List Elem) × (es ≡ before ++ e ∷ after)
+    × All (Answered may_give false) before × Answered may_give true e

@@ -19,24 +19,42 @@ use Rattle.csl_base.specs.contracts.entry.ChunkedStringPartialEq.TheImpl as chun
 use Rattle.csl_base.specs.contracts.entry.PlainEntryPartialEq.TheImpl as plain_entry_eq
 
 pub name_variables_find : Finds same_name_variable
-name_variables_find = record { equal = λ a b e. same_true name_variable.the_type tt a b e; self = λ a. true_same name_variable.the_type a a refl }
+name_variables_find = record {
+  equal = λ a b e. same_true name_variable.the_type tt a b e;
+  self = λ a. true_same name_variable.the_type a a refl;
+}
 
 pub date_variables_find : Finds same_date_variable
-date_variables_find = record { equal = λ a b e. same_true date_variable.the_type tt a b e; self = λ a. true_same date_variable.the_type a a refl }
+date_variables_find = record {
+  equal = λ a b e. same_true date_variable.the_type tt a b e;
+  self = λ a. true_same date_variable.the_type a a refl;
+}
 
 pub standard_variables_find : Finds same_standard_variable
-standard_variables_find = record { equal = λ a b e. same_true standard_variable.the_type tt a b e; self = λ a. true_same standard_variable.the_type a a refl }
+standard_variables_find = record {
+  equal = λ a b e. same_true standard_variable.the_type tt a b e;
+  self = λ a. true_same standard_variable.the_type a a refl;
+}
 
 pub number_variables_find : Finds same_number_variable
-number_variables_find = record { equal = λ a b e. same_true number_variable.the_type tt a b e; self = λ a. true_same number_variable.the_type a a refl }
+number_variables_find = record {
+  equal = λ a b e. same_true number_variable.the_type tt a b e;
+  self = λ a. true_same number_variable.the_type a a refl;
+}
 
 chunk_kinds_find : Finds (chunk_kind_eq.ghosts).eq
-chunk_kinds_find = record { equal = λ a b e. same_true chunk_kind.the_type tt a b e; self = λ a. true_same chunk_kind.the_type a a refl }
+chunk_kinds_find = record {
+  equal = λ a b e. same_true chunk_kind.the_type tt a b e;
+  self = λ a. true_same chunk_kind.the_type a a refl;
+}
 
 pub persons_find : Finds (person_eq.ghosts).eq
 persons_find = record {
   equal = λ a b e. let p = both _ _ e in
-      λ i. record { name = texts_find.equal a.name b.name p.0 i; given_name = (options_find texts_find).equal a.given_name b.given_name p.1 i };
+      λ i. record {
+        name = texts_find.equal a.name b.name p.0 i;
+        given_name = (options_find texts_find).equal a.given_name b.given_name p.1 i;
+      };
   self = λ a. and-true _ _ (texts_find.self a.name) ((options_find texts_find).self a.given_name);
 }
 
@@ -48,7 +66,11 @@ dates_find = record {
 
 pub chunks_find : Finds (chunk_eq.ghosts).eq
 chunks_find = record {
-  equal = λ a b e. let p = both _ _ e in λ i. record { value = texts_find.equal a.value b.value p.0 i; kind = chunk_kinds_find.equal a.kind b.kind p.1 i };
+  equal = λ a b e. let p = both _ _ e in
+      λ i. record {
+        value = texts_find.equal a.value b.value p.0 i;
+        kind = chunk_kinds_find.equal a.kind b.kind p.1 i;
+      };
   self = λ a. and-true _ _ (texts_find.self a.value) (chunk_kinds_find.self a.kind);
 }
 
@@ -61,13 +83,16 @@ chunked_strings_find = record {
 pub plain_entries_find : Finds (plain_entry_eq.ghosts).eq
 plain_entries_find = record {
   equal = λ a b e.
-      let p = both _ _ e in let q = both _ _ p.1 in let r = both _ _ q.1 in let s = both _ _ r.1 in let t = both _ _ s.1 in
+      let p = both _ _ e in let q = both _ _ p.1 in let r = both _ _ q.1 in let s = both _ _ r.1 in
+      let t = both _ _ s.1 in
       λ i. record {
         key = texts_find.equal a.key b.key p.0 i;
         label = (options_find texts_find).equal a.label b.label q.0 i;
-        names = (lists_find (pairs_find name_variables_find (lists_find persons_find))).equal a.names b.names r.0 i;
+        names = (lists_find (pairs_find name_variables_find (lists_find persons_find))).equal a.names b.names
+            r.0 i;
         dates = (lists_find (pairs_find date_variables_find dates_find)).equal a.dates b.dates s.0 i;
-        texts = (lists_find (pairs_find standard_variables_find chunked_strings_find)).equal a.texts b.texts t.0 i;
+        texts = (lists_find (pairs_find standard_variables_find chunked_strings_find)).equal a.texts b.texts
+            t.0 i;
         numbers = (lists_find (pairs_find number_variables_find texts_find)).equal a.numbers b.numbers t.1 i;
       };
   self = λ a.
@@ -80,5 +105,6 @@ plain_entries_find = record {
 }
 
 -- equal entries are one value, so they answer every call equally
-pub equal_entries_answer_equally : (a b : PlainEntry) → (plain_entry_eq.ghosts).eq a b ≡ true → plain_answers a ≡ plain_answers b
+pub equal_entries_answer_equally : (a b : PlainEntry) → (plain_entry_eq.ghosts).eq a b ≡ true
+    → plain_answers a ≡ plain_answers b
 equal_entries_answer_equally a b e = ap plain_answers (plain_entries_find.equal a b e)

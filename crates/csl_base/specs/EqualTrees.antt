@@ -25,25 +25,40 @@ use Rattle.csl_base.specs.contracts.elem.ElemPartialEq.TheImpl as elem_eq
 use Rattle.csl_base.specs.contracts.elem.ElemChildPartialEq.TheImpl as child_eq
 
 font_styles_find : Finds (font_style_eq.ghosts).eq
-font_styles_find = record { equal = λ a b e. same_true font_style.the_type tt a b e; self = λ a. true_same font_style.the_type a a refl }
+font_styles_find = record {
+  equal = λ a b e. same_true font_style.the_type tt a b e;
+  self = λ a. true_same font_style.the_type a a refl;
+}
 
 font_weights_find : Finds (font_weight_eq.ghosts).eq
-font_weights_find = record { equal = λ a b e. same_true font_weight.the_type tt a b e; self = λ a. true_same font_weight.the_type a a refl }
+font_weights_find = record {
+  equal = λ a b e. same_true font_weight.the_type tt a b e;
+  self = λ a. true_same font_weight.the_type a a refl;
+}
 
 displays_find : Finds (display_eq.ghosts).eq
-displays_find = record { equal = λ a b e. same_true display.the_type tt a b e; self = λ a. true_same display.the_type a a refl }
+displays_find = record {
+  equal = λ a b e. same_true display.the_type tt a b e;
+  self = λ a. true_same display.the_type a a refl;
+}
 
 pub formattings_find : Finds (formatting_eq.ghosts).eq
 formattings_find = record {
   equal = λ a b e. let p = both _ _ e in
-      λ i. record { font_style = font_styles_find.equal a.font_style b.font_style p.0 i; font_weight = font_weights_find.equal a.font_weight b.font_weight p.1 i };
+      λ i. record {
+        font_style = font_styles_find.equal a.font_style b.font_style p.0 i;
+        font_weight = font_weights_find.equal a.font_weight b.font_weight p.1 i;
+      };
   self = λ a. and-true _ _ (font_styles_find.self a.font_style) (font_weights_find.self a.font_weight);
 }
 
 pub formatted_find : Finds (formatted_eq.ghosts).eq
 formatted_find = record {
   equal = λ a b e. let p = both _ _ e in
-      λ i. record { text = texts_find.equal a.text b.text p.0 i; formatting = formattings_find.equal a.formatting b.formatting p.1 i };
+      λ i. record {
+        text = texts_find.equal a.text b.text p.0 i;
+        formatting = formattings_find.equal a.formatting b.formatting p.1 i;
+      };
   self = λ a. and-true _ _ (texts_find.self a.text) (formattings_find.self a.formatting);
 }
 
@@ -51,8 +66,10 @@ pub metas_find : Finds (meta_eq.ghosts).eq
 metas_find = record { equal = equal; self = self }
   where
     equal : (a b : ElemMeta) → (meta_eq.ghosts).eq a b ≡ true → a ≡ b
-    equal (meta.Names xs) (meta.Names ys) e = ap meta.Names ((lists_find (pairs_find (lists_find persons_find) name_variables_find)).equal xs ys e)
-    equal (meta.Name a m) (meta.Name b n) e = let p = both _ _ e in λ i. meta.Name (name_variables_find.equal a b p.0 i) ((unsigned_Decides m n).0 p.1 i)
+    equal (meta.Names xs) (meta.Names ys) e =
+        ap meta.Names ((lists_find (pairs_find (lists_find persons_find) name_variables_find)).equal xs ys e)
+    equal (meta.Name a m) (meta.Name b n) e = let p = both _ _ e in
+        λ i. meta.Name (name_variables_find.equal a b p.0 i) ((unsigned_Decides m n).0 p.1 i)
     equal meta.Date meta.Date e = refl
     equal meta.CitationNumber meta.CitationNumber e = refl
     equal meta.CitationLabel meta.CitationLabel e = refl
@@ -87,8 +104,10 @@ children_find = record { equal = equal; self = self }
     equal (v.Text f) (v.Text g) e = ap v.Text (formatted_find.equal f g e)
     equal (v.Elem x) (v.Elem y) e = ap v.Elem (elems_find.equal x y e)
     equal (v.Markup s) (v.Markup t) e = ap v.Markup (texts_find.equal s t e)
-    equal (v.Link f s) (v.Link g t) e = let p = both _ _ e in λ i. v.Link (formatted_find.equal f g p.0 i) (texts_find.equal s t p.1 i)
-    equal (v.Transparent m f) (v.Transparent n g) e = let p = both _ _ e in λ i. v.Transparent ((unsigned_Decides m n).0 p.0 i) (formattings_find.equal f g p.1 i)
+    equal (v.Link f s) (v.Link g t) e = let p = both _ _ e in
+        λ i. v.Link (formatted_find.equal f g p.0 i) (texts_find.equal s t p.1 i)
+    equal (v.Transparent m f) (v.Transparent n g) e = let p = both _ _ e in
+        λ i. v.Transparent ((unsigned_Decides m n).0 p.0 i) (formattings_find.equal f g p.1 i)
     equal _ _ e = absurd (true≢false (sym e))
 
     self : (a : ElemChild) → (child_eq.ghosts).eq a a ≡ true

@@ -43,7 +43,8 @@ pub lists_find : {K : Type 0} {E : K → K → Bool} → Finds E → Finds (poin
 lists_find f = finds (pointwise_decides (decides f))
 
 -- of two pairs, the firsts and the seconds
-pub pairs_find : {A B : Type 0} {E : A → A → Bool} {F : B → B → Bool} → Finds E → Finds F → Finds {K = A × B} (λ p q. E p.0 q.0 && F p.1 q.1)
+pub pairs_find : {A B : Type 0} {E : A → A → Bool} {F : B → B → Bool} → Finds E → Finds F
+    → Finds {K = A × B} (λ p q. E p.0 q.0 && F p.1 q.1)
 pairs_find f g = record {
   equal = λ a b e. let p = both _ _ e in λ i. (f.equal a.0 b.0 p.0 i, g.equal a.1 b.1 p.1 i);
   self = λ a. and-true _ _ (f.self a.0) (g.self a.1);

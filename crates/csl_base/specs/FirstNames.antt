@@ -16,14 +16,16 @@ as_child w = elem (kids_of w.children) w.display w.meta
 abbrev mutual
   pub child_put_names : Child → Elem → Child
   child_put_names (text f) w = text f
-  child_put_names (elem ks d m) w = cond (has_names (elem_of ks d m)) (as_child w) (elem (kids_put_names ks w) d m)
+  child_put_names (elem ks d m) w =
+      cond (has_names (elem_of ks d m)) (as_child w) (elem (kids_put_names ks w) d m)
   child_put_names (markup s) w = markup s
   child_put_names (link f s) w = link f s
   child_put_names (transparent i f) w = transparent i f
 
   pub kids_put_names : Kids → Elem → Kids
   kids_put_names no_kids w = no_kids
-  kids_put_names (kid c ks) w = cond (holds_names c) (kid (child_put_names c w) ks) (kid c (kids_put_names ks w))
+  kids_put_names (kid c ks) w =
+      cond (holds_names c) (kid (child_put_names c w) ks) (kid c (kids_put_names ks w))
 
 -- the tree with that element replaced; the same tree where there is none
 abbrev pub put_names : List Child → Elem → List Child

@@ -11,4 +11,7 @@ normal = record { font_style = style.Normal; font_weight = weight.Normal }
 
 -- what is asked for stands in the place of what was there
 abbrev pub applied : StyleFormatting → Formatting → Formatting
-applied asked f = record { font_style = unwrap_or asked.font_style f.font_style; font_weight = unwrap_or asked.font_weight f.font_weight }
+applied asked f = record {
+  font_style = unwrap_or asked.font_style f.font_style;
+  font_weight = unwrap_or asked.font_weight f.font_weight;
+}

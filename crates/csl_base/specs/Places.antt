@@ -45,4 +45,5 @@ add_each (i ∷ rest) found = add_each rest (add_new i found)
 
 -- each step leads to a place of higher rank
 abbrev pub LeadsUp : List Places → List ℕ → Type 0
-LeadsUp rows ranks = (i : ℕ) (j : ℕ) → has_place j (steps_from rows i) ≡ true → get_or ranks i 0 < get_or ranks j 0
+LeadsUp rows ranks = (i : ℕ) (j : ℕ) → has_place j (steps_from rows i) ≡ true
+    → get_or ranks i 0 < get_or ranks j 0

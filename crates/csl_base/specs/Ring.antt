@@ -42,7 +42,8 @@ HasNoRing macros = (name : Name) → IsOnRing macros name → ⊥
 -- the macro at i is the first of its name, and lies on a ring
 abbrev pub IsRingAt : List Macro → ℕ → Type 0
 IsRingAt macros i =
-    (m : Macro) × (slice_get macros i ≡ Some m) × (has_name m.name (map (λ m. m.name) (take i macros)) ≡ false) × IsOnRing macros m.name
+    (m : Macro) × (slice_get macros i ≡ Some m)
+    × (has_name m.name (map (λ m. m.name) (take i macros)) ≡ false) × IsOnRing macros m.name
 
 -- the first place of such a macro, or none
 abbrev pub IsFirstRing : List Macro → Option ℕ → Type 0

@@ -20,7 +20,8 @@ pub codes_equal : (x y : Gv) → same_codes x y ≡ true → x ≡ y
 codes_equal gnil gnil e = refl
 codes_equal (gnum m) (gnum n) e = ap gnum ((unsigned_Decides m n).0 e)
 codes_equal (gcons a b) (gcons c d) e =
-    let p = both_so (same_codes a c) (same_codes b d) e in ap₂ gcons (codes_equal a c p.0) (codes_equal b d p.1)
+    let p = both_so (same_codes a c) (same_codes b d) e in
+    ap₂ gcons (codes_equal a c p.0) (codes_equal b d p.1)
 codes_equal _ _ e = absurd (true≢false (sym e))
 
 pub codes_refl : (x : Gv) → same_codes x x ≡ true
@@ -36,7 +37,8 @@ pub same_trees-Decides : (xs ys : List Child) → Decides (same_trees xs ys) (xs
 unfolding same_trees
 same_trees-Decides xs ys = (
   λ e. coded_children.inj xs ys (codes_equal _ _ e),
-  λ p. subst (λ zs. same_codes (coded_children.code xs) (coded_children.code zs) ≡ true) p (codes_refl (coded_children.code xs)),
+  λ p. subst (λ zs. same_codes (coded_children.code xs) (coded_children.code zs)
+      ≡ true) p (codes_refl (coded_children.code xs)),
 )
 
 module _ {K : Type 0} (E : K → K → Bool) (d : (x y : K) → Decides (E x y) (x ≡ y)) where

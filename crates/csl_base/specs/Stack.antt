@@ -28,15 +28,17 @@ Gave {T} may_give answer x = (r : Bor T) × (r.now ≡ x) × may_give r answer
 
 -- the closure accepted the item at that place, and refused those above it
 abbrev pub IsTopmostAccepted : {T : Type 0} → (Bor T → Bool → Type 0) → List T → ℕ → Type 0
-IsTopmostAccepted {T} may_give xs i = (x : T) × (slice_get xs i ≡ Some x) × Gave may_give true x × All (Gave may_give false) (drop (i + 1) xs)
+IsTopmostAccepted {T} may_give xs i = (x : T) × (slice_get xs i ≡ Some x) × Gave may_give true x
+    × All (Gave may_give false) (drop (i + 1) xs)
 
 -- the stack ends as it was, with item i set to the last value behind r
 abbrev pub LendsItem : (T : RattleType) → MutBor (List T.Denot) → ℕ → MutBor T.Denot → Fml
 LendsItem T stack i r = Lends (the_row T) T stack r (slice_set stack.now i)
 
--- the same with the topmost item that a closure accepts, whatever the closure does, and at whatever test it computes;
--- without one the stack ends as it was
-abbrev pub LendsTopmost : (T : RattleType) → (Bor T.Denot → Bool → Type 0) → MutBor (List T.Denot) → Option (MutBor T.Denot) → Fml
+-- the same with the topmost item that a closure accepts, whatever the closure does, and at whatever test it
+-- computes; without one the stack ends as it was
+abbrev pub LendsTopmost : (T : RattleType) → (Bor T.Denot → Bool → Type 0) → MutBor (List T.Denot)
+    → Option (MutBor T.Denot) → Fml
 LendsTopmost T may_give stack r =
     LendsSo (the_row T) T stack r
     (λ left w.

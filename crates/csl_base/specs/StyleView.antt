@@ -14,10 +14,19 @@ abbrev pub code_view : LocaleCode → List ℕ
 code_view c = string_bytes c.0
 
 abbrev pub term_view : LocalizedTerm → TermValue
-term_view t = record { name = t.name; form = t.form; single = text_view t.single; multiple = text_view t.multiple }
+term_view t = record {
+  name = t.name;
+  form = t.form;
+  single = text_view t.single;
+  multiple = text_view t.multiple;
+}
 
 abbrev pub locale_view : Locale → LocaleValue
-locale_view l = record { lang = option_map code_view l.lang; terms = map term_view l.terms.items; punctuation_in_quote = l.punctuation_in_quote }
+locale_view l = record {
+  lang = option_map code_view l.lang;
+  terms = map term_view l.terms.items;
+  punctuation_in_quote = l.punctuation_in_quote;
+}
 
 abbrev pub layout_view : Layout → LayoutValue
 layout_view l = record {

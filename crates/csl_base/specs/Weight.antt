@@ -21,4 +21,5 @@ abbrev mutual
 
   pub weight_branches_with : (Name → ℕ) → Branches → ℕ
   weight_branches_with call (otherwise es) = 1 + weight_all_with call es
-  weight_branches_with call (branch conditions rule children bs) = weight_all_with call children + weight_branches_with call bs
+  weight_branches_with call (branch conditions rule children bs) =
+      weight_all_with call children + weight_branches_with call bs

@@ -16,7 +16,8 @@ pub fn add_calls<'a>(
     names: &mut Vec<&'a str>,
     element: &'a LayoutRenderingElement,
 ) -> Result<(), AllocError>
-    ensures { OnOk result (map (λ s. s.now) names.new.items ≡ map (λ s. s.now) names.old.items ++ calls (element_view element.now)) }
+    ensures { OnOk result (map (λ s. s.now) names.new.items
+        ≡ map (λ s. s.now) names.old.items ++ calls (element_view element.now)) }
 {
     match element {
         LayoutRenderingElement::Text { target, .. } => {
@@ -46,7 +47,8 @@ pub fn add_all_calls<'a>(
     names: &mut Vec<&'a str>,
     elements: &'a Vec<LayoutRenderingElement>,
 ) -> Result<(), AllocError>
-    ensures { OnOk result (map (λ s. s.now) names.new.items ≡ map (λ s. s.now) names.old.items ++ calls_of_all (elements_view elements.now.items)) }
+    ensures { OnOk result (map (λ s. s.now) names.new.items
+        ≡ map (λ s. s.now) names.old.items ++ calls_of_all (elements_view elements.now.items)) }
 {
     for element in elements {
         add_calls(names, element)?;
@@ -60,7 +62,9 @@ fn add_branch_calls<'a>(
     branches: &'a Vec<ChooseBranch>,
     otherwise: &'a Vec<LayoutRenderingElement>,
 ) -> Result<(), AllocError>
-    ensures { OnOk result (map (λ s. s.now) names.new.items ≡ map (λ s. s.now) names.old.items ++ calls_of_branches (branches_view branches.now.items otherwise.now.items)) }
+    ensures { OnOk result (map (λ s. s.now) names.new.items
+        ≡ map (λ s. s.now) names.old.items
+        ++ calls_of_branches (branches_view branches.now.items otherwise.now.items)) }
 {
     for branch in branches {
         add_all_calls(names, &branch.children)?;

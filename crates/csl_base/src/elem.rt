@@ -121,7 +121,8 @@ impl ElemChildren {
         self.0
     }
 
-    /// Writes the plain text: that of texts, markup and links in their order, and nothing for a `Transparent`.
+    /// Writes the plain text: that of texts, markup and links in their order, and nothing for a
+    /// `Transparent`.
     ///
     /// Fails where the writer does, after some of the text.
     #[cycle(write)]
@@ -180,7 +181,8 @@ impl ElemChild {
     /// Fails where the writer does, after some of the text.
     #[cycle(write)]
     pub fn write_buf<W: fmt::Write>(&self, w: &mut W, format: BufWriteFormat) -> fmt::Result
-        ensures { IsOk result → WritesInCalls W.write_str_gives w.old (child_plain (child_view self.now)) w.new }
+        ensures { IsOk result → WritesInCalls W.write_str_gives w.old
+            (child_plain (child_view self.now)) w.new }
     {
         match self {
             ElemChild::Text(f) => w.write_str(f.text.as_str()),
@@ -242,10 +244,7 @@ impl Elem {
     pub fn has_names(&self) -> bool
         ensures { result ≡ has_names self.now }
     {
-        match self.meta {
-            Some(ElemMeta::Names(_)) => true,
-            _ => false,
-        }
+        matches!(self.meta, Some(ElemMeta::Names(_)))
     }
 }
 

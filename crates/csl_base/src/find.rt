@@ -16,8 +16,10 @@ impl ElemChildren {
     /// element as its argument. `found` tells the answer of tests that answer equal elements alike.
     pub fn find_elem_by<F: Fn(&Elem) -> bool>(&self, test: F) -> Option<&Elem>
         requires { F.IsAlwaysCallable test }
-        ensures found { (p : Elem → Bool) → ((e : Bor Elem) (b : Bool) → F.post test e b → b ≡ p e.now) → option_map (λ e. e.now) result ≡ find_elem p self.now }
-        ensures accepted { IsFirstAccepted (F.post test) (elements self.now) (option_map (λ e. e.now) result) }
+        ensures found { (p : Elem → Bool) → ((e : Bor Elem) (b : Bool) → F.post test e b → b ≡ p e.now)
+            → option_map (λ e. e.now) result ≡ find_elem p self.now }
+        ensures accepted { IsFirstAccepted (F.post test) (elements self.now)
+            (option_map (λ e. e.now) result) }
     {
         find_in_tree(self, &test)
     }
@@ -45,8 +47,10 @@ impl ElemChildren {
 #[cycle(find)]
 fn find_in_tree<'a, F: Fn(&Elem) -> bool>(tree: &'a ElemChildren, test: &F) -> Option<&'a Elem>
     requires { F.IsAlwaysCallable test.now }
-    ensures found { (p : Elem → Bool) → ((e : Bor Elem) (b : Bool) → F.post test.now e b → b ≡ p e.now) → option_map (λ e. e.now) result ≡ find_elem p tree.now }
-    ensures accepted { IsFirstAccepted (F.post test.now) (elements tree.now) (option_map (λ e. e.now) result) }
+    ensures found { (p : Elem → Bool) → ((e : Bor Elem) (b : Bool) → F.post test.now e b → b ≡ p e.now)
+        → option_map (λ e. e.now) result ≡ find_elem p tree.now }
+    ensures accepted { IsFirstAccepted (F.post test.now) (elements tree.now)
+        (option_map (λ e. e.now) result) }
 {
     for child in &tree.0 {
         if let Some(elem) = find_in_child(child, test) {
@@ -59,8 +63,10 @@ fn find_in_tree<'a, F: Fn(&Elem) -> bool>(tree: &'a ElemChildren, test: &F) -> O
 #[cycle(find)]
 fn find_in_child<'a, F: Fn(&Elem) -> bool>(child: &'a ElemChild, test: &F) -> Option<&'a Elem>
     requires { F.IsAlwaysCallable test.now }
-    ensures found { (p : Elem → Bool) → ((e : Bor Elem) (b : Bool) → F.post test.now e b → b ≡ p e.now) → option_map (λ e. e.now) result ≡ child_find p (child_view child.now) }
-    ensures accepted { IsFirstAccepted (F.post test.now) (child_elements (child_view child.now)) (option_map (λ e. e.now) result) }
+    ensures found { (p : Elem → Bool) → ((e : Bor Elem) (b : Bool) → F.post test.now e b → b ≡ p e.now)
+        → option_map (λ e. e.now) result ≡ child_find p (child_view child.now) }
+    ensures accepted { IsFirstAccepted (F.post test.now) (child_elements (child_view child.now))
+        (option_map (λ e. e.now) result) }
 {
     match child {
         ElemChild::Elem(elem) => {

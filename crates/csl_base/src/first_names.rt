@@ -20,7 +20,8 @@ impl ElemChildren {
     /// gives. `None` where there is none. A write leaves the rest of the tree as it is, and is what
     /// `find_names` gives next, if its meta is still Names (`first_names_laws`).
     pub fn find_names_mut(&mut self) -> Option<&mut Elem>
-        ensures* writes_back { sem 𝓛 (LendsIf children_.the_row elem_.the_row self.entry result (put_names self.old) self.old) }
+        ensures* writes_back { sem 𝓛
+            (LendsIf children_.the_row elem_.the_row self.entry result (put_names self.old) self.old) }
         ensures value { option_map (λ e. e.now) result ≡ find_elem has_names self.old }
     {
         find_names_mut(self)
@@ -30,15 +31,19 @@ impl ElemChildren {
 /// What a write of the first element of meta Names does: it is read again if its own meta is Names,
 /// it changes nothing where it writes what stood there, and nothing where there is no such element.
 pub fn first_names_laws()
-    ensures read_after_write { (cs : List Child) (w : Elem) → is_some (find_elem has_names cs) ≡ true → has_names w ≡ true → find_elem has_names (put_names cs w) ≡ Some w }
-    ensures write_what_is_read { (cs : List Child) (e : Elem) → find_elem has_names cs ≡ Some e → put_names cs e ≡ cs }
-    ensures no_names_no_change { (cs : List Child) (w : Elem) → find_elem has_names cs ≡ None → put_names cs w ≡ cs }
+    ensures read_after_write { (cs : List Child) (w : Elem) → is_some (find_elem has_names cs) ≡ true
+        → has_names w ≡ true → find_elem has_names (put_names cs w) ≡ Some w }
+    ensures write_what_is_read { (cs : List Child) (e : Elem) → find_elem has_names cs ≡ Some e
+        → put_names cs e ≡ cs }
+    ensures no_names_no_change { (cs : List Child) (w : Elem) → find_elem has_names cs ≡ None
+        → put_names cs w ≡ cs }
 {}
 
 // The contract of this recursion is proved by hand, along its statements. The steps are functions of
 // their own, so that their proofs are found.
 fn find_names_mut(tree: &mut ElemChildren) -> Option<&mut Elem>
-    ensures* writes_back { sem 𝓛 (LendsIf children_.the_row elem_.the_row tree.entry result (put_names tree.old) tree.old) }
+    ensures* writes_back { sem 𝓛
+        (LendsIf children_.the_row elem_.the_row tree.entry result (put_names tree.old) tree.old) }
     ensures value { option_map (λ e. e.now) result ≡ find_elem has_names tree.old }
 {
     if names_lie_deeper(tree) {
@@ -72,7 +77,8 @@ fn names_lie_deeper(tree: &mut ElemChildren) -> bool
 
 fn holder_mut(tree: &mut ElemChildren) -> &mut ElemChild
     requires { names_lie_deeper tree.old ≡ true }
-    ensures* writes_back { sem 𝓛 (Lends children_.the_row child_.the_row tree.entry result (put_holder_child tree.old)) }
+    ensures* writes_back { sem 𝓛
+        (Lends children_.the_row child_.the_row tree.entry result (put_holder_child tree.old)) }
     ensures value { Some (child_view result.now) ≡ first_holder tree.old }
 {
     let n = holder_index(tree);
@@ -80,7 +86,8 @@ fn holder_mut(tree: &mut ElemChildren) -> &mut ElemChild
 }
 
 fn holder_elem_mut(tree: &mut ElemChildren) -> Option<&mut Elem>
-    ensures* writes_back { sem 𝓛 (LendsIf children_.the_row elem_.the_row tree.entry result (put_holder_elem tree.old) tree.old) }
+    ensures* writes_back { sem 𝓛
+        (LendsIf children_.the_row elem_.the_row tree.entry result (put_holder_elem tree.old) tree.old) }
     ensures value { option_map (λ e. e.now) result ≡ holder_elem tree.old }
 {
     let n = holder_index(tree);
@@ -104,7 +111,8 @@ impl ElemChild {
     }
 
     fn elem_mut(&mut self) -> Option<&mut Elem>
-        ensures* writes_back { sem 𝓛 (LendsIf child_.the_row elem_.the_row self.entry result (with_elem self.old) self.old) }
+        ensures* writes_back { sem 𝓛
+            (LendsIf child_.the_row elem_.the_row self.entry result (with_elem self.old) self.old) }
         ensures value { option_map (λ e. e.now) result ≡ own_elem (child_view self.old) }
     {
         match self {

@@ -20,7 +20,9 @@ impl ElemChildren {
     /// child, if that is an element. `None` where the tree ends in anything else. A write leaves the
     /// rest of the tree as it is, and is what `last_text` gives next (`last_text_laws`).
     pub fn last_text_mut(&mut self) -> Option<&mut Formatted>
-        ensures* writes_back { sem 𝓛 (LendsIf children_.the_row formatted_.the_row self.entry result (put_last_text self.old) self.old) }
+        ensures* writes_back { sem 𝓛
+            (LendsIf children_.the_row formatted_.the_row self.entry result
+            (put_last_text self.old) self.old) }
         ensures value { option_map (λ f. f.now) result ≡ last_text self.old }
     {
         last_text_mut(self)
@@ -30,15 +32,19 @@ impl ElemChildren {
 /// What a write of the last text does: it is read again, it changes nothing where it writes what
 /// stood there, and nothing where there is no last text.
 pub fn last_text_laws()
-    ensures read_after_write { (cs : List Child) (w : Formatted) → is_some (last_text cs) ≡ true → last_text (put_last_text cs w) ≡ Some w }
-    ensures write_what_is_read { (cs : List Child) (f : Formatted) → last_text cs ≡ Some f → put_last_text cs f ≡ cs }
-    ensures no_text_no_change { (cs : List Child) (w : Formatted) → last_text cs ≡ None → put_last_text cs w ≡ cs }
+    ensures read_after_write { (cs : List Child) (w : Formatted) → is_some (last_text cs) ≡ true
+        → last_text (put_last_text cs w) ≡ Some w }
+    ensures write_what_is_read { (cs : List Child) (f : Formatted) → last_text cs ≡ Some f
+        → put_last_text cs f ≡ cs }
+    ensures no_text_no_change { (cs : List Child) (w : Formatted) → last_text cs ≡ None
+        → put_last_text cs w ≡ cs }
 {}
 
 // The contract of this recursion is proved by hand, along its statements. The steps are functions of
 // their own, so that their proofs are found.
 fn last_text_mut(tree: &mut ElemChildren) -> Option<&mut Formatted>
-    ensures* writes_back { sem 𝓛 (LendsIf children_.the_row formatted_.the_row tree.entry result (put_last_text tree.old) tree.old) }
+    ensures* writes_back { sem 𝓛
+        (LendsIf children_.the_row formatted_.the_row tree.entry result (put_last_text tree.old) tree.old) }
     ensures value { option_map (λ f. f.now) result ≡ last_text tree.old }
 {
     if ends_in_elem(tree) {
@@ -60,7 +66,8 @@ fn ends_in_elem(tree: &mut ElemChildren) -> bool
 
 fn last_child_mut(tree: &mut ElemChildren) -> &mut ElemChild
     requires { ends_in_elem tree.old ≡ true }
-    ensures* writes_back { sem 𝓛 (Lends children_.the_row child_.the_row tree.entry result (put_last_child tree.old)) }
+    ensures* writes_back { sem 𝓛
+        (Lends children_.the_row child_.the_row tree.entry result (put_last_child tree.old)) }
     ensures value { Some (child_view result.now) ≡ last_child tree.old }
 {
     let len = tree.0.len();
@@ -68,7 +75,8 @@ fn last_child_mut(tree: &mut ElemChildren) -> &mut ElemChild
 }
 
 fn text_at_end(tree: &mut ElemChildren) -> Option<&mut Formatted>
-    ensures* writes_back { sem 𝓛 (LendsIf children_.the_row formatted_.the_row tree.entry result (put_end_text tree.old) tree.old) }
+    ensures* writes_back { sem 𝓛
+        (LendsIf children_.the_row formatted_.the_row tree.entry result (put_end_text tree.old) tree.old) }
     ensures value { option_map (λ f. f.now) result ≡ end_text tree.old }
 {
     let len = tree.0.len();
@@ -93,7 +101,8 @@ impl ElemChild {
 
     pub(crate) fn children_mut(&mut self) -> &mut ElemChildren
         requires { child_is_elem (child_view self.old) ≡ true }
-        ensures* writes_back { sem 𝓛 (Lends child_.the_row children_.the_row self.entry result (with_children self.old)) }
+        ensures* writes_back { sem 𝓛
+            (Lends child_.the_row children_.the_row self.entry result (with_children self.old)) }
         ensures value { result.now ≡ inner (child_view self.old) }
     {
         match self {
@@ -103,7 +112,8 @@ impl ElemChild {
     }
 
     fn text_mut(&mut self) -> Option<&mut Formatted>
-        ensures* writes_back { sem 𝓛 (LendsIf child_.the_row formatted_.the_row self.entry result (with_text self.old) self.old) }
+        ensures* writes_back { sem 𝓛
+            (LendsIf child_.the_row formatted_.the_row self.entry result (with_text self.old) self.old) }
         ensures value { option_map (λ f. f.now) result ≡ own_text (child_view self.old) }
     {
         match self {

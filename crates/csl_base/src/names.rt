@@ -67,8 +67,10 @@ impl NameDisambiguationProperties {
 /// A law: forms are ordered by how much of a name they write, and the forms of several names by the
 /// first that differs. Both are total orders, in which only equal values are equal.
 pub fn forms_are_in_order()
-    ensures extents { (a : DisambiguatedNameForm) → (b : DisambiguatedNameForm) → form_cmp a b ≡ nat_cmp (extent a) (extent b) }
-    ensures first_difference { (a : NameDisambiguationProperties) → (b : NameDisambiguationProperties) → properties_cmp a b ≡ slice_cmp form_cmp a.forms b.forms }
+    ensures extents { (a : DisambiguatedNameForm) → (b : DisambiguatedNameForm)
+        → form_cmp a b ≡ nat_cmp (extent a) (extent b) }
+    ensures first_difference { (a : NameDisambiguationProperties) → (b : NameDisambiguationProperties)
+        → properties_cmp a b ≡ slice_cmp form_cmp a.forms b.forms }
     ensures forms { IsValueOrder form_cmp }
     ensures properties { IsValueOrder properties_cmp }
 {}

@@ -112,7 +112,8 @@ fn leads_up(ranks: &Vec<usize>, rows: &Vec<Vec<usize>>) -> bool
 // those to which it leads in one step.
 pub(crate) fn has_order(alloc: Global, rows: &Vec<Vec<usize>>) -> Result<bool, AllocError>
     requires { IsClosed (map (λ row. row.items) rows.now.items) }
-    ensures { IfOk result (λ b. b ≡ true → (i : ℕ) → IsOnRound (map (λ row. row.items) rows.now.items) i → ⊥) }
+    ensures { IfOk result (λ b. b ≡ true → (i : ℕ) → IsOnRound (map (λ row. row.items) rows.now.items) i
+        → ⊥) }
 {
     let ranks = ranks(alloc, rows)?;
     Ok(leads_up(&ranks, rows))

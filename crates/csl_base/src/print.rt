@@ -44,7 +44,8 @@ impl ElemChild {
     ///
     /// Fails where memory is refused. What `text` holds then is not told.
     pub fn write_plain(&self, text: &mut String) -> Result<(), AllocError>
-        ensures { OnOk result (string_bytes text.new ≡ string_bytes text.old ++ child_plain (child_view self.now)) }
+        ensures { OnOk result (string_bytes text.new
+            ≡ string_bytes text.old ++ child_plain (child_view self.now)) }
     {
         write!(text, "{}", self)?;
         Ok(())

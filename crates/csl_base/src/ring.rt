@@ -17,7 +17,8 @@ use std::collections::HashMap;
 
 /// The children of the first macro of a name; none without such a macro.
 pub fn body_of<'a>(macros: &'a Vec<CslMacro>, name: &str) -> Option<&'a Vec<LayoutRenderingElement>>
-    ensures { option_map (λ v. elements_view v.now.items) result ≡ body_of name.now (macros_view macros.now.items) }
+    ensures { option_map (λ v. elements_view v.now.items) result
+        ≡ body_of name.now (macros_view macros.now.items) }
 {
     for each in macros {
         if each.name.as_str() == name {
@@ -36,7 +37,8 @@ pub fn first_places<'a>(
     alloc: Global,
     macros: &'a Vec<CslMacro>,
 ) -> Result<HashMap<&'a str, usize>, AllocError>
-    ensures { IfOk result (λ places. (name : Name) → place_named places name ≡ place_of name (macros_view macros.now.items)) }
+    ensures { IfOk result (λ places. (name : Name)
+        → place_named places name ≡ place_of name (macros_view macros.now.items)) }
 {
     let mut places = HashMap::new(alloc);
     for i in 0..macros.len() {
@@ -54,7 +56,8 @@ fn called_places<'a>(
     places: &HashMap<&'a str, usize>,
     elements: &'a Vec<LayoutRenderingElement>,
 ) -> Result<Vec<usize>, AllocError>
-    ensures { IfOk result (λ called. called.items ≡ filter_map (place_named places.now) (calls_of_all (elements_view elements.now.items))) }
+    ensures { IfOk result (λ called. called.items
+        ≡ filter_map (place_named places.now) (calls_of_all (elements_view elements.now.items))) }
 {
     let mut names = Vec::new(alloc);
     add_all_calls(&mut names, elements)?;
@@ -69,7 +72,8 @@ fn called_places<'a>(
 
 // For each macro the places of those that it calls.
 fn call_places(alloc: Global, macros: &Vec<CslMacro>) -> Result<Vec<Vec<usize>>, AllocError>
-    ensures { IfOk result (λ rows. map (λ row. row.items) rows.items ≡ call_places (macros_view macros.now.items)) }
+    ensures { IfOk result (λ rows. map (λ row. row.items) rows.items
+        ≡ call_places (macros_view macros.now.items)) }
 {
     let places = first_places(alloc, macros)?;
     let mut rows = Vec::new(alloc);

@@ -97,8 +97,11 @@ fn join_adjacent(children: &mut ElemChildren) -> Result<(), AllocError>
 
 /// Whether the last of these children stays apart from this one.
 fn stays_apart(children: &[ElemChild], child: &ElemChild) -> bool
-    ensures apart { result ≡ true → join_last (map child_view children.now) (child_view child.now) ≡ map child_view children.now ++ child_view child.now ∷ [] }
-    ensures joint { result ≡ false → (ds : List ElemChild) (d : ElemChild) → children.now ≡ ds ++ d ∷ [] → joins (child_view d) (child_view child.now) ≡ true }
+    ensures apart { result ≡ true
+        → join_last (map child_view children.now) (child_view child.now)
+        ≡ map child_view children.now ++ child_view child.now ∷ [] }
+    ensures joint { result ≡ false → (ds : List ElemChild) (d : ElemChild) → children.now ≡ ds ++ d ∷ []
+        → joins (child_view d) (child_view child.now) ≡ true }
 {
     match children.last() {
         Some(last) => !last.joins(child),

@@ -94,8 +94,10 @@ impl<T> NonEmptyStack<T> {
     pub fn last_mut_predicate<F: Fn(&T) -> bool>(&mut self, f: F) -> Option<&mut T>
         requires { F.IsAlwaysCallable f }
         ensures* writes_back { sem 𝓛 (LendsTopmost T.row (F.post f) self.entry result) }
-        ensures value { (p : T → Bool) → AnswersAs (F.post f) p → option_map (λ x. x.now) result ≡ option_and_then (slice_get self.old) (topmost p self.old) }
-        ensures accepted { IfSome result (λ x. (i : ℕ) × IsTopmostAccepted (F.post f) self.old i × (slice_get self.old i ≡ Some x.now)) }
+        ensures value { (p : T → Bool) → AnswersAs (F.post f) p
+            → option_map (λ x. x.now) result ≡ option_and_then (slice_get self.old) (topmost p self.old) }
+        ensures accepted { IfSome result (λ x. (i : ℕ) × IsTopmostAccepted (F.post f) self.old i
+            × (slice_get self.old i ≡ Some x.now)) }
         ensures refused { result ≡ None → All (Gave (F.post f) false) self.old }
     {
         match topmost(&self.items, &f) {

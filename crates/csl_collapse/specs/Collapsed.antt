@@ -10,7 +10,8 @@ use Rattle.csl_collapse.specs.YearStretches.{year_collapsed}
 
 module _ {E P : Type 0} where
   -- what a kind of collapsing makes of the cite at a place
-  abbrev pub collapsed_by : Collapse → CitationValue → List (ItemRender E P) → ℕ → ItemRender E P → ItemRender E P
+  abbrev pub collapsed_by : Collapse → CitationValue → List (ItemRender E P) → ℕ → ItemRender E P
+      → ItemRender E P
   collapsed_by CitationNumber citation cites = number_collapsed (after_collapse citation) cites
   collapsed_by Year citation cites = year_collapsed citation false cites
   collapsed_by YearSuffix citation cites = year_collapsed citation true cites
@@ -22,4 +23,5 @@ module _ {E P : Type 0} where
 
   -- the cites of a request, drawn together as its style asks for
   abbrev pub collapsed : CiteRender E P → CiteRender E P
-  collapsed r = let citation = r.request.style.citation in record r { items = collapsed_cites citation.collapse citation r.items }
+  collapsed r = let citation = r.request.style.citation in
+      record r { items = collapsed_cites citation.collapse citation r.items }

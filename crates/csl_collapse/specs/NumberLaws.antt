@@ -38,11 +38,12 @@ module _ {E P : Type 0} (cites collapsed : List (ItemRender E P)) where
     pub last_shown : is_hidden collapsed q ≡ false
     pub between_hidden : (k : ℕ) → p < k → k < q → is_hidden collapsed k ≡ true
 
-  -- the cites between p and q: collapsing hid them all, their numbers in order are exactly those strictly between the
-  -- numbers of p and q, and a dash stands before q
+  -- the cites between p and q: collapsing hid them all, their numbers in order are exactly those strictly
+  -- between the numbers of p and q, and a dash stands before q
   pub record AreDrawnTogether (p q : ℕ) : Type 0 where
     pub all_were_hid : (k : ℕ) → p < k → k < q → WasHid k
-    pub numbers_between : slice_range (numbers_of collapsed) (p + 1) q ≡ between (slice_index (numbers_of collapsed) p) (slice_index (numbers_of collapsed) q)
+    pub numbers_between : slice_range (numbers_of collapsed) (p + 1) q
+        ≡ between (slice_index (numbers_of collapsed) p) (slice_index (numbers_of collapsed) q)
     pub dash : override_at collapsed q ≡ Some en_dash
 
   -- k is inside one run of numbers, and inside no other
@@ -50,7 +51,8 @@ module _ {E P : Type 0} (cites collapsed : List (ItemRender E P)) where
     pub first : ℕ
     pub last : ℕ
     pub is_inside : (is_run (map shown_number cites) first last ≡ true) × (first < k) × (k < last)
-    pub no_other : (a b : ℕ) → is_run (map shown_number cites) a b ≡ true → a < k → k < b → (a ≡ first) × (b ≡ last)
+    pub no_other : (a b : ℕ) → is_run (map shown_number cites) a b ≡ true → a < k → k < b → (a ≡ first)
+        × (b ≡ last)
 
   -- the laws, for a style with this collapse
   pub record CanBeReadBack (collapse : Option Collapse) : Type 0 where
@@ -59,6 +61,7 @@ module _ {E P : Type 0} (cites collapsed : List (ItemRender E P)) where
     -- nothing is hidden but by the collapse of numbers
     pub only_numbers_hide : (k : ℕ) → WasHid k → collapse ≡ Some CitationNumber
     -- where collapsing hid one of the cites between two shown ones, what is hidden there can be read back
-    pub hidden_can_be_read_back : (p q k : ℕ) → AreNextShown p q → p < k → k < q → WasHid k → AreDrawnTogether p q
+    pub hidden_can_be_read_back : (p q k : ℕ) → AreNextShown p q → p < k → k < q → WasHid k
+        → AreDrawnTogether p q
     -- what collapsing hid is inside exactly one run
     pub hidden_in_one_run : (k : ℕ) → WasHid k → IsInnerToOneRun k

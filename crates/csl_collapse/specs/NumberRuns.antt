@@ -14,7 +14,8 @@ en_dash = 226 ∷ 128 ∷ 147 ∷ []
 
 -- the number of a cite that isn't hidden and in whose tree a citation number stands
 abbrev pub shown_number : {E P : Type 0} → ItemRender E P → Option ℕ
-shown_number c = if not c.hidden && is_some (find_elem (has_meta CitationNumber) c.rendered) then Some c.properties.speculative.citation_number else None
+shown_number c = if not c.hidden && is_some (find_elem (has_meta CitationNumber) c.rendered)
+    then Some c.properties.speculative.citation_number else None
 
 -- of the numbers that the cites of a request show
 module _ (numbers : List (Option ℕ)) where
@@ -26,7 +27,8 @@ module _ (numbers : List (Option ℕ)) where
   abbrev pub rises : ℕ → ℕ → Bool
   rises a b =
       nat_le a b && list_all (λ k. is_some (number_at k)) (places a (b + 1))
-      && list_all (λ k. option_eq nat_eq (number_at (k + 1)) (option_map (λ n. n + 1) (number_at k))) (places a b)
+      && list_all (λ k. option_eq nat_eq (number_at (k + 1)) (option_map (λ n. n + 1) (number_at k)))
+      (places a b)
 
   abbrev pub is_run : ℕ → ℕ → Bool
   is_run = is_maximal rises
@@ -41,13 +43,17 @@ module _ (numbers : List (Option ℕ)) where
 
   -- a run begins at k, and one with an inner cite ends right before it
   abbrev pub follows_collapsed : ℕ → Bool
-  follows_collapsed k = nat_lt 0 k && ends_collapsed (k - 1) && list_any (λ b. is_run k b) (places k (length numbers))
+  follows_collapsed k = nat_lt 0 k && ends_collapsed (k - 1)
+      && list_any (λ b. is_run k b) (places k (length numbers))
 
--- the cite at k of these: hidden inside a run, behind a dash at its end, and behind the given delimiter where it follows it
-abbrev pub number_collapsed : {E P : Type 0} → Option (List ℕ) → List (ItemRender E P) → ℕ → ItemRender E P → ItemRender E P
+-- the cite at k of these: hidden inside a run, behind a dash at its end, and behind the given delimiter where
+-- it follows it
+abbrev pub number_collapsed : {E P : Type 0} → Option (List ℕ) → List (ItemRender E P) → ℕ → ItemRender E P
+    → ItemRender E P
 number_collapsed after cites k c =
     let numbers = map shown_number cites in
     record c {
       hidden = c.hidden || is_inner numbers k;
-      delimiter_override = if ends_collapsed numbers k then Some en_dash else if follows_collapsed numbers k then after else c.delimiter_override;
+      delimiter_override = if ends_collapsed numbers k then Some en_dash else if follows_collapsed numbers k
+          then after else c.delimiter_override;
     }

@@ -21,7 +21,12 @@ is_same None n = false
 
 -- where numbers rise around k, from where they do around the place before
 abbrev pub next_rises : List (Option ℕ) → ℕ → Rises → Rises
-next_rises numbers k r = record { earlier = r.before; before = r.here; here = r.behind; behind = is_next (number_at numbers k) (number_at numbers (k + 1)) }
+next_rises numbers k r = record {
+  earlier = r.before;
+  before = r.here;
+  here = r.behind;
+  behind = is_next (number_at numbers k) (number_at numbers (k + 1));
+}
 
 -- a cite changed by where the numbers rise around it
 abbrev pub number_step : {E P : Type 0} → Rises → Option (List ℕ) → ItemRender E P → ItemRender E P
@@ -33,9 +38,11 @@ number_step rises after c = record c {
       else c.delimiter_override;
 }
 
--- a cite changed by whether it is of the group of the one before, and that one of the group of the one before it
+-- a cite changed by whether it is of the group of the one before, and that one of the group of the one before
+-- it
 abbrev pub year_step : {E P : Type 0} → CitationValue → Bool → Bool → Bool → ItemRender E P → ItemRender E P
 year_step citation to_suffixes is_later was_later c =
-    if is_later then (if to_suffixes && has_later_suffix c then cut_to_suffix citation c else cut_to_date citation c)
+    if is_later then (if to_suffixes && has_later_suffix c then cut_to_suffix citation c
+    else cut_to_date citation c)
     else if was_later then record c { delimiter_override = after_collapse citation }
     else c

@@ -16,7 +16,8 @@ module _ (groups : List (Option ℕ)) where
 
   -- the cites from a to b have one and the same group
   abbrev pub shares : ℕ → ℕ → Bool
-  shares a b = nat_le a b && list_all (λ k. is_some (group_at k) && option_eq nat_eq (group_at k) (group_at a)) (places a (b + 1))
+  shares a b = nat_le a b && list_all (λ k. is_some (group_at k)
+      && option_eq nat_eq (group_at k) (group_at a)) (places a (b + 1))
 
   abbrev pub is_stretch : ℕ → ℕ → Bool
   is_stretch = is_maximal shares
@@ -32,19 +33,29 @@ module _ (groups : List (Option ℕ)) where
 module _ {E P : Type 0} where
   -- its entry is told apart by the suffix of the year, and by another than the first
   abbrev pub has_later_suffix : ItemRender E P → Bool
-  has_later_suffix c = option_map_or (λ n. nat_lt 0 n) (year_suffix c.properties.speculative.disambiguation) false
+  has_later_suffix c = option_map_or (λ n. nat_lt 0 n)
+      (year_suffix c.properties.speculative.disambiguation) false
 
   -- a cite cut to its suffix, and one cut to its date
   abbrev pub cut_to_suffix : CitationValue → ItemRender E P → ItemRender E P
-  cut_to_suffix citation c = record c { delimiter_override = option_or citation.year_suffix_delimiter citation.cite_group_delimiter; verdict = Some verdict.YearSuffix }
+  cut_to_suffix citation c =
+      record c {
+        delimiter_override = option_or citation.year_suffix_delimiter citation.cite_group_delimiter;
+        verdict = Some verdict.YearSuffix;
+      }
 
   abbrev pub cut_to_date : CitationValue → ItemRender E P → ItemRender E P
-  cut_to_date citation c = record c { delimiter_override = citation.cite_group_delimiter; verdict = Some verdict.First }
+  cut_to_date citation c = record c {
+    delimiter_override = citation.cite_group_delimiter;
+    verdict = Some verdict.First;
+  }
 
   -- the cite at k of these, where cites are cut to suffixes if asked for
-  abbrev pub year_collapsed : CitationValue → Bool → List (ItemRender E P) → ℕ → ItemRender E P → ItemRender E P
+  abbrev pub year_collapsed : CitationValue → Bool → List (ItemRender E P) → ℕ → ItemRender E P
+      → ItemRender E P
   year_collapsed citation to_suffixes cites k c =
       let groups = map (λ d. d.group) cites in
-      if is_later groups k then (if to_suffixes && has_later_suffix c then cut_to_suffix citation c else cut_to_date citation c)
+      if is_later groups k then (if to_suffixes && has_later_suffix c then cut_to_suffix citation c
+      else cut_to_date citation c)
       else if follows_stretch groups k then record c { delimiter_override = after_collapse citation }
       else c

@@ -28,7 +28,8 @@ use csl_passes::renders::SpeculativeCiteRender;
 pub fn collapse_items<T, P>(render: &mut SpeculativeCiteRender<'_, '_, T, P>)
     ensures collapsed { render_view render.new ≡ collapsed (render_view render.old) }
     ensures laws { let cites = (render_view render.old).items in
-        CanBeReadBack cites (render_view render.new).items (render_view render.old).request.style.citation.collapse }
+        CanBeReadBack cites (render_view render.new).items
+        (render_view render.old).request.style.citation.collapse }
 {
     let citation = &render.request.style().citation;
     match citation.collapse {

@@ -43,7 +43,8 @@ pub(crate) fn collapse_numbers<'a, T, P>(
     after: Option<&'a str>,
 )
     ensures { items_view items.new
-        ≡ by_places (number_collapsed (option_map (λ s. s.now) after.entry) (items_view items.old)) (items_view items.old) }
+        ≡ by_places (number_collapsed (option_map (λ s. s.now) after.entry) (items_view items.old))
+        (items_view items.old) }
 {
     let mut rises = Rises {
         earlier: false,
@@ -63,7 +64,8 @@ fn collapse_number<'a, T, P>(
     rises: Rises,
     after: Option<&'a str>,
 )
-    ensures { item_view cite.new ≡ number_step rises (option_map (λ s. s.now) after.entry) (item_view cite.old) }
+    ensures { item_view cite.new
+        ≡ number_step rises (option_map (λ s. s.now) after.entry) (item_view cite.old) }
 {
     let has_number = shown_number(cite).is_some();
     if rises.here && rises.behind {

@@ -17,7 +17,9 @@ pub(crate) fn collapse_years<'a, T, P>(
     citation: &'a Citation,
     to_suffixes: bool,
 )
-    ensures { items_view items.new ≡ by_places (year_collapsed (citation_view citation.now) to_suffixes (items_view items.old)) (items_view items.old) }
+    ensures { items_view items.new
+        ≡ by_places (year_collapsed (citation_view citation.now) to_suffixes (items_view items.old))
+        (items_view items.old) }
 {
     let mut before = None;
     // Whether the cite before is of the same group as the one before that.
@@ -39,7 +41,8 @@ fn collapse_year<'a, T, P>(
     is_later: bool,
     was_later: bool,
 )
-    ensures { item_view cite.new ≡ year_step (citation_view citation.now) to_suffixes is_later was_later (item_view cite.old) }
+    ensures { item_view cite.new
+        ≡ year_step (citation_view citation.now) to_suffixes is_later was_later (item_view cite.old) }
 {
     if !is_later {
         if was_later {

@@ -19,7 +19,8 @@ Frames = List (List Child)
 
 -- a tree with its last text changed by f; the same tree where there is none
 abbrev pub on_last_text : (List ℕ → List ℕ) → List Child → List Child
-on_last_text f cs = option_map_or (λ (t : Formatted). put_last_text cs (record t { text = f t.text })) (last_text cs) cs
+on_last_text f cs = option_map_or (λ (t : Formatted). put_last_text cs (record t { text = f t.text }))
+    (last_text cs) cs
 
 -- the text that a child is, or that it holds through elements of one child each
 abbrev mutual
@@ -45,7 +46,8 @@ abbrev mutual
 
   pub kids_on_sole_text : (List ℕ → List ℕ) → Kids → Kids
   kids_on_sole_text f no_kids = no_kids
-  kids_on_sole_text f (kid c ks) = elim ks [ no_kids ↦ kid (on_sole_text f c) no_kids | kid d ds ↦ kid c (kid d ds) ]
+  kids_on_sole_text f (kid c ks) =
+      elim ks [ no_kids ↦ kid (on_sole_text f c) no_kids | kid d ds ↦ kid c (kid d ds) ]
 
 -- the same in the last child of a tree
 abbrev pub end_sole_text : List Child → Option (List ℕ)
@@ -85,7 +87,8 @@ closed d m cs = elem (kids_of cs) d m ∷ []
 
 -- the frames with the top one closed into the one below
 abbrev pub committed : Option Display → Option ElemMeta → Frames → Frames
-committed d m frames = option_map_or (λ frame. on_top (λ cs. cs ++ closed d m frame) (below frames)) (top frames) frames
+committed d m frames = option_map_or (λ frame. on_top (λ cs. cs ++ closed d m frame) (below frames))
+    (top frames) frames
 
 -- a tree with its last child changed by f
 abbrev pub on_last_child : (Child → Child) → List Child → List Child

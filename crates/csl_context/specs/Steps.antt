@@ -77,7 +77,8 @@ term_text (Some q) = q
 
 -- the closing quote at a text's end: the outer one or else the inner one; empty where there is none
 abbrev pub quote_at_end : ClosingQuotes → List ℕ → List ℕ
-quote_at_end q t = if ends_with_term q.outer t then term_text q.outer else if ends_with_term q.inner t then term_text q.inner else []
+quote_at_end q t = if ends_with_term q.outer t then term_text q.outer else if ends_with_term q.inner t
+    then term_text q.inner else []
 
 abbrev pub ends_quoted : ClosingQuotes → List ℕ → Bool
 ends_quoted q t = not (length (quote_at_end q t) == 0)

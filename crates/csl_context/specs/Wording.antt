@@ -16,7 +16,10 @@ unfoldable pub plain_term : Lookup → OtherTerm → Option (List ℕ)
 plain_term k name = term_of k None (Term.Other name) TermForm.Long false
 
 unfoldable pub closing_quotes : Lookup → ClosingQuotes
-closing_quotes k = record { outer = plain_term k OtherTerm.CloseQuote; inner = plain_term k OtherTerm.CloseInnerQuote }
+closing_quotes k = record {
+  outer = plain_term k OtherTerm.CloseQuote;
+  inner = plain_term k OtherTerm.CloseInnerQuote;
+}
 
 -- s written
 unfoldable pub pushed : Lookup → List ℕ → State → State
@@ -62,7 +65,8 @@ joined_values (chunk ∷ chunks) = chunk.value ++ joined_values chunks
 
 -- a link of a text, in the formatting of here
 unfoldable pub linked : List Chunk → List ℕ → State → State
-linked chunks url a = with_child (link (record { text = joined_values chunks; formatting = formatting a }) url) (saved a)
+linked chunks url a = with_child
+    (link (record { text = joined_values chunks; formatting = formatting a }) url) (saved a)
 
 -- a place for what the caller puts in for a cite
 unfoldable pub marked : ℕ → State → State
@@ -73,7 +77,8 @@ unfoldable pub with_suffix : Lookup → Option (List ℕ) → State → State
 with_suffix k None a = a
 with_suffix k (Some s) a = if ends_so s a then a else pushed k s a
 
--- the top frame, which a prefix of n bytes began, is closed with its suffix; where it shows nothing else it is dropped
+-- the top frame, which a prefix of n bytes began, is closed with its suffix; where it shows nothing else it
+-- is dropped
 unfoldable pub suffixed : Lookup → Option (List ℕ) → ℕ → ℕ → State → State
 suffixed k suffix formats n a =
     if has_content_since n a

@@ -91,14 +91,19 @@ unfoldable pub saved : State → State
 saved a =
     if is_saved a
     then a
-    else record a { buffer = []; frames = on_top (λ cs. join_last cs (text (record { text = a.buffer; formatting = formatting a }))) a.frames }
+    else record a {
+      buffer = [];
+      frames = on_top (λ cs. join_last cs (text (record { text = a.buffer; formatting = formatting a })))
+          a.frames;
+    }
 
 -- Writing text.
 
--- the text before changed by f: the buffer, or where that is empty the last text of the topmost frame that has
--- children
+-- the text before changed by f: the buffer, or where that is empty the last text of the topmost frame that
+-- has children
 abbrev pub on_text_before : (List ℕ → List ℕ) → State → State
-on_text_before f a = if is_saved a then record a { frames = on_filled (on_last_text f) a.frames } else record a { buffer = f a.buffer }
+on_text_before f a = if is_saved a then record a { frames = on_filled (on_last_text f) a.frames }
+    else record a { buffer = f a.buffer }
 
 -- where s begins with white space, or closely, white space before it goes
 abbrev pub trimmed_for : List ℕ → State → State
@@ -126,7 +131,8 @@ may_pull s a = a.pulling && opens_with_mark s
 
 -- that text changed by f
 abbrev pub on_quoted_text : (List ℕ → List ℕ) → State → State
-on_quoted_text f a = if is_saved a then record a { frames = on_filled (on_end_sole_text f) a.frames } else record a { buffer = f a.buffer }
+on_quoted_text f a = if is_saved a then record a { frames = on_filled (on_end_sole_text f) a.frames }
+    else record a { buffer = f a.buffer }
 
 -- the mark before the closing quote of that text, where it has one
 abbrev pub after_pull : ClosingQuotes → List ℕ → State → State
@@ -134,7 +140,8 @@ after_pull q s a = if may_pull s a then on_quoted_text (pulled q (take 1 s)) a e
 
 -- what is left of s then
 abbrev pub left_by_pull : ClosingQuotes → List ℕ → State → List ℕ
-left_by_pull q s a = if may_pull s a && option_map_or (ends_quoted q) (quoted_text a) false then drop 1 s else s
+left_by_pull q s a = if may_pull s a && option_map_or (ends_quoted q) (quoted_text a) false then drop 1 s
+    else s
 
 -- s written where nothing is pulled
 unfoldable pub written : List ℕ → State → State
@@ -149,7 +156,8 @@ verbatim s a = unpulled (record a { buffer = a.buffer ++ s })
 
 -- a space behind the buffer, or where that is empty behind the last text of the top frame
 unfoldable pub with_space : State → State
-with_space a = if is_saved a then record a { frames = on_top (on_last_text spaced) a.frames } else record a { buffer = spaced a.buffer }
+with_space a = if is_saved a then record a { frames = on_top (on_last_text spaced) a.frames }
+    else record a { buffer = spaced a.buffer }
 
 -- Formats and frames.
 
@@ -158,7 +166,8 @@ asks_nothing f = not (is_some f.font_style) && not (is_some f.font_weight)
 
 -- a format that asks for nothing changes nothing
 unfoldable pub formatted : StyleFormatting → State → State
-formatted f a = if asks_nothing f then a else (let b = saved a in record b { formats = b.formats ++ applied f (formatting b) ∷ [] })
+formatted f a = if asks_nothing f then a
+    else (let b = saved a in record b { formats = b.formats ++ applied f (formatting b) ∷ [] })
 
 abbrev pub cut_formats : ℕ → State → State
 cut_formats height a = record a { formats = take height a.formats }
@@ -172,7 +181,8 @@ opened f a = let b = formatted f (saved a) in record b { frames = b.frames ++ []
 
 -- the top frame closed into the one below, and the formats cut back
 unfoldable pub closed_elem : ℕ → Option Display → Option ElemMeta → State → State
-closed_elem height d m a = let b = saved a in cut_formats height (record b { frames = committed d m b.frames })
+closed_elem height d m a = let b = saved a in
+    cut_formats height (record b { frames = committed d m b.frames })
 
 unfoldable pub discarded : ℕ → State → State
 discarded height a = let b = saved a in cut_formats height (record b { frames = below b.frames })
@@ -190,7 +200,8 @@ has_content_since n a = option_map_or (shows n) (top (saved a).frames) false
 
 -- the last text of the top frame ends with s
 unfoldable pub ends_so : List ℕ → State → Bool
-ends_so s a = option_map_or (λ (t : Formatted). ends_with nat_eq t.text s) (option_and_then last_text (top a.frames)) false
+ends_so s a = option_map_or (λ (t : Formatted). ends_with nat_eq t.text s)
+    (option_and_then last_text (top a.frames)) false
 
 -- Flags and further stacks.
 

@@ -60,12 +60,11 @@ impl<'a, T, P> Context<'a, T, P> {
     /// has (CSL 1.0.2, terms). The variable `locator` means the term of what the cite's locator counts.
     /// `None` where no locale has it, and where the term that is found has no words in this number.
     pub fn term(&self, term: Term, form: TermForm, plural: bool) -> Option<&'a str>
-        ensures { option_map (λ s. s.now) result ≡ term_of (words_of self.now) (locator_of self.now) term form plural }
+        ensures { option_map (λ s. s.now) result
+            ≡ term_of (words_of self.now) (locator_of self.now) term form plural }
     {
-        let locator = match &self.properties.speculative.locator {
-            Some(locator) => Some(locator.0),
-            None => None,
-        };
+        let locator = self.properties.speculative.locator.as_ref();
+        let locator = locator.map(|locator| locator.0);
         self.style.term(locator, term, form, plural)
     }
 
@@ -91,7 +90,8 @@ impl<'a, T, P> Context<'a, T, P> {
     ///
     /// Where memory is refused.
     pub fn push_str(&mut self, s: &str) -> Result<(), AllocError>
-        ensures done { OnOk result (state self.new.writing ≡ pushed (words_of self.old) s.now (state self.old.writing)) }
+        ensures done { OnOk result (state self.new.writing
+            ≡ pushed (words_of self.old) s.now (state self.old.writing)) }
         ensures heights { heights (state self.new.writing) ≡ heights (state self.old.writing) }
         ensures same { IsOfSameCite self.old self.new }
     {
@@ -104,7 +104,8 @@ impl<'a, T, P> Context<'a, T, P> {
     ///
     /// Where memory is refused.
     pub fn push_chunked(&mut self, text: &ChunkedString) -> Result<(), AllocError>
-        ensures done { OnOk result (state self.new.writing ≡ chunks_pushed (words_of self.old) text.now.0 (state self.old.writing)) }
+        ensures done { OnOk result (state self.new.writing
+            ≡ chunks_pushed (words_of self.old) text.now.0 (state self.old.writing)) }
         ensures heights { heights (state self.new.writing) ≡ heights (state self.old.writing) }
         ensures same { IsOfSameCite self.old self.new }
     {
@@ -117,7 +118,8 @@ impl<'a, T, P> Context<'a, T, P> {
     ///
     /// Where memory is refused.
     pub fn push_link(&mut self, text: &ChunkedString, url: String) -> Result<(), AllocError>
-        ensures done { OnOk result (state self.new.writing ≡ linked text.now.0 (string_bytes url) (state self.old.writing)) }
+        ensures done { OnOk result (state self.new.writing
+            ≡ linked text.now.0 (string_bytes url) (state self.old.writing)) }
         ensures heights { heights (state self.new.writing) ≡ heights (state self.old.writing) }
         ensures same { IsOfSameCite self.old self.new }
     {
@@ -143,7 +145,8 @@ impl<'a, T, P> Context<'a, T, P> {
     ///
     /// Where memory is refused.
     pub fn push_quotes(&mut self) -> Result<(), AllocError>
-        ensures done { OnOk result (state self.new.writing ≡ quotes_opened (words_of self.old) (state self.old.writing)) }
+        ensures done { OnOk result (state self.new.writing
+            ≡ quotes_opened (words_of self.old) (state self.old.writing)) }
         ensures heights { heights (state self.new.writing) ≡ heights (state self.old.writing) }
         ensures same { IsOfSameCite self.old self.new }
     {
@@ -157,7 +160,8 @@ impl<'a, T, P> Context<'a, T, P> {
     ///
     /// Where memory is refused.
     pub fn pop_quotes(&mut self) -> Result<(), AllocError>
-        ensures done { OnOk result (state self.new.writing ≡ quotes_closed (words_of self.old) (state self.old.writing)) }
+        ensures done { OnOk result (state self.new.writing
+            ≡ quotes_closed (words_of self.old) (state self.old.writing)) }
         ensures heights { heights (state self.new.writing) ≡ heights (state self.old.writing) }
         ensures same { IsOfSameCite self.old self.new }
     {
@@ -167,7 +171,8 @@ impl<'a, T, P> Context<'a, T, P> {
     /// Lets the closing quotes that stand here pull in the punctuation that is written next, where the
     /// locale has punctuation inside quotes.
     pub fn may_pull_punctuation(&mut self)
-        ensures done { state self.new.writing ≡ pulling_if_asked (words_of self.old) (state self.old.writing) }
+        ensures done { state self.new.writing
+            ≡ pulling_if_asked (words_of self.old) (state self.old.writing) }
         ensures heights { heights (state self.new.writing) ≡ heights (state self.old.writing) }
         ensures same { IsOfSameCite self.old self.new }
     {
@@ -204,9 +209,12 @@ impl<'a, T, P> Context<'a, T, P> {
         prefix: (DisplayLoc, usize),
     ) -> Result<(), AllocError>
         requires { prefix.0.frames + 1 ≡ length (state self.old.writing).frames }
-        ensures done { OnOk result (state self.new.writing ≡ suffixed (words_of self.old) (affixes_view affixes.now).suffix prefix.0.formats prefix.1 (state self.old.writing)) }
+        ensures done { OnOk result (state self.new.writing
+            ≡ suffixed (words_of self.old) (affixes_view affixes.now).suffix prefix.0.formats prefix.1
+            (state self.old.writing)) }
         ensures height { OnOk result (length (state self.new.writing).frames ≡ prefix.0.frames) }
-        ensures format_height { OnOk result (length (state self.new.writing).formats ≡ min prefix.0.formats (length (state self.old.writing).formats)) }
+        ensures format_height { OnOk result (length (state self.new.writing).formats
+            ≡ min prefix.0.formats (length (state self.old.writing).formats)) }
         ensures refused { OnErr result (heights (state self.new.writing) ≡ heights (state self.old.writing)) }
         ensures same { IsOfSameCite self.old self.new }
     {
@@ -229,7 +237,8 @@ impl<'a, T, P> fmt::Write for Context<'a, T, P> {
 
     /// Writes `s` as `push_str` does. Fails where memory is refused.
     fn write_str(&mut self, s: &str) -> fmt::Result
-        ensures ok { IsOk result → (state self.new.writing ≡ pushed (words_of self.old) s.now (state self.old.writing)) × IsOfSameCite self.old self.new }
+        ensures ok { IsOk result → (state self.new.writing
+            ≡ pushed (words_of self.old) s.now (state self.old.writing)) × IsOfSameCite self.old self.new }
         ensures heights { heights (state self.new.writing) ≡ heights (state self.old.writing) }
         ensures same { IsOfSameCite self.old self.new }
     {

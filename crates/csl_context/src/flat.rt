@@ -167,8 +167,11 @@ impl FlatFrames {
         quotes: ClosingQuotes<'_>,
         mark: &str,
     ) -> Result<bool, AllocError>
-        ensures moved { IfOk result (λ moved. moved ≡ option_map_or (ends_quoted (quotes_view quotes.entry)) (option_and_then end_sole_text (filled self.old)) false) }
-        ensures done { OnOk result (self.new ≡ on_filled (on_end_sole_text (pulled (quotes_view quotes.entry) mark.now)) self.old) }
+        ensures moved { IfOk result (λ moved. moved
+            ≡ option_map_or (ends_quoted (quotes_view quotes.entry))
+            (option_and_then end_sole_text (filled self.old)) false) }
+        ensures done { OnOk result (self.new
+            ≡ on_filled (on_end_sole_text (pulled (quotes_view quotes.entry) mark.now)) self.old) }
         ensures height { length self.new ≡ length self.old }
     {
         pull_in_tree(alloc, &mut self.children, quotes, mark)
@@ -212,7 +215,9 @@ impl FlatFrames {
         more: &str,
         formatting: Formatting,
     ) -> Result<(), AllocError>
-        ensures done { OnOk result (self.new ≡ on_top (λ cs. join_last cs (text (record { text = more.now; formatting = formatting }))) self.old) }
+        ensures done { OnOk result (self.new
+            ≡ on_top (λ cs. join_last cs (text (record { text = more.now; formatting = formatting })))
+            self.old) }
         ensures height { length self.new ≡ length self.old }
     {
         if ends_in(self.top(), formatting) {

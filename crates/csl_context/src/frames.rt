@@ -105,8 +105,10 @@ fn pull_in_child(
     quotes: ClosingQuotes<'_>,
     mark: &str,
 ) -> Result<bool, AllocError>
-    ensures moved { IfOk result (λ moved. moved ≡ option_map_or (ends_quoted (quotes_view quotes.entry)) (sole_text (child_view child.old)) false) }
-    ensures child { OnOk result (child_view child.new ≡ on_sole_text (pulled (quotes_view quotes.entry) mark.now) (child_view child.old)) }
+    ensures moved { IfOk result (λ moved. moved
+        ≡ option_map_or (ends_quoted (quotes_view quotes.entry)) (sole_text (child_view child.old)) false) }
+    ensures child { OnOk result (child_view child.new
+        ≡ on_sole_text (pulled (quotes_view quotes.entry) mark.now) (child_view child.old)) }
 {
     match child {
         ElemChild::Text(text) => pull_in_text(alloc, &mut text.text, quotes, mark),
@@ -124,8 +126,10 @@ fn pull_in_only(
     quotes: ClosingQuotes<'_>,
     mark: &str,
 ) -> Result<bool, AllocError>
-    ensures moved { IfOk result (λ moved. moved ≡ option_map_or (ends_quoted (quotes_view quotes.entry)) (kids_sole_text (kids_of tree.old)) false) }
-    ensures tree { OnOk result (kids_of tree.new ≡ kids_on_sole_text (pulled (quotes_view quotes.entry) mark.now) (kids_of tree.old)) }
+    ensures moved { IfOk result (λ moved. moved
+        ≡ option_map_or (ends_quoted (quotes_view quotes.entry)) (kids_sole_text (kids_of tree.old)) false) }
+    ensures tree { OnOk result (kids_of tree.new
+        ≡ kids_on_sole_text (pulled (quotes_view quotes.entry) mark.now) (kids_of tree.old)) }
 {
     if tree.0.len() != 1 {
         return Ok(false);
@@ -140,8 +144,10 @@ pub(crate) fn pull_in_tree(
     quotes: ClosingQuotes<'_>,
     mark: &str,
 ) -> Result<bool, AllocError>
-    ensures moved { IfOk result (λ moved. moved ≡ option_map_or (ends_quoted (quotes_view quotes.entry)) (end_sole_text tree.old) false) }
-    ensures tree { OnOk result (tree.new ≡ on_end_sole_text (pulled (quotes_view quotes.entry) mark.now) tree.old) }
+    ensures moved { IfOk result (λ moved. moved
+        ≡ option_map_or (ends_quoted (quotes_view quotes.entry)) (end_sole_text tree.old) false) }
+    ensures tree { OnOk result (tree.new
+        ≡ on_end_sole_text (pulled (quotes_view quotes.entry) mark.now) tree.old) }
     ensures len { length tree.new ≡ length tree.old }
 {
     let len = tree.0.len();
@@ -192,7 +198,8 @@ pub(crate) fn wrap(
     meta: Option<ElemMeta>,
 ) -> Result<(), AllocError>
     requires { start ≤ length tree.old }
-    ensures done { OnOk result (tree.new ≡ take start tree.old ++ elem (kids_of (drop start tree.old)) display meta ∷ []) }
+    ensures done { OnOk result (tree.new
+        ≡ take start tree.old ++ elem (kids_of (drop start tree.old)) display meta ∷ []) }
     ensures kept { start ≤ length tree.new }
 {
     let children = split_off(tree, start)?;

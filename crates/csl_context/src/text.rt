@@ -151,8 +151,10 @@ pub(crate) fn pull(
     quotes: ClosingQuotes<'_>,
     mark: &str,
 ) -> Result<bool, AllocError>
-    ensures moved { IfOk result (λ moved. moved ≡ ends_quoted (quotes_view quotes.entry) (string_bytes text.old)) }
-    ensures text { OnOk result (string_bytes text.new ≡ pulled (quotes_view quotes.entry) mark.now (string_bytes text.old)) }
+    ensures moved { IfOk result (λ moved. moved
+        ≡ ends_quoted (quotes_view quotes.entry) (string_bytes text.old)) }
+    ensures text { OnOk result (string_bytes text.new
+        ≡ pulled (quotes_view quotes.entry) mark.now (string_bytes text.old)) }
 {
     let quote = quotes.at_end(text.as_str());
     if quote.is_empty() {

@@ -43,7 +43,8 @@ pub fn push_str(
     writing: &mut WritingContext<'_>,
     s: &str,
 ) -> Result<(), AllocError>
-    ensures done { OnOk result (state writing.new ≡ pushed (lookup_view style.now) s.now (state writing.old)) }
+    ensures done { OnOk result (state writing.new
+        ≡ pushed (lookup_view style.now) s.now (state writing.old)) }
     ensures heights { heights (state writing.new) ≡ heights (state writing.old) }
 {
     if writing.may_pull(s) {
@@ -59,7 +60,8 @@ fn push_term(
     writing: &mut WritingContext<'_>,
     name: OtherTerm,
 ) -> Result<(), AllocError>
-    ensures done { OnOk result (state writing.new ≡ term_pushed (lookup_view style.now) name (state writing.old)) }
+    ensures done { OnOk result (state writing.new
+        ≡ term_pushed (lookup_view style.now) name (state writing.old)) }
     ensures heights { heights (state writing.new) ≡ heights (state writing.old) }
 {
     match plain_term(style, name) {
@@ -100,7 +102,8 @@ pub fn push_quotes(
     style: &StyleLocales<'_>,
     writing: &mut WritingContext<'_>,
 ) -> Result<(), AllocError>
-    ensures done { OnOk result (state writing.new ≡ quotes_opened (lookup_view style.now) (state writing.old)) }
+    ensures done { OnOk result (state writing.new
+        ≡ quotes_opened (lookup_view style.now) (state writing.old)) }
     ensures heights { heights (state writing.new) ≡ heights (state writing.old) }
 {
     push_term(style, writing, opening_quote(writing.quote_depth()))?;
@@ -118,7 +121,8 @@ pub fn pop_quotes(
     style: &StyleLocales<'_>,
     writing: &mut WritingContext<'_>,
 ) -> Result<(), AllocError>
-    ensures done { OnOk result (state writing.new ≡ quotes_closed (lookup_view style.now) (state writing.old)) }
+    ensures done { OnOk result (state writing.new
+        ≡ quotes_closed (lookup_view style.now) (state writing.old)) }
     ensures heights { heights (state writing.new) ≡ heights (state writing.old) }
 {
     writing.rise();
@@ -142,7 +146,8 @@ fn push_chunk(
     writing: &mut WritingContext<'_>,
     chunk: &Chunk,
 ) -> Result<(), AllocError>
-    ensures done { OnOk result (state writing.new ≡ chunk_pushed (lookup_view style.now) chunk.now (state writing.old)) }
+    ensures done { OnOk result (state writing.new
+        ≡ chunk_pushed (lookup_view style.now) chunk.now (state writing.old)) }
     ensures heights { heights (state writing.new) ≡ heights (state writing.old) }
 {
     match chunk.kind {
@@ -162,7 +167,8 @@ pub fn push_chunked(
     writing: &mut WritingContext<'_>,
     text: &ChunkedString,
 ) -> Result<(), AllocError>
-    ensures done { OnOk result (state writing.new ≡ chunks_pushed (lookup_view style.now) text.now.0 (state writing.old)) }
+    ensures done { OnOk result (state writing.new
+        ≡ chunks_pushed (lookup_view style.now) text.now.0 (state writing.old)) }
     ensures heights { heights (state writing.new) ≡ heights (state writing.old) }
 {
     for chunk in text.0.as_slice() {
@@ -192,7 +198,8 @@ pub fn push_link(
     text: &ChunkedString,
     url: String,
 ) -> Result<(), AllocError>
-    ensures done { OnOk result (state writing.new ≡ linked text.now.0 (string_bytes url) (state writing.old)) }
+    ensures done { OnOk result (state writing.new
+        ≡ linked text.now.0 (string_bytes url) (state writing.old)) }
     ensures heights { heights (state writing.new) ≡ heights (state writing.old) }
 {
     let joined = joined_values(writing.alloc(), text)?;
@@ -228,10 +235,13 @@ pub fn begin_prefix(
 ) -> Result<(DisplayLoc, usize), AllocError>
     ensures frames { IfOk result (λ begun. begun.0.frames ≡ length (state writing.old).frames) }
     ensures formats { IfOk result (λ begun. begun.0.formats ≡ length (state writing.old).formats) }
-    ensures offset { IfOk result (λ begun. begun.1 ≡ length (term_text (option_map (λ s. s.now) prefix.entry))) }
-    ensures done { OnOk result (state writing.new ≡ prefixed (option_map (λ s. s.now) prefix.entry) (state writing.old)) }
+    ensures offset { IfOk result (λ begun. begun.1
+        ≡ length (term_text (option_map (λ s. s.now) prefix.entry))) }
+    ensures done { OnOk result (state writing.new
+        ≡ prefixed (option_map (λ s. s.now) prefix.entry) (state writing.old)) }
     ensures height { OnOk result (length (state writing.new).frames ≡ length (state writing.old).frames + 1) }
-    ensures same_formats { OnOk result (length (state writing.new).formats ≡ length (state writing.old).formats) }
+    ensures same_formats { OnOk result (length (state writing.new).formats
+        ≡ length (state writing.old).formats) }
     ensures refused { OnErr result (heights (state writing.new) ≡ heights (state writing.old)) }
 {
     writing.begin_prefix(prefix)
@@ -264,7 +274,8 @@ fn push_suffix(
     writing: &mut WritingContext<'_>,
     suffix: Option<&str>,
 ) -> Result<(), AllocError>
-    ensures done { OnOk result (state writing.new ≡ with_suffix (lookup_view style.now) (option_map (λ s. s.now) suffix.entry) (state writing.old)) }
+    ensures done { OnOk result (state writing.new
+        ≡ with_suffix (lookup_view style.now) (option_map (λ s. s.now) suffix.entry) (state writing.old)) }
     ensures heights { heights (state writing.new) ≡ heights (state writing.old) }
 {
     match suffix {
@@ -292,9 +303,12 @@ pub fn apply_suffix(
     prefix: (DisplayLoc, usize),
 ) -> Result<(), AllocError>
     requires { prefix.0.frames + 1 ≡ length (state writing.old).frames }
-    ensures done { OnOk result (state writing.new ≡ suffixed (lookup_view style.now) (option_map (λ s. s.now) suffix.entry) prefix.0.formats prefix.1 (state writing.old)) }
+    ensures done { OnOk result (state writing.new
+        ≡ suffixed (lookup_view style.now) (option_map (λ s. s.now) suffix.entry) prefix.0.formats prefix.1
+        (state writing.old)) }
     ensures height { OnOk result (length (state writing.new).frames ≡ prefix.0.frames) }
-    ensures format_height { OnOk result (length (state writing.new).formats ≡ min prefix.0.formats (length (state writing.old).formats)) }
+    ensures format_height { OnOk result (length (state writing.new).formats
+        ≡ min prefix.0.formats (length (state writing.old).formats)) }
     ensures refused { OnErr result (heights (state writing.new) ≡ heights (state writing.old)) }
 {
     if !writing.has_content_since(&prefix)? {

@@ -177,8 +177,10 @@ impl<'a> WritingContext<'a> {
 
     // Puts a mark before the closing quote of the text that may pull it in. Tells whether there is one.
     fn pull_mark(&mut self, quotes: ClosingQuotes<'_>, mark: &str) -> Result<bool, AllocError>
-        ensures moved { IfOk result (λ moved. moved ≡ option_map_or (ends_quoted (quotes_view quotes.entry)) (quoted_text (state self.old)) false) }
-        ensures done { OnOk result (state self.new ≡ on_quoted_text (pulled (quotes_view quotes.entry) mark.now) (state self.old)) }
+        ensures moved { IfOk result (λ moved. moved
+            ≡ option_map_or (ends_quoted (quotes_view quotes.entry)) (quoted_text (state self.old)) false) }
+        ensures done { OnOk result (state self.new
+            ≡ on_quoted_text (pulled (quotes_view quotes.entry) mark.now) (state self.old)) }
         ensures heights { heights (state self.new) ≡ heights (state self.old) }
     {
         if self.is_saved() {
@@ -190,8 +192,10 @@ impl<'a> WritingContext<'a> {
 
     // Pulls the first character of `s` into the quotes before it, where it may be. Gives what is left.
     fn pull<'s>(&mut self, quotes: ClosingQuotes<'_>, s: &'s str) -> Result<&'s str, AllocError>
-        ensures left { IfOk result (λ left. left.now ≡ left_by_pull (quotes_view quotes.entry) s.now (state self.old)) }
-        ensures done { OnOk result (state self.new ≡ after_pull (quotes_view quotes.entry) s.now (state self.old)) }
+        ensures left { IfOk result (λ left. left.now
+            ≡ left_by_pull (quotes_view quotes.entry) s.now (state self.old)) }
+        ensures done { OnOk result (state self.new
+            ≡ after_pull (quotes_view quotes.entry) s.now (state self.old)) }
         ensures heights { heights (state self.new) ≡ heights (state self.old) }
     {
         if !self.may_pull(s) {
@@ -238,7 +242,8 @@ impl<'a> WritingContext<'a> {
     /// Where memory is refused.
     #[tactic(auto, unfolding(crate::specs::WritingState::after_push_str))]
     pub(crate) fn push_str(&mut self, quotes: ClosingQuotes<'_>, s: &str) -> Result<(), AllocError>
-        ensures done { OnOk result (state self.new ≡ after_push_str (quotes_view quotes.entry) s.now (state self.old)) }
+        ensures done { OnOk result (state self.new
+            ≡ after_push_str (quotes_view quotes.entry) s.now (state self.old)) }
         ensures heights { heights (state self.new) ≡ heights (state self.old) }
     {
         let left = self.pull(quotes, s)?;
@@ -310,7 +315,8 @@ impl<'a> WritingContext<'a> {
         ensures token { IfOk result (λ token. token.height ≡ length (state self.old).formats) }
         ensures done { OnOk result (state self.new ≡ formatted format (state self.old)) }
         ensures refused { OnErr result (heights (state self.new) ≡ heights (state self.old)) }
-        ensures cut_back { heights (cut_formats (length (state self.old).formats) (state self.new)) ≡ heights (state self.old) }
+        ensures cut_back { heights (cut_formats (length (state self.old).formats) (state self.new))
+            ≡ heights (state self.old) }
     {
         let height = self.formats.len();
         if asks_nothing(format) {
@@ -326,7 +332,8 @@ impl<'a> WritingContext<'a> {
         requires { asks_nothing format ≡ false }
         ensures done { OnOk result (state self.new ≡ formatted format (state self.old)) }
         ensures refused { OnErr result (heights (state self.new) ≡ heights (state self.old)) }
-        ensures cut_back { heights (cut_formats (length (state self.old).formats) (state self.new)) ≡ heights (state self.old) }
+        ensures cut_back { heights (cut_formats (length (state self.old).formats) (state self.new))
+            ≡ heights (state self.old) }
     {
         self.save()?;
         let formatting = self.formatting().apply(format);
@@ -362,7 +369,8 @@ impl<'a> WritingContext<'a> {
         ensures formats { IfOk result (λ loc. loc.formats ≡ length (state self.old).formats) }
         ensures done { OnOk result (state self.new ≡ opened format (state self.old)) }
         ensures height { OnOk result (length (state self.new).frames ≡ length (state self.old).frames + 1) }
-        ensures more_formats { OnOk result (length (state self.old).formats ≤ length (state self.new).formats) }
+        ensures more_formats { OnOk result
+            (length (state self.old).formats ≤ length (state self.new).formats) }
         ensures refused { OnErr result (heights (state self.new) ≡ heights (state self.old)) }
     {
         if asks_nothing(format) {
@@ -385,7 +393,8 @@ impl<'a> WritingContext<'a> {
         ensures formats { IfOk result (λ loc. loc.formats ≡ length (state self.old).formats) }
         ensures done { OnOk result (state self.new ≡ opened nothing_asked (state self.old)) }
         ensures height { OnOk result (length (state self.new).frames ≡ length (state self.old).frames + 1) }
-        ensures same_formats { OnOk result (length (state self.new).formats ≡ length (state self.old).formats) }
+        ensures same_formats { OnOk result (length (state self.new).formats
+            ≡ length (state self.old).formats) }
         ensures refused { OnErr result (heights (state self.new) ≡ heights (state self.old)) }
     {
         self.save()?;
@@ -413,7 +422,8 @@ impl<'a> WritingContext<'a> {
         requires { loc.frames + 1 ≡ length (state self.old).frames }
         ensures done { OnOk result (state self.new ≡ closed_elem loc.formats display meta (state self.old)) }
         ensures height { OnOk result (length (state self.new).frames ≡ loc.frames) }
-        ensures format_height { OnOk result (length (state self.new).formats ≡ min loc.formats (length (state self.old).formats)) }
+        ensures format_height { OnOk result (length (state self.new).formats
+            ≡ min loc.formats (length (state self.old).formats)) }
         ensures refused { OnErr result (heights (state self.new) ≡ heights (state self.old)) }
     {
         self.save()?;
@@ -432,7 +442,8 @@ impl<'a> WritingContext<'a> {
         requires { loc.frames + 1 ≡ length (state self.old).frames }
         ensures done { OnOk result (state self.new ≡ discarded loc.formats (state self.old)) }
         ensures height { OnOk result (length (state self.new).frames ≡ loc.frames) }
-        ensures format_height { OnOk result (length (state self.new).formats ≡ min loc.formats (length (state self.old).formats)) }
+        ensures format_height { OnOk result (length (state self.new).formats
+            ≡ min loc.formats (length (state self.old).formats)) }
         ensures refused { OnErr result (heights (state self.new) ≡ heights (state self.old)) }
     {
         self.save()?;
@@ -450,10 +461,13 @@ impl<'a> WritingContext<'a> {
     pub fn apply_prefix(&mut self, affixes: &Affixes) -> Result<(DisplayLoc, usize), AllocError>
         ensures frames { IfOk result (λ prefix. prefix.0.frames ≡ length (state self.old).frames) }
         ensures formats { IfOk result (λ prefix. prefix.0.formats ≡ length (state self.old).formats) }
-        ensures offset { IfOk result (λ prefix. prefix.1 ≡ length (term_text (affixes_view affixes.now).prefix)) }
-        ensures done { OnOk result (state self.new ≡ prefixed (affixes_view affixes.now).prefix (state self.old)) }
+        ensures offset { IfOk result (λ prefix. prefix.1
+            ≡ length (term_text (affixes_view affixes.now).prefix)) }
+        ensures done { OnOk result (state self.new
+            ≡ prefixed (affixes_view affixes.now).prefix (state self.old)) }
         ensures height { OnOk result (length (state self.new).frames ≡ length (state self.old).frames + 1) }
-        ensures same_formats { OnOk result (length (state self.new).formats ≡ length (state self.old).formats) }
+        ensures same_formats { OnOk result (length (state self.new).formats
+            ≡ length (state self.old).formats) }
         ensures refused { OnErr result (heights (state self.new) ≡ heights (state self.old)) }
     {
         self.begin_prefix(affixes.prefix.as_deref())
@@ -471,10 +485,13 @@ impl<'a> WritingContext<'a> {
     ) -> Result<(DisplayLoc, usize), AllocError>
         ensures frames { IfOk result (λ begun. begun.0.frames ≡ length (state self.old).frames) }
         ensures formats { IfOk result (λ begun. begun.0.formats ≡ length (state self.old).formats) }
-        ensures offset { IfOk result (λ begun. begun.1 ≡ length (term_text (option_map (λ s. s.now) prefix.entry))) }
-        ensures done { OnOk result (state self.new ≡ prefixed (option_map (λ s. s.now) prefix.entry) (state self.old)) }
+        ensures offset { IfOk result (λ begun. begun.1
+            ≡ length (term_text (option_map (λ s. s.now) prefix.entry))) }
+        ensures done { OnOk result (state self.new
+            ≡ prefixed (option_map (λ s. s.now) prefix.entry) (state self.old)) }
         ensures height { OnOk result (length (state self.new).frames ≡ length (state self.old).frames + 1) }
-        ensures same_formats { OnOk result (length (state self.new).formats ≡ length (state self.old).formats) }
+        ensures same_formats { OnOk result (length (state self.new).formats
+            ≡ length (state self.old).formats) }
         ensures refused { OnErr result (heights (state self.new) ≡ heights (state self.old)) }
     {
         let loc = self.open()?;
@@ -574,7 +591,8 @@ impl<'a> WritingContext<'a> {
     /// Where memory is refused; nothing changes then.
     pub fn push_delimiter(&mut self, delimiter: Option<&'a str>) -> Result<DelimiterIdx, AllocError>
         ensures token { IfOk result (λ token. token.height ≡ length (state self.old).delimiters) }
-        ensures done { OnOk result (state self.new ≡ delimited (option_map (λ s. s.now) delimiter.entry) (state self.old)) }
+        ensures done { OnOk result (state self.new
+            ≡ delimited (option_map (λ s. s.now) delimiter.entry) (state self.old)) }
         ensures refused { OnErr result (state self.new ≡ state self.old) }
     {
         let height = self.delimiters.len();
@@ -598,7 +616,8 @@ impl<'a> WritingContext<'a> {
         &mut self,
         options: &'a InheritableNameOptions,
     ) -> Result<(), AllocError>
-        ensures done { OnOk result (state self.new ≡ with_options (options_view options.now) (state self.old)) }
+        ensures done { OnOk result (state self.new
+            ≡ with_options (options_view options.now) (state self.old)) }
         ensures refused { OnErr result (state self.new ≡ state self.old) }
     {
         self.name_options.push(options)?;

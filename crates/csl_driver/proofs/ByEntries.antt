@@ -13,8 +13,8 @@ use Rattle.csl_entries.proofs.Placed.{map-map}
 use Rattle.csl_entries.proofs.Placing.{all_in, left, right}
 use Rattle.csl_lookup.specs.declared.state.DisambiguateState.{DisambiguateState}
 use Rattle.csl_positions.specs.FirstProperties.{numbered_by}
-use Rattle.csl_rounds.specs.Rerenders.{AreStatesOf}
-use Rattle.csl_rounds.specs.Rounds.{StateTable, told_by}
+use Rattle.csl_round_laws.specs.Rerenders.{AreStatesOf}
+use Rattle.csl_round_laws.specs.Rounds.{StateTable, told_by}
 
 zero-more : (n : ℕ) → 0 + n ≡ n
 zero-more n = omega arith

@@ -1,6 +1,6 @@
 -- Two lists that have the same members, each once, are alike but for their order.
 use Rattle.std.proofs.Common.{◌≡◌, ℕ, suc, ◌+◌, Bool, true, false, cond, not, ◌||◌, List, [], ◌∷◌, ◌++◌, filter, map, refl, ap, sym, subst, ◌∙◌, true≢false, arith}
-use Rattle.std.specs.Prelude.{All, slice_index}
+use Rattle.std.specs.Prelude.{slice_index}
 use Rattle.std.specs.Cmp.{IsEquivalence}
 use Rattle.std.specs.List.{position_or_len}
 use Rattle.std.specs.List.Sorted.{IsPermutation}

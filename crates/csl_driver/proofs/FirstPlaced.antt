@@ -13,7 +13,7 @@ use Rattle.csl_passes.specs.Renders.{CiteRender}
 use Rattle.csl_passes.specs.Request.{RequestedCite, Request, cited, entries_of}
 use Rattle.csl_passes.specs.declared.first.FirstProperties.{FirstProperties}
 use Rattle.csl_positions.specs.FirstProperties.{cite_properties, first_properties, request_properties}
-use Rattle.csl_rounds.specs.FirstRenders.{HasShapeOf, first_render, first_renders, first_renders_of}
+use Rattle.csl_round_laws.specs.FirstRenders.{HasShapeOf, first_render, first_renders, first_renders_of}
 
 module _ {X A : Type 0} (f : List X → X → A) (ys : List X) where
   -- what f gives of members that stand from a place on, and of those before each

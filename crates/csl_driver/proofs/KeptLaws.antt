@@ -1,6 +1,6 @@
 -- The laws of states, numbers, final orders and runs hold of every answer.
-use Rattle.std.proofs.Common.{◌≡◌, ℕ, zero, suc, ◌+◌, ◌-◌, ◌<◌, ◌≤◌, ◌^◌, ◌||◌, ◌++◌, Bool, true, false, List, [], ◌∷◌, Option, None, Some, length, map, refl, ap, sym, subst, ◌∙◌, true≢false, arith}
-use Rattle.std.specs.Prelude.{All, flat_map, if◌then◌else◌, min, slice_get, take}
+use Rattle.std.proofs.Common.{◌≡◌, ℕ, zero, suc, ◌+◌, ◌-◌, ◌<◌, ◌^◌, ◌||◌, ◌++◌, Bool, true, false, List, [], ◌∷◌, Option, None, Some, length, map, refl, ap, sym, subst, ◌∙◌, true≢false, arith}
+use Rattle.std.specs.Prelude.{All, if◌then◌else◌, min, slice_get, take}
 use Rattle.std.specs.Cmp.{IsEquivalence}
 use Rattle.std.specs.List.{AllZip, enumerate_from, range_with_len}
 use Rattle.std.specs.List.Sorted.{IsPermutation}
@@ -27,17 +27,17 @@ use Rattle.csl_entries.proofs.Distinct.{is_in-distinct}
 use Rattle.csl_entries.proofs.Placed.{map-map}
 use Rattle.csl_grouping.specs.Blocks.{grouped, is_grouped}
 use Rattle.csl_grouping.specs.FinalOrder.{HasFinalOrder}
-use Rattle.csl_passes.specs.Renders.{CiteRender, ItemRender}
+use Rattle.csl_passes.specs.Renders.{CiteRender}
 use Rattle.csl_passes.specs.Request.{Request, cited}
 use Rattle.csl_passes.specs.declared.first.FirstProperties.{FirstProperties}
-use Rattle.csl_positions.specs.FinalProperties.{cited_finally, items_before, with_final, with_final_items, with_final_properties}
+use Rattle.csl_positions.specs.FinalProperties.{cited_finally, items_before, with_final, with_final_items}
 use Rattle.csl_positions.specs.FirstProperties.{first_properties}
-use Rattle.csl_rounds.specs.FirstRenders.{first_renders}
-use Rattle.csl_rounds.specs.RoundMarks.{has_any}
-use Rattle.csl_rounds.specs.Rounds.{StateTable, no_states, told_by, with_marks}
-use Rattle.csl_rounds.specs.RunLaws.{Ended, IsLawful}
-use Rattle.csl_rounds.specs.Tables.{disambiguated, last_table, marked_at, marks_at, most_rounds, rounds, tables, tables_from}
-use Rattle.csl_rounds.specs.declared.mode.RoundMode.{RoundMode}
+use Rattle.csl_round_laws.specs.FirstRenders.{first_renders}
+use Rattle.csl_round_laws.specs.RoundMarks.{has_any}
+use Rattle.csl_round_laws.specs.Rounds.{StateTable, no_states, told_by, with_marks}
+use Rattle.csl_round_laws.specs.RunLaws.{Ended, IsLawful}
+use Rattle.csl_round_laws.specs.Tables.{disambiguated, last_table, marked_at, marks_at, most_rounds, rounds, tables, tables_from}
+use Rattle.csl_round_laws.specs.declared.mode.RoundMode.{RoundMode}
 
 -- drawn together where no cite has a purpose
 read-back : {E P : Type 0} → ((c : CiteRender E P) → CanBeReadBack c.items (collapsed c).items c.request.style.citation.collapse) → (c : CiteRender E P) → IsReadBack c (drawn_together c)

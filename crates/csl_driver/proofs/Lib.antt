@@ -12,3 +12,4 @@ pub mod ListedCount
 pub mod ByEntries
 pub mod EachOnce
 pub mod KeptLaws
+pub mod Promises

@@ -25,9 +25,9 @@ use Rattle.csl_passes.specs.Request.{cites_of, entries_of}
 use Rattle.csl_positions.specs.FinalProperties.{items_before, with_final_items}
 use Rattle.csl_writing.proofs.Counting.{counted_times-add, counted_times-all}
 use Rattle.csl_writing.specs.Counted.{counted_times}
-use Rattle.csl_rounds.specs.Rounds.{request_at}
-use Rattle.csl_rounds.specs.Tables.{disambiguated, last_states}
-use Rattle.csl_rounds.specs.declared.mode.RoundMode.{RoundMode}
+use Rattle.csl_round_laws.specs.Rounds.{request_at}
+use Rattle.csl_round_laws.specs.Tables.{disambiguated, last_states}
+use Rattle.csl_round_laws.specs.declared.mode.RoundMode.{RoundMode}
 
 module _ {X : Type 0} where
   sum-same : (v w : X → ℕ) → ((x : X) → v x ≡ w x) → (xs : List X) → sum_by v xs ≡ sum_by w xs

@@ -21,10 +21,10 @@ use Rattle.csl_passes.specs.Renders.{CiteRender, ItemRender}
 use Rattle.csl_passes.specs.Request.{Request, cited}
 use Rattle.csl_positions.specs.FinalProperties.{items_before, with_final, with_final_items, with_final_properties}
 use Rattle.csl_positions.specs.FirstProperties.{first_properties}
-use Rattle.csl_rounds.specs.FirstRenders.{first_renders}
-use Rattle.csl_rounds.specs.Rounds.{StateTable, at_table, request_at, with_any}
-use Rattle.csl_rounds.specs.Tables.{disambiguated, last_states}
-use Rattle.csl_rounds.specs.declared.mode.RoundMode.{RoundMode}
+use Rattle.csl_round_laws.specs.FirstRenders.{first_renders}
+use Rattle.csl_round_laws.specs.Rounds.{StateTable, at_table, request_at, with_any}
+use Rattle.csl_round_laws.specs.Tables.{disambiguated, last_states}
+use Rattle.csl_round_laws.specs.declared.mode.RoundMode.{RoundMode}
 
 module _ {X : Type 0} (h : ℕ → X → X) where
   -- members changed by their places

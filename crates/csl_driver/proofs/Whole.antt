@@ -1,5 +1,5 @@
 -- The whole answer, put together.
-use Rattle.std.proofs.Common.{◌≡◌, ℕ, Bool, List, Option, map, ap, ◌∙◌}
+use Rattle.std.proofs.Common.{◌≡◌, Bool, List, Option, map, ap, ◌∙◌}
 use Rattle.std.specs.Prelude.{option_map}
 use Rattle.std.specs.List.{filter_map}
 use Rattle.csl_assembly.specs.BibliographyItems.{bibliography_of}
@@ -12,7 +12,7 @@ use Rattle.csl_passes.specs.Renders.{CiteRender}
 use Rattle.csl_passes.specs.Request.{wanted_source}
 use Rattle.csl_positions.specs.FinalProperties.{first_item}
 use Rattle.csl_positions.proofs.Tables.{map-map}
-use Rattle.csl_rounds.specs.declared.mode.RoundMode.{RoundMode}
+use Rattle.csl_round_laws.specs.declared.mode.RoundMode.{RoundMode}
 
 module _ {E P : Type 0} (eq : E → E → Bool) (payload_eq : P → P → Bool) (answers : E → Answers) (mode : RoundMode) (asked : Asked E P)
     (settled drawn : List (CiteRender E P)) (in_end : settled ≡ in_the_end eq payload_eq answers mode asked) (together : drawn ≡ map drawn_together settled) where

@@ -4,10 +4,10 @@ use Rattle.csl_base.specs.Answers.{Answers}
 use Rattle.csl_driver.specs.Answer.{Asked, entries_listed, rendered_first}
 use Rattle.csl_lookup.specs.declared.state.DisambiguateState.{DisambiguateState}
 use Rattle.csl_passes.specs.Request.{Request, Wanted, cited, cites_of}
-use Rattle.csl_rounds.specs.Rerenders.{rerenders}
-use Rattle.csl_rounds.specs.Rounds.{told_by}
-use Rattle.csl_rounds.specs.Tables.{last_states, round_tables, rounds}
-use Rattle.csl_rounds.specs.declared.mode.RoundMode.{RoundMode}
+use Rattle.csl_round_laws.specs.Rerenders.{rerenders}
+use Rattle.csl_round_laws.specs.Rounds.{told_by}
+use Rattle.csl_round_laws.specs.Tables.{last_states, round_tables, rounds}
+use Rattle.csl_round_laws.specs.declared.mode.RoundMode.{RoundMode}
 
 -- so many where there is a bibliography
 abbrev pub where_listed : {B : Type 0} → Option B → ℕ → ℕ
@@ -16,19 +16,22 @@ where_listed (Some b) n = n
 
 -- the entries of the bibliography, where the style that was asked for has one
 abbrev pub listed_count : {E P : Type 0} → (E → E → Bool) → Wanted E → List (Request E P) → ℕ
-listed_count eq wanted requests = where_listed wanted.style.bibliography (length (entries_listed eq wanted requests))
+listed_count eq wanted requests =
+    where_listed wanted.style.bibliography (length (entries_listed eq wanted requests))
 
-module _ {E P : Type 0} (eq : E → E → Bool) (payload_eq : P → P → Bool) (answers : E → Answers) (mode : RoundMode) (asked : Asked E P) where
+module _ {E P : Type 0} (eq : E → E → Bool) (payload_eq : P → P → Bool) (answers : E
+    → Answers) (mode : RoundMode) (asked : Asked E P) where
   -- how many rounds mark
   abbrev pub marking : ℕ
   marking = rounds mode eq answers (rendered_first eq payload_eq answers asked)
 
   -- the renderings of the rounds: one in each that marks for each cite whose entry it marks
   abbrev pub rerendered : ℕ
-  rerendered = rerenders (cited asked.requests) (round_tables mode eq answers (rendered_first eq payload_eq answers asked))
+  rerendered = rerenders (cited asked.requests)
+      (round_tables mode eq answers (rendered_first eq payload_eq answers asked))
 
-  -- the renderings: two for each cite, hidden or not; those of the rounds; and one for each entry of the bibliography,
-  -- where there is one
+  -- the renderings: two for each cite, hidden or not; those of the rounds; and one for each entry of the
+  -- bibliography, where there is one
   abbrev pub cost : ℕ
   cost = 2 * length (cites_of asked.requests) + rerendered + listed_count eq asked.wanted asked.requests
 

@@ -13,9 +13,9 @@ use Rattle.csl_passes.specs.Renders.{CiteRender, ItemRender}
 use Rattle.csl_passes.specs.Request.{Request, Wanted, cited, wanted_source}
 use Rattle.csl_positions.specs.FinalProperties.{cited_finally, first_item, with_final_properties}
 use Rattle.csl_positions.specs.FirstProperties.{first_properties}
-use Rattle.csl_rounds.specs.FirstRenders.{first_renders}
-use Rattle.csl_rounds.specs.Tables.{disambiguated}
-use Rattle.csl_rounds.specs.declared.mode.RoundMode.{RoundMode}
+use Rattle.csl_round_laws.specs.FirstRenders.{first_renders}
+use Rattle.csl_round_laws.specs.Tables.{disambiguated}
+use Rattle.csl_round_laws.specs.declared.mode.RoundMode.{RoundMode}
 
 -- what a driver is asked: the bibliography, the requests, and the number of the first entry
 pub record Asked (E P : Type 0) : Type 0 where
@@ -32,8 +32,8 @@ module _ {E P : Type 0} (eq : E → E → Bool) where
   abbrev pub entries_listed : Wanted E → List (Request E P) → List E
   entries_listed wanted requests = bibliography_order eq (order_in_use wanted) (cited requests)
 
-  -- the entries by which the final numbers go: the bibliography's where an order is used, else those of the cites in their
-  -- final order
+  -- the entries by which the final numbers go: the bibliography's where an order is used, else those of the
+  -- cites in their final order
   abbrev pub numbered_finally : Option (List E) → List (Request E P) → List (CiteRender E P) → List E
   numbered_finally None requests cites = distinct eq (cited_finally cites)
   numbered_finally (Some order) requests cites = bibliography_order eq (Some order) (cited requests)
@@ -47,11 +47,13 @@ abbrev pub citation_of : {E P : Type 0} → (E → Answers) → CiteRender E P �
 citation_of answers c = record { note_number = c.request.note_number; citation = citation_tree answers c }
 
 module _ {E P : Type 0} (eq : E → E → Bool) (payload_eq : P → P → Bool) (answers : E → Answers) where
-  -- the cites of all requests, rendered by their first properties; their numbers are those of the bibliography
+  -- the cites of all requests, rendered by their first properties; their numbers are those of the
+  -- bibliography
   abbrev pub rendered_first : Asked E P → List (CiteRender E P)
   rendered_first asked =
       let listed = entries_listed eq asked.wanted asked.requests in
-      first_renders answers asked.requests (first_properties eq payload_eq (number eq asked.offset listed) asked.requests)
+      first_renders answers asked.requests
+      (first_properties eq payload_eq (number eq asked.offset listed) asked.requests)
 
   module _ (mode : RoundMode) (asked : Asked E P) where
     -- the cites in their final order: told apart, and those of each request in their blocks
@@ -60,7 +62,8 @@ module _ {E P : Type 0} (eq : E → E → Bool) (payload_eq : P → P → Bool) 
 
     -- the number of an entry in the end
     abbrev pub final_number : E → ℕ
-    final_number = number eq asked.offset (numbered_finally eq (order_in_use asked.wanted) asked.requests in_final_order)
+    final_number = number eq asked.offset
+        (numbered_finally eq (order_in_use asked.wanted) asked.requests in_final_order)
 
     -- the cites with their final positions and numbers
     abbrev pub in_the_end : List (CiteRender E P)
@@ -70,9 +73,11 @@ module _ {E P : Type 0} (eq : E → E → Bool) (payload_eq : P → P → Bool) 
     abbrev pub first_cites : List (ItemRender E P)
     first_cites = filter_map (first_item eq in_the_end) (entries_listed eq asked.wanted asked.requests)
 
-    -- the whole answer: one citation for each request, and the bibliography where the style that was asked for has one
+    -- the whole answer: one citation for each request, and the bibliography where the style that was asked
+    -- for has one
     abbrev pub rendered : Rendered
     rendered = record {
-      bibliography = option_map (λ b. bibliography_of answers (wanted_source asked.wanted) b first_cites) asked.wanted.style.bibliography;
+      bibliography = option_map (λ b. bibliography_of answers (wanted_source asked.wanted) b first_cites)
+          asked.wanted.style.bibliography;
       citations = map (λ c. citation_of answers (drawn_together c)) in_the_end;
     }

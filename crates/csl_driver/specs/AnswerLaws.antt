@@ -16,10 +16,10 @@ use Rattle.csl_grouping.specs.FinalOrder.{HasFinalOrder}
 use Rattle.csl_lookup.specs.declared.state.IbidState.{IbidState}
 use Rattle.csl_passes.specs.Renders.{CiteRender, ItemRender}
 use Rattle.csl_positions.specs.FinalProperties.{cited_finally, placed_finally}
-use Rattle.csl_rounds.specs.Rounds.{StateTable, no_states, told_by}
-use Rattle.csl_rounds.specs.RunLaws.{IsLawful, last_shown}
-use Rattle.csl_rounds.specs.Tables.{last_table}
-use Rattle.csl_rounds.specs.declared.mode.RoundMode.{RoundMode}
+use Rattle.csl_round_laws.specs.Rounds.{StateTable, no_states, told_by}
+use Rattle.csl_round_laws.specs.RunLaws.{IsLawful, last_shown}
+use Rattle.csl_round_laws.specs.Tables.{last_table}
+use Rattle.csl_round_laws.specs.declared.mode.RoundMode.{RoundMode}
 
 -- entries of which no two are equal have the offset and the numbers that follow, each once
 pub record HaveNumbersOnce {E : Type 0} (eq : E → E → Bool) (offset : ℕ)

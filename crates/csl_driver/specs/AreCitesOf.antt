@@ -7,7 +7,8 @@ use Rattle.csl_passes.specs.Renders.{CiteRender}
 use Rattle.csl_passes.specs.Request.{Request}
 use Rattle.csl_positions.specs.FinalProperties.{cited_finally}
 
-pub record AreCitesOf {E P : Type 0} (eq : E → E → Bool) (table : Table E) (requests : List (Request E P)) (renders : List (CiteRender E P)) : Type 0 where
+pub record AreCitesOf {E P : Type 0} (eq : E → E
+    → Bool) (table : Table E) (requests : List (Request E P)) (renders : List (CiteRender E P)) : Type 0 where
   -- they are those of the requests, one after another
   pub of : map (λ c. c.request) renders ≡ requests
   -- each knows where its entry stands in the table

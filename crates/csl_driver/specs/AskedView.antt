@@ -10,9 +10,14 @@ use Rattle.csl_passes.specs.declared.request.CitationRequest.{CitationRequest}
 module _ {T P : Type 0} where
   -- these requests, numbers from the offset on, and this bibliography
   abbrev pub asked_view : List (CitationRequest T P) → ℕ → BibliographyRequest T → Asked T P
-  asked_view requests offset wanted = record { wanted = wanted_view wanted; requests = requests_view requests; offset = offset }
+  asked_view requests offset wanted =
+      record { wanted = wanted_view wanted; requests = requests_view requests; offset = offset }
 
   -- the requests of a driver
   abbrev pub asked_of : BibliographyDriver T P → BibliographyRequest T → Asked T P
   asked_of driver wanted =
-      record { wanted = wanted_view wanted; requests = (driver_view driver).requests; offset = (driver_view driver).offset }
+      record {
+        wanted = wanted_view wanted;
+        requests = (driver_view driver).requests;
+        offset = (driver_view driver).offset;
+      }

@@ -1,14 +1,16 @@
--- What is promised of an answer and its account.
-use Rattle.std.specs.Prelude.{◌≡◌, ◌-◌, ◌^◌, Bool, map, min}
+-- What is promised of an answer, of its account, and of a refusal.
+use Rattle.std.specs.Prelude.{◌≡◌, ◌+◌, ◌-◌, ◌<◌, ◌^◌, Bool, IfErr, IfOk, OnOk, Result, length, map, min}
 use Rattle.csl_assembly.specs.declared.rendered.Rendered.{Rendered}
 use Rattle.csl_base.specs.Answers.{Answers}
 use Rattle.csl_driver.specs.Account.{cost, final_state, marking}
 use Rattle.csl_driver.specs.Answer.{Asked, final_number, rendered}
 use Rattle.csl_driver.specs.AnswerLaws.{KeepsLaws}
+use Rattle.csl_driver.specs.Rings.{NoRingAtAll, Refuses}
 use Rattle.csl_driver.specs.declared.account.Account.{Account}
+use Rattle.csl_driver.specs.declared.error.DriverError.{DriverError}
 use Rattle.csl_entries.specs.Entries.{distinct}
 use Rattle.csl_passes.specs.Request.{cited}
-use Rattle.csl_rounds.specs.declared.mode.RoundMode.{RoundMode}
+use Rattle.csl_round_laws.specs.declared.mode.RoundMode.{RoundMode}
 
 module _ {E P : Type 0} (eq : E → E → Bool) (payload_eq : P → P → Bool) (answers : E → Answers)
     (mode : RoundMode) (asked : Asked E P) (r : Rendered × Account E) where
@@ -18,7 +20,8 @@ module _ {E P : Type 0} (eq : E → E → Bool) (payload_eq : P → P → Bool) 
     -- the renderings and the rounds that marked; counts stand still at the greatest number of 128 bits
     pub renders : r.1.renders ≡ min (cost eq payload_eq answers mode asked) (2 ^ 128 - 1)
     pub rounds : r.1.rounds ≡ min (marking eq payload_eq answers mode asked) (2 ^ 128 - 1)
-    -- the distinct entries, in the order of their first cites; and at the same places their states and numbers
+    -- the distinct entries, in the order of their first cites; and at the same places their states and
+    -- numbers
     pub entries : map (λ e. e.now) r.1.entries.items ≡ distinct eq (cited asked.requests)
     pub states : r.1.states.items
         ≡ map (final_state eq payload_eq answers mode asked) (distinct eq (cited asked.requests))
@@ -29,3 +32,12 @@ module _ {E P : Type 0} (eq : E → E → Bool) (payload_eq : P → P → Bool) 
   pub record IsAnswer : Type 0 where
     pub exact : IsExactly
     pub laws : KeepsLaws eq payload_eq answers mode asked r
+
+-- how a driver finishes: what is to hold of its answer holds; it answers only where no style has a ring and
+-- the numbers fit; and each refusal has its reason
+pub record Finishes {E P R : Type 0} (holds : R → Type 0) (eq : E → E → Bool) (asked : Asked E P)
+    (result : Result R DriverError) : Type 0 where
+  pub answer : IfOk result holds
+  pub no_ring : OnOk result (NoRingAtAll asked.requests asked.wanted.style)
+  pub fits : OnOk result (asked.offset + length (distinct eq (cited asked.requests)) < 2 ^ 64)
+  pub refused : IfErr result (Refuses eq asked.requests asked.wanted.style asked.offset)

@@ -18,11 +18,12 @@ module _ {E P : Type 0} where
   abbrev pub NoRingAtAll : List (Request E P) → StyleValue → Type 0
   NoRingAtAll requests style = NoRingIn requests × HasNoRing style.macros
 
-  -- the style at this place is the first that has a ring, the requests' in order and then that of the bibliography, and
-  -- the i-th is its first macro on a ring
+  -- the style at this place is the first that has a ring, the requests' in order and then that of the
+  -- bibliography, and the i-th is its first macro on a ring
   abbrev pub IsFirstRingOf : List (Request E P) → StyleValue → RingPlace → ℕ → Type 0
   IsFirstRingOf requests style (places.Request k) i =
-      (r : Request E P) × (slice_get requests k ≡ Some r) × NoRingIn (take k requests) × IsFirstRing r.style.macros (Some i)
+      (r : Request E P) × (slice_get requests k ≡ Some r) × NoRingIn (take k requests)
+      × IsFirstRing r.style.macros (Some i)
   IsFirstRingOf requests style places.Bibliography i = NoRingIn requests × IsFirstRing style.macros (Some i)
 
   -- a refusal for a ring names the first one, and none is for the numbers; memory may run out anywhere
@@ -37,11 +38,12 @@ module _ {E P : Type 0} where
 
   -- each refusal has its reason: too large a number where no style has a ring, and otherwise a ring or memory
   abbrev pub Refuses : (E → E → Bool) → List (Request E P) → StyleValue → ℕ → DriverError → Type 0
-  Refuses eq requests style offset errors.NumberOverflow = NoRingAtAll requests style × Overflows eq requests offset
+  Refuses eq requests style offset errors.NumberOverflow = NoRingAtAll requests style
+      × Overflows eq requests offset
   Refuses eq requests style offset refusal = RefusesRing requests style refusal
 
--- a citation that stands for itself is refused for the first macro on a ring, at the place of a first request, and for nothing else
--- but want of memory
+-- a citation that stands for itself is refused for the first macro on a ring, at the place of a first
+-- request, and for nothing else but want of memory
 abbrev pub RefusesAlone : StyleValue → DriverError → Type 0
 RefusesAlone style (errors.MacroRing place i) = (place ≡ places.Request 0) × IsFirstRing style.macros (Some i)
 RefusesAlone style errors.NumberOverflow = ⊥

@@ -22,7 +22,10 @@ behind delimiter tree = record { delimiter = Some delimiter; tree = tree }
 
 -- the properties of a cite of which nothing is known but its locator
 abbrev pub lone_properties : {P : Type 0} → Option (LocatorValue P) → Properties P
-lone_properties locator = record { certain = nothing_certain; speculative = speculated locator 0 IbidState.Different }
+lone_properties locator = record {
+  certain = nothing_certain;
+  speculative = speculated locator 0 IbidState.Different;
+}
 
 module _ {E P : Type 0} (answers : E → Answers) where
   -- the tree of a cite that has no number and no place of its own
@@ -37,4 +40,5 @@ module _ {E P : Type 0} (answers : E → Answers) where
   abbrev pub standalone : Request E P → List Child
   standalone request =
       let layout = request.style.citation.layout in
-      assembled true layout (map (behind (lone_delimiter layout)) (lone_trees (source_of request) request.cites))
+      assembled true layout (map (behind (lone_delimiter layout))
+      (lone_trees (source_of request) request.cites))

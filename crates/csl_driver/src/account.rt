@@ -1,7 +1,7 @@
 //! What an answer cost, and how it numbers its entries and tells them apart.
 ghost use Rattle.std.specs.Prelude.{◌≡◌, IfOk, map};
 ghost use Rattle.csl_entries.specs.TableView.{table_view};
-ghost use Rattle.csl_rounds.specs.Rounds.{told_by};
+ghost use Rattle.csl_round_laws.specs.Rounds.{told_by};
 
 use csl_base::entry::EntryLike;
 use csl_entries::table::EntryTable;

@@ -25,6 +25,7 @@ use crate::cited::Cited;
 use csl_assembly::bibliography::bibliography_of;
 use csl_assembly::rendered::RenderedBibliography;
 use csl_base::entry::EntryLike;
+use csl_passes::acyclic::AcyclicWanted;
 use csl_passes::renders::SpeculativeCiteRender;
 use csl_passes::request::{BibliographyRequest, CitationRequest};
 use csl_positions::final_order::first_items;
@@ -39,10 +40,13 @@ fn first_cites<'a, T: EntryLike, P>(
 ) -> Result<Vec<(usize, usize)>, AllocError>
     requires placed { ArePlaced T.eq (table_view cited.now.table) (renders_view cites.now) }
     requires once { NoTwoEqual T.eq (table_view cited.now.table).entries }
-    requires same { (e : T) → is_in T.eq e (cited_finally (renders_view cites.now)) ≡ is_in T.eq e (table_view cited.now.table).entries }
-    requires within { All (λ p. p < length (table_view cited.now.table).entries) (listing_view cited.now.listing).order }
+    requires same { (e : T) → is_in T.eq e (cited_finally (renders_view cites.now))
+        ≡ is_in T.eq e (table_view cited.now.table).entries }
+    requires within { All (λ p. p < length (table_view cited.now.table).entries)
+        (listing_view cited.now.listing).order }
     ensures firsts { IfOk result (λ v. cites_at (renders_view cites.now) v.items
-        ≡ filter_map (λ p. option_and_then (first_item T.eq (renders_view cites.now)) (slice_get (table_view cited.now.table).entries p)) (listing_view cited.now.listing).order) }
+        ≡ filter_map (λ p. option_and_then (first_item T.eq (renders_view cites.now))
+        (slice_get (table_view cited.now.table).entries p)) (listing_view cited.now.listing).order) }
     ensures exist { IfOk result (λ v. All (IsPlace (renders_view cites.now)) v.items) }
 {
     let places = first_items(alloc, cites, &cited.table)?;
@@ -67,18 +71,24 @@ pub(crate) fn wanted_bibliography<'a, T: EntryLike, P: Drop>(
     renders: &mut Renders,
 ) -> Result<Option<RenderedBibliography>, AllocError>
     requires no_ring { HasNoRing (style_view wanted.now.style.now).macros }
-    requires known { IsCitedBy T.eq (requests_view requests.now) (order_in_use (wanted_view wanted.now)) cited.now }
-    requires cites { AreCitesOf T.eq (table_view cited.now.table) (requests_view requests.now) (renders_view cites.now) }
-    ensures bibliography { IfOk result (λ r. r ≡ option_map
-        (λ b. bibliography_of T.answers (wanted_source (wanted_view wanted.now)) b
-        (filter_map (first_item T.eq (renders_view cites.now)) (entries_listed T.eq (wanted_view wanted.now) (requests_view requests.now))))
+    requires known { IsCitedBy T.eq (requests_view requests.now)
+        (order_in_use (wanted_view wanted.now)) cited.now }
+    requires cites { AreCitesOf T.eq (table_view cited.now.table) (requests_view requests.now)
+        (renders_view cites.now) }
+    ensures bibliography { IfOk result (λ r. r
+        ≡ option_map (λ b. bibliography_of T.answers (wanted_source (wanted_view wanted.now)) b
+        (filter_map (first_item T.eq (renders_view cites.now))
+        (entries_listed T.eq (wanted_view wanted.now) (requests_view requests.now))))
         (style_view wanted.now.style.now).bibliography) }
-    ensures counted { OnOk result (renders.new ≡ counted_times (listed_count T.eq (wanted_view wanted.now) (requests_view requests.now)) renders.old) }
+    ensures counted { OnOk result (renders.new
+        ≡ counted_times (listed_count T.eq (wanted_view wanted.now) (requests_view requests.now))
+        renders.old) }
 {
     match &wanted.style.bibliography {
         Some(bibliography) => {
             let firsts = first_cites(alloc, cited, cites)?;
-            let made = bibliography_of(alloc, wanted, bibliography, cites, &firsts, renders)?;
+            let acyclic = AcyclicWanted { wanted };
+            let made = bibliography_of(alloc, acyclic, bibliography, cites, &firsts, renders)?;
             Ok(Some(made))
         }
         None => Ok(None),

@@ -24,7 +24,8 @@ impl<'a, T: EntryLike> Cited<'a, T> {
     pub(crate) fn numbers(&self, alloc: Global, listing: &Listing) -> Result<Vec<usize>, AllocError>
         requires fits { (p : ℕ) → listed_number (listing_view listing.now) self.now.offset p < 2 ^ 64 }
         ensures { IfOk result (λ v. v.items
-            ≡ numbers_at (listing_view listing.now) self.now.offset (length (table_view self.now.table).entries)) }
+            ≡ numbers_at (listing_view listing.now) self.now.offset
+            (length (table_view self.now.table).entries)) }
     {
         let count = self.table.len();
         let mut numbers = Vec::with_capacity(alloc, count)?;

@@ -9,8 +9,7 @@ ghost use Rattle.csl_driver.specs.AreCitesOf.{AreCitesOf};
 ghost use Rattle.csl_driver.specs.AreSettled.{AreSettled};
 ghost use Rattle.csl_driver.specs.AskedView.{asked_of, asked_view};
 ghost use Rattle.csl_driver.specs.Cited.{IsCitedBy};
-ghost use Rattle.csl_driver.specs.DriverView.{driver_view};
-ghost use Rattle.csl_driver.specs.Promised.{IsAnswer};
+ghost use Rattle.csl_driver.specs.Promised.{Finishes, IsAnswer};
 ghost use Rattle.csl_driver.specs.Rings.{NoRingAtAll, NoRingIn, Refuses};
 ghost use Rattle.csl_entries.specs.Entries.{distinct, number};
 ghost use Rattle.csl_entries.specs.TableView.{table_view};
@@ -19,8 +18,8 @@ ghost use Rattle.csl_passes.specs.RendersView.{render_view, renders_view};
 ghost use Rattle.csl_passes.specs.Request.{cited, cites_of};
 ghost use Rattle.csl_passes.specs.RequestView.{order_view, requests_view, wanted_view};
 ghost use Rattle.csl_positions.specs.FirstProperties.{numbered_by};
-ghost use Rattle.csl_rounds.specs.Rounds.{told_by};
-ghost use Rattle.csl_rounds.specs.declared.mode.RoundMode.{RoundMode};
+ghost use Rattle.csl_round_laws.specs.Rounds.{told_by};
+ghost use Rattle.csl_round_laws.specs.declared.mode.RoundMode.{RoundMode};
 ghost use Rattle.csl_writing.specs.Counted.{counted_times};
 
 use crate::account::{Account, table_entries, told_states};
@@ -38,12 +37,13 @@ use csl_collapse::collapse::collapse_items;
 use csl_entries::listing::Listing;
 use csl_entries::table::EntryTable;
 use csl_grouping::grouping::group_cites;
-use csl_passes::renders::SpeculativeCiteRender;
+use csl_passes::acyclic::{AcyclicRequest, AcyclicRequests};
+use csl_passes::renders::{Cites, SpeculativeCiteRender};
 use csl_passes::request::{BibliographyRequest, CitationRequest, Order};
 use csl_positions::final_order::{final_listing, set_final_properties};
 use csl_positions::first::first_properties;
-use csl_rounds::first_renders::{discard_renders, first_renders};
-use csl_rounds::mode::RoundMode;
+use csl_round_laws::mode::RoundMode;
+use csl_rounds::first_renders::first_renders;
 use csl_rounds::rounds::{Rounds, disambiguate};
 use csl_writing::counter::Renders;
 use std::alloc::{AllocError, Global};
@@ -66,10 +66,13 @@ fn cited_by<'a, T: EntryLike, P>(
     offset: usize,
 ) -> Result<Cited<'a, T>, DriverError>
     requires no_ring { NoRingAtAll (requests_view requests.now) (style_view wanted.now.style.now) }
-    ensures known { IfOk result (λ c. IsCitedBy T.eq (requests_view requests.now) (order_in_use (wanted_view wanted.now)) c) }
+    ensures known { IfOk result
+        (λ c. IsCitedBy T.eq (requests_view requests.now) (order_in_use (wanted_view wanted.now)) c) }
     ensures offset { IfOk result (λ c. c.offset ≡ offset) }
-    ensures fits { OnOk result (offset + length (distinct T.eq (cited (requests_view requests.now))) < 2 ^ 64) }
-    ensures refused { IfErr result (Refuses T.eq (requests_view requests.now) (style_view wanted.now.style.now) offset) }
+    ensures fits { OnOk result
+        (offset + length (distinct T.eq (cited (requests_view requests.now))) < 2 ^ 64) }
+    ensures refused { IfErr result
+        (Refuses T.eq (requests_view requests.now) (style_view wanted.now.style.now) offset) }
 {
     let table = EntryTable::of_requests(alloc, requests)?;
     if table.len() > usize::MAX - offset {
@@ -83,19 +86,6 @@ fn cited_by<'a, T: EntryLike, P>(
     })
 }
 
-/// The cites of all requests. They are let go one by one: a list of lists that hold references to a type
-/// parameter can't be let go as a whole.
-struct Cites<'r, 'a, T, P> {
-    renders: Vec<SpeculativeCiteRender<'r, 'a, T, P>>,
-}
-
-impl<'r, 'a, T, P: Drop> Drop for Cites<'r, 'a, T, P> {
-    fn drop(self) {
-        let Cites { renders } = self;
-        discard_renders(renders);
-    }
-}
-
 /// The cites of all requests, rendered by their first properties. Their numbers are those of the
 /// bibliography.
 fn rendered_first<'r, 'a, T: EntryLike, P: Eq + Drop>(
@@ -106,16 +96,17 @@ fn rendered_first<'r, 'a, T: EntryLike, P: Eq + Drop>(
     renders: &mut Renders,
 ) -> Result<Cites<'r, 'a, T, P>, AllocError>
     requires no_ring { NoRingIn (requests_view requests.now) }
-    requires known { IsCitedBy T.eq (requests_view requests.now) (order_in_use (wanted_view wanted.now)) cited.now }
-    ensures first { IfOk result (λ c. renders_view c.renders.items
+    requires known { IsCitedBy T.eq (requests_view requests.now)
+        (order_in_use (wanted_view wanted.now)) cited.now }
+    ensures first { IfOk result (λ c. renders_view c.by_request.items
         ≡ rendered_first T.eq P.eq T.answers (asked_view requests.now cited.now.offset wanted.now)) }
-    ensures counted { OnOk result (renders.new ≡ counted_times (length (cites_of (requests_view requests.now))) renders.old) }
+    ensures counted { OnOk result (renders.new
+        ≡ counted_times (length (cites_of (requests_view requests.now))) renders.old) }
 {
     let numbers = cited.numbers(alloc, &cited.listing)?;
     let firsts = first_properties(alloc, requests, &cited.table, &numbers)?;
-    Ok(Cites {
-        renders: first_renders(alloc, requests, &firsts, renders)?,
-    })
+    let cites = first_renders(alloc, AcyclicRequests { requests }, &firsts, renders)?;
+    Ok(cites)
 }
 
 /// Brings the cites of each request into their blocks.
@@ -141,11 +132,15 @@ fn final_numbers<'a, T: EntryLike, P>(
     cited: &Cited<'a, T>,
     cites: &[SpeculativeCiteRender<'_, 'a, T, P>],
 ) -> Result<Vec<usize>, AllocError>
-    requires known { IsCitedBy T.eq (requests_view requests.now) (order_in_use (wanted_view wanted.now)) cited.now }
-    requires cites { AreCitesOf T.eq (table_view cited.now.table) (requests_view requests.now) (renders_view cites.now) }
+    requires known { IsCitedBy T.eq (requests_view requests.now)
+        (order_in_use (wanted_view wanted.now)) cited.now }
+    requires cites { AreCitesOf T.eq (table_view cited.now.table) (requests_view requests.now)
+        (renders_view cites.now) }
     ensures long { IfOk result (λ v. length v.items ≡ length (table_view cited.now.table).entries + 1) }
     ensures numbers { IfOk result (λ v. numbered_by T.eq v.items (table_view cited.now.table).entries
-        ≡ number T.eq cited.now.offset (numbered_finally T.eq (order_in_use (wanted_view wanted.now)) (requests_view requests.now) (renders_view cites.now))) }
+        ≡ number T.eq cited.now.offset
+        (numbered_finally T.eq (order_in_use (wanted_view wanted.now)) (requests_view requests.now)
+        (renders_view cites.now))) }
 {
     match used_order(wanted) {
         Some(_) => cited.numbers(alloc, &cited.listing),
@@ -176,12 +171,20 @@ fn settle_cites<'a, T: EntryLike, P: Eq>(
     renders: &mut Renders,
 ) -> Result<Settled, AllocError>
     requires no_ring { NoRingIn (requests_view requests.now) }
-    requires known { IsCitedBy T.eq (requests_view requests.now) (order_in_use (wanted_view wanted.now)) cited.now }
-    requires first { renders_view cites.old ≡ rendered_first T.eq P.eq T.answers (asked_view requests.now cited.now.offset wanted.now) }
-    ensures in_the_end { OnOk result (renders_view cites.new ≡ in_the_end T.eq P.eq T.answers mode (asked_view requests.now cited.now.offset wanted.now)) }
-    ensures stand { OnOk result (AreCitesOf T.eq (table_view cited.now.table) (requests_view requests.now) (renders_view cites.new)) }
-    ensures settled { IfOk result (AreSettled T.eq P.eq T.answers mode (asked_view requests.now cited.now.offset wanted.now) (table_view cited.now.table).entries) }
-    ensures counted { OnOk result (renders.new ≡ counted_times (rerendered T.eq P.eq T.answers mode (asked_view requests.now cited.now.offset wanted.now)) renders.old) }
+    requires known { IsCitedBy T.eq (requests_view requests.now)
+        (order_in_use (wanted_view wanted.now)) cited.now }
+    requires first { renders_view cites.old
+        ≡ rendered_first T.eq P.eq T.answers (asked_view requests.now cited.now.offset wanted.now) }
+    ensures in_the_end { OnOk result (renders_view cites.new
+        ≡ in_the_end T.eq P.eq T.answers mode (asked_view requests.now cited.now.offset wanted.now)) }
+    ensures stand { OnOk result
+        (AreCitesOf T.eq (table_view cited.now.table) (requests_view requests.now) (renders_view cites.new)) }
+    ensures settled { IfOk result
+        (AreSettled T.eq P.eq T.answers mode (asked_view requests.now cited.now.offset wanted.now)
+        (table_view cited.now.table).entries) }
+    ensures counted { OnOk result (renders.new
+        ≡ counted_times (rerendered T.eq P.eq T.answers mode
+        (asked_view requests.now cited.now.offset wanted.now)) renders.old) }
 {
     let rounds = disambiguate(alloc, cites, &cited.table, mode, renders)?;
     group_all(alloc, cites)?;
@@ -216,13 +219,17 @@ fn rendered_citations<T: EntryLike, P: Drop>(
 ) -> Result<Vec<RenderedCitation>, AllocError>
     requires no_ring { All (λ c. HasNoRing c.request.style.macros) (renders_view cites.now) }
     ensures citations { IfOk result (λ v. v.items ≡ map (citation_of T.answers) (renders_view cites.now)) }
-    ensures counted { OnOk result (renders.new ≡ counted_times (sum_by (λ c. length c.items) (renders_view cites.now)) renders.old) }
+    ensures counted { OnOk result (renders.new
+        ≡ counted_times (sum_by (λ c. length c.items) (renders_view cites.now)) renders.old) }
 {
     let mut citations = Vec::with_capacity(alloc, cites.len())?;
     for cite in cites {
+        let acyclic = AcyclicRequest {
+            request: cite.request,
+        };
         citations.push(RenderedCitation {
             note_number: cite.request.note_number(),
-            citation: citation_tree(alloc, cite, renders)?,
+            citation: citation_tree(alloc, acyclic, &cite.items, renders)?,
         })?;
     }
     Ok(citations)
@@ -239,12 +246,20 @@ fn settled_answer<'a, T: EntryLike, P: Eq + Drop>(
     renders: &mut Renders,
 ) -> Result<(Rendered, Settled), AllocError>
     requires no_ring { NoRingAtAll (requests_view requests.now) (style_view wanted.now.style.now) }
-    requires known { IsCitedBy T.eq (requests_view requests.now) (order_in_use (wanted_view wanted.now)) cited.now }
-    requires first { renders_view cites.old ≡ rendered_first T.eq P.eq T.answers (asked_view requests.now cited.now.offset wanted.now) }
-    ensures rendered { IfOk result (λ r. r.0 ≡ rendered T.eq P.eq T.answers mode (asked_view requests.now cited.now.offset wanted.now)) }
-    ensures settled { IfOk result (λ r. AreSettled T.eq P.eq T.answers mode (asked_view requests.now cited.now.offset wanted.now) (table_view cited.now.table).entries r.1) }
+    requires known { IsCitedBy T.eq (requests_view requests.now)
+        (order_in_use (wanted_view wanted.now)) cited.now }
+    requires first { renders_view cites.old
+        ≡ rendered_first T.eq P.eq T.answers (asked_view requests.now cited.now.offset wanted.now) }
+    ensures rendered { IfOk result (λ r. r.0
+        ≡ rendered T.eq P.eq T.answers mode (asked_view requests.now cited.now.offset wanted.now)) }
+    ensures settled { IfOk result
+        (λ r. AreSettled T.eq P.eq T.answers mode (asked_view requests.now cited.now.offset wanted.now)
+        (table_view cited.now.table).entries r.1) }
     ensures counted { OnOk result (renders.new
-        ≡ counted_times (length (cites_of (requests_view requests.now)) + (listed_count T.eq (wanted_view wanted.now) (requests_view requests.now) + rerendered T.eq P.eq T.answers mode (asked_view requests.now cited.now.offset wanted.now))) renders.old) }
+        ≡ counted_times (length (cites_of (requests_view requests.now))
+        + (listed_count T.eq (wanted_view wanted.now) (requests_view requests.now)
+        + rerendered T.eq P.eq T.answers mode (asked_view requests.now cited.now.offset wanted.now)))
+        renders.old) }
 {
     let settled = settle_cites(alloc, requests, wanted, mode, cited, cites, renders)?;
     let bibliography = wanted_bibliography(alloc, requests, wanted, cited, cites, renders)?;
@@ -267,9 +282,11 @@ fn account_of<'a, T: EntryLike>(
     requires long { length settled.numbers.items ≡ length (table_view cited.now.table).entries + 1 }
     ensures renders { IfOk result (λ a. a.renders ≡ renders.now) }
     ensures rounds { IfOk result (λ a. a.rounds ≡ settled.rounds.marked) }
-    ensures entries { IfOk result (λ a. map (λ e. e.now) a.entries.items ≡ (table_view cited.now.table).entries) }
+    ensures entries { IfOk result (λ a. map (λ e. e.now) a.entries.items
+        ≡ (table_view cited.now.table).entries) }
     ensures states { IfOk result (λ a. a.states.items ≡ map told_by settled.rounds.states.items) }
-    ensures numbers { IfOk result (λ a. a.numbers.items ≡ take (length (table_view cited.now.table).entries) settled.numbers.items) }
+    ensures numbers { IfOk result (λ a. a.numbers.items
+        ≡ take (length (table_view cited.now.table).entries) settled.numbers.items) }
 {
     let Settled {
         rounds,
@@ -295,8 +312,10 @@ fn counted_answer<'a, T: EntryLike, P: Eq + Drop>(
     cited: &Cited<'a, T>,
 ) -> Result<(Rendered, Account<'a, T>), AllocError>
     requires no_ring { NoRingAtAll (requests_view requests.now) (style_view wanted.now.style.now) }
-    requires known { IsCitedBy T.eq (requests_view requests.now) (order_in_use (wanted_view wanted.now)) cited.now }
-    ensures { IfOk result (IsAnswer T.eq P.eq T.answers mode (asked_view requests.now cited.now.offset wanted.now)) }
+    requires known { IsCitedBy T.eq (requests_view requests.now)
+        (order_in_use (wanted_view wanted.now)) cited.now }
+    ensures { IfOk result (IsAnswer T.eq P.eq T.answers mode
+        (asked_view requests.now cited.now.offset wanted.now)) }
 {
     let mut renders = Renders::new();
     let mut cites = rendered_first(alloc, requests, wanted, cited, &mut renders)?;
@@ -306,7 +325,7 @@ fn counted_answer<'a, T: EntryLike, P: Eq + Drop>(
         wanted,
         mode,
         cited,
-        &mut cites.renders,
+        &mut cites.by_request,
         &mut renders,
     )?;
     let account = account_of(alloc, cited, settled, &renders)?;
@@ -322,10 +341,14 @@ fn checked_answer<'a, T: EntryLike, P: Eq + Drop>(
     mode: RoundMode,
     offset: usize,
 ) -> Result<(Rendered, Account<'a, T>), DriverError>
-    ensures answer { IfOk result (IsAnswer T.eq P.eq T.answers mode (asked_view requests.now offset wanted.now)) }
-    ensures ringless { OnOk result (NoRingAtAll (requests_view requests.now) (style_view wanted.now.style.now)) }
-    ensures fits { OnOk result (offset + length (distinct T.eq (cited (requests_view requests.now))) < 2 ^ 64) }
-    ensures refused { IfErr result (Refuses T.eq (requests_view requests.now) (style_view wanted.now.style.now) offset) }
+    ensures answer { IfOk result
+        (IsAnswer T.eq P.eq T.answers mode (asked_view requests.now offset wanted.now)) }
+    ensures no_ring { OnOk result
+        (NoRingAtAll (requests_view requests.now) (style_view wanted.now.style.now)) }
+    ensures fits { OnOk result
+        (offset + length (distinct T.eq (cited (requests_view requests.now))) < 2 ^ 64) }
+    ensures refused { IfErr result
+        (Refuses T.eq (requests_view requests.now) (style_view wanted.now.style.now) offset) }
 {
     refuse_rings(alloc, requests, wanted)?;
     let cited = cited_by(alloc, requests, wanted, offset)?;
@@ -340,10 +363,8 @@ impl<'a, T: EntryLike, P: Eq + Drop> BibliographyDriver<'a, T, P> {
         request: BibliographyRequest<'_, 'a, T>,
         mode: RoundMode,
     ) -> Result<(Rendered, Account<'a, T>), DriverError>
-        ensures answer { IfOk result (IsAnswer T.eq P.eq T.answers mode (asked_of self.entry request.entry)) }
-        ensures ringless { OnOk result (NoRingAtAll (driver_view self.entry).requests (style_view request.entry.style.now)) }
-        ensures fits { OnOk result ((driver_view self.entry).offset + length (distinct T.eq (cited (driver_view self.entry).requests)) < 2 ^ 64) }
-        ensures refused { IfErr result (Refuses T.eq (driver_view self.entry).requests (style_view request.entry.style.now) (driver_view self.entry).offset) }
+        ensures { Finishes (IsAnswer T.eq P.eq T.answers mode (asked_of self.entry request.entry))
+            T.eq (asked_of self.entry request.entry) result }
     {
         let (citations, offset, alloc) = self.into_parts();
         let result = checked_answer(alloc, &citations, &request, mode, offset);
@@ -366,10 +387,9 @@ impl<'a, T: EntryLike, P: Eq + Drop> BibliographyDriver<'a, T, P> {
     /// exactly where none has, and the offset and the number of distinct entries together are above
     /// `usize::MAX`; `OutOfMemory` where memory runs out, at any point.
     pub fn finish(self, request: BibliographyRequest<'_, 'a, T>) -> Result<Rendered, DriverError>
-        ensures ok { IfOk result (λ r. r ≡ rendered T.eq P.eq T.answers RoundMode.Three (asked_of self.entry request.entry)) }
-        ensures ringless { OnOk result (NoRingAtAll (driver_view self.entry).requests (style_view request.entry.style.now)) }
-        ensures fits { OnOk result ((driver_view self.entry).offset + length (distinct T.eq (cited (driver_view self.entry).requests)) < 2 ^ 64) }
-        ensures refused { IfErr result (Refuses T.eq (driver_view self.entry).requests (style_view request.entry.style.now) (driver_view self.entry).offset) }
+        ensures { Finishes
+            (λ r. r ≡ rendered T.eq P.eq T.answers RoundMode.Three (asked_of self.entry request.entry))
+            T.eq (asked_of self.entry request.entry) result }
     {
         let (rendered, _account) = self.finish_counted(request)?;
         Ok(rendered)
@@ -387,10 +407,9 @@ impl<'a, T: EntryLike, P: Eq + Drop> BibliographyDriver<'a, T, P> {
         self,
         request: BibliographyRequest<'_, 'a, T>,
     ) -> Result<(Rendered, Account<'a, T>), DriverError>
-        ensures answer { IfOk result (IsAnswer T.eq P.eq T.answers RoundMode.Three (asked_of self.entry request.entry)) }
-        ensures ringless { OnOk result (NoRingAtAll (driver_view self.entry).requests (style_view request.entry.style.now)) }
-        ensures fits { OnOk result ((driver_view self.entry).offset + length (distinct T.eq (cited (driver_view self.entry).requests)) < 2 ^ 64) }
-        ensures refused { IfErr result (Refuses T.eq (driver_view self.entry).requests (style_view request.entry.style.now) (driver_view self.entry).offset) }
+        ensures { Finishes
+            (IsAnswer T.eq P.eq T.answers RoundMode.Three (asked_of self.entry request.entry))
+            T.eq (asked_of self.entry request.entry) result }
     {
         self.answered(request, RoundMode::Three)
     }
@@ -398,8 +417,8 @@ impl<'a, T: EntryLike, P: Eq + Drop> BibliographyDriver<'a, T, P> {
     /// Answers all requests, as `finish_counted` does, but for the rounds in which cites are told apart:
     /// these go on until none marks. In a round each ambiguous group is tried in all ways, and a mark counts
     /// only where it is greater than the state of its entry; a group waits for the next round where an entry
-    /// of it was marked in this one. Each round that marks raises the rank of some entry and lowers none, so of
-    /// n distinct entries, where no first name has more than F forms, at most n(3F + 3) rounds mark.
+    /// of it was marked in this one. Each round that marks raises the rank of some entry and lowers none, so
+    /// of n distinct entries, where no first name has more than F forms, at most n(3F + 3) rounds mark.
     ///
     /// # Errors
     /// Those of `finish`.
@@ -407,10 +426,9 @@ impl<'a, T: EntryLike, P: Eq + Drop> BibliographyDriver<'a, T, P> {
         self,
         request: BibliographyRequest<'_, 'a, T>,
     ) -> Result<(Rendered, Account<'a, T>), DriverError>
-        ensures answer { IfOk result (IsAnswer T.eq P.eq T.answers RoundMode.Full (asked_of self.entry request.entry)) }
-        ensures ringless { OnOk result (NoRingAtAll (driver_view self.entry).requests (style_view request.entry.style.now)) }
-        ensures fits { OnOk result ((driver_view self.entry).offset + length (distinct T.eq (cited (driver_view self.entry).requests)) < 2 ^ 64) }
-        ensures refused { IfErr result (Refuses T.eq (driver_view self.entry).requests (style_view request.entry.style.now) (driver_view self.entry).offset) }
+        ensures { Finishes
+            (IsAnswer T.eq P.eq T.answers RoundMode.Full (asked_of self.entry request.entry))
+            T.eq (asked_of self.entry request.entry) result }
     {
         self.answered(request, RoundMode::Full)
     }

@@ -4,7 +4,7 @@ ghost use Rattle.csl_driver.specs.Answer.{Asked};
 ghost use Rattle.csl_driver.specs.AnswerLaws.{KeepsLaws};
 ghost use Rattle.csl_driver.specs.Promised.{IsExactly};
 ghost use Rattle.csl_driver.specs.declared.account.Account.{Account};
-ghost use Rattle.csl_rounds.specs.declared.mode.RoundMode.{RoundMode};
+ghost use Rattle.csl_round_laws.specs.declared.mode.RoundMode.{RoundMode};
 
 pub use csl_ambiguity::laws::{
     ambiguous_stand_together, choose_and_suffix_go_on, suffixes_count_entries,
@@ -19,12 +19,12 @@ pub use csl_passes::laws::{
     item_equality_decides, items_copy_equal, properties_equality_decides, request_equality_decides,
     wanted_equality_decides,
 };
-pub use csl_rounds::laws::runs_are_lawful;
+pub use csl_round_laws::laws::runs_are_lawful;
 
-/// A law of every answer and its account, whatever is asked: there are tables of states, from the empty one to
-/// the account's, along which states go on, suffixes stay, nothing is left, and (in mode full) ranks rise; the
-/// entries of the account have the numbers from the offset on, each once; and each citation comes from the cites
-/// of its request in a final order, whose collapsed runs can be read back.
+/// A law of every answer and its account, whatever is asked: there are tables of states, from the empty one
+/// to the account's, along which states go on, suffixes stay, nothing is left, and (in mode full) ranks rise;
+/// the entries of the account have the numbers from the offset on, each once; and each citation comes from
+/// the cites of its request in a final order, whose collapsed runs can be read back.
 pub fn answers_keep_laws<T: EntryLike, P: Eq>()
     ensures { (mode : RoundMode) (asked : Asked T P) (r : Rendered × Account T)
         → IsExactly T.eq P.eq T.answers mode asked r → KeepsLaws T.eq P.eq T.answers mode asked r }

@@ -14,7 +14,9 @@ fn request_ring<T, P>(
     requests: &[CitationRequest<'_, T, P>],
     wanted: &BibliographyRequest<'_, '_, T>,
 ) -> Result<Option<(usize, usize)>, AllocError>
-    ensures found { IfOk result (λ r. IfSome r (λ p. IsFirstRingOf (requests_view requests.now) (wanted_view wanted.now).style (RingPlace.Request p.0) p.1)) }
+    ensures found { IfOk result
+        (λ r. IfSome r (λ p. IsFirstRingOf (requests_view requests.now) (wanted_view wanted.now).style
+        (RingPlace.Request p.0) p.1)) }
     ensures none { IfOk result (λ r. r ≡ None → NoRingIn (requests_view requests.now)) }
 {
     for (k, request) in requests.iter().enumerate() {

@@ -1,8 +1,7 @@
 //! A citation that stands for itself.
 ghost use Rattle.std.specs.Prelude.{◌≡◌, IfOk, OnOk, IfErr, map};
 ghost use Rattle.csl_base.specs.Ring.{HasNoRing};
-ghost use Rattle.csl_base.specs.StyleView.{layout_view, style_view};
-ghost use Rattle.csl_writing.specs.ContextSource.{context_source};
+ghost use Rattle.csl_base.specs.StyleView.{layout_view};
 ghost use Rattle.csl_passes.specs.Request.{source_of};
 ghost use Rattle.csl_passes.specs.RequestView.{cite_view, request_view};
 ghost use Rattle.csl_driver.specs.Rings.{RefusesAlone};
@@ -11,62 +10,57 @@ ghost use Rattle.csl_driver.specs.StandaloneCitation.{behind, lone_delimiter, lo
 
 use crate::error::{DriverError, RingPlace};
 use csl_assembly::assemble::{ShownCite, assembled};
-use csl_assembly::citation::request_context;
 use csl_assembly::last_tree::tree_for_purpose;
 use csl_base::elem::ElemChildren;
 use csl_base::entry::EntryLike;
-use csl_base::locale::LocaleCode;
 use csl_base::style::Layout;
+use csl_passes::acyclic::AcyclicRequest;
 use csl_passes::item::CitationItem;
 use csl_passes::request::CitationRequest;
 use csl_writing::counter::Renders;
-use csl_writing::lookup::StyleContext;
 use csl_writing::properties::CiteProperties;
 use std::alloc::{AllocError, Global};
 
 /// The tree of a cite that has no number and no place of its own.
 fn lone_cite<T: EntryLike, P: Drop>(
     alloc: Global,
-    context: &StyleContext<'_>,
-    locale: Option<&LocaleCode>,
+    request: AcyclicRequest<'_, '_, T, P>,
     item: &CitationItem<'_, T, P>,
-    renders: &mut Renders,
+    counter: &mut Renders,
 ) -> Result<ElemChildren, AllocError>
-    requires no_ring { HasNoRing (context_source context.now).style.macros }
-    ensures { IfOk result (λ tree. tree ≡ lone_tree T.answers (context_source context.now) (cite_view item.now)) }
+    ensures { IfOk result (λ tree. tree
+        ≡ lone_tree T.answers (source_of (request_view request.entry.request.now)) (cite_view item.now)) }
 {
     let properties = CiteProperties::for_sorting(item.locator.clone()?, 0);
     tree_for_purpose(
         alloc,
-        context,
+        request,
         item.entry,
         &properties,
         item.locale.as_ref(),
-        locale,
         item.purpose,
         None,
-        renders,
+        counter,
     )
 }
 
 /// The trees of the cites that aren't hidden and have content.
 fn lone_cites<'r, T: EntryLike, P: Drop>(
     alloc: Global,
-    request: &'r CitationRequest<'_, T, P>,
+    acyclic: AcyclicRequest<'r, '_, T, P>,
 ) -> Result<Vec<ShownCite<'r>>, AllocError>
-    requires no_ring { HasNoRing (style_view request.now.style.now).macros }
-    ensures { IfOk result (λ cites. shown_views cites.items
-        ≡ map (behind (lone_delimiter (request_view request.now).style.citation.layout))
-        (lone_trees T.answers (source_of (request_view request.now)) (request_view request.now).cites)) }
+    ensures { let request = request_view acyclic.entry.request.now in
+        IfOk result (λ cites. shown_views cites.items
+        ≡ map (behind (lone_delimiter request.style.citation.layout))
+        (lone_trees T.answers (source_of request) request.cites)) }
 {
+    let request = acyclic.request;
     let delimiter = delimiter_of(&request.style().citation.layout);
-    let context = request_context(request);
-    let locale = request.locale.as_ref();
-    let mut renders = Renders::new();
+    let mut counter = Renders::new();
     let mut cites = Vec::new(alloc);
     for item in &request.items {
         if !item.hidden {
-            let tree = lone_cite(alloc, &context, locale, item, &mut renders)?;
+            let tree = lone_cite(alloc, acyclic, item, &mut counter)?;
             if tree.has_content() {
                 cites.push(ShownCite {
                     delimiter: Some(delimiter),
@@ -103,14 +97,15 @@ pub fn standalone_citation<T: EntryLike, P: Drop>(
     request: CitationRequest<'_, T, P>,
 ) -> Result<ElemChildren, DriverError>
     ensures ok { IfOk result (λ tree. tree ≡ standalone T.answers (request_view request.entry)) }
-    ensures ringless { OnOk result (HasNoRing (request_view request.entry).style.macros) }
+    ensures no_ring { OnOk result (HasNoRing (request_view request.entry).style.macros) }
     ensures refused { IfErr result (RefusesAlone (request_view request.entry).style) }
 {
     if let Some(macro_idx) = request.source().ring(alloc)? {
         let place = RingPlace::Request(0);
         return Err(DriverError::MacroRing { place, macro_idx });
     }
-    let cites = lone_cites(alloc, &request)?;
+    let acyclic = AcyclicRequest { request: &request };
+    let cites = lone_cites(alloc, acyclic)?;
     let layout = &request.style().citation.layout;
     Ok(assembled(alloc, layout, cites, true)?)
 }

@@ -9,7 +9,7 @@ use Rattle.std.proofs.lemmas.List.{length-replicate}
 use Rattle.std.proofs.lemmas.List.FromFn.{get_or-range_with_len, length-range_with_len}
 use Rattle.std.proofs.lemmas.Option.{slice_get-get_or}
 use Rattle.csl_entries.specs.Entries.{is_in, place, with_new}
-use Rattle.csl_entries.specs.Gathering.{StandsAt}
+use Rattle.csl_entries.specs.StandsAt.{StandsAt}
 use Rattle.csl_entries.specs.Laws.{NoTwoEqual}
 use Rattle.csl_entries.proofs.Distinct.{is_in-equal}
 

@@ -3,7 +3,7 @@ use Rattle.std.proofs.Common.{◌≡◌, ℕ, ◌+◌, Bool, true, false, cond, 
 use Rattle.std.specs.List.{list_any, position_or_len}
 use Rattle.std.specs.Cmp.{IsEquivalence}
 use Rattle.csl_entries.specs.Entries.{is_in, place, with_new, with_all_new}
-use Rattle.csl_entries.specs.Gathering.{StandsAt, same_entry}
+use Rattle.csl_entries.specs.StandsAt.{StandsAt}
 use Rattle.csl_entries.proofs.Distinct.{is_in-append, or_true}
 use Rattle.csl_entries.proofs.Sets.{insert-view, place-view}
 
@@ -60,22 +60,6 @@ module _ {E : Type 0} (eq : E → E → Bool) where
     inserted now x ks new k n p =
         subst (λ xs. StandsAt eq xs (now x) k) (sym (insert-view now eq x ks new n))
         (subst (λ i. StandsAt eq (with_new eq (map now ks) (now x)) (now x) i) (sym (p ∙ place-view now eq (now x) ks)) (own (now x) (map now ks)))
-
-  -- the entries of pairs that were added
-  heads-new : {A : Type 0} (xs : List (E × A)) (y : E × A) → map (λ p. p.0) (with_new (same_entry eq) xs y) ≡ with_new eq (map (λ p. p.0) xs) y.0
-  heads-new xs y = insert-view (λ p. p.0) eq y xs (with_new (same_entry eq) xs y) refl
-
-  pub heads-all_new : {A : Type 0} (xs ys : List (E × A))
-      → map (λ p. p.0) (with_all_new (same_entry eq) xs ys) ≡ with_all_new eq (map (λ p. p.0) xs) (map (λ p. p.0) ys)
-  heads-all_new xs [] = refl
-  heads-all_new xs (y ∷ ys) = heads-all_new (with_new (same_entry eq) xs y) ys ∙ ap (λ t. with_all_new eq t (map (λ p. p.0) ys)) (heads-new xs y)
-
-pub same_entry-laws : {E A : Type 0} (eq : E → E → Bool) → IsEquivalence eq → IsEquivalence (same_entry {A = A} eq)
-same_entry-laws eq laws = record {
-  refl = λ p. laws.refl p.0;
-  symm = λ p q. laws.symm p.0 q.0;
-  congr = λ p q r. laws.congr p.0 q.0 r.0;
-}
 
 pub map-map : {A B C : Type 0} (f : B → C) (g : A → B) (xs : List A) → map f (map g xs) ≡ map (λ x. f (g x)) xs
 map-map f g [] = refl

@@ -16,4 +16,5 @@ module _ {E : Type 0} (eq : E → E → Bool) where
 
   -- the numbers of its entries are the offset and those that follow, without gaps
   abbrev pub NumbersWithoutGaps : ℕ → List E → Type 0
-  NumbersWithoutGaps offset entries = map (λ e. offset + place eq e entries) entries ≡ range_with_len offset (length entries)
+  NumbersWithoutGaps offset entries = map (λ e. offset + place eq e entries) entries
+      ≡ range_with_len offset (length entries)

@@ -4,5 +4,5 @@ pub mod Table
 pub mod TableView
 pub mod Listed
 pub mod ListingView
-pub mod Gathering
+pub mod StandsAt
 pub mod PlacedItems

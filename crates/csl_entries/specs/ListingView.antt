@@ -12,4 +12,5 @@ listing_view l = record {
 
 -- for the code: each place has its number in the order so far, or none
 abbrev pub IsListing : Listing → Type 0
-IsListing l = l.numbers.items ≡ map (λ p. position (nat_eq p) l.order.items) (range_with_len 0 (length l.numbers.items))
+IsListing l = l.numbers.items
+    ≡ map (λ p. position (nat_eq p) l.order.items) (range_with_len 0 (length l.numbers.items))

@@ -1,12 +1,11 @@
 -- The plain data that a table of entries stands for.
 use Rattle.std.specs.Prelude.{map}
-use Rattle.csl_entries.specs.Gathering.{entries_in}
 use Rattle.csl_entries.specs.Table.{Table}
 use Rattle.csl_entries.specs.declared.table.EntryTable.{EntryTable}
+use Rattle.csl_passes.specs.RequestView.{entries_view}
 
 abbrev pub table_view : {T : Type 0} → EntryTable T → Table T
 table_view t = record {
-  entries = entries_in t.firsts.keys;
-  firsts = map (λ f. f.place) t.firsts.keys;
+  entries = entries_view t.entries.keys;
   places = map (λ ps. ps.items) t.places.items;
 }

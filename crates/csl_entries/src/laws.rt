@@ -12,5 +12,6 @@ pub fn bibliography_holds_each_once<T: EntryLike>()
 
 /// The numbers of the bibliography's entries are the offset and those that follow.
 pub fn numbers_have_no_gaps<T: EntryLike>()
-    ensures { (offset : ℕ) (order : Option (List T)) (cited : List T) → NumbersWithoutGaps T.eq offset (bibliography_order T.eq order cited) }
+    ensures { (offset : ℕ) (order : Option (List T)) (cited : List T)
+        → NumbersWithoutGaps T.eq offset (bibliography_order T.eq order cited) }
 {}

@@ -1,7 +1,6 @@
 //! The entries that requests cite, each once, and the order and the numbers that they get.
 #![tactic(auto)]
 
-pub mod first_cite;
 pub mod laws;
 pub mod listing;
 pub mod table;

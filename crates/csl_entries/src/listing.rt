@@ -58,7 +58,8 @@ impl Listing {
         requires count { length self.old.numbers.items ≡ length (table_view table.now).entries }
         requires sound { IsListing self.old }
         ensures listed { OnOk result (self.new.order.items
-            ≡ option_map_or (with_new nat_eq self.old.order.items) (position (T.eq entry.now) (table_view table.now).entries) self.old.order.items) }
+            ≡ option_map_or (with_new nat_eq self.old.order.items)
+            (position (T.eq entry.now) (table_view table.now).entries) self.old.order.items) }
         ensures count { OnOk result (length self.new.numbers.items ≡ length self.old.numbers.items) }
         ensures sound { OnOk result (IsListing self.new) }
     {
@@ -77,7 +78,8 @@ impl Listing {
         requires count { length self.old.numbers.items ≡ length (table_view table.now).entries }
         requires sound { IsListing self.old }
         ensures listed { OnOk result (self.new.order.items
-            ≡ with_all_new nat_eq self.old.order.items (filter_map (λ e. position (T.eq e) (table_view table.now).entries) (entries_view order.now))) }
+            ≡ with_all_new nat_eq self.old.order.items
+            (filter_map (λ e. position (T.eq e) (table_view table.now).entries) (entries_view order.now))) }
         ensures count { OnOk result (length self.new.numbers.items ≡ length self.old.numbers.items) }
         ensures sound { OnOk result (IsListing self.new) }
     {
@@ -96,7 +98,9 @@ impl Listing {
         requires count { length self.old.numbers.items ≡ length (table_view table.now).entries }
         requires sound { IsListing self.old }
         ensures listed { OnOk result (self.new.order.items
-            ≡ with_all_new nat_eq self.old.order.items (filter_map (λ e. position (T.eq e) (table_view table.now).entries) (unwrap_or (order_view order.entry) []))) }
+            ≡ with_all_new nat_eq self.old.order.items
+            (filter_map (λ e. position (T.eq e) (table_view table.now).entries)
+            (unwrap_or (order_view order.entry) []))) }
         ensures count { OnOk result (length self.new.numbers.items ≡ length self.old.numbers.items) }
         ensures sound { OnOk result (IsListing self.new) }
     {
@@ -124,7 +128,8 @@ impl Listing {
     fn list_places(&mut self, places: &[usize]) -> Result<(), AllocError>
         requires within { All (λ p. p < length self.old.numbers.items) places.now }
         requires sound { IsListing self.old }
-        ensures listed { OnOk result (self.new.order.items ≡ with_all_new nat_eq self.old.order.items places.now) }
+        ensures listed { OnOk result (self.new.order.items
+            ≡ with_all_new nat_eq self.old.order.items places.now) }
         ensures count { OnOk result (length self.new.numbers.items ≡ length self.old.numbers.items) }
         ensures sound { OnOk result (IsListing self.new) }
     {
@@ -150,7 +155,8 @@ impl Listing {
         table: &EntryTable<'a, T>,
         order: Option<Order<'_, 'a, T>>,
     ) -> Result<Listing, AllocError>
-        ensures { IfOk result (λ l. ListsAll T.eq (order_view order.entry) (table_view table.now).entries (listing_view l)) }
+        ensures { IfOk result (λ l. ListsAll T.eq (order_view order.entry) (table_view table.now).entries
+            (listing_view l)) }
     {
         let mut listing = Listing::new(alloc, table.len())?;
         listing.list_order(order, table)?;
@@ -167,7 +173,8 @@ impl Listing {
 
     /// Where an entry stands in the order; behind all where it isn't there.
     pub fn number_of(&self, place: usize) -> usize
-        ensures { result ≡ unwrap_or (slice_get (listing_view self.now).numbers place) (length (listing_view self.now).order) }
+        ensures { result ≡ unwrap_or (slice_get (listing_view self.now).numbers place)
+            (length (listing_view self.now).order) }
     {
         match self.numbers.get(place) {
             Some(Some(number)) => *number,

@@ -9,7 +9,8 @@ use Rattle.csl_grouping.specs.BlockKeys.{BlockKey, is_named, key_of, same_key}
 
 -- a request is grouped where its style has a cite group delimiter, or a collapse and a layout delimiter
 abbrev pub is_grouped : CitationValue → Bool
-is_grouped citation = is_some citation.cite_group_delimiter || (is_some citation.collapse && is_some citation.layout.delimiter)
+is_grouped citation = is_some citation.cite_group_delimiter
+    || (is_some citation.collapse && is_some citation.layout.delimiter)
 
 -- what stands between the cites of a block
 abbrev pub group_delimiter : CitationValue → Option (List ℕ)
@@ -26,7 +27,8 @@ module _ {E P : Type 0} where
 
   -- the index of a block: its place among those with names
   abbrev pub block_index : List (ItemRender E P) → BlockKey → Option ℕ
-  block_index cites key = if is_named key then Some (place same_key key (filter is_named (block_keys cites))) else None
+  block_index cites key = if is_named key then Some (place same_key key (filter is_named (block_keys cites)))
+      else None
 
   -- the places of the cites in their final order: block after block
   abbrev pub final_order : List (ItemRender E P) → List ℕ
@@ -42,7 +44,9 @@ module _ {E P : Type 0} where
   in_block delimiter index (c ∷ cs) = with_group None index c ∷ map (with_group delimiter index) cs
 
   abbrev pub grouped_cites : Option (List ℕ) → List (ItemRender E P) → List (ItemRender E P)
-  grouped_cites delimiter cites = flat_map (λ key. in_block delimiter (block_index cites key) (map (λ p. p.1) (block cites key))) (block_keys cites)
+  grouped_cites delimiter cites =
+      flat_map (λ key. in_block delimiter (block_index cites key) (map (λ p. p.1) (block cites key)))
+      (block_keys cites)
 
   -- the cites of a request, in blocks where its style asks for that
   abbrev pub grouped : CiteRender E P → CiteRender E P

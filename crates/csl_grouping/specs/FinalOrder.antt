@@ -13,8 +13,10 @@ pub record HasFinalOrder {E P : Type 0} (groups : Bool) (cites grouped : List (I
   -- each place of the request stands in it once
   pub each_place_once : IsPermutation (range_with_len 0 (length cites)) final_order
   -- but for overrides and indexes, the cites after grouping are those at these places
-  pub cites_in_this_order : map (λ c. Some (bare c)) grouped ≡ map (λ k. slice_get (map bare cites) k) final_order
+  pub cites_in_this_order : map (λ c. Some (bare c)) grouped
+      ≡ map (λ k. slice_get (map bare cites) k) final_order
   -- the cites of one names element are adjacent in it, in the request's order
-  pub equal_names_are_adjacent : groups ≡ true → (names : Elem) → StandsTogether final_order (places_with cites names)
+  pub equal_names_are_adjacent : groups ≡ true → (names : Elem)
+      → StandsTogether final_order (places_with cites names)
   -- a style that groups none leaves all as it was
   pub else_nothing_changes : groups ≡ false → grouped ≡ cites

@@ -15,7 +15,9 @@ StandsTogether order part = (before : List ℕ) × (after : List ℕ) × (order 
 module _ {E P : Type 0} where
   -- the places of the cites with this as their first names element, in the request's order
   abbrev pub places_with : List (ItemRender E P) → Elem → List ℕ
-  places_with cites names = map (λ p. p.0) (filter (λ p. option_eq same_elem (Some names) (find_elem has_names p.1.rendered)) (enumerate_from 0 cites))
+  places_with cites names = map (λ p. p.0)
+      (filter (λ p. option_eq same_elem (Some names) (find_elem has_names p.1.rendered))
+      (enumerate_from 0 cites))
 
   -- a cite but for its override and its index
   abbrev pub bare : ItemRender E P → ItemRender E P
@@ -23,4 +25,5 @@ module _ {E P : Type 0} where
 
   -- but for these, the grouped cites are those at the places of the final order
   abbrev pub IsInFinalOrder : List (ItemRender E P) → List (ItemRender E P) → Type 0
-  IsInFinalOrder cites grouped = map (λ c. Some (bare c)) grouped ≡ map (λ k. slice_get (map bare cites) k) (final_order cites)
+  IsInFinalOrder cites grouped = map (λ c. Some (bare c)) grouped
+      ≡ map (λ k. slice_get (map bare cites) k) (final_order cites)

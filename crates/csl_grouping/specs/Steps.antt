@@ -27,19 +27,23 @@ with_place (b ∷ bs) key k = if same_key key b.0 then (b.0, b.1 ++ k ∷ []) �
 -- where the cites of a block go: each behind the one before, but for the first
 abbrev pub placed_block : Option ℕ → List ℕ → List Placed
 placed_block group [] = []
-placed_block group (p ∷ ps) = record { place = p; group = group; follows = false } ∷ map (λ q. record { place = q; group = group; follows = true }) ps
+placed_block group (p ∷ ps) =
+    record { place = p; group = group; follows = false }
+    ∷ map (λ q. record { place = q; group = group; follows = true }) ps
 
 -- where the cites of all blocks go, where those with names have the indexes from g on
 abbrev pub placed_blocks : ℕ → List (BlockKey × List ℕ) → List Placed
 placed_blocks g [] = []
-placed_blocks g (b ∷ bs) = placed_block (if is_named b.0 then Some g else None) b.1 ++ placed_blocks (if is_named b.0 then g + 1 else g) bs
+placed_blocks g (b ∷ bs) = placed_block (if is_named b.0 then Some g else None) b.1
+    ++ placed_blocks (if is_named b.0 then g + 1 else g) bs
 
 -- a cite marked as one of its block
 abbrev pub marked_in_block : {E P : Type 0} → Option (List ℕ) → Placed → ItemRender E P → ItemRender E P
 marked_in_block delimiter placed c = with_group (if placed.follows then delimiter else None) placed.group c
 
 -- cites marked one by one, as far as the list goes
-abbrev pub all_marked : {E P : Type 0} → Option (List ℕ) → List Placed → List (ItemRender E P) → List (ItemRender E P)
+abbrev pub all_marked : {E P : Type 0} → Option (List ℕ) → List Placed → List (ItemRender E P)
+    → List (ItemRender E P)
 all_marked delimiter [] cs = cs
 all_marked delimiter (o ∷ os) [] = []
 all_marked delimiter (o ∷ os) (c ∷ cs) = marked_in_block delimiter o c ∷ all_marked delimiter os cs

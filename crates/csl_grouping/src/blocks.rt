@@ -85,7 +85,8 @@ fn add_place<'r>(
     key: Key<'r>,
     k: usize,
 ) -> Result<(), AllocError>
-    ensures { OnOk result (entries_view blocks.new.entries ≡ with_place (entries_view blocks.old.entries) (key_view key.entry) k) }
+    ensures { OnOk result (entries_view blocks.new.entries
+        ≡ with_place (entries_view blocks.old.entries) (key_view key.entry) k) }
 {
     match blocks.get_index_of(&key) {
         Some(i) => {
@@ -145,7 +146,9 @@ fn push_named(
     next: usize,
 ) -> Result<usize, AllocError>
     requires { next < usize.MAX }
-    ensures pushed { OnOk result (order.new.items ≡ order.old.items ++ placed_block (if is_named (key_view key.now) then Some next else None) places.now) }
+    ensures pushed { OnOk result (order.new.items
+        ≡ order.old.items ++ placed_block (if is_named (key_view key.now) then Some next
+        else None) places.now) }
     ensures next { IfOk result (λ n. n ≡ (if is_named (key_view key.now) then next + 1 else next)) }
 {
     match key {

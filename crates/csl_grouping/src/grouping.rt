@@ -29,7 +29,9 @@ pub fn group_cites<T, P>(
 ) -> Result<(), AllocError>
     ensures grouped { OnOk result (render_view render.new ≡ grouped (render_view render.old)) }
     ensures refused { OnErr result (render_view render.new ≡ render_view render.old) }
-    ensures laws { OnOk result (HasFinalOrder (is_grouped (render_view render.old).request.style.citation) (render_view render.old).items (render_view render.new).items) }
+    ensures laws { OnOk result
+        (HasFinalOrder (is_grouped (render_view render.old).request.style.citation)
+        (render_view render.old).items (render_view render.new).items) }
 {
     let citation = &render.request.style().citation;
     match delimiter_of_groups(citation) {
@@ -40,7 +42,9 @@ pub fn group_cites<T, P>(
 
 /// What stands between the cites of a block, where a style groups cites.
 fn delimiter_of_groups(citation: &Citation) -> Option<&str>
-    ensures { option_map (λ s. s.now) result ≡ (if is_grouped (citation_view citation.now) then group_delimiter (citation_view citation.now) else None) }
+    ensures { option_map (λ s. s.now) result
+        ≡ (if is_grouped (citation_view citation.now) then group_delimiter (citation_view citation.now)
+        else None) }
 {
     match citation.cite_group_delimiter.as_deref() {
         Some(delimiter) => Some(delimiter),
@@ -60,7 +64,8 @@ fn bring_together<'a, T, P>(
     items: &mut [SpeculativeItemRender<'a, T, P>],
     delimiter: &'a str,
 ) -> Result<(), AllocError>
-    ensures grouped { OnOk result (items_view items.new ≡ grouped_cites (Some delimiter.now) (items_view items.old)) }
+    ensures grouped { OnOk result (items_view items.new
+        ≡ grouped_cites (Some delimiter.now) (items_view items.old)) }
     ensures refused { OnErr result (items.new ≡ items.old) }
 {
     let placed = block_order(alloc, items)?;

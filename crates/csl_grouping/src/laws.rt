@@ -11,12 +11,16 @@ ghost use Rattle.csl_grouping.specs.Laws.{IsInFinalOrder, StandsTogether, places
 /// Each place of a request stands in the final order once; cites with equal first names elements stand
 /// together, in the request's order; and grouping puts the cites in that order.
 pub fn final_order_laws<T, P>()
-    ensures once { (cites : List (ItemRender T P)) → IsPermutation (range_with_len 0 (length cites)) (final_order cites) }
-    ensures together { (cites : List (ItemRender T P)) (names : Elem) → StandsTogether (final_order cites) (places_with cites names) }
-    ensures ordered { (cites : List (ItemRender T P)) (delimiter : Option (List ℕ)) → IsInFinalOrder cites (grouped_cites delimiter cites) }
+    ensures once { (cites : List (ItemRender T P))
+        → IsPermutation (range_with_len 0 (length cites)) (final_order cites) }
+    ensures together { (cites : List (ItemRender T P)) (names : Elem)
+        → StandsTogether (final_order cites) (places_with cites names) }
+    ensures ordered { (cites : List (ItemRender T P)) (delimiter : Option (List ℕ))
+        → IsInFinalOrder cites (grouped_cites delimiter cites) }
 {}
 
 /// The cites of every request have a final order after grouping.
 pub fn grouped_in_final_order<T, P>()
-    ensures { (render : CiteRender T P) → HasFinalOrder (is_grouped render.request.style.citation) render.items (grouped render).items }
+    ensures { (render : CiteRender T P)
+        → HasFinalOrder (is_grouped render.request.style.citation) render.items (grouped render).items }
 {}

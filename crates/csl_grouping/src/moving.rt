@@ -46,7 +46,8 @@ fn bring<X>(items: &mut [X], standing: &mut [usize], found_at: &mut [usize], i: 
     ensures items { items.new ≡ swap items.old i (slice_index found_at.old place) }
     ensures standing { standing.new ≡ swap standing.old i (slice_index found_at.old place) }
     ensures found_at { found_at.new
-        ≡ slice_set (slice_set found_at.old (slice_index standing.old i) (slice_index found_at.old place)) place i }
+        ≡ slice_set (slice_set found_at.old (slice_index standing.old i) (slice_index found_at.old place))
+        place i }
 {
     let from = found_at[place];
     let other = standing[i];

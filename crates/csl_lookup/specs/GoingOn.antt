@@ -10,10 +10,11 @@ use Rattle.csl_lookup.specs.declared.state.DisambiguateState.{DisambiguateState}
 abbrev pub NoFormFalls : List DisambiguatedNameForm → List DisambiguatedNameForm → Type 0
 NoFormFalls = AllZip (λ a b. extent a ≤ extent b)
 
--- a state goes on to a later one: its kind goes up or stays in the order none, names, choice, suffix; from names to names no
--- form falls; and a suffix stays
+-- a state goes on to a later one: its kind goes up or stays in the order none, names, choice, suffix; from
+-- names to names no form falls; and a suffix stays
 abbrev pub GoesOnTo : DisambiguateState → DisambiguateState → Type 0
-GoesOnTo (DisambiguateState.NameDisambiguation forms) (DisambiguateState.NameDisambiguation later) = NoFormFalls forms.forms later.forms
+GoesOnTo (DisambiguateState.NameDisambiguation forms) (DisambiguateState.NameDisambiguation later) =
+    NoFormFalls forms.forms later.forms
 GoesOnTo (DisambiguateState.YearSuffix suffix) (DisambiguateState.YearSuffix later) = suffix ≡ later
 GoesOnTo s m = kind_of s ≤ kind_of m
 
@@ -26,7 +27,8 @@ rank most (DisambiguateState.YearSuffix suffix) = 3 * most + 3
 
 -- a state goes on to itself, and where it goes on twice it does so at once
 abbrev pub GoesOn : Type 0
-GoesOn = ((s : DisambiguateState) → GoesOnTo s s) × ((a b c : DisambiguateState) → GoesOnTo a b → GoesOnTo b c → GoesOnTo a c)
+GoesOn = ((s : DisambiguateState) → GoesOnTo s s)
+    × ((a b c : DisambiguateState) → GoesOnTo a b → GoesOnTo b c → GoesOnTo a c)
 
 -- the greater of two states is one of them
 abbrev pub GreaterIsOne : Type 0
@@ -34,4 +36,5 @@ GreaterIsOne = (a b : DisambiguateState) → (greater a b ≡ a) ⊎ (greater a 
 
 -- a state that goes on to another than itself comes farther
 abbrev pub GoesFarther : Type 0
-GoesFarther = (most : ℕ) (s m : DisambiguateState) → length (forms_of s).forms ≤ most → GoesOnTo s m → (s ≡ m) ⊎ (rank most s < rank most m)
+GoesFarther = (most : ℕ) (s m : DisambiguateState) → length (forms_of s).forms ≤ most → GoesOnTo s m → (s ≡ m)
+    ⊎ (rank most s < rank most m)

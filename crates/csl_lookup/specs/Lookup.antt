@@ -98,7 +98,8 @@ in_number plural t = if plural then t.multiple else t.single
 
 -- what a term is in words, for a cite with such a locator
 abbrev pub term_of : Lookup → Option Locator → Term → TermForm → Bool → Option (List ℕ)
-term_of k locator name form plural = option_and_then (in_number plural) (found_term k (term_meant locator name) form)
+term_of k locator name form plural =
+    option_and_then (in_number plural) (found_term k (term_meant locator name) form)
 
 -- whether `.` and `,` go before a closing quote
 abbrev pub punctuation_in_quotes : Lookup → Bool

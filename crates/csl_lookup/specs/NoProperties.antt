@@ -8,7 +8,13 @@ use Rattle.csl_lookup.specs.Properties.{LocatorValue, Speculative}
 
 -- no note, neither near nor first, place 0
 abbrev pub nothing_certain : CertainCiteProperties
-nothing_certain = record { note_number = None; first_note_number = None; is_near_note = false; is_first = false; initial_idx = 0 }
+nothing_certain = record {
+  note_number = None;
+  first_note_number = None;
+  is_near_note = false;
+  is_first = false;
+  initial_idx = 0;
+}
 
 -- no disambiguation and no identifier yet
 abbrev pub speculated : {P : Type 0} → Option (LocatorValue P) → ℕ → IbidState → Speculative P

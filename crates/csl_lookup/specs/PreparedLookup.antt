@@ -8,4 +8,8 @@ use Rattle.csl_lookup.specs.Lookup.{Lookup}
 
 -- where this code is in use
 abbrev pub prepared_lookup : Prepared → List ℕ → Lookup
-prepared_lookup p code = record { own = (sound_view p.style.now).locale; files = map locale_view (locales_of p.files.now); code = code }
+prepared_lookup p code = record {
+  own = (sound_view p.style.now).locale;
+  files = map locale_view (locales_of p.files.now);
+  code = code;
+}

@@ -14,7 +14,8 @@ letters_within (suc most) n = (if nat_lt n 26 then [] else letters_within most (
 unfoldable pub suffix_letters : ℕ → List ℕ
 suffix_letters n = letters_within n n
 
--- what letters are worth: `a` is 1 and `z` 26, and each letter more makes what is before it worth 26 times as much
+-- what letters are worth: `a` is 1 and `z` 26, and each letter more makes what is before it worth 26 times as
+-- much
 abbrev pub worth : List ℕ → ℕ
 worth = fold (λ sum l. sum * 26 + (l - 96)) 0
 

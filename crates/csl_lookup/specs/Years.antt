@@ -9,7 +9,8 @@ two_digits n = decimal (n / 10) ++ decimal (n % 10)
 -- those of a year before 1000 the text for after Christ
 abbrev pub year_after : ℕ → Bool → List ℕ → List ℕ
 year_after n short ad =
-    if (short && nat_le 1000 n) then two_digits (n % 100) else (decimal n ++ (if nat_lt n 1000 then ad else []))
+    if (short && nat_le 1000 n) then two_digits (n % 100)
+    else (decimal n ++ (if nat_lt n 1000 then ad else []))
 
 -- a year: the one before 1 is the first before Christ, which is written as 1, and so on
 abbrev pub year_text : ℤ → Bool → List ℕ → List ℕ → List ℕ

@@ -42,8 +42,8 @@ pub fn states_have_a_greatest()
     forms_are_in_order();
 }
 
-/// A law: a state goes on to itself, and on and on; of two states the greater is one of them; and a state that
-/// goes on to another comes farther, by its kind and by how much of its names is written.
+/// A law: a state goes on to itself, and on and on; of two states the greater is one of them; and a state
+/// that goes on to another comes farther, by its kind and by how much of its names is written.
 pub fn states_go_on()
     ensures on_and_on { GoesOn }
     ensures greater_is_one { GreaterIsOne }
@@ -62,10 +62,14 @@ pub fn suffixes_differ()
 pub fn copies_are_equal<P: Drop>()
     ensures state { (a b : DisambiguateState) → ⟦<DisambiguateState as Clone>⟧.is_clone a b → b ≡ a }
     ensures shared { (a b : P) → ⟦<TransparentLocator<P> as Clone>⟧.is_clone a b → b ≡ a }
-    ensures payload { (a b : LocatorPayload P) → ⟦<LocatorPayload<'static, P> as Clone>⟧.is_clone a b → b ≡ a }
-    ensures locator { (a b : SpecificLocator P) → ⟦<SpecificLocator<'static, P> as Clone>⟧.is_clone a b → b ≡ a }
-    ensures speculative { (a b : SpeculativeCiteProperties P) → ⟦<SpeculativeCiteProperties<'static, P> as Clone>⟧.is_clone a b → b ≡ a }
-    ensures properties { (a b : CiteProperties P) → ⟦<CiteProperties<'static, P> as Clone>⟧.is_clone a b → b ≡ a }
+    ensures payload { (a b : LocatorPayload P) → ⟦<LocatorPayload<'static, P> as Clone>⟧.is_clone a b
+        → b ≡ a }
+    ensures locator { (a b : SpecificLocator P) → ⟦<SpecificLocator<'static, P> as Clone>⟧.is_clone a b
+        → b ≡ a }
+    ensures speculative { (a b : SpeculativeCiteProperties P)
+        → ⟦<SpeculativeCiteProperties<'static, P> as Clone>⟧.is_clone a b → b ≡ a }
+    ensures properties { (a b : CiteProperties P) → ⟦<CiteProperties<'static, P> as Clone>⟧.is_clone a b
+        → b ≡ a }
 {}
 
 /// A law: `==` of brackets, of purposes, of states and of what is certain of a cite is true exactly
@@ -84,15 +88,21 @@ pub fn state_equality_decides()
 /// the plain data is equal, if that of the caller's own payloads is.
 pub fn equality_decides<P: PartialEq>()
     ensures shared { TellsEqual P.eq → TellsEqual ⟦<TransparentLocator<P> as PartialEq>⟧.eq }
-    ensures payload { TellsEqual P.eq → TellsSeen payload_view ⟦<LocatorPayload<'static, P> as PartialEq>⟧.eq }
-    ensures locator { TellsEqual P.eq → TellsSeen locator_view ⟦<SpecificLocator<'static, P> as PartialEq>⟧.eq }
-    ensures speculative { TellsEqual P.eq → TellsSeen speculative_view ⟦<SpeculativeCiteProperties<'static, P> as PartialEq>⟧.eq }
+    ensures payload { TellsEqual P.eq
+        → TellsSeen payload_view ⟦<LocatorPayload<'static, P> as PartialEq>⟧.eq }
+    ensures locator { TellsEqual P.eq
+        → TellsSeen locator_view ⟦<SpecificLocator<'static, P> as PartialEq>⟧.eq }
+    ensures speculative { TellsEqual P.eq
+        → TellsSeen speculative_view ⟦<SpeculativeCiteProperties<'static, P> as PartialEq>⟧.eq }
 {}
 
 /// A law: at first a cite has written no identifier, nothing tells its entry apart, and it stands in
 /// no note, neither near another nor first, at place 0.
 pub fn defaults_are_none()
-    ensures usage { (u : IdentifierUsage) → ⟦<IdentifierUsage as Default>⟧.is_default u → u ≡ IdentifierUsage.None }
-    ensures state { (s : DisambiguateState) → ⟦<DisambiguateState as Default>⟧.is_default s → s ≡ DisambiguateState.None }
-    ensures certain { (c : CertainCiteProperties) → ⟦<CertainCiteProperties as Default>⟧.is_default c → c ≡ nothing_certain }
+    ensures usage { (u : IdentifierUsage) → ⟦<IdentifierUsage as Default>⟧.is_default u
+        → u ≡ IdentifierUsage.None }
+    ensures state { (s : DisambiguateState) → ⟦<DisambiguateState as Default>⟧.is_default s
+        → s ≡ DisambiguateState.None }
+    ensures certain { (c : CertainCiteProperties) → ⟦<CertainCiteProperties as Default>⟧.is_default c
+        → c ≡ nothing_certain }
 {}

@@ -45,7 +45,11 @@ impl<'a> StyleLocales<'a> {
         files: &'a [Locale],
     ) -> StyleLocales<'a>
         ensures { source_view result
-            ≡ record { style = style_view style.now; locale = option_map (λ code. code_view code.now) locale.entry; files = map locale_view files.now } }
+            ≡ record {
+              style = style_view style.now;
+              locale = option_map (λ code. code_view code.now) locale.entry;
+              files = map locale_view files.now;
+            } }
     {
         StyleLocales {
             style,
@@ -62,7 +66,11 @@ impl<'a> StyleLocales<'a> {
         files: &'a TermTables<'s>,
     ) -> StyleLocales<'a>
         ensures { source_view result
-            ≡ record { style = sound_view sound.now; locale = option_map (λ code. code_view code.now) locale.entry; files = map locale_view (locales_of files.now) } }
+            ≡ record {
+              style = sound_view sound.now;
+              locale = option_map (λ code. code_view code.now) locale.entry;
+              files = map locale_view (locales_of files.now);
+            } }
     {
         StyleLocales {
             style: sound.style(),
@@ -77,7 +85,8 @@ impl<'a> StyleLocales<'a> {
 
     /// The children of the style's first macro of a name; none without such a macro.
     pub fn body_of(&self, name: &str) -> Option<&'a Vec<LayoutRenderingElement>>
-        ensures { option_map (λ v. elements_view v.now.items) result ≡ body_of name.now (source_view self.now).style.macros }
+        ensures { option_map (λ v. elements_view v.now.items) result
+            ≡ body_of name.now (source_view self.now).style.macros }
     {
         match self.prepared {
             Some(prepared) => prepared.style.body_of(name),
@@ -186,7 +195,8 @@ impl<'a> StyleLocales<'a> {
 
     // The first form of the term that is found, of the asked one and those that stand in for it.
     fn found_term(&self, name: Term, form: TermForm) -> Option<&'a LocalizedTerm>
-        ensures { option_map (λ t. term_view t.now) result ≡ found.found_term (lookup_view self.now) name form }
+        ensures { option_map (λ t. term_view t.now) result
+            ≡ found.found_term (lookup_view self.now) name form }
     {
         for form in forms_from(form) {
             if let Some(term) = self.term_of_form(name, *form) {
@@ -198,7 +208,8 @@ impl<'a> StyleLocales<'a> {
 
     // The term that the first locale has in this form; by tables, where they are prepared.
     fn term_of_form(&self, name: Term, form: TermForm) -> Option<&'a LocalizedTerm>
-        ensures { option_map (λ t. term_view t.now) result ≡ found.first_answer (term_in name form) (found.asked (lookup_view self.now)) }
+        ensures { option_map (λ t. term_view t.now) result
+            ≡ found.first_answer (term_in name form) (found.asked (lookup_view self.now)) }
     {
         match self.prepared {
             Some(prepared) => term_by_tables(prepared, self.locale(), name, form),
@@ -216,14 +227,12 @@ impl<'a> StyleLocales<'a> {
         form: TermForm,
         plural: bool,
     ) -> Option<&'a str>
-        ensures { option_map (λ t. t.now) result ≡ found.term_of (lookup_view self.now) locator name form plural }
+        ensures { option_map (λ t. t.now) result
+            ≡ found.term_of (lookup_view self.now) locator name form plural }
     {
         let term = self.found_term(term_meant(locator, name), form)?;
         let words = if plural { &term.multiple } else { &term.single };
-        match words {
-            Some(words) => Some(words.as_str()),
-            None => None,
-        }
+        words.as_deref()
     }
 }
 
@@ -234,7 +243,9 @@ fn answer_of<'a, F: Fn(&'a Locale) -> Option<R>, R>(
     f: &F,
 ) -> Option<R>
     requires { F.IsAlwaysCallable f.now }
-    ensures { FirstAnswer (Gives F.Fn f.now) (option_to_list (locale_of (option_map (λ t. t.now) language.entry) (map locale_view locales.now))) result }
+    ensures { FirstAnswer (Gives F.Fn f.now)
+        (option_to_list (locale_of (option_map (λ t. t.now) language.entry) (map locale_view locales.now)))
+        result }
 {
     match locale_of(locales, language) {
         Some(locale) => f(locale),
@@ -269,7 +280,8 @@ pub(crate) fn primary_dialect(code: &str) -> Option<&'static str>
 
 // The primary dialect, where the code is this dialect's.
 fn if_is(code: &str, dialect: &str, primary: &'static str) -> Option<&'static str>
-    ensures { option_map (λ t. t.now) result ≡ first_value bytes_eq code.now ((dialect.now, primary.now) ∷ []) }
+    ensures { option_map (λ t. t.now) result
+        ≡ first_value bytes_eq code.now ((dialect.now, primary.now) ∷ []) }
 {
     if code == dialect { Some(primary) } else { None }
 }

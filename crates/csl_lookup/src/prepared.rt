@@ -17,7 +17,8 @@ pub(crate) fn term_by_tables<'a>(
     name: Term,
     form: TermForm,
 ) -> Option<&'a LocalizedTerm>
-    ensures { option_map (λ t. term_view t.now) result ≡ found.first_answer (term_in name form) (found.asked (prepared_lookup prepared.entry code.now)) }
+    ensures { option_map (λ t. term_view t.now) result
+        ≡ found.first_answer (term_in name form) (found.asked (prepared_lookup prepared.entry code.now)) }
 {
     match own_term(prepared, code, name, form) {
         Some(term) => Some(term),
@@ -32,7 +33,8 @@ fn own_term<'a>(
     name: Term,
     form: TermForm,
 ) -> Option<&'a LocalizedTerm>
-    ensures { option_map (λ t. term_view t.now) result ≡ found.first_answer (term_in name form) (found.asked_own (prepared_lookup prepared.entry code.now)) }
+    ensures { option_map (λ t. term_view t.now) result
+        ≡ found.first_answer (term_in name form) (found.asked_own (prepared_lookup prepared.entry code.now)) }
 {
     let own = prepared.style;
     if own.style().locale.is_empty() {
@@ -54,7 +56,9 @@ fn file_term<'a>(
     name: Term,
     form: TermForm,
 ) -> Option<&'a LocalizedTerm>
-    ensures { option_map (λ t. term_view t.now) result ≡ found.first_answer (term_in name form) (found.asked_files (prepared_lookup prepared.entry code.now)) }
+    ensures { option_map (λ t. term_view t.now) result
+        ≡ found.first_answer (term_in name form)
+        (found.asked_files (prepared_lookup prepared.entry code.now)) }
 {
     let files = prepared.files;
     if files.locales().is_empty() {

@@ -53,7 +53,8 @@ impl<'a, P> SpeculativeCiteProperties<'a, P> {
         citation_number: usize,
         ibid: IbidState,
     ) -> SpeculativeCiteProperties<'a, P>
-        ensures { speculative_view result ≡ speculated (option_map locator_view locator.entry) citation_number ibid }
+        ensures { speculative_view result
+            ≡ speculated (option_map locator_view locator.entry) citation_number ibid }
     {
         SpeculativeCiteProperties {
             locator,
@@ -85,7 +86,11 @@ impl<'a, P> CiteProperties<'a, P> {
         citation_number: usize,
     ) -> CiteProperties<'a, P>
         ensures { properties_view result
-            ≡ record { certain = nothing_certain; speculative = speculated (option_map locator_view locator.entry) citation_number IbidState.Different } }
+            ≡ record {
+              certain = nothing_certain;
+              speculative = speculated
+                  (option_map locator_view locator.entry) citation_number IbidState.Different;
+            } }
     {
         CiteProperties {
             certain: CertainCiteProperties::default(),

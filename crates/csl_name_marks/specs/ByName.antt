@@ -36,7 +36,8 @@ is_other_named name p place shown = list_any (λ e. same_name name e.0 && is_oth
 
 -- the names of a person of a member at a place
 abbrev pub names_of : Place → Person → List (SharedName × Holder)
-names_of place p = let h : Holder = record { person = p; place = place } in (by_family p, h) ∷ (by_initials p, h) ∷ []
+names_of place p = let h : Holder = record { person = p; place = place } in
+    (by_family p, h) ∷ (by_initials p, h) ∷ []
 
 -- the persons of members, with their names
 abbrev pub shown_by : NamedCite → List (SharedName × Holder)
@@ -47,20 +48,26 @@ shown_by_all group = flat_map shown_by group
 
 -- one more who holds the person at this place changes no answer
 abbrev pub IsTold : Person → Place → List Holder → Type 0
-IsTold q place hs = (p : Person) (other : Place) → same_person p q ≡ false → same_place other place ≡ false → is_other_held p other hs ≡ true
+IsTold q place hs = (p : Person) (other : Place) → same_person p q ≡ false → same_place other place ≡ false
+    → is_other_held p other hs ≡ true
 
--- the holders tell of each other person, at another place than this, what one more who holds `added` here would
+-- the holders tell of each other person, at another place than this, what one more who holds `added` here
+-- would
 abbrev pub TellWithout : Person → Person → Place → List Holder → Type 0
-TellWithout p added place hs = same_person p added ≡ false → (other : Place) → same_place other place ≡ false → is_other_held p other hs ≡ true
+TellWithout p added place hs = same_person p added ≡ false → (other : Place) → same_place other place ≡ false
+    → is_other_held p other hs ≡ true
 
--- the holders tell of each person but `added`, elsewhere than at a place, what one more who holds `added` here would
+-- the holders tell of each person but `added`, elsewhere than at a place, what one more who holds `added`
+-- here would
 abbrev pub TellElsewhere : Place → Person → Place → List Holder → Type 0
-TellElsewhere elsewhere added place hs = same_place elsewhere place ≡ false → (p : Person) → same_person p added ≡ false → is_other_held p elsewhere hs ≡ true
+TellElsewhere elsewhere added place hs = same_place elsewhere place ≡ false → (p : Person)
+    → same_person p added ≡ false → is_other_held p elsewhere hs ≡ true
 
 -- after a person at a place was added to holders of the same name
 abbrev pub Grows : Person → Place → List Holder → List Holder → Type 0
 Grows q place old new = (p : Person) (other : Place)
-    → is_other_held p other new ≡ (is_other_held p other old || is_other p other (record { person = q; place = place }))
+    → is_other_held p other new
+    ≡ (is_other_held p other old || is_other p other (record { person = q; place = place }))
 
 module _ {S : Type 0} where
   -- those who are held for a name
@@ -68,13 +75,19 @@ module _ {S : Type 0} where
   holders by_name name = option_map_or (λ v. v.items) (get same_name by_name name) []
 
   -- for each name they tell of other persons what all persons of that name do
-  pub record AreByName (by_name : HashMap SharedName (Vec Holder Global) S) (shown : List (SharedName × Holder)) : Type 0 where
-    pub tells : (name : SharedName) (p : Person) (place : Place) → is_other_held p place (holders by_name name) ≡ is_other_named name p place shown
+  pub record AreByName (by_name : HashMap SharedName (Vec Holder Global) S)
+      (shown : List (SharedName × Holder)) : Type 0 where
+    pub tells : (name : SharedName) (p : Person) (place : Place)
+        → is_other_held p place (holders by_name name) ≡ is_other_named name p place shown
 
   -- what was told by these names is now told by more
-  abbrev pub Adds : HashMap SharedName (Vec Holder Global) S → HashMap SharedName (Vec Holder Global) S → List (SharedName × Holder) → Type 0
-  Adds old new more = (shown : List (SharedName × Holder)) → AreByName old shown → AreByName new (shown ++ more)
+  abbrev pub Adds : HashMap SharedName (Vec Holder Global) S → HashMap SharedName (Vec Holder Global) S
+      → List (SharedName × Holder) → Type 0
+  Adds old new more = (shown : List (SharedName × Holder)) → AreByName old shown
+      → AreByName new (shown ++ more)
 
--- the form of a person: full where another one has its initials, else with initials where another one has its family name
+-- the form of a person: full where another one has its initials, else with initials where another one has its
+-- family name
 abbrev pub fuller_by : Bool → Bool → DisambiguatedNameForm → DisambiguatedNameForm
-fuller_by named same form = if named then (if same then DisambiguatedNameForm.LongFull else DisambiguatedNameForm.LongInitialized) else form
+fuller_by named same form = if named
+    then (if same then DisambiguatedNameForm.LongFull else DisambiguatedNameForm.LongInitialized) else form

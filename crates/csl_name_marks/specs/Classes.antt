@@ -40,13 +40,15 @@ module _ (rule : Option DisambiguationRule) where
 
     -- the step of a member of this rule, among the numbers up to n
     abbrev pub first_step : ℕ → NamedCite → Option ℕ
-    first_step n x = if same_rule x.rule rule then find (λ i. x.may_be_named && is_alone i x) (range_with_len 1 n) else None
+    first_step n x = if same_rule x.rule rule
+        then find (λ i. x.may_be_named && is_alone i x) (range_with_len 1 n) else None
 
     -- the classes of the members, of which two have one number exactly where the members are alike
     pub record AreClasses (i : ℕ) (classes : List ℕ) : Type 0 where
       pub long : length classes ≡ length group
       pub below : All (λ c. c < length group) classes
-      pub same : (a b : ℕ) (p q : NamedCite × ℕ) → slice_get (zip group classes) a ≡ Some p → slice_get (zip group classes) b ≡ Some q → nat_eq p.1 q.1 ≡ alike_by i p.0 q.0
+      pub same : (a b : ℕ) (p q : NamedCite × ℕ) → slice_get (zip group classes) a ≡ Some p
+          → slice_get (zip group classes) b ≡ Some q → nat_eq p.1 q.1 ≡ alike_by i p.0 q.0
 
 -- the steps of the members of these rules
 abbrev pub step_by : List (Option DisambiguationRule) → List NamedCite → ℕ → NamedCite → Option ℕ

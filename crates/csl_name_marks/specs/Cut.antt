@@ -12,14 +12,16 @@ without_given p = record p { given_name = None }
 abbrev pub initialized : Person → Person
 initialized p = record p { given_name = Some (given_initials p.given_name) }
 
--- what is kept of a person, who is the first of a cite or a later one; no rule stands for a style that adds no given names
+-- what is kept of a person, who is the first of a cite or a later one; no rule stands for a style that adds
+-- no given names
 abbrev pub kept : Option DisambiguationRule → Bool → Person → Person
 kept None is_first p = without_given p
 kept (Some DisambiguationRule.AllNames) is_first p = p
 kept (Some DisambiguationRule.ByCite) is_first p = p
 kept (Some DisambiguationRule.AllNamesWithInitials) is_first p = initialized p
 kept (Some DisambiguationRule.PrimaryName) is_first p = if is_first then p else without_given p
-kept (Some DisambiguationRule.PrimaryNameWithInitials) is_first p = if is_first then initialized p else without_given p
+kept (Some DisambiguationRule.PrimaryNameWithInitials) is_first p = if is_first then initialized p
+    else without_given p
 
 -- the persons of a cite, cut by a rule
 abbrev pub cut : Option DisambiguationRule → List Person → List Person

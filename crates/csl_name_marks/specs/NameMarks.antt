@@ -17,12 +17,17 @@ is_by_cite _ = false
 
 -- the forms of a member, whose own step this is, after a step of its group
 abbrev pub after_step : List NamedCite → NamedCite → Option ℕ → Forms → ℕ → Forms
-after_step group x own forms i = add_name i (if is_by_cite x.rule && is_at i own then raise group x i forms else forms)
+after_step group x own forms i =
+    add_name i (if is_by_cite x.rule && is_at i own then raise group x i forms else forms)
 
 -- the mark of a member that has forms to start from: those that it has after all steps of its group
 abbrev pub mark : List NamedCite → List ℕ → NamedCite → Option ℕ → Option (Place × DisambiguateState)
 mark group steps x own =
-    option_map (λ start. (x.place, DisambiguateState.NameDisambiguation (record { forms = fold (after_step group x own) start.forms steps }))) x.start
+    option_map (λ start. (
+      x.place,
+      DisambiguateState.NameDisambiguation
+          (record { forms = fold (after_step group x own) start.forms steps }),
+    )) x.start
 
 -- the marks of a group with these steps: none where there are no steps
 abbrev pub marks_after : List NamedCite → List ℕ → (NamedCite → Option ℕ) → List (Place × DisambiguateState)
@@ -30,7 +35,8 @@ marks_after group [] step_of = []
 marks_after group (i ∷ is) step_of = filter_map (λ x. mark group (i ∷ is) x (step_of x)) group
 
 -- the marks of a group, in its order
-unfoldable pub name_marks : {E P : Type 0} → List (CiteRender E P) → List Place → List (Place × DisambiguateState)
+unfoldable pub name_marks : {E P : Type 0} → List (CiteRender E P) → List Place
+    → List (Place × DisambiguateState)
 name_marks renders group =
     let found = named_cites renders group in
     let m = greatest_step (first_adds_names renders) found in

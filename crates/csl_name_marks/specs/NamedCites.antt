@@ -17,8 +17,10 @@ use Rattle.csl_name_marks.specs.declared.named_cite.NamedCite.{NamedCite}
 abbrev pub rule_of : CitationValue → Option DisambiguationRule
 rule_of c = if c.disambiguate_add_givenname then Some c.givenname_disambiguation_rule else None
 
--- the forms from which more names are written: those of a name state, else those of the first render; none in another state
-abbrev pub start : DisambiguateState → Option NameDisambiguationProperties → Option NameDisambiguationProperties
+-- the forms from which more names are written: those of a name state, else those of the first render; none in
+-- another state
+abbrev pub start : DisambiguateState → Option NameDisambiguationProperties
+    → Option NameDisambiguationProperties
 start DisambiguateState.None first = first
 start (DisambiguateState.NameDisambiguation forms) first = Some forms
 start DisambiguateState.Choose first = None

@@ -108,7 +108,8 @@ fn add_holder(
 
 fn take_holders(alloc: Global, by_name: &mut ByName, name: &SharedName) -> Vec<Holder>
     ensures taken { result.items ≡ holders by_name.old name.now }
-    ensures rest { (q : SharedNameValue) → holders by_name.new q ≡ (if same_name name.now q then [] else holders by_name.old q) }
+    ensures rest { (q : SharedNameValue)
+        → holders by_name.new q ≡ (if same_name name.now q then [] else holders by_name.old q) }
 {
     match by_name.remove(name) {
         Some(holders) => holders,
@@ -124,7 +125,8 @@ fn add_named(
     person: &Person,
     place: (usize, usize),
 ) -> Result<(), AllocError>
-    ensures { OnOk result (Adds by_name.old by_name.new ((name, record { person = person.now; place = place }) ∷ [])) }
+    ensures { OnOk result (Adds by_name.old by_name.new
+        ((name, record { person = person.now; place = place }) ∷ [])) }
 {
     let mut holders = take_holders(alloc, by_name, &name);
     add_holder(&mut holders, person, place)?;

@@ -60,7 +60,8 @@ pub(crate) fn next_classes(
 pub(crate) fn class_sizes(alloc: Global, classes: &[usize]) -> Result<Vec<usize>, AllocError>
     requires { All (λ c. c < length classes.now) classes.now }
     ensures long { IfOk result (λ v. vec_len v ≡ length classes.now) }
-    ensures sizes { IfOk result (λ v. (n : ℕ) → n < length classes.now → slice_index v.items n ≡ count_by (nat_eq n) classes.now) }
+    ensures sizes { IfOk result (λ v. (n : ℕ) → n < length classes.now
+        → slice_index v.items n ≡ count_by (nat_eq n) classes.now) }
 {
     let mut sizes = vec![in alloc; 0; classes.len()]?;
     for class in classes {

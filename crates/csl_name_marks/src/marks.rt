@@ -23,10 +23,7 @@ use std::alloc::{AllocError, Global};
 fn is_by_cite(rule: Option<DisambiguationRule>) -> bool
     ensures { result ≡ is_by_cite rule }
 {
-    match rule {
-        Some(DisambiguationRule::ByCite) => true,
-        _ => false,
-    }
+    matches!(rule, Some(DisambiguationRule::ByCite))
 }
 
 fn take_step(
@@ -39,7 +36,8 @@ fn take_step(
     forms: &mut NameDisambiguationProperties,
 ) -> Result<(), AllocError>
     requires { AreByName by_name.now (shown_by_all group.now) }
-    ensures { OnOk result (forms.new ≡ record { forms = after_step group.now member.now own forms.old.forms i }) }
+    ensures { OnOk result (forms.new
+        ≡ record { forms = after_step group.now member.now own forms.old.forms i }) }
 {
     if is_by_cite(member.rule) && own == Some(i) {
         raise(alloc, member, group, by_name, i, forms)?;
@@ -59,7 +57,8 @@ fn forms_after(
     start: &NameDisambiguationProperties,
 ) -> Result<NameDisambiguationProperties, AllocError>
     requires { AreByName by_name.now (shown_by_all group.now) }
-    ensures { IfOk result (λ f. f ≡ record { forms = fold (after_step group.now member.now own) start.now.forms steps.now }) }
+    ensures { IfOk result (λ f. f
+        ≡ record { forms = fold (after_step group.now member.now own) start.now.forms steps.now }) }
 {
     let mut forms = copied(start)?;
     for i in steps {
@@ -97,7 +96,8 @@ fn member_marks(
 ) -> Result<Marks, AllocError>
     requires long { length own_steps.now ≡ length group.now }
     requires by_name { AreByName by_name.now (shown_by_all group.now) }
-    ensures { IfOk result (λ v. v.items ≡ filter_map (λ p. mark group.now steps.now p.0 p.1) (zip group.now own_steps.now)) }
+    ensures { IfOk result (λ v. v.items
+        ≡ filter_map (λ p. mark group.now steps.now p.0 p.1) (zip group.now own_steps.now)) }
 {
     let mut found = Vec::new(alloc);
     for (k, member) in group.iter().enumerate() {
@@ -111,7 +111,8 @@ fn member_marks(
 /// The marks of a group of members, where at most this many names are tried.
 fn group_marks(alloc: Global, group: &[NamedCite], greatest: usize) -> Result<Marks, AllocError>
     requires { StandApart group.now }
-    ensures { IfOk result (λ v. v.items ≡ marks_after group.now (steps group.now greatest) (step group.now greatest)) }
+    ensures { IfOk result (λ v. v.items
+        ≡ marks_after group.now (steps group.now greatest) (step group.now greatest)) }
 {
     let own_steps = own_steps(alloc, group, greatest)?;
     let steps = group_steps(alloc, &own_steps, greatest)?;

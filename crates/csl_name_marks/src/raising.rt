@@ -20,7 +20,9 @@ fn fuller(
     by_name: &ByName,
     form: DisambiguatedNameForm,
 ) -> Result<DisambiguatedNameForm, AllocError>
-    ensures { IfOk result (λ r. r ≡ fuller_by (is_other_held person.now place (holders by_name.now (by_family person.now))) (is_other_held person.now place (holders by_name.now (by_initials person.now))) form) }
+    ensures { IfOk result (λ r. r
+        ≡ fuller_by (is_other_held person.now place (holders by_name.now (by_family person.now)))
+        (is_other_held person.now place (holders by_name.now (by_initials person.now))) form) }
 {
     if !has_other(by_name, &by_family(person)?, person, place) {
         return Ok(form);
@@ -42,7 +44,8 @@ fn raised_in_group(
     form: DisambiguatedNameForm,
 ) -> Result<DisambiguatedNameForm, AllocError>
     requires { AreByName by_name.now (shown_by_all group.now) }
-    ensures { IfOk result (λ r. r ≡ raised person.now (flat_map (λ y. y.persons) (others group.now member.now)) form) }
+    ensures { IfOk result (λ r. r
+        ≡ raised person.now (flat_map (λ y. y.persons) (others group.now member.now)) form) }
 {
     match form {
         DisambiguatedNameForm::Count | DisambiguatedNameForm::LongFull => Ok(form),

@@ -78,7 +78,8 @@ fn steps_after(
     requires apart { StandApart group.now }
     requires classes { AreClasses rule group.now i classes.now }
     requires long { length steps.now ≡ length group.now }
-    ensures { IfOk result (λ v. v.items ≡ map (λ p. step_after rule i p.0 p.1 (is_alone rule group.now i p.0)) (zip group.now steps.now)) }
+    ensures { IfOk result (λ v. v.items
+        ≡ map (λ p. step_after rule i p.0 p.1 (is_alone rule group.now i p.0)) (zip group.now steps.now)) }
 {
     let sizes = class_sizes(alloc, classes)?;
     let mut found = Vec::new(alloc);
@@ -99,7 +100,8 @@ fn with_steps_of(
 ) -> Result<Vec<Option<usize>>, AllocError>
     requires apart { StandApart group.now }
     requires long { length steps.items ≡ length group.now }
-    ensures { IfOk result (λ v. v.items ≡ map (λ p. option_or p.1 (first_step rule group.now greatest p.0)) (zip group.now steps.items)) }
+    ensures { IfOk result (λ v. v.items
+        ≡ map (λ p. option_or p.1 (first_step rule group.now greatest p.0)) (zip group.now steps.items)) }
 {
     let mut steps = steps;
     let mut classes = vec![in alloc; 0; group.len()]?;
@@ -159,7 +161,8 @@ pub(crate) fn group_steps(
     own_steps: &[Option<usize>],
     greatest: usize,
 ) -> Result<Vec<usize>, AllocError>
-    ensures { IfOk result (λ v. v.items ≡ filter (λ i. list_any (is_at i) own_steps.now) (range_with_len 1 greatest)) }
+    ensures { IfOk result (λ v. v.items
+        ≡ filter (λ i. list_any (is_at i) own_steps.now) (range_with_len 1 greatest)) }
 {
     let mut found = Vec::new(alloc);
     for k in 0..greatest {

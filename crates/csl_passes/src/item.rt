@@ -29,7 +29,14 @@ impl<'a, T, P> CitationItem<'a, T, P> {
     /// A cite of the entry, shown in the style's usual way.
     pub fn with_entry(entry: &'a T) -> CitationItem<'a, T, P>
         ensures { cite_view result
-            ≡ record { entry = entry.now; locator = None; locale = None; hidden = false; purpose = None; place = 0 } }
+            ≡ record {
+              entry = entry.now;
+              locator = None;
+              locale = None;
+              hidden = false;
+              purpose = None;
+              place = 0;
+            } }
     {
         CitationItem::with_locator(entry, None)
     }
@@ -40,7 +47,14 @@ impl<'a, T, P> CitationItem<'a, T, P> {
         locator: Option<SpecificLocator<'a, P>>,
     ) -> CitationItem<'a, T, P>
         ensures { cite_view result
-            ≡ record { entry = entry.now; locator = option_map locator_view locator.entry; locale = None; hidden = false; purpose = None; place = 0 } }
+            ≡ record {
+              entry = entry.now;
+              locator = option_map locator_view locator.entry;
+              locale = None;
+              hidden = false;
+              purpose = None;
+              place = 0;
+            } }
     {
         CitationItem::new(entry, locator, None, false, None)
     }
@@ -54,7 +68,14 @@ impl<'a, T, P> CitationItem<'a, T, P> {
         purpose: Option<CitePurpose>,
     ) -> CitationItem<'a, T, P>
         ensures { cite_view result
-            ≡ record { entry = entry.now; locator = option_map locator_view locator.entry; locale = option_map code_view locale; hidden = hidden; purpose = purpose; place = 0 } }
+            ≡ record {
+              entry = entry.now;
+              locator = option_map locator_view locator.entry;
+              locale = option_map code_view locale;
+              hidden = hidden;
+              purpose = purpose;
+              place = 0;
+            } }
     {
         CitationItem {
             entry,

@@ -18,7 +18,8 @@ use csl_lookup::properties::CiteProperties;
 
 /// A law: a copy of a cite is equal to it.
 pub fn items_copy_equal<'a, T: 'a, P: Drop + 'a>()
-    ensures { (a b : CitationItem T P) → ⟦<CitationItem<'a, T, P> as Clone>⟧.is_clone a b → cite_view b ≡ cite_view a }
+    ensures { (a b : CitationItem T P) → ⟦<CitationItem<'a, T, P> as Clone>⟧.is_clone a b
+        → cite_view b ≡ cite_view a }
 {}
 
 /// A law: `==` of cites is true exactly where the entries are equal by their own `==`, the locators

@@ -1,6 +1,7 @@
 //! What the driver's passes work on: items, requests, and the renders of their cites.
 #![tactic(auto)]
 
+pub mod acyclic;
 pub mod first;
 pub mod item;
 pub mod laws;

@@ -38,7 +38,8 @@ pub fn position_by<P: PartialEq>(
     this: &Option<SpecificLocator<'_, P>>,
     last: &Option<SpecificLocator<'_, P>>,
 ) -> IbidState
-    ensures { result ≡ position_by P.eq repeats (option_map locator_view this.now) (option_map locator_view last.now) }
+    ensures { result ≡ position_by P.eq repeats (option_map locator_view this.now)
+        (option_map locator_view last.now) }
 {
     if !repeats {
         return IbidState::Different;
@@ -59,7 +60,8 @@ pub fn with_last<T: PartialEq, P: PartialEq>(
     this: &CitationItem<'_, T, P>,
     last: Option<&CitationItem<'_, T, P>>,
 ) -> IbidState
-    ensures { result ≡ with_last T.eq P.eq (cite_view this.now) (option_map (λ l. cite_view l.now) last.entry) }
+    ensures { result ≡ with_last T.eq P.eq (cite_view this.now)
+        (option_map (λ l. cite_view l.now) last.entry) }
 {
     let Some(last) = last else {
         return IbidState::Different;

@@ -7,6 +7,7 @@ use csl_lookup::locator::SpecificLocator;
 use csl_lookup::properties::CiteProperties;
 use csl_lookup::purpose::CitePurpose;
 use csl_lookup::state::{CollapseVerdict, DisambiguateState};
+use std::alloc::{AllocError, Global};
 
 /// A cite as it was rendered last, and what is known of it.
 #[derive(Drop)]
@@ -40,6 +41,12 @@ pub struct SpeculativeCiteRender<'r, 'a, T, P> {
     pub request: &'r CitationRequest<'a, T, P>,
 }
 
+/// The cites of all requests. They are dropped one by one: a list of lists that hold references to a type
+/// parameter can't be dropped as a whole.
+pub struct Cites<'r, 'a, T, P> {
+    pub by_request: Vec<SpeculativeCiteRender<'r, 'a, T, P>>,
+}
+
 /// The places of cites that read alike: those of their requests, and in them.
 pub type AmbiguousGroup = Vec<(usize, usize)>;
 
@@ -57,5 +64,44 @@ impl<'r, 'a, T, P: Drop> Drop for SpeculativeCiteRender<'r, 'a, T, P> {
     fn drop(self) {
         let SpeculativeCiteRender { items, request: _ } = self;
         discard(items);
+    }
+}
+
+impl<'r, 'a, T, P: Drop> Drop for Cites<'r, 'a, T, P> {
+    fn drop(self) {
+        let Cites { mut by_request } = self;
+        while let Some(_cites) = by_request.pop() {}
+        by_request.destroy_empty();
+    }
+}
+
+impl<'r, 'a, T, P: Drop> Cites<'r, 'a, T, P> {
+    ghost use Rattle.std.specs.Prelude.{◌≡◌, ◌++◌, ◌∷◌, [], IfOk, OnOk};
+    ghost use Rattle.csl_passes.specs.RendersView.{render_view, renders_view};
+
+    /// No cites yet, with room for those of so many requests.
+    ///
+    /// # Errors
+    /// Where memory is refused.
+    pub fn with_capacity(alloc: Global, requests: usize) -> Result<Cites<'r, 'a, T, P>, AllocError>
+        ensures { IfOk result (λ cites. renders_view cites.by_request.items ≡ []) }
+    {
+        Ok(Cites {
+            by_request: Vec::with_capacity(alloc, requests)?,
+        })
+    }
+
+    /// Adds the cites of the next request.
+    ///
+    /// # Errors
+    /// Where memory is refused; the cites are then dropped.
+    pub fn push(&mut self, cites: SpeculativeCiteRender<'r, 'a, T, P>) -> Result<(), AllocError>
+        ensures { OnOk result (renders_view self.new.by_request.items
+            ≡ renders_view self.old.by_request.items ++ render_view cites.entry ∷ []) }
+    {
+        match self.by_request.push(cites) {
+            Ok(()) => Ok(()),
+            Err(_) => Err(AllocError),
+        }
     }
 }

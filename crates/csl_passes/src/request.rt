@@ -57,7 +57,13 @@ impl<'a, T, P> CitationRequest<'a, T, P> {
         note_number: Option<usize>,
     ) -> CitationRequest<'a, T, P>
         ensures view { request_view result
-            ≡ record { cites = cites_view items.entry.items; style = style_view style.now; locale = option_map code_view locale; locales = map locale_view locale_files.now; note_number = (if is_note style.now.settings.class then note_number else None) } }
+            ≡ record {
+              cites = cites_view items.entry.items;
+              style = style_view style.now;
+              locale = option_map code_view locale;
+              locales = map locale_view locale_files.now;
+              note_number = (if is_note style.now.settings.class then note_number else None);
+            } }
         ensures unprepared { IsUnprepared result }
     {
         CitationRequest {
@@ -80,7 +86,13 @@ impl<'a, T, P> CitationRequest<'a, T, P> {
         note_number: Option<usize>,
     ) -> CitationRequest<'a, T, P>
         ensures { request_view result
-            ≡ record { cites = cites_view items.entry.items; style = sound_view sound.now; locale = option_map code_view locale; locales = map locale_view (locales_of files.now); note_number = (if is_note (made_of sound.now).settings.class then note_number else None) } }
+            ≡ record {
+              cites = cites_view items.entry.items;
+              style = sound_view sound.now;
+              locale = option_map code_view locale;
+              locales = map locale_view (locales_of files.now);
+              note_number = (if is_note (made_of sound.now).settings.class then note_number else None);
+            } }
     {
         CitationRequest {
             items,
@@ -144,7 +156,13 @@ impl<'a, T, P> CitationRequest<'a, T, P> {
         locale_files: &'a [Locale],
     ) -> CitationRequest<'a, T, P>
         ensures view { request_view result
-            ≡ record { cites = cites_view items.entry.items; style = style_view style.now; locale = None; locales = map locale_view locale_files.now; note_number = None } }
+            ≡ record {
+              cites = cites_view items.entry.items;
+              style = style_view style.now;
+              locale = None;
+              locales = map locale_view locale_files.now;
+              note_number = None;
+            } }
         ensures unprepared { IsUnprepared result }
     {
         CitationRequest::new(items, style, None, locale_files, None)

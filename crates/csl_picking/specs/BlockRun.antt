@@ -1,5 +1,5 @@
--- For the code: names one after the other, of which the last waits until it is known whether another follows, and
--- blocks, where another one before them may have given a part.
+-- For the code: names one after the other, of which the last waits until it is known whether another follows,
+-- and blocks, where another one before them may have given a part.
 use Rattle.std.specs.Prelude.{ℕ, zero, suc, List, [], ◌∷◌, ◌++◌, Bool, ◌||◌, Option, Some, None, if◌then◌else◌}
 use Rattle.csl_picking.specs.Pieces.{LeafValue, Part, leaf_part}
 use Rattle.csl_picking.specs.Picked.{gives}
@@ -17,7 +17,8 @@ preceded before (p ∷ ps) = before_parts before ++ p ∷ ps
 -- a text goes before each block that gives a part, where one before it did
 abbrev pub blocks_after : List ℕ → Bool → List (List Part) → List Part
 blocks_after words behind [] = []
-blocks_after words behind (b ∷ bs) = preceded (if behind then Some words else None) b ++ blocks_after words (behind || gives b) bs
+blocks_after words behind (b ∷ bs) = preceded (if behind then Some words else None) b
+    ++ blocks_after words (behind || gives b) bs
 
 -- a name behind so many others, with a joint between
 abbrev pub name_behind : LeafValue → ℕ → Part → List Part

@@ -34,7 +34,8 @@ term_for s = term_of (lookup_view s.context) (option_map (λ l. l.kind) s.cite.l
 
 abbrev pub env_of : Answers → Setting → Env
 env_of answers s =
-    env_for answers (cite_facts s.cite) (lookup_view s.context) (options_view s.context.style.now.settings.options) (options_view s.layout_options.now) s.form
+    env_for answers (cite_facts s.cite) (lookup_view s.context)
+    (options_view s.context.style.now.settings.options) (options_view s.layout_options.now) s.form
     s.explicit_suffix s.is_bibliography
 
 abbrev pub macros_of : Setting → List Macro

@@ -53,7 +53,8 @@ written_count r count = if is_cut r.et_al_min count then min r.kept count else c
 -- the forms of so many names: those behind the written ones only count
 abbrev pub forms_by : Rules → ℕ → Forms
 forms_by r count =
-    replicate (written_count r count) r.form ++ replicate (count - written_count r count) DisambiguatedNameForm.Count
+    replicate (written_count r count) r.form
+    ++ replicate (count - written_count r count) DisambiguatedNameForm.Count
 
 -- a state of names has forms of its own for the first names
 abbrev pub forms_in : DisambiguateState → Forms → Forms

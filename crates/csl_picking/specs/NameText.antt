@@ -22,7 +22,8 @@ ended_initials end (Some given) = trim_end (flat_map (λ c. encode_utf8 c ++ end
 abbrev pub name_text : List ℕ → DisambiguatedNameForm → Person → Option (List ℕ)
 name_text end DisambiguatedNameForm.Count p = None
 name_text end DisambiguatedNameForm.Short p = Some p.name
-name_text end DisambiguatedNameForm.LongInitialized p = Some (whole_name (ended_initials end p.given_name) p.name)
+name_text end DisambiguatedNameForm.LongInitialized p =
+    Some (whole_name (ended_initials end p.given_name) p.name)
 name_text end DisambiguatedNameForm.LongFull p = Some (whole_name (unwrap_or p.given_name []) p.name)
 
 -- a blank name gives nothing

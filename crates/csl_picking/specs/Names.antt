@@ -38,7 +38,11 @@ is_present answers n v = has_persons (answers.names v) && not (is_suppressed n.s
 -- the first substitute that is present, where none of the variables is
 abbrev pub stand_in : Answers → Notes → List NameVariable → List NameVariable → Option NameVariable
 stand_in answers n variables substitute =
-    elim (filter (is_present answers n) variables) [ [] ↦ find (is_present answers n) substitute | _ ∷ _ ↦ None ]
+    elim (filter (is_present answers n) variables) [
+      | [] ↦ find (is_present answers n) substitute
+      | _
+          ∷ _ ↦ None
+    ]
 
 -- the blocks of an element, each the names of one variable
 abbrev pub blocks : Answers → Notes → List NameVariable → List NameVariable → List NameVariable
@@ -48,7 +52,8 @@ blocks answers n variables substitute =
 -- the editor stands for the author where the entry has editors and no author
 abbrev pub author_variable : Answers → NameVariable
 author_variable answers =
-    if has_persons (answers.names NameVariable.Editor) && not (has_persons (answers.names NameVariable.Author))
+    if has_persons (answers.names NameVariable.Editor)
+    && not (has_persons (answers.names NameVariable.Author))
     then NameVariable.Editor
     else NameVariable.Author
 
@@ -58,7 +63,8 @@ is_variable v w = same_variable v (Variable.Name w)
 -- the blocks that are written in a form, where `writer` is the author's variable
 abbrev pub written_blocks : Form → NameVariable → List NameVariable → List NameVariable
 written_blocks Form.Full writer vs = vs
-written_blocks Form.SuppressAuthor writer vs = if list_any (is_variable (Variable.Name writer)) vs then [] else vs
+written_blocks Form.SuppressAuthor writer vs = if list_any (is_variable (Variable.Name writer)) vs then []
+    else vs
 written_blocks (Form.VarOnly v) writer vs = filter (is_variable v) vs
 written_blocks Form.OnlyFirstDate writer vs = []
 written_blocks Form.OnlyYearSuffix writer vs = []
@@ -66,15 +72,21 @@ written_blocks Form.OnlyYearSuffix writer vs = []
 -- the names that are written, each with its place, where `end` follows each initial
 abbrev pub written_names : List ℕ → Forms → List Person → List (ℕ × LeafValue)
 written_names end forms persons =
-    filter_map (λ x. option_map (λ leaf. (x.0, leaf)) (name_leaf end x.1.0 x.1.1)) (enumerate_from 0 (zip forms persons))
+    filter_map (λ x. option_map (λ leaf. (x.0, leaf)) (name_leaf end x.1.0 x.1.1))
+    (enumerate_from 0 (zip forms persons))
 
 -- a name has no look of its own
 abbrev pub no_look : Look
-no_look = record { affixes = no_affix; formatting = record { font_style = None; font_weight = None }; display = None }
+no_look = record {
+  affixes = no_affix;
+  formatting = record { font_style = None; font_weight = None };
+  display = None;
+}
 
 -- a name's node
 abbrev pub name_part : NameVariable → ℕ × LeafValue → Part
-name_part v x = node_part (plain_node no_look false false (Some (meta.Name v x.0))) (part (leaf_part x.1) no_parts)
+name_part v x = node_part (plain_node no_look false false (Some (meta.Name v x.0)))
+    (part (leaf_part x.1) no_parts)
 
 -- what stands between names and isn't one
 abbrev pub joint_part : List ℕ → Part
@@ -123,11 +135,13 @@ joined_names terms r cut ps =
 -- a block, whose names have these forms
 abbrev pub block_parts : Terms → Rules → NameVariable → Forms → List Person → List Part
 block_parts terms r v forms persons =
-    joined_names terms r (list_any is_count forms) (map (name_part v) (written_names r.initial_end forms persons))
+    joined_names terms r (list_any is_count forms)
+    (map (name_part v) (written_names r.initial_end forms persons))
 
 -- a block by the rules alone
 abbrev pub plain_block : Env → Rules → NameVariable → List Part
-plain_block env r v = block_parts env.term r v (forms_by r (length (env.answers.names v))) (env.answers.names v)
+plain_block env r v = block_parts env.term r v (forms_by r (length (env.answers.names v)))
+    (env.answers.names v)
 
 -- the forms of the first block; before any names were written, a state of names has its say
 abbrev pub first_forms : DisambiguateState → Notes → Forms → Forms
@@ -135,15 +149,21 @@ first_forms state n forms = if is_none n.first_name then forms_in state forms el
 
 abbrev pub first_block : Env → Rules → Notes → NameVariable → List Part
 first_block env r n v =
-    block_parts env.term r v (first_forms env.cite.state n (forms_by r (length (env.answers.names v)))) (env.answers.names v)
+    block_parts env.term r v (first_forms env.cite.state n (forms_by r (length (env.answers.names v))))
+    (env.answers.names v)
 
 -- the blocks that give a part, with a text between them
 abbrev pub joined_blocks : List ℕ → List (List Part) → List Part
-joined_blocks words bs = elim (filter gives bs) [ [] ↦ [] | b ∷ others ↦ b ++ flat_map (λ o. joint_part words ∷ o) others ]
+joined_blocks words bs = elim (filter gives bs) [
+  | [] ↦ []
+  | b ∷ others ↦ b
+      ++ flat_map (λ o. joint_part words ∷ o) others
+]
 
 abbrev pub blocks_parts : Env → Rules → Notes → List NameVariable → List Part
 blocks_parts env r n [] = []
-blocks_parts env r n (v ∷ vs) = joined_blocks r.names_delimiter (first_block env r n v ∷ map (plain_block env r) vs)
+blocks_parts env r n (v ∷ vs) =
+    joined_blocks r.names_delimiter (first_block env r n v ∷ map (plain_block env r) vs)
 
 -- each block's persons and variable
 abbrev pub block_persons : Answers → NameVariable → List Person × NameVariable
@@ -154,7 +174,8 @@ names_node answers look vs = plain_node look false false (Some (meta.Names (map 
 
 -- forms are noted where none were noted before
 abbrev pub with_forms : Forms → Notes → Notes
-with_forms forms n = elim n.first_name [ None ↦ record n { first_name = Some (record { forms = forms }) } | Some _ ↦ n ]
+with_forms forms n = elim n.first_name
+    [ None ↦ record n { first_name = Some (record { forms = forms }) } | Some _ ↦ n ]
 
 -- those of the first block, by the rules alone
 abbrev pub noted_forms : Answers → Rules → List NameVariable → Notes → Notes
@@ -169,10 +190,12 @@ noted_stand_in _ _ n = n
 abbrev pub pick_names : Env → List NameVariable → List NameVariable → NameOptions → Look → Notes → Picked
 pick_names env variables substitute options look n =
     let r = rules_of (applied_options env.options options) in
-    let vs = written_blocks env.form (author_variable env.answers) (blocks env.answers n variables substitute) in
+    let vs = written_blocks env.form (author_variable env.answers)
+    (blocks env.answers n variables substitute) in
     let ps = node_of (names_node env.answers look vs) (blocks_parts env r n vs) in
     record {
       parts = ps;
       called = called_with (gives ps);
-      noted = noted_stand_in (gives ps) (stand_in env.answers n variables substitute) (noted_forms env.answers r vs n);
+      noted = noted_stand_in (gives ps) (stand_in env.answers n variables substitute)
+          (noted_forms env.answers r vs n);
     }

@@ -24,7 +24,11 @@ abbrev pub cut_back : Opened → Held → Held
 cut_back o h = record { tokens = take o.before h.tokens; called = joined o.called h.called; noted = h.noted }
 
 abbrev pub closed_as : Called → Opened → Held → Held
-closed_as called o h = record { tokens = h.tokens ++ closing ∷ []; called = joined o.called called; noted = h.noted }
+closed_as called o h = record {
+  tokens = h.tokens ++ closing ∷ [];
+  called = joined o.called called;
+  noted = h.noted;
+}
 
 abbrev pub is_without_content : Called → Bool
 is_without_content Called.Empty = true

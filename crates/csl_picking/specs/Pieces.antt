@@ -70,4 +70,5 @@ leaves_of (Some leaf) (Some n) = leaf_part leaf ∷ leaf_part (suffix_leaf n) �
 
 -- the node of an element
 abbrev pub plain_node : Look → Bool → Bool → Option ElemMeta → NodeValue
-plain_node look quotes strip m = record { look = look; quotes = quotes; strip_periods = strip; delimiter = None; meta = m }
+plain_node look quotes strip m =
+    record { look = look; quotes = quotes; strip_periods = strip; delimiter = None; meta = m }

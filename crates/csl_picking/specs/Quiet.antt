@@ -38,10 +38,13 @@ told q name depth = get_by (λ k. bytes_eq name k.0.now && nat_eq depth k.1) q.m
 -- where no more is noted than was, each that is known gives nothing
 abbrev pub IsQuiet : (ℕ → Call) → QuietMacros → Notes → Type 0
 IsQuiet call q now =
-    (n : Notes) × (q.at ≡ seen n) × Keeps n now × ((name : Name) (depth : ℕ) (c : Called) → told q name depth ≡ Some c → GivesNothing (call depth name) c n)
+    (n : Notes) × (q.at ≡ seen n) × Keeps n now
+    × ((name : Name) (depth : ℕ) (c : Called) → told q name depth ≡ Some c
+    → GivesNothing (call depth name) c n)
 
 -- an open macro: what is held is what its children give, behind what was held where it was called
-pub record IsOpened (call : ℕ → Call) (name : Name) (depth : ℕ) (before : Seen) (o : Opened) (h : Held) : Type 0 where
+pub record IsOpened (call : ℕ
+    → Call) (name : Name) (depth : ℕ) (before : Seen) (o : Opened) (h : Held) : Type 0 where
   pub node : NodeValue
   pub outside : Held
   -- what the children give

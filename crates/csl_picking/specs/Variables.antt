@@ -76,19 +76,22 @@ locator_leaf cite = option_and_then (λ l. marked_text cite.initial_idx l.text) 
 
 -- what a variable's text or number gives; the printed number of a cite is one more
 abbrev pub variable_leaf : Env → Variable → Option LeafValue
-variable_leaf env (Variable.Standard standard.YearSuffix) = option_map suffix_leaf (year_suffix env.cite.state)
+variable_leaf env (Variable.Standard standard.YearSuffix) =
+    option_map suffix_leaf (year_suffix env.cite.state)
 variable_leaf env (Variable.Standard standard.Url) = option_map link_leaf (env.answers.text standard.Url)
 variable_leaf env (Variable.Standard standard.CitationLabel) = text_leaves env.answers.label
 variable_leaf env (Variable.Standard v) = chunked_leaves (env.answers.text v)
 variable_leaf env (Variable.Number number.CitationNumber) = Some (number_leaf (env.cite.citation_number + 1))
 variable_leaf env (Variable.Number number.Locator) = locator_leaf env.cite
-variable_leaf env (Variable.Number number.FirstReferenceNoteNumber) = option_map number_leaf env.cite.first_note_number
+variable_leaf env (Variable.Number number.FirstReferenceNoteNumber) =
+    option_map number_leaf env.cite.first_note_number
 variable_leaf env (Variable.Number v) = text_leaves (env.answers.number v)
 variable_leaf env _ = None
 
 -- the suffix behind a label that the entry has
 abbrev pub suffix_behind : Env → Variable → Notes → Option ℕ
-suffix_behind env (Variable.Standard standard.CitationLabel) n = if is_some env.answers.label then implicit_suffix env.explicit_suffix env.cite.state n else None
+suffix_behind env (Variable.Standard standard.CitationLabel) n = if is_some env.answers.label
+    then implicit_suffix env.explicit_suffix env.cite.state n else None
 suffix_behind env _ n = None
 
 abbrev pub variable_meta : Variable → Option ElemMeta
@@ -103,35 +106,48 @@ dated false n = n
 
 -- a label or a number that is reached in a form that writes it is noted, but in the bibliography
 abbrev pub noted_use : Bool → Variable → Notes → Notes
-noted_use in_bibliography (Variable.Standard standard.CitationLabel) n = if in_bibliography then n else record n { usage = with_label n.usage }
-noted_use in_bibliography (Variable.Number number.CitationNumber) n = if in_bibliography then n else record n { usage = with_number n.usage }
+noted_use in_bibliography (Variable.Standard standard.CitationLabel) n = if in_bibliography then n
+    else record n { usage = with_label n.usage }
+noted_use in_bibliography (Variable.Number number.CitationNumber) n = if in_bibliography then n
+    else record n { usage = with_number n.usage }
 noted_use in_bibliography _ n = n
 
 -- what is noted behind a variable that is written, and may give a part
 abbrev pub noted_behind : Bool → Variable → Bool → Notes → Notes
-noted_behind in_bibliography (Variable.Standard standard.CitationLabel) given n = dated given (noted_use in_bibliography (Variable.Standard standard.CitationLabel) n)
+noted_behind in_bibliography (Variable.Standard standard.CitationLabel) given n =
+    dated given (noted_use in_bibliography (Variable.Standard standard.CitationLabel) n)
 noted_behind in_bibliography v given n = noted_use in_bibliography v n
 
 -- in the bibliography the label stands for the number where only the label was used, and the
 -- number for the label where only the number was
 abbrev pub meant : Bool → IdentifierUsage → Variable → Variable
-meant true IdentifierUsage.OnlyCitationNumber (Variable.Standard standard.CitationLabel) = Variable.Number number.CitationNumber
-meant true IdentifierUsage.OnlyCitationLabel (Variable.Number number.CitationNumber) = Variable.Standard standard.CitationLabel
+meant true IdentifierUsage.OnlyCitationNumber (Variable.Standard standard.CitationLabel) =
+    Variable.Number number.CitationNumber
+meant true IdentifierUsage.OnlyCitationLabel (Variable.Number number.CitationNumber) =
+    Variable.Standard standard.CitationLabel
 meant in_bibliography usage v = v
 
 -- a text or a number of a variable
 abbrev pub pick_variable : Env → Variable → Look → Bool → Bool → Notes → Picked
 pick_variable env v look quotes strip n =
     if writes env.form v
-    then (let ps = node_of (plain_node look quotes strip (variable_meta v)) (leaves_of (variable_leaf env v) (suffix_behind env v n)) in
-    record { parts = ps; called = called_with (gives ps); noted = noted_behind env.is_bibliography v (gives ps) n })
+    then (let ps = node_of (plain_node look quotes strip (variable_meta v))
+    (leaves_of (variable_leaf env v) (suffix_behind env v n)) in
+    record {
+      parts = ps;
+      called = called_with (gives ps);
+      noted = noted_behind env.is_bibliography v (gives ps) n;
+    })
     else without_content n
 
 -- a text that names no variable
 abbrev pub pick_words : Form → Option (List ℕ) → Look → Bool → Bool → Notes → Picked
 pick_words form words look quotes strip n =
     if is_plain form
-    then record (nothing n) { parts = node_of (plain_node look quotes strip None) (leaves_of (text_leaves words) None) }
+    then record (nothing n) {
+      parts = node_of (plain_node look quotes strip None)
+          (leaves_of (text_leaves words) None);
+    }
     else nothing n
 
 -- a term in its long form, or other words where no locale has it
@@ -141,7 +157,8 @@ words_for found t words = unwrap_or (found (term.Other t) TermForm.Long false) w
 -- a year, with the words for after Christ or before where it has them
 abbrev pub year_leaf : (Term → TermForm → Bool → Option (List ℕ)) → ℤ → LeafValue
 year_leaf found year =
-    text_leaf (year_text year false (words_for found OtherTerm.Ad (codes " AD")) (words_for found OtherTerm.Bc (codes " BC")))
+    text_leaf (year_text year false (words_for found OtherTerm.Ad (codes " AD"))
+    (words_for found OtherTerm.Bc (codes " BC")))
 
 -- whether the year of a date is written
 abbrev pub writes_year : Form → DateVariable → Notes → Bool
@@ -159,10 +176,14 @@ writes_suffix_alone _ = false
 abbrev pub date_leaves : Env → DateVariable → Option Date → Notes → List Part
 date_leaves env v None n = []
 date_leaves env v (Some d) n =
-    if writes_year env.form v n then leaves_of (Some (year_leaf env.term d.year)) (implicit_suffix env.explicit_suffix env.cite.state n)
-    else (if writes_suffix_alone env.form then leaves_of None (implicit_suffix env.explicit_suffix env.cite.state n) else [])
+    if writes_year env.form v n
+    then leaves_of (Some (year_leaf env.term d.year))
+    (implicit_suffix env.explicit_suffix env.cite.state n)
+    else (if writes_suffix_alone env.form
+    then leaves_of None (implicit_suffix env.explicit_suffix env.cite.state n) else [])
 
 abbrev pub pick_date : Env → DateVariable → Look → Bool → Bool → Notes → Picked
 pick_date env v look quotes strip n =
-    let ps = node_of (plain_node look quotes strip (Some meta.Date)) (date_leaves env v (env.answers.date v) n) in
+    let ps = node_of (plain_node look quotes strip (Some meta.Date))
+    (date_leaves env v (env.answers.date v) n) in
     record { parts = ps; called = called_with (gives ps); noted = dated (gives ps) n }

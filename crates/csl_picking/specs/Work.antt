@@ -49,7 +49,8 @@ Fits call (macro_step name depth before o) h = IsOpened call name depth before o
 -- where each is done in its turn
 abbrev pub AllFit : Env → List Macro → List StepValue → Held → Type 0
 AllFit env macros [] h = ⊤
-AllFit env macros (x ∷ xs) h = Fits (called_macro env macros) x (all_done env macros xs h) × AllFit env macros xs h
+AllFit env macros (x ∷ xs) h = Fits (called_macro env macros) x (all_done env macros xs h)
+    × AllFit env macros xs h
 
 -- an element that has none inside is picked at once
 abbrev pub plain_done : Env → Call → Element → Held → Held
@@ -60,9 +61,12 @@ plain_done env call e h = added (pick_with env call e h.noted) h
 
 -- any other by further steps
 abbrev pub inside_done : Env → List Macro → ℕ → Element → Held → Held
-inside_done env macros depth (text_element (macro_target name) quotes strip look) h = added (called_macro env macros depth name (plain_node look quotes strip None) h.noted) h
-inside_done env macros depth (group_element children delimiter look) h = added (picks env macros depth (group_element children delimiter look) h.noted) h
-inside_done env macros depth (choose_element branches) h = added (picks_first env macros depth branches h.noted) h
+inside_done env macros depth (text_element (macro_target name) quotes strip look) h =
+    added (called_macro env macros depth name (plain_node look quotes strip None) h.noted) h
+inside_done env macros depth (group_element children delimiter look) h =
+    added (picks env macros depth (group_element children delimiter look) h.noted) h
+inside_done env macros depth (choose_element branches) h =
+    added (picks_first env macros depth branches h.noted) h
 inside_done env macros depth e h = h
 
 -- how many steps there are at most, macros and all
@@ -72,7 +76,8 @@ body_weight all (Some elements) = 1 + all elements
 
 abbrev pub macro_weight : List Macro → ℕ → Name → ℕ
 macro_weight macros zero name = 0
-macro_weight macros (suc depth) name = body_weight (weight_all_with (macro_weight macros depth)) (body_of name macros)
+macro_weight macros (suc depth) name =
+    body_weight (weight_all_with (macro_weight macros depth)) (body_of name macros)
 
 abbrev pub weight : List Macro → ℕ → Element → ℕ
 weight macros depth = weight_with (macro_weight macros depth)

@@ -34,10 +34,7 @@ fn has_variable<T: EntryLike>(input: &Input<T>, variable: Variable) -> bool
 fn is_choose(state: &DisambiguateState) -> bool
     ensures { result ≡ is_choose state.now }
 {
-    match state {
-        DisambiguateState::Choose => true,
-        _ => false,
-    }
+    matches!(state, DisambiguateState::Choose)
 }
 
 // Whether the cite stands at a position.
@@ -71,7 +68,8 @@ pub fn passes<T: EntryLike>(
     rule: ChooseMatch,
     notes: &mut Notes,
 ) -> bool
-    ensures value { result ≡ passes (env_of (T.answers input.now.entry.now) input.now.setting) rule conditions.now.items }
+    ensures value { result ≡ passes
+        (env_of (T.answers input.now.entry.now) input.now.setting) rule conditions.now.items }
     ensures after { notes.new ≡ tested conditions.now.items notes.old }
 {
     let (mut some, mut all) = (false, true);

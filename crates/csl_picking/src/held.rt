@@ -91,9 +91,6 @@ impl Called {
     fn is_without_content(self) -> bool
         ensures { result ≡ is_without_content self }
     {
-        match self {
-            Called::Empty => true,
-            _ => false,
-        }
+        matches!(self, Called::Empty)
     }
 }

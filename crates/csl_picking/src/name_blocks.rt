@@ -35,7 +35,8 @@ fn first_present<'a, T: EntryLike>(
     notes: &Notes,
     substitute: &'a [NameVariable],
 ) -> Option<&'a NameVariable>
-    ensures { option_map (λ v. v.now) result ≡ find (is_present (T.answers entry.now) notes.now) substitute.now }
+    ensures { option_map (λ v. v.now) result
+        ≡ find (is_present (T.answers entry.now) notes.now) substitute.now }
 {
     for variable in substitute {
         if is_present(entry, notes, *variable) {
@@ -70,7 +71,8 @@ fn present<'a, T: EntryLike>(
     notes: &Notes,
     variables: &'a [NameVariable],
 ) -> Result<NameVariables<'a>, AllocError>
-    ensures { IfOk result (λ vs. variables_view vs ≡ filter (is_present (T.answers entry.now) notes.now) variables.now) }
+    ensures { IfOk result (λ vs. variables_view vs
+        ≡ filter (is_present (T.answers entry.now) notes.now) variables.now) }
 {
     if are_present(entry, notes, variables) {
         return Ok(NameVariables::Lent(variables));
@@ -98,8 +100,10 @@ pub(crate) fn blocks_of<'a, T: EntryLike>(
     variables: &'a [NameVariable],
     substitute: &'a [NameVariable],
 ) -> Result<Blocks<'a>, AllocError>
-    ensures variables { IfOk result (λ b. variables_view b.variables ≡ blocks (T.answers entry.now) notes.now variables.now substitute.now) }
-    ensures stand_in { IfOk result (λ b. b.stand_in ≡ stand_in (T.answers entry.now) notes.now variables.now substitute.now) }
+    ensures variables { IfOk result (λ b. variables_view b.variables
+        ≡ blocks (T.answers entry.now) notes.now variables.now substitute.now) }
+    ensures stand_in { IfOk result (λ b. b.stand_in
+        ≡ stand_in (T.answers entry.now) notes.now variables.now substitute.now) }
 {
     let variables = present(alloc, entry, notes, variables)?;
     if !variables.as_slice().is_empty() {
@@ -144,7 +148,8 @@ fn are_variable(only: Variable, blocks: &[NameVariable]) -> bool
 impl<'a> NameVariables<'a> {
     // Those that are this variable.
     fn only(self, alloc: Global, only: Variable) -> Result<NameVariables<'a>, AllocError>
-        ensures { IfOk result (λ vs. variables_view vs ≡ filter (is_variable only) (variables_view self.entry)) }
+        ensures { IfOk result (λ vs. variables_view vs
+            ≡ filter (is_variable only) (variables_view self.entry)) }
     {
         if are_variable(only, self.as_slice()) {
             return Ok(self);
@@ -166,7 +171,8 @@ pub(crate) fn written_blocks<'a>(
     author: NameVariable,
     blocks: NameVariables<'a>,
 ) -> Result<NameVariables<'a>, AllocError>
-    ensures { IfOk result (λ vs. variables_view vs ≡ written_blocks form author (variables_view blocks.entry)) }
+    ensures { IfOk result (λ vs. variables_view vs
+        ≡ written_blocks form author (variables_view blocks.entry)) }
 {
     match form {
         Form::Full => Ok(blocks),

@@ -50,7 +50,8 @@ fn last_joint<'a>(
     rules: &NameRules<'a>,
     count: usize,
 ) -> Result<Leaf<'a>, AllocError>
-    ensures { IfOk result (λ leaf. leaf_view leaf ≡ text_leaf (last_joint (term_for setting.now) (rules_view rules.now) count)) }
+    ensures { IfOk result (λ leaf. leaf_view leaf
+        ≡ text_leaf (last_joint (term_for setting.now) (rules_view rules.now) count)) }
 {
     let and = match rules.and {
         None => return Ok(Leaf::Text(rules.name_delimiter)),
@@ -70,7 +71,8 @@ fn last_joint<'a>(
 
 // Adds a leaf.
 fn push_leaf<'a>(leaf: Leaf<'a>, pieces: &mut Vec<Piece<'a>>) -> Result<(), AllocError>
-    ensures { OnOk result (tokens_of pieces.new.items ≡ tokens_of pieces.old.items ++ leaf_token (leaf_view leaf.entry) ∷ []) }
+    ensures { OnOk result (tokens_of pieces.new.items
+        ≡ tokens_of pieces.old.items ++ leaf_token (leaf_view leaf.entry) ∷ []) }
 {
     pieces.push(Piece::Leaf(leaf))?;
     Ok(())
@@ -83,7 +85,8 @@ fn push_name<'a>(
     leaf: Leaf<'a>,
     pieces: &mut Vec<Piece<'a>>,
 ) -> Result<(), AllocError>
-    ensures { OnOk result (tokens_of pieces.new.items ≡ tokens_of pieces.old.items ++ part_tokens (name_part variable (place, leaf_view leaf.entry))) }
+    ensures { OnOk result (tokens_of pieces.new.items
+        ≡ tokens_of pieces.old.items ++ part_tokens (name_part variable (place, leaf_view leaf.entry))) }
 {
     pieces.push(Piece::Open(Node {
         affixes: None,
@@ -118,7 +121,8 @@ fn last_words<'a>(
     is_cut: bool,
     count: usize,
 ) -> Result<Leaf<'a>, AllocError>
-    ensures { IfOk result (λ leaf. leaf_view leaf ≡ text_leaf (last_words (term_for setting.now) (rules_view rules.now) is_cut count)) }
+    ensures { IfOk result (λ leaf. leaf_view leaf
+        ≡ text_leaf (last_words (term_for setting.now) (rules_view rules.now) is_cut count)) }
 {
     if is_cut {
         return Ok(Leaf::Text(rules.name_delimiter));
@@ -140,7 +144,8 @@ fn push_last_name<'a>(
     ensures { let r = rules_view rules.now in
         OnOk result (tokens_of pieces.new.items
         ≡ tokens_of pieces.old.items
-        ++ tokens (name_behind (text_leaf (last_words (term_for setting.now) r is_cut (count + 1))) count (name_part block.entry.variable (name_view name.entry)))) }
+        ++ tokens (name_behind (text_leaf (last_words (term_for setting.now) r is_cut (count + 1))) count
+        (name_part block.entry.variable (name_view name.entry)))) }
 {
     let (place, leaf) = name;
     if count == 0 {
@@ -161,7 +166,8 @@ fn push_inner_name<'a>(
 ) -> Result<(), AllocError>
     ensures { OnOk result (tokens_of pieces.new.items
         ≡ tokens_of pieces.old.items
-        ++ tokens (name_behind (text_leaf (rules_view rules.now).name_delimiter) count (name_part block.entry.variable (name_view name.entry)))) }
+        ++ tokens (name_behind (text_leaf (rules_view rules.now).name_delimiter) count
+        (name_part block.entry.variable (name_view name.entry)))) }
 {
     let (place, leaf) = name;
     if count == 0 {
@@ -182,7 +188,8 @@ fn push_waiting<'a>(
     requires fits { count + length (option_to_list waiting) < 2 ^ 64 }
     ensures pieces { OnOk result (tokens_of pieces.new.items
         ≡ tokens_of pieces.old.items
-        ++ tokens (waiting_parts (text_leaf (rules_view rules.now).name_delimiter) count (option_map (λ name. name_part block.entry.variable (name_view name)) waiting.entry))) }
+        ++ tokens (waiting_parts (text_leaf (rules_view rules.now).name_delimiter) count
+        (option_map (λ name. name_part block.entry.variable (name_view name)) waiting.entry))) }
     ensures count { IfOk result (λ added. added ≡ count + length (option_to_list waiting.entry)) }
 {
     match waiting {
@@ -207,8 +214,12 @@ fn push_names<'a>(
     ensures pieces { let r = rules_view rules.now in
         let names = written_names r.initial_end block.entry.forms.now block.entry.persons.now in
         OnOk result (tokens_of pieces.new.items
-        ≡ tokens_of pieces.old.items ++ tokens (joined_parts r.name_delimiter (last_words (term_for setting.now) r is_cut (length names)) (map (name_part block.entry.variable) names))) }
-    ensures given { IfOk result (λ b. b ≡ gives (map (name_part block.entry.variable) (written_names (rules_view rules.now).initial_end block.entry.forms.now block.entry.persons.now))) }
+        ≡ tokens_of pieces.old.items
+        ++ tokens (joined_parts r.name_delimiter (last_words (term_for setting.now) r is_cut (length names))
+        (map (name_part block.entry.variable) names))) }
+    ensures given { IfOk result (λ b. b
+        ≡ gives (map (name_part block.entry.variable)
+        (written_names (rules_view rules.now).initial_end block.entry.forms.now block.entry.persons.now))) }
 {
     let alloc = *pieces.allocator();
     let (mut count, mut waiting) = (0, None);
@@ -238,8 +249,12 @@ pub(crate) fn push_block<'a>(
     requires { length block.forms.now ≡ length block.persons.now }
     ensures pieces { OnOk result (tokens_of pieces.new.items
         ≡ tokens_of pieces.old.items
-        ++ tokens (preceded (option_map (λ t. t.now) before.entry) (block_parts (term_for setting.now) (rules_view rules.now) block.entry.variable block.entry.forms.now block.entry.persons.now))) }
-    ensures given { IfOk result (λ b. b ≡ gives (block_parts (term_for setting.now) (rules_view rules.now) block.entry.variable block.entry.forms.now block.entry.persons.now)) }
+        ++ tokens (preceded (option_map (λ t. t.now) before.entry)
+        (block_parts (term_for setting.now)
+        (rules_view rules.now) block.entry.variable block.entry.forms.now block.entry.persons.now))) }
+    ensures given { IfOk result (λ b. b
+        ≡ gives (block_parts (term_for setting.now)
+        (rules_view rules.now) block.entry.variable block.entry.forms.now block.entry.persons.now)) }
 {
     let start = pieces.len();
     let is_cut = are_cut(block.forms);
@@ -257,10 +272,7 @@ pub(crate) fn push_block<'a>(
 fn is_count(form: DisambiguatedNameForm) -> bool
     ensures { result ≡ is_count form }
 {
-    match form {
-        DisambiguatedNameForm::Count => true,
-        _ => false,
-    }
+    matches!(form, DisambiguatedNameForm::Count)
 }
 
 // Whether some names only count.
@@ -272,7 +284,8 @@ fn are_cut(forms: &[DisambiguatedNameForm]) -> bool
 
 // Adds a text before a block, if there is one.
 fn push_before<'a>(before: Option<&'a str>, pieces: &mut Vec<Piece<'a>>) -> Result<(), AllocError>
-    ensures { OnOk result (tokens_of pieces.new.items ≡ tokens_of pieces.old.items ++ tokens (before_parts (option_map (λ t. t.now) before.entry))) }
+    ensures { OnOk result (tokens_of pieces.new.items
+        ≡ tokens_of pieces.old.items ++ tokens (before_parts (option_map (λ t. t.now) before.entry))) }
 {
     match before {
         Some(words) => push_leaf(Leaf::Text(words), pieces),
@@ -286,7 +299,8 @@ fn push_et_al<'a>(
     is_cut: bool,
     pieces: &mut Vec<Piece<'a>>,
 ) -> Result<(), AllocError>
-    ensures { OnOk result (tokens_of pieces.new.items ≡ tokens_of pieces.old.items ++ tokens (et_al_parts (term_for setting.now) is_cut)) }
+    ensures { OnOk result (tokens_of pieces.new.items
+        ≡ tokens_of pieces.old.items ++ tokens (et_al_parts (term_for setting.now) is_cut)) }
 {
     if !is_cut {
         return Ok(());

@@ -36,7 +36,8 @@ fn option_text<'a>(
     layout: &'a Option<String>,
     style: &'a Option<String>,
 ) -> Option<&'a str>
-    ensures { option_map (λ t. t.now) result ≡ option_or (text_view own.now) (option_or (text_view layout.now) (text_view style.now)) }
+    ensures { option_map (λ t. t.now) result
+        ≡ option_or (text_view own.now) (option_or (text_view layout.now) (text_view style.now)) }
 {
     match (own, layout, style) {
         (Some(text), _, _) => Some(text.as_str()),
@@ -66,7 +67,8 @@ impl<'a> NameRules<'a> {
         style: &'a InheritableNameOptions,
     ) -> NameRules<'a>
         ensures { rules_view result
-            ≡ rules_of (applied_options (applied_options (options_view style.now) (options_view layout.now)) (options_view own.now)) }
+            ≡ rules_of (applied_options (applied_options (options_view style.now) (options_view layout.now))
+            (options_view own.now)) }
     {
         let initial_end = option_text(
             &own.initialize_with,

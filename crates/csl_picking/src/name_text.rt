@@ -32,7 +32,8 @@ fn push_initial(initials: &mut Text, initial: char, end: &str) -> Result<(), All
 
 // The initials of a given name, each with this text behind it.
 fn ended_initials(alloc: Global, given: &str, end: &str) -> Result<Text, AllocError>
-    ensures { IfOk result (λ text. text ≡ flat_map (λ c. encode_utf8 c ++ end.now) (initials (chars given.now))) }
+    ensures { IfOk result (λ text. text
+        ≡ flat_map (λ c. encode_utf8 c ++ end.now) (initials (chars given.now))) }
 {
     let (mut initials, mut part_begins) = (Text::copied(alloc, "")?, true);
     for c in given.chars() {
@@ -52,7 +53,8 @@ fn whole_leaf<'a>(
     given: &str,
     family: &'a str,
 ) -> Result<Option<Leaf<'a>>, AllocError>
-    ensures { IfOk result (λ leaf. option_map leaf_view leaf ≡ text_leaves (Some (whole_name given.now family.now))) }
+    ensures { IfOk result (λ leaf. option_map leaf_view leaf
+        ≡ text_leaves (Some (whole_name given.now family.now))) }
 {
     if given.is_empty() {
         return Ok(text_leaf(Some(family)));
@@ -74,7 +76,8 @@ fn initialed_leaf<'a>(
     end: &str,
     family: &'a str,
 ) -> Result<Option<Leaf<'a>>, AllocError>
-    ensures { IfOk result (λ leaf. option_map leaf_view leaf ≡ text_leaves (Some (whole_name (ended_initials end.now (Some given.now)) family.now))) }
+    ensures { IfOk result (λ leaf. option_map leaf_view leaf
+        ≡ text_leaves (Some (whole_name (ended_initials end.now (Some given.now)) family.now))) }
 {
     let initials = ended_initials(alloc, given, end)?;
     whole_leaf(alloc, initials.as_str().trim_end(), family)

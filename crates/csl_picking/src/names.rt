@@ -51,8 +51,13 @@ fn push_plain_block<'a, T: EntryLike>(
     pieces: &mut Vec<Piece<'a>>,
 ) -> Result<bool, AllocError>
     ensures pieces { let env = env_of (T.answers input.now.entry.now) input.now.setting in
-        OnOk result (tokens_of pieces.new.items ≡ tokens_of pieces.old.items ++ tokens (preceded (option_map (λ t. t.now) before.entry) (plain_block env (rules_view rules.now) variable))) }
-    ensures given { IfOk result (λ b. b ≡ gives (plain_block (env_of (T.answers input.now.entry.now) input.now.setting) (rules_view rules.now) variable)) }
+        OnOk result (tokens_of pieces.new.items
+        ≡ tokens_of pieces.old.items
+        ++ tokens (preceded (option_map (λ t. t.now) before.entry)
+        (plain_block env (rules_view rules.now) variable))) }
+    ensures given { IfOk result (λ b. b
+        ≡ gives (plain_block (env_of (T.answers input.now.entry.now) input.now.setting)
+        (rules_view rules.now) variable)) }
 {
     let persons = input.entry.resolve_name_variable(variable);
     let forms = rules.forms(*pieces.allocator(), persons.len())?;
@@ -66,7 +71,8 @@ fn push_plain_block<'a, T: EntryLike>(
 
 // What stands before a block, where another one may have given something.
 fn delimiter_behind<'a>(rules: &NameRules<'a>, is_behind: bool) -> Option<&'a str>
-    ensures { option_map (λ t. t.now) result ≡ (if is_behind then Some (rules_view rules.now).names_delimiter else None) }
+    ensures { option_map (λ t. t.now) result
+        ≡ (if is_behind then Some (rules_view rules.now).names_delimiter else None) }
 {
     if is_behind {
         Some(rules.names_delimiter)
@@ -85,10 +91,13 @@ fn push_others<'a, T: EntryLike>(
 ) -> Result<bool, AllocError>
     ensures pieces { let r = rules_view rules.now in
         let env = env_of (T.answers input.now.entry.now) input.now.setting in
-        OnOk result (tokens_of pieces.new.items ≡ tokens_of pieces.old.items ++ tokens (blocks_after r.names_delimiter is_behind (map (plain_block env r) others.now))) }
+        OnOk result (tokens_of pieces.new.items
+        ≡ tokens_of pieces.old.items
+        ++ tokens (blocks_after r.names_delimiter is_behind (map (plain_block env r) others.now))) }
     ensures given { let r = rules_view rules.now in
         let env = env_of (T.answers input.now.entry.now) input.now.setting in
-        IfOk result (λ b. b ≡ (is_behind || gives (blocks_after r.names_delimiter is_behind (map (plain_block env r) others.now)))) }
+        IfOk result (λ b. b ≡ (is_behind
+        || gives (blocks_after r.names_delimiter is_behind (map (plain_block env r) others.now)))) }
 {
     for variable in others {
         let before = delimiter_behind(rules, is_behind);
@@ -157,9 +166,15 @@ fn push_first_block<'a, T: EntryLike>(
     picking: &mut Picking<'a>,
 ) -> Result<bool, AllocError>
     ensures pieces { let env = env_of (T.answers input.now.entry.now) input.now.setting in
-        OnOk result (tokens_of picking.new.pieces.items ≡ tokens_of picking.old.pieces.items ++ tokens (preceded None (first_block env (rules_view rules.now) picking.old.notes variable))) }
-    ensures given { IfOk result (λ b. b ≡ gives (first_block (env_of (T.answers input.now.entry.now) input.now.setting) (rules_view rules.now) picking.old.notes variable)) }
-    ensures noted { OnOk result (picking.new.notes ≡ noted_forms (T.answers input.now.entry.now) (rules_view rules.now) (variable ∷ []) picking.old.notes) }
+        OnOk result (tokens_of picking.new.pieces.items
+        ≡ tokens_of picking.old.pieces.items
+        ++ tokens (preceded None (first_block env (rules_view rules.now) picking.old.notes variable))) }
+    ensures given { IfOk result (λ b. b
+        ≡ gives (first_block (env_of (T.answers input.now.entry.now) input.now.setting)
+        (rules_view rules.now) picking.old.notes variable)) }
+    ensures noted { OnOk result (picking.new.notes
+        ≡ noted_forms (T.answers input.now.entry.now) (rules_view rules.now)
+        (variable ∷ []) picking.old.notes) }
     ensures called { picking.new.called ≡ picking.old.called }
 {
     let alloc = *picking.pieces.allocator();
@@ -185,9 +200,14 @@ fn push_blocks<'a, T: EntryLike>(
     picking: &mut Picking<'a>,
 ) -> Result<bool, AllocError>
     ensures pieces { let env = env_of (T.answers input.now.entry.now) input.now.setting in
-        OnOk result (tokens_of picking.new.pieces.items ≡ tokens_of picking.old.pieces.items ++ tokens (blocks_parts env (rules_view rules.now) picking.old.notes blocks.now)) }
-    ensures given { IfOk result (λ b. b ≡ gives (blocks_parts (env_of (T.answers input.now.entry.now) input.now.setting) (rules_view rules.now) picking.old.notes blocks.now)) }
-    ensures noted { OnOk result (picking.new.notes ≡ noted_forms (T.answers input.now.entry.now) (rules_view rules.now) blocks.now picking.old.notes) }
+        OnOk result (tokens_of picking.new.pieces.items
+        ≡ tokens_of picking.old.pieces.items
+        ++ tokens (blocks_parts env (rules_view rules.now) picking.old.notes blocks.now)) }
+    ensures given { IfOk result (λ b. b
+        ≡ gives (blocks_parts (env_of (T.answers input.now.entry.now) input.now.setting)
+        (rules_view rules.now) picking.old.notes blocks.now)) }
+    ensures noted { OnOk result (picking.new.notes
+        ≡ noted_forms (T.answers input.now.entry.now) (rules_view rules.now) blocks.now picking.old.notes) }
     ensures called { OnOk result (picking.new.called ≡ picking.old.called) }
 {
     let (first, others) = match blocks.split_first() {
@@ -231,7 +251,8 @@ fn names_node<'a>(shape: Shape<'a>, meta: ElemMeta) -> Node<'a>
 
 // Opens a node.
 fn push_opening<'a>(node: Node<'a>, pieces: &mut Vec<Piece<'a>>) -> Result<(), AllocError>
-    ensures { OnOk result (tokens_of pieces.new.items ≡ tokens_of pieces.old.items ++ opening (node_view node.entry) ∷ []) }
+    ensures { OnOk result (tokens_of pieces.new.items
+        ≡ tokens_of pieces.old.items ++ opening (node_view node.entry) ∷ []) }
 {
     pieces.push(Piece::Open(node))?;
     Ok(())
@@ -239,7 +260,9 @@ fn push_opening<'a>(node: Node<'a>, pieces: &mut Vec<Piece<'a>>) -> Result<(), A
 
 // Closes the node that stands at this place, or takes it out where nothing stands in it.
 fn close_node(pieces: &mut Vec<Piece>, start: usize, given: bool) -> Result<(), AllocError>
-    ensures { OnOk result (tokens_of pieces.new.items ≡ (if given then tokens_of pieces.old.items ++ closing ∷ [] else take start (tokens_of pieces.old.items))) }
+    ensures { OnOk result (tokens_of pieces.new.items
+        ≡ (if given then tokens_of pieces.old.items ++ closing ∷ []
+        else take start (tokens_of pieces.old.items))) }
 {
     if given {
         pieces.push(Piece::Close)?;
@@ -259,7 +282,9 @@ pub(crate) fn pick_names<'a, T: EntryLike>(
     picking: &mut Picking<'a>,
 ) -> Result<(), AllocError>
     ensures { let env = env_of (T.answers input.now.entry.now) input.now.setting in
-        OnOk result (held picking.new ≡ added (pick_names env variables.now.items substitute.now.items (options_view options.now) (shape_look shape.entry) picking.old.notes) (held picking.old)) }
+        OnOk result (held picking.new
+        ≡ added (pick_names env variables.now.items substitute.now.items (options_view options.now)
+        (shape_look shape.entry) picking.old.notes) (held picking.old)) }
 {
     let alloc = *picking.pieces.allocator();
     let chosen = blocks_of(alloc, input.entry, &picking.notes, variables, substitute)?;

@@ -39,10 +39,7 @@ fn group_node<'a>(
 ) -> Node<'a>
     ensures { node_view result ≡ group_node (look affixes.now formatting display) (text_view delimiter.now) }
 {
-    let delimiter = match delimiter {
-        Some(text) => Some(text.as_str()),
-        None => None,
-    };
+    let delimiter = delimiter.as_deref();
     Node {
         affixes: Some(affixes),
         formatting,
@@ -98,7 +95,8 @@ fn pick_plain<'a, T: EntryLike>(
     picking: &mut Picking<'a>,
 ) -> Result<(), AllocError>
     ensures { let env = env_of (T.answers input.now.entry.now) input.now.setting in
-        OnOk result ((call : Call) → held picking.new ≡ plain_done env call (element_view element.now) (held picking.old)) }
+        OnOk result ((call : Call)
+        → held picking.new ≡ plain_done env call (element_view element.now) (held picking.old)) }
 {
     match element {
         LayoutRenderingElement::Text {
@@ -161,7 +159,8 @@ fn pick_text<'a, T: EntryLike>(
     picking: &mut Picking<'a>,
 ) -> Result<(), AllocError>
     ensures { let env = env_of (T.answers input.now.entry.now) input.now.setting in
-        let element = text_element (target_view target.now) shape.entry.quotes shape.entry.strip_periods (shape_look shape.entry) in
+        let element = text_element (target_view target.now) shape.entry.quotes shape.entry.strip_periods
+        (shape_look shape.entry) in
         OnOk result ((call : Call) → held picking.new ≡ plain_done env call element (held picking.old)) }
 {
     match target {
@@ -186,10 +185,13 @@ fn chosen_children<'a, T: EntryLike>(
     otherwise: &'a Vec<LayoutRenderingElement>,
     notes: &mut Notes,
 ) -> &'a Vec<LayoutRenderingElement>
-    ensures chosen { let env = env_of (T.answers input.now.entry.now) input.now.setting in
-        (call : Call) → pick_first_with env call (branches_view branches.now.items otherwise.now.items) notes.old ≡ pick_all_with env call (elements_view result.now.items) notes.new }
+    ensures chosen { let env = env_of (T.answers input.now.entry.now) input.now.setting in (call : Call)
+        → pick_first_with env call (branches_view branches.now.items otherwise.now.items) notes.old
+        ≡ pick_all_with env call (elements_view result.now.items) notes.new }
     ensures keeps { Keeps notes.old notes.new }
-    ensures lighter { (call : Name → ℕ) → weight_all_with call (elements_view result.now.items) < weight_branches_with call (branches_view branches.now.items otherwise.now.items) }
+    ensures lighter { (call : Name → ℕ)
+        → weight_all_with call (elements_view result.now.items)
+        < weight_branches_with call (branches_view branches.now.items otherwise.now.items) }
 {
     for branch in branches {
         if passes(input, &branch.conditions, branch.rule, notes) {
@@ -208,18 +210,22 @@ fn step_inside<'a, T: EntryLike>(
     quiet: &QuietMacros<'a>,
     picking: &mut Picking<'a>,
 ) -> Result<(), AllocError>
-    requires { IsQuiet (called_macro (env_of (T.answers input.now.entry.now) input.now.setting) (macros_of input.now.setting)) quiet.now picking.old.notes }
+    requires { IsQuiet (called_macro (env_of (T.answers input.now.entry.now) input.now.setting)
+        (macros_of input.now.setting)) quiet.now picking.old.notes }
     ensures done { let env = env_of (T.answers input.now.entry.now) input.now.setting in
         let ms = macros_of input.now.setting in
         OnOk result (all_done env ms (steps_view steps.new.items) (held picking.new)
-        ≡ all_done env ms (steps_view steps.old.items) (inside_done env ms depth (element_view element.now) (held picking.old))) }
+        ≡ all_done env ms (steps_view steps.old.items)
+        (inside_done env ms depth (element_view element.now) (held picking.old))) }
     ensures fit { let env = env_of (T.answers input.now.entry.now) input.now.setting in
         let ms = macros_of input.now.setting in
-        OnOk result (AllFit env ms (steps_view steps.old.items) (inside_done env ms depth (element_view element.now) (held picking.old))
+        OnOk result (AllFit env ms (steps_view steps.old.items)
+        (inside_done env ms depth (element_view element.now) (held picking.old))
         → AllFit env ms (steps_view steps.new.items) (held picking.new)) }
     ensures keeps { OnOk result (Keeps picking.old.notes picking.new.notes) }
     ensures falls { let ms = macros_of input.now.setting in
-        OnOk result (work ms (steps_view steps.new.items) < work ms (steps_view steps.old.items) + 2 * weight ms depth (element_view element.now)) }
+        OnOk result (work ms (steps_view steps.new.items)
+        < work ms (steps_view steps.old.items) + 2 * weight ms depth (element_view element.now)) }
 {
     match element {
         LayoutRenderingElement::Text {
@@ -274,20 +280,24 @@ fn step_macro<'a, T: EntryLike>(
     quiet: &QuietMacros<'a>,
     picking: &mut Picking<'a>,
 ) -> Result<(), AllocError>
-    requires { IsQuiet (called_macro (env_of (T.answers input.now.entry.now) input.now.setting) (macros_of input.now.setting)) quiet.now picking.old.notes }
+    requires { IsQuiet (called_macro (env_of (T.answers input.now.entry.now) input.now.setting)
+        (macros_of input.now.setting)) quiet.now picking.old.notes }
     ensures done { let env = env_of (T.answers input.now.entry.now) input.now.setting in
         let ms = macros_of input.now.setting in
         let node = plain_node (shape_look shape.entry) shape.entry.quotes shape.entry.strip_periods None in
         OnOk result (all_done env ms (steps_view steps.new.items) (held picking.new)
-        ≡ all_done env ms (steps_view steps.old.items) (added (called_macro env ms depth name.now node (held picking.old).noted) (held picking.old))) }
+        ≡ all_done env ms (steps_view steps.old.items)
+        (added (called_macro env ms depth name.now node (held picking.old).noted) (held picking.old))) }
     ensures fit { let env = env_of (T.answers input.now.entry.now) input.now.setting in
         let ms = macros_of input.now.setting in
         let node = plain_node (shape_look shape.entry) shape.entry.quotes shape.entry.strip_periods None in
-        OnOk result (AllFit env ms (steps_view steps.old.items) (added (called_macro env ms depth name.now node (held picking.old).noted) (held picking.old))
+        OnOk result (AllFit env ms (steps_view steps.old.items)
+        (added (called_macro env ms depth name.now node (held picking.old).noted) (held picking.old))
         → AllFit env ms (steps_view steps.new.items) (held picking.new)) }
     ensures same { OnOk result (picking.new.notes ≡ picking.old.notes) }
     ensures falls { let ms = macros_of input.now.setting in
-        OnOk result (work ms (steps_view steps.new.items) < work ms (steps_view steps.old.items) + 2 * (1 + macro_weight ms depth name.now)) }
+        OnOk result (work ms (steps_view steps.new.items)
+        < work ms (steps_view steps.old.items) + 2 * (1 + macro_weight ms depth name.now)) }
 {
     if depth == 0 {
         return Ok(());
@@ -320,8 +330,10 @@ fn remember<'a>(
     quiet: &mut QuietMacros<'a>,
     picking: &Picking<'a>,
 ) -> Result<(), AllocError>
-    ensures { OnOk result ((calls : ℕ → Call) → IsOpened calls call.entry.name.now call.entry.depth call.entry.seen call.entry.opened (held picking.now)
-        → IsQuiet calls quiet.old picking.now.notes → IsQuiet calls quiet.new picking.now.notes) }
+    ensures { OnOk result ((calls : ℕ → Call)
+        → IsOpened calls call.entry.name.now call.entry.depth call.entry.seen call.entry.opened
+        (held picking.now) → IsQuiet calls quiet.old picking.now.notes
+        → IsQuiet calls quiet.new picking.now.notes) }
 {
     if !picking.is_empty_node(call.opened) || !call.seen.is_of(&picking.notes) {
         return Ok(());
@@ -337,8 +349,10 @@ fn close_macro<'a>(
     picking: &mut Picking<'a>,
 ) -> Result<(), AllocError>
     ensures done { OnOk result (held picking.new ≡ macro_closed call.entry.opened (held picking.old)) }
-    ensures quiet { OnOk result ((calls : ℕ → Call) → IsOpened calls call.entry.name.now call.entry.depth call.entry.seen call.entry.opened (held picking.old)
-        → IsQuiet calls quiet.old picking.old.notes → IsQuiet calls quiet.new picking.new.notes) }
+    ensures quiet { OnOk result ((calls : ℕ → Call)
+        → IsOpened calls call.entry.name.now call.entry.depth call.entry.seen call.entry.opened
+        (held picking.old) → IsQuiet calls quiet.old picking.old.notes
+        → IsQuiet calls quiet.new picking.new.notes) }
 {
     remember(call, quiet, picking)?;
     picking.close_macro(call.opened)?;
@@ -353,19 +367,26 @@ fn take_step<'a, T: EntryLike>(
     quiet: &mut QuietMacros<'a>,
     picking: &mut Picking<'a>,
 ) -> Result<(), AllocError>
-    requires quiet { IsQuiet (called_macro (env_of (T.answers input.now.entry.now) input.now.setting) (macros_of input.now.setting)) quiet.old picking.old.notes }
-    requires fits { Fits (called_macro (env_of (T.answers input.now.entry.now) input.now.setting) (macros_of input.now.setting)) (step_view step) (held picking.old) }
+    requires quiet { IsQuiet (called_macro (env_of (T.answers input.now.entry.now) input.now.setting)
+        (macros_of input.now.setting)) quiet.old picking.old.notes }
+    requires fits { Fits (called_macro (env_of (T.answers input.now.entry.now) input.now.setting)
+        (macros_of input.now.setting)) (step_view step) (held picking.old) }
     ensures done { let env = env_of (T.answers input.now.entry.now) input.now.setting in
         let ms = macros_of input.now.setting in
         OnOk result (all_done env ms (steps_view steps.new.items) (held picking.new)
-        ≡ all_done env ms (steps_view steps.old.items) (done env ms (step_view step.entry) (held picking.old))) }
+        ≡ all_done env ms (steps_view steps.old.items)
+        (done env ms (step_view step.entry) (held picking.old))) }
     ensures fit { let env = env_of (T.answers input.now.entry.now) input.now.setting in
         let ms = macros_of input.now.setting in
-        OnOk result (AllFit env ms (steps_view steps.old.items) (done env ms (step_view step.entry) (held picking.old))
+        OnOk result (AllFit env ms (steps_view steps.old.items)
+        (done env ms (step_view step.entry) (held picking.old))
         → AllFit env ms (steps_view steps.new.items) (held picking.new)) }
-    ensures quiet { OnOk result (IsQuiet (called_macro (env_of (T.answers input.now.entry.now) input.now.setting) (macros_of input.now.setting)) quiet.new picking.new.notes) }
+    ensures quiet { OnOk result
+        (IsQuiet (called_macro (env_of (T.answers input.now.entry.now) input.now.setting)
+        (macros_of input.now.setting)) quiet.new picking.new.notes) }
     ensures falls { let ms = macros_of input.now.setting in
-        OnOk result (work ms (steps_view steps.new.items) < work ms (steps_view steps.old.items) + step_work ms (step_view step.entry)) }
+        OnOk result (work ms (steps_view steps.new.items) < work ms (steps_view steps.old.items)
+        + step_work ms (step_view step.entry)) }
 {
     match step {
         Step::Elements(elements, depth) => {
@@ -400,7 +421,9 @@ pub fn pick_layout<'a, T: EntryLike>(
     picking: &mut Picking<'a>,
 ) -> Result<(), AllocError>
     ensures { let env = env_of (T.answers input.now.entry.now) input.now.setting in
-        OnOk result (held picking.new ≡ added (pick_layout env (macros_of input.now.setting) (elements_view elements.now.items) (held picking.old).noted) (held picking.old)) }
+        OnOk result (held picking.new
+        ≡ added (pick_layout env (macros_of input.now.setting) (elements_view elements.now.items)
+        (held picking.old).noted) (held picking.old)) }
 {
     let depth = input.setting.context.style.macros.len();
     let alloc = *picking.pieces.allocator();

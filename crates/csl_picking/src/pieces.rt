@@ -66,7 +66,8 @@ pub(crate) struct Shape<'a> {
 impl<'a> Shape<'a> {
     /// A node of this shape, without a delimiter.
     pub(crate) fn node(self, meta: Option<ElemMeta>) -> Node<'a>
-        ensures { node_view result ≡ plain_node (shape_look self.entry) self.entry.quotes self.entry.strip_periods meta }
+        ensures { node_view result
+            ≡ plain_node (shape_look self.entry) self.entry.quotes self.entry.strip_periods meta }
     {
         Node {
             affixes: Some(self.affixes),
@@ -88,7 +89,9 @@ pub(crate) fn add_node<'a>(
     leaf: Option<Leaf<'a>>,
     suffix: Option<usize>,
 ) -> Result<bool, AllocError>
-    ensures pieces { OnOk result (tokens_of pieces.new.items ≡ tokens_of pieces.old.items ++ tokens (node_of (node_view node.entry) (leaves_of (option_map leaf_view leaf.entry) suffix))) }
+    ensures pieces { OnOk result (tokens_of pieces.new.items
+        ≡ tokens_of pieces.old.items
+        ++ tokens (node_of (node_view node.entry) (leaves_of (option_map leaf_view leaf.entry) suffix))) }
     ensures given { IfOk result (λ b. b ≡ gives (leaves_of (option_map leaf_view leaf.entry) suffix)) }
 {
     if leaf.is_none() && suffix.is_none() {

@@ -61,7 +61,8 @@ impl<'a> QuietMacros<'a> {
 
     /// What the call of a macro counts as which is known to give nothing.
     pub(crate) fn called(&self, name: &'a str, depth: usize, notes: &Notes) -> Option<Called>
-        ensures { IfSome result (λ c. (call : ℕ → Call) → IsQuiet call self.now notes.now → GivesNothing (call depth name.now) c notes.now) }
+        ensures { IfSome result (λ c. (call : ℕ → Call) → IsQuiet call self.now notes.now
+            → GivesNothing (call depth name.now) c notes.now) }
     {
         if self.macros.is_empty() || !self.at.is_of(notes) {
             return None;
@@ -71,7 +72,8 @@ impl<'a> QuietMacros<'a> {
 
     // Those of before are left out where more is noted now.
     fn renew(&mut self, notes: &Notes)
-        ensures quiet { (call : ℕ → Call) → IsQuiet call self.old notes.now → IsQuiet call self.new notes.now }
+        ensures quiet { (call : ℕ → Call) → IsQuiet call self.old notes.now
+            → IsQuiet call self.new notes.now }
         ensures at { self.new.at ≡ seen notes.now }
     {
         if !self.at.is_of(notes) {
@@ -88,7 +90,8 @@ impl<'a> QuietMacros<'a> {
         called: Called,
         notes: &Notes,
     ) -> Result<(), AllocError>
-        ensures { OnOk result ((call : ℕ → Call) → IsQuiet call self.old notes.now → GivesNothing (call depth name.now) called notes.now → IsQuiet call self.new notes.now) }
+        ensures { OnOk result ((call : ℕ → Call) → IsQuiet call self.old notes.now
+            → GivesNothing (call depth name.now) called notes.now → IsQuiet call self.new notes.now) }
     {
         self.renew(notes);
         self.macros.insert((name, depth), called)?;

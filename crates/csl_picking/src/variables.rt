@@ -27,11 +27,7 @@ impl Form {
     fn is_plain(self) -> bool
         ensures { result ≡ is_plain self }
     {
-        match self {
-            Form::Full => true,
-            Form::SuppressAuthor => true,
-            _ => false,
-        }
+        matches!(self, Form::Full | Form::SuppressAuthor)
     }
 
     // Whether texts and numbers of this variable are written.
@@ -66,10 +62,7 @@ impl Form {
     fn writes_suffix_alone(self) -> bool
         ensures { result ≡ writes_suffix_alone self }
     {
-        match self {
-            Form::OnlyYearSuffix => true,
-            _ => false,
-        }
+        matches!(self, Form::OnlyYearSuffix)
     }
 }
 
@@ -77,11 +70,10 @@ impl Form {
 fn is_kept(variable: Variable) -> bool
     ensures { result ≡ is_kept variable }
 {
-    match variable {
-        Variable::Standard(StandardVariable::YearSuffix) => true,
-        Variable::Number(NumberVariable::Locator) => true,
-        _ => false,
-    }
+    matches!(
+        variable,
+        Variable::Standard(StandardVariable::YearSuffix) | Variable::Number(NumberVariable::Locator)
+    )
 }
 
 // Whether some character is not white space.
@@ -155,7 +147,8 @@ fn locator_leaf<'a>(setting: &Setting<'a>) -> Option<Leaf<'a>>
 
 // What a variable's text or number gives.
 fn variable_leaf<'a, T: EntryLike>(input: &Input<'a, T>, variable: Variable) -> Option<Leaf<'a>>
-    ensures { option_map leaf_view result ≡ variable_leaf (env_of (T.answers input.now.entry.now) input.now.setting) variable }
+    ensures { option_map leaf_view result
+        ≡ variable_leaf (env_of (T.answers input.now.entry.now) input.now.setting) variable }
 {
     let (entry, setting) = (input.entry, &input.setting);
     match variable {
@@ -164,10 +157,8 @@ fn variable_leaf<'a, T: EntryLike>(input: &Input<'a, T>, variable: Variable) -> 
             None => None,
         },
         Variable::Standard(StandardVariable::Url) => {
-            match entry.resolve_standard_variable(StandardVariable::Url) {
-                Some(url) => Some(Leaf::Link(url)),
-                None => None,
-            }
+            let url = entry.resolve_standard_variable(StandardVariable::Url);
+            url.map(Leaf::Link)
         }
         Variable::Standard(StandardVariable::CitationLabel) => text_leaf(entry.citation_label()),
         Variable::Standard(v) => chunked_leaf(entry.resolve_standard_variable(v)),
@@ -191,10 +182,7 @@ impl<'a> Setting<'a> {
     pub fn term(&self, name: Term, form: TermForm, plural: bool) -> Option<&'a str>
         ensures { option_map (λ t. t.now) result ≡ term_for self.now name form plural }
     {
-        let kind = match self.cite.locator {
-            Some(locator) => Some(locator.kind),
-            None => None,
-        };
+        let kind = self.cite.locator.map(|locator| locator.kind);
         self.context.term(kind, name, form, plural)
     }
 
@@ -221,7 +209,8 @@ impl<'a> Setting<'a> {
 
 // The suffix behind a label that the entry has.
 fn suffix_behind<T: EntryLike>(input: &Input<T>, variable: Variable, notes: &Notes) -> Option<usize>
-    ensures { result ≡ suffix_behind (env_of (T.answers input.now.entry.now) input.now.setting) variable notes.now }
+    ensures { result ≡ suffix_behind
+        (env_of (T.answers input.now.entry.now) input.now.setting) variable notes.now }
 {
     match variable {
         Variable::Standard(StandardVariable::CitationLabel) => {
@@ -311,7 +300,10 @@ pub fn pick_variable<'a, T: EntryLike>(
     picking: &mut Picking<'a>,
 ) -> Result<(), AllocError>
     ensures { let env = env_of (T.answers input.now.entry.now) input.now.setting in
-        OnOk result (held picking.new ≡ added (pick_variable env variable (shape_look shape.entry) shape.entry.quotes shape.entry.strip_periods picking.old.notes) (held picking.old)) }
+        OnOk result (held picking.new
+        ≡ added (pick_variable env variable
+        (shape_look shape.entry) shape.entry.quotes shape.entry.strip_periods picking.old.notes)
+        (held picking.old)) }
 {
     if !input.setting.form.writes(variable) {
         picking.called = picking.called.and(Called::Empty);
@@ -334,7 +326,9 @@ pub fn pick_words<'a>(
     picking: &mut Picking<'a>,
 ) -> Result<(), AllocError>
     ensures { OnOk result (held picking.new
-        ≡ added (pick_words setting.now.form (option_map (λ t. t.now) words.entry) (shape_look shape.entry) shape.entry.quotes shape.entry.strip_periods picking.old.notes) (held picking.old)) }
+        ≡ added (pick_words setting.now.form (option_map (λ t. t.now) words.entry)
+        (shape_look shape.entry) shape.entry.quotes shape.entry.strip_periods picking.old.notes)
+        (held picking.old)) }
 {
     if setting.form.is_plain() {
         add_node(
@@ -368,7 +362,8 @@ fn date_leaves<'a, T: EntryLike>(
     notes: &Notes,
 ) -> (Option<Leaf<'a>>, Option<usize>)
     ensures { let env = env_of (T.answers input.now.entry.now) input.now.setting in
-        leaves_of (option_map leaf_view result.0) result.1 ≡ date_leaves env variable (env.answers.date variable) notes.now }
+        leaves_of (option_map leaf_view result.0) result.1
+        ≡ date_leaves env variable (env.answers.date variable) notes.now }
 {
     let setting = &input.setting;
     let date = match input.entry.resolve_date_variable(variable) {
@@ -393,7 +388,10 @@ pub fn pick_date<'a, T: EntryLike>(
     picking: &mut Picking<'a>,
 ) -> Result<(), AllocError>
     ensures { let env = env_of (T.answers input.now.entry.now) input.now.setting in
-        OnOk result (held picking.new ≡ added (pick_date env variable (shape_look shape.entry) shape.entry.quotes shape.entry.strip_periods picking.old.notes) (held picking.old)) }
+        OnOk result (held picking.new
+        ≡ added (pick_date env variable
+        (shape_look shape.entry) shape.entry.quotes shape.entry.strip_periods picking.old.notes)
+        (held picking.old)) }
 {
     let (leaf, suffix) = date_leaves(input, variable, &picking.notes);
     let node = shape.node(Some(ElemMeta::Date));

@@ -10,7 +10,8 @@ use Rattle.csl_passes.specs.Request.{RequestedCite}
 
 -- properties with this position and this number
 abbrev pub placed_finally : {P : Type 0} → IbidState → ℕ → Properties P → Properties P
-placed_finally ibid number p = record p { speculative = record p.speculative { ibid = ibid; citation_number = number } }
+placed_finally ibid number p =
+    record p { speculative = record p.speculative { ibid = ibid; citation_number = number } }
 
 module _ {E P : Type 0} where
   -- the cites of all requests
@@ -47,7 +48,8 @@ module _ {E P : Type 0} (eq : E → E → Bool) where
 
   -- by these entries, where the first cite of each stands; none for an entry that no cite cites
   abbrev pub AreFirstItems : List E → List (CiteRender E P) → List (Option Place) → Type 0
-  AreFirstItems entries renders firsts = map (option_map (item_at renders)) firsts ≡ map (λ e. option_map Some (first_item renders e)) entries
+  AreFirstItems entries renders firsts = map (option_map (item_at renders)) firsts
+      ≡ map (λ e. option_map Some (first_item renders e)) entries
 
   module _ (payload_eq : P → P → Bool) where
     -- the position of a cite against the last of those before it
@@ -57,13 +59,19 @@ module _ {E P : Type 0} (eq : E → E → Bool) where
     module _ (number_of : E → ℕ) where
       -- a cite with its position behind those before it, and the number of its entry
       abbrev pub with_final : List (ItemRender E P) → ItemRender E P → ItemRender E P
-      with_final before i = record i { properties = placed_finally (final_position before i) (number_of i.entry) i.properties }
+      with_final before i = record i {
+        properties = placed_finally (final_position before i)
+            (number_of i.entry) i.properties;
+      }
 
       -- the cites of a request right behind these
       abbrev pub with_final_items : List (ItemRender E P) → List (ItemRender E P) → List (ItemRender E P)
-      with_final_items previous items = map (λ p. with_final (previous ++ take p.0 items) p.1) (enumerate_from 0 items)
+      with_final_items previous items =
+          map (λ p. with_final (previous ++ take p.0 items) p.1) (enumerate_from 0 items)
 
-      -- all cites with their final properties: of a cite before, only those of its request and of the one directly before that count
+      -- all cites with their final properties: of a cite before, only those of its request and of the one
+      -- directly before that count
       abbrev pub with_final_properties : List (CiteRender E P) → List (CiteRender E P)
       with_final_properties renders =
-          map (λ p. record p.1 { items = with_final_items (items_before renders p.0) p.1.items }) (enumerate_from 0 renders)
+          map (λ p. record p.1 { items = with_final_items (items_before renders p.0) p.1.items })
+          (enumerate_from 0 renders)

@@ -36,17 +36,22 @@ with_first firsts p = slice_set firsts p.0 (option_or (slice_index_or firsts p.0
 module _ {E P : Type 0} (eq : E → E → Bool) (payload_eq : P → P → Bool) where
   -- the position of the first of these cites behind others
   abbrev pub first_position : List (ItemRender E P) → List (ItemRender E P) → IbidState
-  first_position previous items = option_map_or (final_position eq payload_eq previous) (slice_get items 0) Different
+  first_position previous items =
+      option_map_or (final_position eq payload_eq previous) (slice_get items 0) Different
 
   -- the position of a cite at a place among these, of which the first has the given one
   abbrev pub position_in : IbidState → List (ItemRender E P) → ℕ → ItemRender E P → IbidState
   position_in first items zero i = first
-  position_in first items (suc k) i = with_last eq payload_eq (as_cite i) (option_map as_cite (slice_get items k))
+  position_in first items (suc k) i =
+      with_last eq payload_eq (as_cite i) (option_map as_cite (slice_get items k))
 
   -- a cite at a place among these, with its position and its number
-  abbrev pub set_among : IbidState → List ℕ → List ℕ → List (ItemRender E P) → ℕ → ItemRender E P → ItemRender E P
-  set_among first places numbers items k i = placed_item (position_in first items k i) (slice_index numbers (led_to places i)) i
+  abbrev pub set_among : IbidState → List ℕ → List ℕ → List (ItemRender E P) → ℕ → ItemRender E P
+      → ItemRender E P
+  set_among first places numbers items k i =
+      placed_item (position_in first items k i) (slice_index numbers (led_to places i)) i
 
   -- each of them
   abbrev pub all_set : IbidState → List ℕ → List ℕ → List (ItemRender E P) → List (ItemRender E P)
-  all_set first places numbers items = map (λ p. set_among first places numbers items p.0 p.1) (enumerate_from 0 items)
+  all_set first places numbers items =
+      map (λ p. set_among first places numbers items p.0 p.1) (enumerate_from 0 items)

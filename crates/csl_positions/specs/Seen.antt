@@ -23,7 +23,8 @@ is_within end n None = false
 is_within end n (Some k) = nat_le (end - k) n
 
 module _ {E P : Type 0} (eq : E → E → Bool) where
-  -- what is known of e: whether it is one of these entries, and what these requests say of the notes that cite it
+  -- what is known of e: whether it is one of these entries, and what these requests say of the notes that
+  -- cite it
   abbrev pub seen_of : List E → List (Request E P) → E → Seen
   seen_of entries requests e = record {
     cited = is_in eq e entries;
@@ -41,7 +42,8 @@ module _ {E P : Type 0} where
   certain_by r place seen index = record {
     note_number = r.note_number;
     first_note_number = option_map (λ n. unwrap_or seen.first_note n) r.note_number;
-    is_near_note = is_some r.note_number && is_within place r.style.citation.near_note_distance seen.last_noted;
+    is_near_note = is_some r.note_number
+        && is_within place r.style.citation.near_note_distance seen.last_noted;
     is_first = not seen.cited;
     initial_idx = index;
   }

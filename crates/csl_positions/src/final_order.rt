@@ -51,7 +51,8 @@ fn places_finally<'a, T: EntryLike, P>(
     table: &EntryTable<'a, T>,
 ) -> Result<Vec<usize>, AllocError>
     requires placed { ArePlaced T.eq (table_view table.now) (renders_view renders.now) }
-    ensures { IfOk result (λ v. v.items ≡ map (λ e. place T.eq e (table_view table.now).entries) (cited_finally (renders_view renders.now))) }
+    ensures { IfOk result (λ v. v.items
+        ≡ map (λ e. place T.eq e (table_view table.now).entries) (cited_finally (renders_view renders.now))) }
 {
     let places = table.places();
     let mut all = Vec::new(alloc);
@@ -72,8 +73,10 @@ pub fn final_listing<'a, T: EntryLike, P>(
 ) -> Result<Listing, AllocError>
     requires placed { ArePlaced T.eq (table_view table.now) (renders_view renders.now) }
     requires once { NoTwoEqual T.eq (table_view table.now).entries }
-    requires same { (e : T) → is_in T.eq e (cited_finally (renders_view renders.now)) ≡ is_in T.eq e (table_view table.now).entries }
-    ensures { IfOk result (λ l. IsListingOf T.eq (table_view table.now).entries (distinct T.eq (cited_finally (renders_view renders.now))) (listing_view l)) }
+    requires same { (e : T) → is_in T.eq e (cited_finally (renders_view renders.now))
+        ≡ is_in T.eq e (table_view table.now).entries }
+    ensures { IfOk result (λ l. IsListingOf T.eq (table_view table.now).entries
+        (distinct T.eq (cited_finally (renders_view renders.now))) (listing_view l)) }
 {
     let places = places_finally(alloc, renders, table)?;
     Listing::of_places(alloc, table.len(), &places)
@@ -124,8 +127,10 @@ pub fn first_items<'a, T: EntryLike, P>(
 ) -> Result<Vec<Option<(usize, usize)>>, AllocError>
     requires placed { ArePlaced T.eq (table_view table.now) (renders_view renders.now) }
     requires once { NoTwoEqual T.eq (table_view table.now).entries }
-    requires same { (e : T) → is_in T.eq e (cited_finally (renders_view renders.now)) ≡ is_in T.eq e (table_view table.now).entries }
-    ensures { IfOk result (λ firsts. AreFirstItems T.eq (table_view table.now).entries (renders_view renders.now) firsts.items) }
+    requires same { (e : T) → is_in T.eq e (cited_finally (renders_view renders.now))
+        ≡ is_in T.eq e (table_view table.now).entries }
+    ensures { IfOk result (λ firsts. AreFirstItems T.eq (table_view table.now).entries
+        (renders_view renders.now) firsts.items) }
 {
     let places = table.places();
     let mut firsts = no_firsts(alloc, table.len())?;
@@ -140,7 +145,8 @@ fn position_behind<T: PartialEq, P: PartialEq>(
     this: &SpeculativeItemRender<'_, T, P>,
     last: Option<&SpeculativeItemRender<'_, T, P>>,
 ) -> IbidState
-    ensures { result ≡ with_last T.eq P.eq (as_cite (item_view this.now)) (option_map (λ l. as_cite (item_view l.now)) last.entry) }
+    ensures { result ≡ with_last T.eq P.eq (as_cite (item_view this.now))
+        (option_map (λ l. as_cite (item_view l.now)) last.entry) }
 {
     let Some(last) = last else {
         return IbidState::Different;
@@ -155,7 +161,8 @@ fn last_before<'x, 'a, T, P>(
     r: usize,
 ) -> Option<&'x SpeculativeItemRender<'a, T, P>>
     requires { r < length renders.now }
-    ensures { option_map (λ i. item_view i.now) result ≡ last_or None (items_before (renders_view renders.now) r) }
+    ensures { option_map (λ i. item_view i.now) result
+        ≡ last_or None (items_before (renders_view renders.now) r) }
 {
     if r == 0 {
         None
@@ -170,7 +177,8 @@ fn first_position<T: PartialEq, P: PartialEq>(
     r: usize,
 ) -> IbidState
     requires { r < length renders.now }
-    ensures { result ≡ first_position T.eq P.eq (items_before (renders_view renders.now) r) (items_at (renders_view renders.now) r) }
+    ensures { result ≡ first_position T.eq P.eq (items_before (renders_view renders.now) r)
+        (items_at (renders_view renders.now) r) }
 {
     match renders[r].items.first() {
         Some(this) => position_behind(this, last_before(renders, r)),
@@ -185,7 +193,8 @@ fn position_at<T: PartialEq, P: PartialEq>(
     first: IbidState,
 ) -> IbidState
     requires { k < length items.now }
-    ensures { (i : ItemRender T P) → slice_get (items_view items.now) k ≡ Some i → result ≡ position_in T.eq P.eq first (items_view items.now) k i }
+    ensures { (i : ItemRender T P) → slice_get (items_view items.now) k ≡ Some i
+        → result ≡ position_in T.eq P.eq first (items_view items.now) k i }
 {
     if k == 0 {
         first
@@ -244,7 +253,9 @@ pub fn set_final_properties<'a, T: EntryLike, P: PartialEq>(
 )
     requires placed { ArePlaced T.eq (table_view table.now) (renders_view renders.old) }
     ensures { renders_view renders.new
-        ≡ with_final_properties T.eq P.eq (λ e. slice_index_or numbers.now (place T.eq e (table_view table.now).entries) 0) (renders_view renders.old) }
+        ≡ with_final_properties T.eq P.eq
+        (λ e. slice_index_or numbers.now (place T.eq e (table_view table.now).entries) 0)
+        (renders_view renders.old) }
 {
     let places = table.places();
     for r in 0..renders.len() {

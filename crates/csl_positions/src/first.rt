@@ -71,14 +71,20 @@ fn request_properties<'a, T: EntryLike, P: PartialEq>(
     last: Option<&CitationItem<'a, T, P>>,
     seen: &mut [Seen],
 ) -> Result<Vec<FirstProperties>, AllocError>
-    requires table { IsTableOf T.eq (requests_view before.now) (request_view request.now) (table_view table.now) }
+    requires table { IsTableOf T.eq (requests_view before.now) (request_view request.now)
+        (table_view table.now) }
     requires numbered { length (table_view table.now).entries ≤ length numbers.now }
-    requires last { option_map (λ l. cite_view l.now) last ≡ last_or None (cites_of (requests_view before.now)) }
-    requires seen { seen.old ≡ map (seen_of T.eq (cited (requests_view before.now)) (requests_view before.now)) (table_view table.now).entries }
+    requires last { option_map (λ l. cite_view l.now) last
+        ≡ last_or None (cites_of (requests_view before.now)) }
+    requires seen { seen.old ≡ map
+        (seen_of T.eq (cited (requests_view before.now)) (requests_view before.now))
+        (table_view table.now).entries }
     ensures properties { IfOk result (λ v. v.items
-        ≡ request_properties T.eq P.eq (numbered_by T.eq numbers.now (table_view table.now).entries) (requests_view before.now) (request_view request.now)) }
+        ≡ request_properties T.eq P.eq (numbered_by T.eq numbers.now (table_view table.now).entries)
+        (requests_view before.now) (request_view request.now)) }
     ensures seen { OnOk result (seen.new
-        ≡ map (seen_of T.eq (cited (requests_view before.now) ++ entries_of (request_view request.now).cites) (requests_view before.now)) (table_view table.now).entries) }
+        ≡ map (seen_of T.eq (cited (requests_view before.now) ++ entries_of (request_view request.now).cites)
+        (requests_view before.now)) (table_view table.now).entries) }
 {
     let place = before.len();
     let places = &table.places()[place];
@@ -104,12 +110,14 @@ fn note_entries<'a, T: EntryLike, P>(
     table: &EntryTable<'a, T>,
     seen: &mut [Seen],
 )
-    requires table { IsTableOf T.eq (requests_view before.now) (request_view request.now) (table_view table.now) }
-    requires seen { seen.old
-        ≡ map (seen_of T.eq (cited (requests_view before.now) ++ entries_of (request_view request.now).cites) (requests_view before.now)) (table_view table.now).entries }
-    ensures { seen.new
-        ≡ map (seen_of T.eq (cited (requests_view before.now) ++ entries_of (request_view request.now).cites) (requests_view before.now ++ request_view request.now ∷ []))
-        (table_view table.now).entries }
+    requires table { IsTableOf T.eq (requests_view before.now) (request_view request.now)
+        (table_view table.now) }
+    requires seen { seen.old ≡ map
+        (seen_of T.eq (cited (requests_view before.now) ++ entries_of (request_view request.now).cites)
+        (requests_view before.now)) (table_view table.now).entries }
+    ensures { seen.new ≡ map (seen_of T.eq (cited (requests_view before.now)
+        ++ entries_of (request_view request.now).cites) (requests_view before.now
+        ++ request_view request.now ∷ [])) (table_view table.now).entries }
 {
     let place = before.len();
     let number = request.note_number();
@@ -133,7 +141,8 @@ pub fn first_properties<'a, T: EntryLike, P: PartialEq>(
     requires table { table_view table.now ≡ table_of T.eq (requests_view requests.now) }
     requires numbered { length (table_view table.now).entries ≤ length numbers.now }
     ensures { IfOk result (λ v. map (λ f. f.items) v.items
-        ≡ first_properties T.eq P.eq (numbered_by T.eq numbers.now (table_view table.now).entries) (requests_view requests.now)) }
+        ≡ first_properties T.eq P.eq (numbered_by T.eq numbers.now (table_view table.now).entries)
+        (requests_view requests.now)) }
 {
     let unseen = Seen {
         cited: false,

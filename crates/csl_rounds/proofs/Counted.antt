@@ -1,16 +1,13 @@
 -- Which marks count: the code's loops.
-use Rattle.std.proofs.Common.{◌≡◌, ℕ, ◌<◌, Bool, true, false, cond, Option, Some, None, List, [], ◌∷◌, ◌++◌, length, filter, get_or, ap, sym, subst, ◌∙◌, append_assoc}
+use Rattle.std.proofs.Common.{◌≡◌, ℕ, ◌<◌, Bool, true, false, cond, Option, Some, None, List, [], ◌∷◌, ◌++◌, length, filter, get_or, refl, ap, sym, subst, ◌∙◌, append_assoc}
 use Rattle.std.specs.Prelude.{All, option_map}
 use Rattle.std.specs.Option.{option_map_or}
-use Rattle.std.proofs.lemmas.List.Elements.{All-get_or, All-tail}
+use Rattle.std.proofs.lemmas.List.Elements.{All-get_or}
 
-some-inj : {A : Type 0} (x y : A) → Some x ≡ Some y → x ≡ y
-some-inj x y h = cc
-
--- a test of what is known
-pub known-or : {A B : Type 0} (f : A → B) (q : B → Bool) (o : Option A) (x : B) → option_map f o ≡ Some x → q x ≡ option_map_or (λ a. q (f a)) o false
-known-or f q None x h = cc
-known-or f q (Some a) x h = ap q (sym (some-inj (f a) x h))
+-- a test of what f makes
+pub mapped-or : {A B : Type 0} (f : A → B) (q : B → Bool) (o : Option A) → option_map_or q (option_map f o) false ≡ option_map_or (λ a. q (f a)) o false
+mapped-or f q None = refl
+mapped-or f q (Some a) = refl
 
 -- members that pass a test are kept, one after another
 module _ {X : Type 0} (q : X → Bool) (kept all rest left : List X) (x : X) (split : left ≡ x ∷ rest) (so_far : kept ++ filter q left ≡ all) where
@@ -23,10 +20,6 @@ module _ {X : Type 0} (q : X → Bool) (kept all rest left : List X) (x : X) (sp
 
   pub kept-skip : q x ≡ false → kept ++ filter q rest ≡ all
   kept-skip h = ap (λ b. kept ++ cond b (x ∷ filter q rest) (filter q rest)) (sym h) ∙ next
-
--- what is known of all is known of the rest
-pub rest-known : {X : Type 0} (Q : X → Type 0) (rest left : List X) (x : X) → left ≡ x ∷ rest → All Q left → All Q rest
-rest-known Q rest left x split all = All-tail Q x rest (subst (All Q) split all)
 
 -- what is known of a member of a list
 pub known-at : {X : Type 0} (Q : X → Type 0) (xs ys : List X) (k : ℕ) (x : X) → ys ≡ xs → All Q xs → k < length ys → x ≡ get_or ys k x → Q x

@@ -1,15 +1,14 @@
 -- The first renders, made one after another.
-use Rattle.std.proofs.Common.{◌≡◌, ℕ, ◌+◌, ◌<◌, ◌≤◌, List, [], ◌∷◌, ◌++◌, length, map, take, get_or, Vec, Global, refl, ap, sym, subst, ◌∙◌, arith, length-append, append-nil}
-use Rattle.std.specs.Prelude.{All, zip}
+use Rattle.std.proofs.Common.{◌≡◌, ℕ, ◌+◌, ◌<◌, ◌≤◌, List, [], ◌∷◌, ◌++◌, length, map, take, get_or, Vec, Global, refl, ap, sym, ◌∙◌, arith, length-append, append-nil}
+use Rattle.std.specs.Prelude.{zip}
 use Rattle.std.proofs.Math.ListN.{get_or-map, length-map}
 use Rattle.std.proofs.lemmas.List.{get_or_default, take_all, take_more}
 use Rattle.std.proofs.lemmas.Grind.{flat_map-append}
 use Rattle.csl_base.specs.Answers.{Answers}
-use Rattle.csl_base.specs.Ring.{HasNoRing}
 use Rattle.csl_passes.specs.Renders.{CiteRender, ItemRender}
 use Rattle.csl_passes.specs.Request.{RequestedCite, Request, cites_of}
 use Rattle.csl_passes.specs.declared.first.FirstProperties.{FirstProperties}
-use Rattle.csl_rounds.specs.FirstRenders.{HasShapeOf, first_render, first_renders, first_renders_of}
+use Rattle.csl_round_laws.specs.FirstRenders.{HasShapeOf, first_render, first_renders, first_renders_of}
 use Rattle.csl_writing.proofs.Counting.{counted_times-add, counted_times-more}
 use Rattle.csl_rounds.proofs.Pairs.{mapped_zip-more, mapped_zip-all}
 use Rattle.csl_writing.specs.Counted.{counted, counted_times}
@@ -19,12 +18,12 @@ abbrev pub row_of : Vec FirstProperties Global → List FirstProperties
 row_of v = v.items
 
 -- where the properties have the requests' shape, there is a list for each request
-lists-length : {E P : Type 0} (requests : List (Request E P)) (firsts : List (List FirstProperties)) → HasShapeOf requests firsts → length firsts ≡ length requests
+pub lists-length : {E P : Type 0} (requests : List (Request E P)) (firsts : List (List FirstProperties)) → HasShapeOf requests firsts → length firsts ≡ length requests
 lists-length requests firsts shape =
     sym (length-map firsts length) ∙ ap length shape ∙ length-map requests (λ r. length r.cites)
 
-pub row-within : {E P X : Type 0} (view : X → Request E P) (xs : List X) (rows : List (Vec FirstProperties Global)) (k : ℕ) → HasShapeOf (map view xs) (map row_of rows) → k < length xs → k < length rows
-row-within view xs rows k shape within =
+pub request-within : {E P X : Type 0} (view : X → Request E P) (xs : List X) (rows : List (Vec FirstProperties Global)) (k : ℕ) → HasShapeOf (map view xs) (map row_of rows) → k < length rows → k < length xs
+request-within view xs rows k shape within =
     let long : length (map row_of rows) ≡ length (map view xs) = lists-length (map view xs) (map row_of rows) shape in
     let kept : length (map row_of rows) ≡ length rows = length-map rows row_of in
     let requests : length (map view xs) ≡ length xs = length-map xs view in
@@ -39,12 +38,8 @@ module _ {E P : Type 0} (requests : List (Request E P)) (k : ℕ) (request : Req
       ap length at ∙ sym (get_or-map length firsts k row) ∙ ap (λ (l : List ℕ). get_or l k (length row)) shape
       ∙ get_or_default (map size requests) k (length row) (size request) inside ∙ get_or-map size requests k request ∙ ap size (sym here)
 
-  -- no request has a ring, and so this one hasn't
-  pub no_ring-here : All (λ (r : Request E P). HasNoRing r.style.macros) requests → HasNoRing request.style.macros
-  no_ring-here h = subst (λ (r : Request E P). HasNoRing r.style.macros) (sym here) (h k request within)
-
-  cites-more : length (cites_of (take (k + 1) requests)) ≡ length request.cites + length (cites_of (take k requests))
-  cites-more =
+  counted_cites-more : length (cites_of (take (k + 1) requests)) ≡ length request.cites + length (cites_of (take k requests))
+  counted_cites-more =
       let grown : take (k + 1) requests ≡ take k requests ++ request ∷ [] =
       take_more requests k request within ∙ ap (λ (r : Request E P). take k requests ++ r ∷ []) (sym here) in
       let joined : cites_of (take (k + 1) requests) ≡ cites_of (take k requests) ++ request.cites =
@@ -59,7 +54,7 @@ module _ {E P : Type 0} (requests : List (Request E P)) (k : ℕ) (request : Req
   counted-more old before now was more =
       more ∙ ap (counted_times (length request.cites)) was
       ∙ sym (counted_times-add (length request.cites) (length (cites_of (take k requests))) old)
-      ∙ ap (λ (n : ℕ). counted_times n old) (sym cites-more)
+      ∙ ap (λ (n : ℕ). counted_times n old) (sym counted_cites-more)
 
 module _ {E P : Type 0} (answers : E → Answers) where
   -- the first k renders of a request's cites are made and counted
@@ -97,28 +92,28 @@ module _ {E P : Type 0} (answers : E → Answers) where
 
   -- the first renders of the first k requests' cites are made and counted
   pub record RendersMade (requests : List (Request E P)) (firsts : List (List FirstProperties)) (k old : ℕ) (made : List (CiteRender E P)) (count : ℕ) : Type 0 where
-    pub renders : made ≡ map (λ r. first_renders_of answers r.0 r.1) (take k (zip requests firsts))
+    pub cites : made ≡ map (λ r. first_renders_of answers r.0 r.1) (take k (zip requests firsts))
     pub count_is : count ≡ counted_times (length (cites_of (take k requests))) old
 
   module _ (requests : List (Request E P)) (firsts : List (List FirstProperties)) (old : ℕ) where
-    pub renders-begun : (made : List (CiteRender E P)) → made ≡ [] → RendersMade requests firsts 0 old made old
-    renders-begun made empty = record { renders = empty; count_is = refl }
+    pub cites-begun : (made : List (CiteRender E P)) → made ≡ [] → RendersMade requests firsts 0 old made old
+    cites-begun made empty = record { cites = empty; count_is = refl }
 
     -- those of one more request are made
-    pub renders-more : (k : ℕ) (request : Request E P) (row : List FirstProperties) (within : k < length requests) (row_within : k < length firsts)
+    pub cites-more : (k : ℕ) (request : Request E P) (row : List FirstProperties) (within : k < length requests) (row_within : k < length firsts)
         (here : request ≡ get_or requests k request) (row_here : row ≡ get_or firsts k row)
         (made more : List (CiteRender E P)) (r : CiteRender E P) (before now : ℕ) → RendersMade requests firsts k old made before
         → more ≡ made ++ r ∷ [] → r ≡ first_renders_of answers request row → now ≡ counted_times (length request.cites) before
         → RendersMade requests firsts (k + 1) old more now
-    renders-more k request row within row_within here row_here made more r before now so_far push one counting = record {
-      renders = mapped_zip-more requests firsts k request row within row_within here row_here (λ r. first_renders_of answers r.0 r.1) so_far.renders push one;
+    cites-more k request row within row_within here row_here made more r before now so_far push one counting = record {
+      cites = mapped_zip-more requests firsts k request row within row_within here row_here (λ r. first_renders_of answers r.0 r.1) so_far.cites push one;
       count_is = counted-more requests k request within here old before now so_far.count_is counting;
     }
 
     -- all are made
-    pub renders-done : (k : ℕ) (made : List (CiteRender E P)) (count : ℕ) → RendersMade requests firsts k old made count → length requests ≤ k
+    pub cites-done : (k : ℕ) (made : List (CiteRender E P)) (count : ℕ) → RendersMade requests firsts k old made count → length requests ≤ k
         → (made ≡ first_renders answers requests firsts) × (count ≡ counted_times (length (cites_of requests)) old)
-    renders-done k made count so_far past = (
-      so_far.renders ∙ mapped_zip-all (λ r. first_renders_of answers r.0 r.1) requests firsts k past,
+    cites-done k made count so_far past = (
+      so_far.cites ∙ mapped_zip-all (λ r. first_renders_of answers r.0 r.1) requests firsts k past,
       so_far.count_is ∙ ap (λ (l : List (Request E P)). counted_times (length (cites_of l)) old) (take_all k requests past),
     )

@@ -10,8 +10,8 @@ use Rattle.std.proofs.lemmas.List.Sums.{fold_push}
 use Rattle.csl_passes.specs.Places.{IsPlace}
 use Rattle.csl_passes.specs.Renders.{CiteRender, Place}
 use Rattle.csl_rounds.specs.Gathered.{AreMarked, IsPlaced, counting_ways, entry_place, with_counting}
-use Rattle.csl_rounds.specs.RoundMarks.{Mark, waits}
-use Rattle.csl_rounds.proofs.Kept.{ways-stand}
+use Rattle.csl_round_laws.specs.RoundMarks.{Mark, waits}
+use Rattle.csl_round_laws.proofs.Kept.{ways-stand}
 use Rattle.csl_rounds.proofs.Placed.{are-placed, group-placed, row, waits-alike}
 
 module _ {E P : Type 0} (eq : E → E → Bool) (dated : Bool) (rs : List (CiteRender E P)) (es : List E) (places : List (List ℕ)) where

@@ -7,15 +7,15 @@ use Rattle.csl_base.specs.Answers.{Answers}
 use Rattle.csl_lookup.specs.GoingOn.{rank}
 use Rattle.csl_lookup.specs.declared.state.DisambiguateState.{DisambiguateState}
 use Rattle.csl_passes.specs.Renders.{CiteRender}
-use Rattle.csl_rounds.specs.FirstRenders.{AreBegun}
+use Rattle.csl_round_laws.specs.FirstRenders.{AreBegun}
 use Rattle.csl_rounds.specs.AfterRounds.{AreAfterRounds}
-use Rattle.csl_rounds.specs.Rerenders.{AreStatesOf, marked_among}
-use Rattle.csl_rounds.specs.RoundMarks.{has_any, round_marks}
-use Rattle.csl_rounds.specs.Rounds.{at_table, entries_cited, with_marks}
-use Rattle.csl_rounds.specs.Tables.{marked_at, most_forms, most_rounds}
-use Rattle.csl_rounds.specs.declared.mode.RoundMode.{RoundMode}
-use Rattle.csl_rounds.proofs.InRounds.{InRounds, begun, last-round, marks_on, one-round, renders-after}
-use Rattle.csl_rounds.proofs.RankSums.{HaveRisen, cite-ranks, cites-most, cites-rise, ranks, risen-begun, risen-more, risen-within}
+use Rattle.csl_round_laws.specs.Rerenders.{AreStatesOf, marked_among}
+use Rattle.csl_round_laws.specs.RoundMarks.{has_any, round_marks}
+use Rattle.csl_round_laws.specs.Rounds.{at_table, entries_cited, marked_by, with_marks}
+use Rattle.csl_round_laws.specs.Tables.{marked_at, most_forms, most_rounds}
+use Rattle.csl_round_laws.specs.declared.mode.RoundMode.{RoundMode}
+use Rattle.csl_rounds.proofs.InRounds.{InRounds, begun, last-round, one-round, cites-after}
+use Rattle.csl_round_laws.proofs.RankSums.{HaveRisen, cite-ranks, cites-most, cites-rise, ranks, risen-begun, risen-more, risen-within}
 use Rattle.csl_writing.specs.Counted.{counted_times}
 
 -- the ranks of cites as they stand, where no state has more than f forms
@@ -46,11 +46,11 @@ module _ {E P : Type 0} (eq : E → E → Bool) (answers : E → Answers) (first
 
     module _ (now : List (CiteRender E P)) (states : List (Option DisambiguateState)) (marked count : ℕ) (in_full : InFull laws untold now states marked count)
         (new : List (CiteRender E P)) (given : List (Option DisambiguateState)) (total : ℕ)
-        (again : new ≡ at_table answers (marks_on full eq answers firsts now) now) (are : AreStatesOf eq es (with_marks (marks_on full eq answers firsts now) in_full.so.table) given)
-        (more : total ≡ counted_times (marked_among (entries_cited now) (marks_on full eq answers firsts now)) count) where
+        (again : new ≡ at_table answers (marked_by full eq answers now) now) (are : AreStatesOf eq es (with_marks (marked_by full eq answers now) in_full.so.table) given)
+        (more : total ≡ counted_times (marked_among (entries_cited now) (marked_by full eq answers now)) count) where
       module _ (any : has_any (round_marks full eq answers now) ≡ true) where
         yes : has_any (round_marks full eq answers (at_table answers in_full.so.table firsts)) ≡ true
-        yes = subst (λ rs. has_any (round_marks full eq answers rs) ≡ true) in_full.so.renders any
+        yes = subst (λ rs. has_any (round_marks full eq answers rs) ≡ true) in_full.so.cites any
 
         within : in_full.k < most_rounds full eq firsts
         within = risen-within answers firsts untold eq laws in_full.k in_full.so.table in_full.risen yes
@@ -69,8 +69,8 @@ module _ {E P : Type 0} (eq : E → E → Bool) (answers : E → Answers) (first
         measure-falls =
             let table = in_full.so.table in
             let next = with_marks (marked_at full eq answers firsts table) table in
-            let before_is = ap (ranks_of (most_forms firsts)) in_full.so.renders ∙ cite-ranks answers firsts untold table in
-            let after_is = ap (ranks_of (most_forms firsts)) (renders-after full eq answers firsts now new table in_full.so.renders again) ∙ cite-ranks answers firsts untold next in
+            let before_is = ap (ranks_of (most_forms firsts)) in_full.so.cites ∙ cite-ranks answers firsts untold table in
+            let after_is = ap (ranks_of (most_forms firsts)) (cites-after full eq answers firsts now new table in_full.so.cites again) ∙ cite-ranks answers firsts untold next in
             let up = cites-rise answers firsts untold eq laws in_full.k table in_full.risen yes in
             let top = cites-most answers firsts untold eq laws in_full.k table in_full.risen yes in
             falls (length (entries_cited firsts) * (3 * most_forms firsts + 3)) (ranks answers firsts untold (entries_cited firsts) table) (ranks answers firsts untold (entries_cited firsts) next)

@@ -1,7 +1,7 @@
 -- Members changed one after another, each by its place.
 use Rattle.std.proofs.Common.{◌≡◌, ℕ, zero, suc, ◌+◌, ◌<◌, ◌≤◌, List, [], ◌∷◌, ◌++◌, take, drop, length, map, get_or, refl, ap, sym, subst, ◌∙◌, arith, add-one}
 use Rattle.std.proofs.Math.ListN.{get_or-map, length-map, set}
-use Rattle.std.proofs.lemmas.List.{map-set}
+use Rattle.std.proofs.lemmas.List.{get_or_default, map-set}
 use Rattle.std.proofs.lemmas.List.FromFn.{length-enumerate_from}
 use Rattle.std.proofs.lemmas.List.Elements.{All-get_or}
 use Rattle.std.specs.List.{enumerate_from}
@@ -74,24 +74,19 @@ module _ {X Y : Type 0} (view : X → Y) (f : ℕ → Y → Y) (xs now : List X)
   pub whole : length xs ≤ k → map view now ≡ by_places f (map view xs)
   whole h = so_far ∙ whole-from f 0 k (map view xs) (subst (λ n. n ≤ k) (sym (length-map xs view)) h)
 
-pub any_default : {X : Type 0} (xs : List X) (k : ℕ) (d e : X) → k < length xs → get_or xs k d ≡ get_or xs k e
-any_default [] k d e h = absurd (omega arith)
-any_default (x ∷ xs) zero d e h = refl
-any_default (x ∷ xs) (suc k) d e h = any_default xs k d e (omega arith)
-
 -- the member of a list at a place that another list gives
 pub named_by : {X : Type 0} (xs : List (Option X)) (ps : List ℕ) (k : ℕ) (x : Option X) → All (λ p. p < length xs) ps → k < length ps → x ≡ get_or xs (get_or ps k 0) x → x ≡ get_or xs (get_or ps k 0) None
-named_by xs ps k x all h e = e ∙ any_default xs (get_or ps k 0) x None (All-get_or (λ p. p < length xs) ps k 0 h all)
+named_by xs ps k x all h e = e ∙ get_or_default xs (get_or ps k 0) x None (All-get_or (λ p. p < length xs) ps k 0 h all)
 
 -- what two lists agree in
 pub agree_at : {A B C : Type 0} (f : A → C) (g : B → C) (xs : List A) (ys : List B) (r : ℕ) (a : A) (b : B) → map f xs ≡ map g ys → r < length ys → a ≡ get_or xs r a → f a ≡ g (get_or ys r b)
 agree_at f g xs ys r a b e h here =
     ap f here ∙ sym (get_or-map f xs r a) ∙ ap (λ l. get_or l r (f a)) e
-    ∙ any_default (map g ys) r (f a) (g b) (subst (λ n. r < n) (sym (length-map ys g)) h) ∙ get_or-map g ys r b
+    ∙ get_or_default (map g ys) r (f a) (g b) (subst (λ n. r < n) (sym (length-map ys g)) h) ∙ get_or-map g ys r b
 
 pub same_long : {A B C : Type 0} (f : A → C) (g : B → C) (xs : List A) (ys : List B) → map f xs ≡ map g ys → length xs ≡ length ys
 same_long f g xs ys e = sym (length-map xs f) ∙ ap length e ∙ length-map ys g
 
 pub row_of : {A B : Type 0} (f : A → B) (xs : List A) (r : ℕ) (a : A) (e : B) → r < length xs → a ≡ get_or xs r a → f a ≡ get_or (map f xs) r e
 row_of f xs r a e h here =
-    ap f here ∙ sym (get_or-map f xs r a) ∙ any_default (map f xs) r (f a) e (subst (λ n. r < n) (sym (length-map xs f)) h)
+    ap f here ∙ sym (get_or-map f xs r a) ∙ get_or_default (map f xs) r (f a) e (subst (λ n. r < n) (sym (length-map xs f)) h)

@@ -9,13 +9,13 @@ use Rattle.csl_entries.specs.Entries.{place}
 use Rattle.csl_lookup.specs.declared.state.DisambiguateState.{DisambiguateState}
 use Rattle.csl_passes.specs.Renders.{CiteRender}
 use Rattle.csl_rounds.specs.AfterRounds.{AreAfterRounds}
-use Rattle.csl_rounds.specs.Rerenders.{AreStatesOf, marked_among, rerenders}
-use Rattle.csl_rounds.specs.RoundMarks.{has_any, round_marks}
-use Rattle.csl_rounds.specs.Rounds.{StateTable, at_table, entries_cited, mark_of, no_states, with_marks}
-use Rattle.csl_rounds.specs.Tables.{disambiguated, last_states, marked_at, marks_at, most_rounds, round_tables, rounds, tables, tables_from}
-use Rattle.csl_rounds.specs.declared.mode.RoundMode.{RoundMode}
+use Rattle.csl_round_laws.specs.Rerenders.{AreStatesOf, marked_among, rerenders}
+use Rattle.csl_round_laws.specs.RoundMarks.{has_any, round_marks}
+use Rattle.csl_round_laws.specs.Rounds.{StateTable, at_table, entries_cited, mark_of, marked_by, no_states, with_marks}
+use Rattle.csl_round_laws.specs.Tables.{disambiguated, last_states, marked_at, marks_at, most_rounds, round_tables, rounds, tables, tables_from}
+use Rattle.csl_round_laws.specs.declared.mode.RoundMode.{RoundMode}
 use Rattle.csl_rounds.proofs.Marked.{empty-counted, empty-round, nothing-marked}
-use Rattle.csl_rounds.proofs.Twice.{nothing-new, same-entries, twice}
+use Rattle.csl_round_laws.proofs.Twice.{nothing-new, same-entries, twice}
 use Rattle.csl_writing.proofs.Counting.{counted_times-add}
 use Rattle.csl_writing.specs.Counted.{counted_times}
 
@@ -26,10 +26,6 @@ pub one-more : (k : ℕ) → min (min k (2 ^ 128 - 1) + 1) (2 ^ 128 - 1) ≡ min
 one-more k = omega arith
 
 module _ {E P : Type 0} (mode : RoundMode) (eq : E → E → Bool) (answers : E → Answers) (firsts : List (CiteRender E P)) where
-  -- what a round marks
-  abbrev pub marks_on : List (CiteRender E P) → StateTable E
-  marks_on rs = mark_of eq rs (round_marks mode eq answers rs)
-
   abbrev last_of : StateTable E → List (StateTable E)
   last_of t = t ∷ []
 
@@ -67,17 +63,17 @@ module _ {E P : Type 0} (mode : RoundMode) (eq : E → E → Bool) (answers : E 
         ap (map (marked_at mode eq answers firsts))
         (sym (take-append_seam done (t ∷ [])) ∙ ap (take (length done)) all ∙ ap (λ n. take n (tables mode eq answers firsts)) rounds-done)
 
-  -- the renders after a round are those at the next table
-  pub renders-after : (now new : List (CiteRender E P)) (t : StateTable E) → now ≡ at_table answers t firsts → new ≡ at_table answers (marks_on now) now
+  -- the cites after a round are those at the next table
+  pub cites-after : (now new : List (CiteRender E P)) (t : StateTable E) → now ≡ at_table answers t firsts → new ≡ at_table answers (marked_by mode eq answers now) now
       → new ≡ at_table answers (with_marks (marked_at mode eq answers firsts t) t) firsts
-  renders-after now new t here again = again ∙ ap (λ rs. at_table answers (marks_on rs) rs) here ∙ twice answers (marked_at mode eq answers firsts t) t firsts
+  cites-after now new t here again = again ∙ ap (λ rs. at_table answers (marked_by mode eq answers rs) rs) here ∙ twice answers (marked_at mode eq answers firsts t) t firsts
 
   module _ (es : List E) (old : ℕ) where
     -- k rounds have marked
     pub record InRounds (k : ℕ) (now : List (CiteRender E P)) (states : List (Option DisambiguateState)) (marked count : ℕ) : Type 0 where
       pub table : StateTable E
       pub done : List (StateTable E)
-      pub renders : now ≡ at_table answers table firsts
+      pub cites : now ≡ at_table answers table firsts
       pub all : done ++ tables_from mode eq answers firsts (most_rounds mode eq firsts - k) table ≡ tables mode eq answers firsts
       pub states_are : AreStatesOf eq es table states
       pub each : length done ≡ k
@@ -88,7 +84,7 @@ module _ {E P : Type 0} (mode : RoundMode) (eq : E → E → Bool) (answers : E 
     begun states n none same = record {
       table = no_states;
       done = [];
-      renders = sym (nothing-new answers firsts);
+      cites = sym (nothing-new answers firsts);
       all = ap (λ m. tables_from mode eq answers firsts m no_states) whole;
       states_are = record {
         long = ap length none ∙ length-replicate n None ∙ same;
@@ -109,7 +105,7 @@ module _ {E P : Type 0} (mode : RoundMode) (eq : E → E → Bool) (answers : E 
           let all : so.done ++ so.table ∷ [] ≡ tables mode eq answers firsts = ap (λ ts. so.done ++ ts) (sym last) ∙ so.all in
           let table : so.table ≡ last_states mode eq answers firsts = last-done so.done so.table all in
           record {
-            renders = told-apart now (so.renders ∙ ap (λ t. at_table answers t firsts) table);
+            cites = told-apart now (so.cites ∙ ap (λ t. at_table answers t firsts) table);
             states_are = subst (λ t. AreStatesOf eq es t states) table so.states_are;
             marked_is = so.marked_is ∙ ap (λ n. min n (2 ^ 128 - 1)) (sym so.each ∙ rounds-done so.done so.table all);
             counted = so.counted ∙ ap (λ ts. counted_times (rerenders (entries_cited firsts) ts) old) (marked-done so.done so.table all);
@@ -123,8 +119,8 @@ module _ {E P : Type 0} (mode : RoundMode) (eq : E → E → Bool) (answers : E 
           done-with (ap (λ n. tables_from mode eq answers firsts n so.table) none ∙ from-none so.table) (λ full. absurd (three full))
 
       module _ (new : List (CiteRender E P)) (given : List (Option DisambiguateState)) (total : ℕ)
-          (again : new ≡ at_table answers (marks_on now) now) (are : AreStatesOf eq es (with_marks (marks_on now) so.table) given)
-          (more : total ≡ counted_times (marked_among (entries_cited now) (marks_on now)) count) where
+          (again : new ≡ at_table answers (marked_by mode eq answers now) now) (are : AreStatesOf eq es (with_marks (marked_by mode eq answers now) so.table) given)
+          (more : total ≡ counted_times (marked_among (entries_cited now) (marked_by mode eq answers now)) count) where
         abbrev start : List (CiteRender E P)
         start = at_table answers so.table firsts
 
@@ -133,20 +129,20 @@ module _ {E P : Type 0} (mode : RoundMode) (eq : E → E → Bool) (answers : E 
             → InRounds (k + 1) new given next total
         one-round within next any one =
             let left : most_rounds mode eq firsts - k ≡ suc (most_rounds mode eq firsts - (k + 1)) = omega (arith, within) in
-            let yes : has_any (round_marks mode eq answers start) ≡ true = subst (λ rs. has_any (round_marks mode eq answers rs) ≡ true) so.renders any in
-            let table : StateTable E = marks_on start in
+            let yes : has_any (round_marks mode eq answers start) ≡ true = subst (λ rs. has_any (round_marks mode eq answers rs) ≡ true) so.cites any in
+            let table : StateTable E = marked_by mode eq answers start in
             record {
               table = with_marks table so.table;
               done = so.done ++ so.table ∷ [];
-              renders = renders-after now new so.table so.renders again;
+              cites = cites-after now new so.table so.cites again;
               all = append_assoc so.done (so.table ∷ []) _
                   ∙ ap (λ ts. so.done ++ ts)
                   (sym (from-yes (most_rounds mode eq firsts - (k + 1)) so.table yes) ∙ ap (λ n. tables_from mode eq answers firsts n so.table) (sym left)) ∙ so.all;
-              states_are = subst (λ rs. AreStatesOf eq es (with_marks (marks_on rs) so.table) given) so.renders are;
+              states_are = subst (λ rs. AreStatesOf eq es (with_marks (marked_by mode eq answers rs) so.table) given) so.cites are;
               each = length-append so.done (so.table ∷ []) ∙ ap (λ n. n + 1) so.each;
               marked_is = one ∙ ap (λ n. min (n + 1) (2 ^ 128 - 1)) so.marked_is ∙ one-more k;
               counted = more
-                  ∙ ap (λ rs. counted_times (marked_among (entries_cited rs) (marks_on rs)) count) so.renders
+                  ∙ ap (λ rs. counted_times (marked_among (entries_cited rs) (marked_by mode eq answers rs)) count) so.cites
                   ∙ ap (λ cited. counted_times (marked_among cited table) count) (same-entries answers so.table firsts)
                   ∙ ap (counted_times (marked_among (entries_cited firsts) table)) so.counted
                   ∙ sym (counted_times-add (marked_among (entries_cited firsts) table) (rerenders (entries_cited firsts) marked_before) old)
@@ -163,16 +159,16 @@ module _ {E P : Type 0} (mode : RoundMode) (eq : E → E → Bool) (answers : E 
 -- a round that marks nothing is the last
 pub last-round : {E P : Type 0} (mode : RoundMode) (eq : E → E → Bool) (answers : E → Answers) (firsts : List (CiteRender E P)) (es : List E) (old k : ℕ) (now new : List (CiteRender E P))
     (states given : List (Option DisambiguateState)) (marked count total : ℕ) (so : InRounds mode eq answers firsts es old k now states marked count)
-    → new ≡ at_table answers (marks_on mode eq answers firsts now) now → AreStatesOf eq es (with_marks (marks_on mode eq answers firsts now) so.table) given
-    → total ≡ counted_times (marked_among (entries_cited now) (marks_on mode eq answers firsts now)) count
+    → new ≡ at_table answers (marked_by mode eq answers now) now → AreStatesOf eq es (with_marks (marked_by mode eq answers now) so.table) given
+    → total ≡ counted_times (marked_among (entries_cited now) (marked_by mode eq answers now)) count
     → has_any (round_marks mode eq answers now) ≡ false → AreAfterRounds mode eq answers firsts es old new given marked total
 last-round mode eq answers firsts es old k now new states given marked count total so again are more none =
     let marks : round_marks mode eq answers now ≡ [] = nothing-marked (round_marks mode eq answers now) none in
-    let no : has_any (marks_at mode eq answers firsts so.table) ≡ false = subst (λ rs. has_any (round_marks mode eq answers rs) ≡ false) so.renders none in
+    let no : has_any (marks_at mode eq answers firsts so.table) ≡ false = subst (λ rs. has_any (round_marks mode eq answers rs) ≡ false) so.cites none in
     let same : InRounds mode eq answers firsts es old k new given marked total = record {
       table = so.table;
       done = so.done;
-      renders = again ∙ sym (empty-round answers eq now (round_marks mode eq answers now) marks) ∙ so.renders;
+      cites = again ∙ sym (empty-round answers eq now (round_marks mode eq answers now) marks) ∙ so.cites;
       all = so.all;
       states_are = subst (λ ms. AreStatesOf eq es (with_marks (mark_of eq now ms) so.table) given) marks are;
       each = so.each;

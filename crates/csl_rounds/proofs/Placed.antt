@@ -6,6 +6,7 @@ use Rattle.std.specs.List.{enumerate_from, list_any}
 use Rattle.std.specs.Option.{option_and_then, option_map_or}
 use Rattle.std.proofs.lemmas.Bool.{false≢true}
 use Rattle.std.proofs.lemmas.Bool.Decides.{nat_tests}
+use Rattle.std.proofs.lemmas.Option.{slice_get_within}
 use Rattle.std.proofs.lemmas.List.Elements.{All-head, All-tail, All-get_or, All-nil, All-cons}
 use Rattle.std.proofs.Math.ListN.{length-map}
 use Rattle.csl_ambiguity.specs.Members.{Member, entry_of, member_at}
@@ -16,8 +17,8 @@ use Rattle.csl_passes.specs.Places.{IsPlace}
 use Rattle.csl_passes.specs.Renders.{CiteRender, ItemRender, Place}
 use Rattle.csl_passes.specs.Request.{Request}
 use Rattle.csl_rounds.specs.Gathered.{AreGreatest, IsPlaced, by_places, cite_again, document_again, entry_place, greatest_at, request_again}
-use Rattle.csl_rounds.specs.RoundMarks.{Mark, cites_entry, greatest_state, waits}
-use Rattle.csl_rounds.specs.Rounds.{at_table, mark_of, request_at, with_any}
+use Rattle.csl_round_laws.specs.RoundMarks.{Mark, cites_entry, greatest_state, waits}
+use Rattle.csl_round_laws.specs.Rounds.{at_table, mark_of, request_at, with_any}
 
 -- the same place is an equal entry
 module _ {E : Type 0} (eq : E → E → Bool) (laws : IsEquivalence eq) where
@@ -53,11 +54,6 @@ module _ {X Y : Type 0} (f : X → Y) where
       by g = ap f cc
   map-at (y ∷ ys) (suc k) x e h = map-at ys k x e h
 
-pub at-within : {X : Type 0} (xs : List X) (k : ℕ) (x : X) → slice_get xs k ≡ Some x → k < length xs
-at-within [] k x h = cc
-at-within (y ∷ ys) zero x h = omega arith
-at-within (y ∷ ys) (suc k) x h = let more : k < length ys = at-within ys k x h in omega arith
-
 -- what changes each member by its place alike changes each
 module _ {X : Type 0} (f : ℕ → X → X) (g : X → X) where
   alike-from : (b : ℕ) (xs : List X) → ((k : ℕ) (x : X) → slice_get xs k ≡ Some x → f (b + k) x ≡ g x) → map (λ p. f p.0 p.1) (enumerate_from b xs) ≡ map g xs
@@ -85,30 +81,30 @@ same-any : {X : Type 0} (Q : X → Type 0) (p q : X → Bool) → ((x : X) → Q
 same-any Q p q h [] all = refl
 same-any Q p q h (x ∷ xs) all = λ i. h x (All-head Q x xs all) i || same-any Q p q h xs (All-tail Q x xs all) i
 
-module _ {E P : Type 0} (eq : E → E → Bool) (es : List E) (places : List (List ℕ)) (renders : List (CiteRender E P)) where
+module _ {E P : Type 0} (eq : E → E → Bool) (es : List E) (places : List (List ℕ)) (cites : List (CiteRender E P)) where
   abbrev pub row : CiteRender E P → List ℕ
   row c = map (λ i. place eq i.entry es) c.items
 
-  module _ (placed : places ≡ map row renders) (listed : All (λ ps. All (λ p. p < length es) ps) places) where
-    row-at : (r : ℕ) (c : CiteRender E P) → slice_get renders r ≡ Some c → get_or places r [] ≡ row c
-    row-at r c h = ap (λ l. get_or l r []) placed ∙ map-at row renders r c [] h
+  module _ (placed : places ≡ map row cites) (listed : All (λ ps. All (λ p. p < length es) ps) places) where
+    row-at : (r : ℕ) (c : CiteRender E P) → slice_get cites r ≡ Some c → get_or places r [] ≡ row c
+    row-at r c h = ap (λ l. get_or l r []) placed ∙ map-at row cites r c [] h
 
     -- a place, with the cite that stands there
     record Stands (at : Place) : Type 0 where
       pub cite : CiteRender E P
       pub item : ItemRender E P
-      pub request : slice_get renders at.0 ≡ Some cite
+      pub request : slice_get cites at.0 ≡ Some cite
       pub here : slice_get cite.items at.1 ≡ Some item
 
-    stands : (at : Place) → IsPlace renders at → Stands at
-    stands at h = outer (slice_get renders at.0) refl h
+    stands : (at : Place) → IsPlace cites at → Stands at
+    stands at h = outer (slice_get cites at.0) refl h
       where
-        inner : (c : CiteRender E P) → slice_get renders at.0 ≡ Some c → (o : Option (ItemRender E P)) → slice_get c.items at.1 ≡ o
+        inner : (c : CiteRender E P) → slice_get cites at.0 ≡ Some c → (o : Option (ItemRender E P)) → slice_get c.items at.1 ≡ o
             → IsSome {T = Request E P × ItemRender E P} (option_map (λ item. (c.request, item)) o) → Stands at
         inner c e None f h = absurd (false≢true h)
         inner c e (Some i) f h = record { cite = c; item = i; request = e; here = f }
 
-        outer : (o : Option (CiteRender E P)) → slice_get renders at.0 ≡ o
+        outer : (o : Option (CiteRender E P)) → slice_get cites at.0 ≡ o
             → IsSome {T = Request E P × ItemRender E P} (option_and_then (λ cite. option_map (λ item. (cite.request, item)) (slice_get cite.items at.1)) o) → Stands at
         outer None e h = absurd (false≢true h)
         outer (Some c) e h = inner c e (slice_get c.items at.1) refl h
@@ -118,30 +114,30 @@ module _ {E P : Type 0} (eq : E → E → Bool) (es : List E) (places : List (Li
 
     is-placed : (at : Place) → Stands at → IsPlaced places (length es) at
     is-placed at s =
-        let requests : at.0 < length places = subst (λ n. at.0 < n) (sym (length-map renders row) ∙ ap length (sym placed)) (at-within renders at.0 s.cite s.request) in
-        let cites : at.1 < length (get_or places at.0 []) =
-        subst (λ n. at.1 < n) (sym (length-map s.cite.items (λ i. place eq i.entry es)) ∙ ap length (sym (row-at at.0 s.cite s.request))) (at-within s.cite.items at.1 s.item s.here) in
+        let requests : at.0 < length places = subst (λ n. at.0 < n) (sym (length-map cites row) ∙ ap length (sym placed)) (slice_get_within cites at.0 s.cite s.request) in
+        let within : at.1 < length (get_or places at.0 []) =
+        subst (λ n. at.1 < n) (sym (length-map s.cite.items (λ i. place eq i.entry es)) ∙ ap length (sym (row-at at.0 s.cite s.request))) (slice_get_within s.cite.items at.1 s.item s.here) in
         record {
           request = requests;
-          cite = cites;
-          below = All-get_or (λ p. p < length es) (get_or places at.0 []) at.1 0 cites (All-get_or (λ ps. All (λ p. p < length es) ps) places at.0 [] requests listed);
+          cite = within;
+          below = All-get_or (λ p. p < length es) (get_or places at.0 []) at.1 0 within (All-get_or (λ ps. All (λ p. p < length es) ps) places at.0 [] requests listed);
         }
 
     -- the places of cites are known
-    pub group-placed : (group : List Place) → All (IsPlace renders) group → All (IsPlaced places (length es)) group
+    pub group-placed : (group : List Place) → All (IsPlace cites) group → All (IsPlaced places (length es)) group
     group-placed [] h = All-nil (IsPlaced places (length es))
     group-placed (p ∷ ps) h =
-        All-cons (IsPlaced places (length es)) p ps (is-placed p (stands p (All-head (IsPlace renders) p ps h))) (group-placed ps (All-tail (IsPlace renders) p ps h))
+        All-cons (IsPlaced places (length es)) p ps (is-placed p (stands p (All-head (IsPlace cites) p ps h))) (group-placed ps (All-tail (IsPlace cites) p ps h))
 
     -- the marks of cites have places
-    pub are-placed : (marks : List Mark) → All (λ m. IsPlace renders m.0) marks → All (λ m. IsPlaced places (length es) m.0) marks
+    pub are-placed : (marks : List Mark) → All (λ m. IsPlace cites m.0) marks → All (λ m. IsPlaced places (length es) m.0) marks
     are-placed [] h = All-nil (λ m. IsPlaced places (length es) m.0)
     are-placed (m ∷ ms) h =
-        All-cons (λ m. IsPlaced places (length es) m.0) m ms (is-placed m.0 (stands m.0 (All-head (λ m. IsPlace renders m.0) m ms h)))
-        (are-placed ms (All-tail (λ m. IsPlace renders m.0) m ms h))
+        All-cons (λ m. IsPlaced places (length es) m.0) m ms (is-placed m.0 (stands m.0 (All-head (λ m. IsPlace cites m.0) m ms h)))
+        (are-placed ms (All-tail (λ m. IsPlace cites m.0) m ms h))
 
     module _ (laws : IsEquivalence eq) where
-      cited-at : (at : Place) (e : E) (s : Stands at) → cites_entry eq renders e at ≡ eq e s.item.entry
+      cited-at : (at : Place) (e : E) (s : Stands at) → cites_entry eq cites e at ≡ eq e s.item.entry
       cited-at at e s =
           ap (λ o. cited o)
           (ap (λ o. option_and_then (λ cite. option_map (λ item. (cite.request, item)) (slice_get cite.items at.1)) o) s.request
@@ -151,43 +147,43 @@ module _ {E P : Type 0} (eq : E → E → Bool) (es : List E) (places : List (Li
           cited o = option_map_or {T = Member E P} (λ m. eq e (entry_of m)) (option_map (λ cite. record { place = at; item = cite.1; style = cite.0.style }) o) false
 
       -- a mark of a cite of e has its place
-      agree : (e : E) (m : Mark) → IsPlace renders m.0 → nat_eq (entry_place places m.0) (place eq e es) ≡ cites_entry eq renders e m.0
+      agree : (e : E) (m : Mark) → IsPlace cites m.0 → nat_eq (entry_place places m.0) (place eq e es) ≡ cites_entry eq cites e m.0
       agree e m there =
           let s : Stands m.0 = stands m.0 there in
           let below : place eq s.item.entry es < length es = subst (λ n. n < length es) (entry-at m.0 s) (is-placed m.0 s).below in
           ap (λ n. nat_eq n (place eq e es)) (entry-at m.0 s) ∙ same-place eq laws s.item.entry e es below ∙ sym (cited-at m.0 e s)
 
       -- by its place an entry has the greatest of its marks
-      marks-at : (marks : List Mark) → All (λ m. IsPlace renders m.0) marks → (e : E) → greatest_at places marks (place eq e es) ≡ mark_of eq renders marks e
+      marks-at : (marks : List Mark) → All (λ m. IsPlace cites m.0) marks → (e : E) → greatest_at places marks (place eq e es) ≡ mark_of eq cites marks e
       marks-at marks h e =
           ap (λ ms. greatest_state (map (λ m. m.1) ms))
-          (same-kept (λ m. IsPlace renders m.0) (λ m. nat_eq (entry_place places m.0) (place eq e es)) (λ m. cites_entry eq renders e m.0) (agree e) marks h)
+          (same-kept (λ m. IsPlace cites m.0) (λ m. nat_eq (entry_place places m.0) (place eq e es)) (λ m. cites_entry eq cites e m.0) (agree e) marks h)
 
       -- the flags of entries tell whether a group waits
-      module _ (marks : List Mark) (there : All (λ m. IsPlace renders m.0) marks) (flags : List Bool)
+      module _ (marks : List Mark) (there : All (λ m. IsPlace cites m.0) marks) (flags : List Bool)
           (told : (p : ℕ) → p < length es → get_or flags p false ≡ list_any (λ m. nat_eq (entry_place places m.0) p) marks) where
-        flag-at : (at : Place) (s : Stands at) → get_or flags (entry_place places at) false ≡ list_any (λ m. cites_entry eq renders s.item.entry m.0) marks
+        flag-at : (at : Place) (s : Stands at) → get_or flags (entry_place places at) false ≡ list_any (λ m. cites_entry eq cites s.item.entry m.0) marks
         flag-at at s =
             told (entry_place places at) (is-placed at s).below ∙ ap (λ n. list_any (λ m. nat_eq (entry_place places m.0) n) marks) (entry-at at s)
-            ∙ same-any (λ m. IsPlace renders m.0) (λ m. nat_eq (entry_place places m.0) (place eq s.item.entry es)) (λ m. cites_entry eq renders s.item.entry m.0) (agree s.item.entry) marks there
+            ∙ same-any (λ m. IsPlace cites m.0) (λ m. nat_eq (entry_place places m.0) (place eq s.item.entry es)) (λ m. cites_entry eq cites s.item.entry m.0) (agree s.item.entry) marks there
 
-        member-of : (at : Place) (s : Stands at) → member_at renders at ≡ Some (record { place = at; item = s.item; style = s.cite.request.style })
+        member-of : (at : Place) (s : Stands at) → member_at cites at ≡ Some (record { place = at; item = s.item; style = s.cite.request.style })
         member-of at s =
             ap (option_map (λ cite. record { place = at; item = cite.1; style = cite.0.style }))
             (ap (λ o. option_and_then (λ cite. option_map (λ item. (cite.request, item)) (slice_get cite.items at.1)) o) s.request
             ∙ ap (λ o. option_map (λ item. (s.cite.request, item)) o) s.here)
 
-        pub waits-alike : (group : List Place) → All (IsPlace renders) group → list_any (λ p. get_or flags (entry_place places p) false) group ≡ waits eq renders marks group
+        pub waits-alike : (group : List Place) → All (IsPlace cites) group → list_any (λ p. get_or flags (entry_place places p) false) group ≡ waits eq cites marks group
         waits-alike [] h = refl
         waits-alike (at ∷ group) h =
-            let s : Stands at = stands at (All-head (IsPlace renders) at group h) in
-            rw (member-of at s) (λ i. flag-at at s i || waits-alike group (All-tail (IsPlace renders) at group h) i)
+            let s : Stands at = stands at (All-head (IsPlace cites) at group h) in
+            rw (member-of at s) (λ i. flag-at at s i || waits-alike group (All-tail (IsPlace cites) at group h) i)
 
-      module _ (answers : E → Answers) (marks : List Mark) (there : All (λ m. IsPlace renders m.0) marks) (states : List (Option DisambiguateState)) (great : AreGreatest places marks (length es) states) where
+      module _ (answers : E → Answers) (marks : List Mark) (there : All (λ m. IsPlace cites m.0) marks) (states : List (Option DisambiguateState)) (great : AreGreatest places marks (length es) states) where
         abbrev table : E → Option DisambiguateState
-        table = mark_of eq renders marks
+        table = mark_of eq cites marks
 
-        item-alike : (r : ℕ) (c : CiteRender E P) → slice_get renders r ≡ Some c → (k : ℕ) (i : ItemRender E P) → slice_get c.items k ≡ Some i
+        item-alike : (r : ℕ) (c : CiteRender E P) → slice_get cites r ≡ Some c → (k : ℕ) (i : ItemRender E P) → slice_get c.items k ≡ Some i
             → cite_again answers states c.request (get_or places r []) k i ≡ with_any answers c.request (table i.entry) i
         item-alike r c e k i f =
             let s : Stands (r, k) = record { cite = c; item = i; request = e; here = f } in
@@ -195,13 +191,13 @@ module _ {E P : Type 0} (eq : E → E → Bool) (es : List E) (places : List (Li
             ap (λ s. with_any answers c.request s i)
             (ap (λ p. get_or states p None) (entry-at (r, k) s) ∙ great.at (place eq i.entry es) below ∙ marks-at marks there i.entry)
 
-        request-alike : (r : ℕ) (c : CiteRender E P) → slice_get renders r ≡ Some c → request_again answers states (get_or places r []) c ≡ request_at answers table c
+        request-alike : (r : ℕ) (c : CiteRender E P) → slice_get cites r ≡ Some c → request_again answers states (get_or places r []) c ≡ request_at answers table c
         request-alike r c e =
             ap (λ xs. record c { items = xs })
             (alike (cite_again answers states c.request (get_or places r [])) (λ i. with_any answers c.request (table i.entry) i) c.items (item-alike r c e))
 
-        pub document-alike : document_again answers states places renders ≡ at_table answers table renders
-        document-alike = alike (λ r. request_again answers states (get_or places r [])) (request_at answers table) renders request-alike
+        pub document-alike : document_again answers states places cites ≡ at_table answers table cites
+        document-alike = alike (λ r. request_again answers states (get_or places r [])) (request_at answers table) cites request-alike
 
         -- by its place an entry has its state
         pub state-at : (e : E) → place eq e es < length es → get_or states (place eq e es) None ≡ table e

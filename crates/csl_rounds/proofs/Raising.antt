@@ -3,14 +3,13 @@ use Rattle.std.proofs.Common.{◌≡◌, ◌≢◌, ℕ, ◌<◌, Bool, true, fa
 use Rattle.std.specs.Prelude.{All, nat_eq, replicate}
 use Rattle.std.proofs.Math.ListN.{set}
 use Rattle.std.proofs.lemmas.Bool.{eqb-true, eq-eqb, false≢true}
-use Rattle.std.proofs.lemmas.List.{get_or-set_same, get_or-set_other, get_or-replicate, length-replicate, length-set}
+use Rattle.std.proofs.lemmas.List.{get_or-replicate, get_or-set_other, get_or-set_same, get_or_default, length-replicate, length-set}
 use Rattle.std.proofs.lemmas.List.Elements.{All-head, All-tail}
 use Rattle.std.proofs.lemmas.List.Sums.{fold_push}
 use Rattle.csl_lookup.specs.States.{greater}
 use Rattle.csl_lookup.specs.declared.state.DisambiguateState.{DisambiguateState}
 use Rattle.csl_rounds.specs.Gathered.{AreGreatest, IsPlaced, entry_place, greatest_at, with_greater}
-use Rattle.csl_rounds.specs.RoundMarks.{Mark, greatest_state}
-use Rattle.csl_rounds.proofs.Halves.{any_default}
+use Rattle.csl_round_laws.specs.RoundMarks.{Mark, greatest_state}
 
 greatest-more : (ss : List DisambiguateState) (s : DisambiguateState) → greatest_state (ss ++ s ∷ []) ≡ with_greater (greatest_state ss) s
 greatest-more [] s = refl
@@ -45,7 +44,7 @@ module _ (places : List (List ℕ)) (count : ℕ) where
       let long : k < length states = subst (λ n. k < n) (sym so.long) h in
       ap (λ j. get_or (set states j (with_greater (get_or states j d) m.1)) k None) here
       ∙ get_or-set_same states k (with_greater (get_or states k d) m.1) None long
-      ∙ ap (λ s. with_greater s m.1) (any_default states k d None long ∙ so.at k h)
+      ∙ ap (λ s. with_greater s m.1) (get_or_default states k d None long ∙ so.at k h)
       ∙ sym (ap greatest_state (seen-yes (λ n. nat_eq (entry_place places n.0) k) done m same) ∙ greatest-more (seen (λ n. nat_eq (entry_place places n.0) k) done) m.1)
   raised-at done states m p d so at within k false differs h =
       let apart : k ≢ p = λ e. false≢true (sym differs ∙ eq-eqb (entry_place places m.0) k (sym at ∙ sym e)) in

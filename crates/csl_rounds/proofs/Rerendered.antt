@@ -9,13 +9,9 @@ use Rattle.csl_entries.specs.Entries.{place}
 use Rattle.csl_lookup.specs.declared.state.DisambiguateState.{DisambiguateState}
 use Rattle.csl_passes.specs.Renders.{CiteRender, ItemRender}
 use Rattle.csl_rounds.specs.Gathered.{put_before, with_states}
-use Rattle.csl_rounds.specs.Rerenders.{AreStatesOf, marked_among}
-use Rattle.csl_rounds.specs.Rounds.{StateTable, entries_cited, with_marks}
+use Rattle.csl_round_laws.specs.Rerenders.{AreStatesOf, marked_among}
+use Rattle.csl_round_laws.specs.Rounds.{StateTable, entries_cited, with_marks}
 use Rattle.csl_rounds.proofs.Halves.{by_places-at, by_places-length}
-
-sum_by-map : {A B : Type 0} (f : B → ℕ) (g : A → B) (xs : List A) → sum_by (λ x. f (g x)) xs ≡ sum_by f (map g xs)
-sum_by-map f g [] = refl
-sum_by-map f g (x ∷ xs) = sum_by-cons (λ y. f (g y)) x xs ∙ ap (λ n. f (g x) + n) (sum_by-map f g xs) ∙ sym (sum_by-cons f (g x) (map g xs))
 
 module _ {E P : Type 0} (eq : E → E → Bool) (es : List E) (table : StateTable E) (states : List (Option DisambiguateState))
     (at : (e : E) → place eq e es < length es → get_or states (place eq e es) None ≡ table e) where
@@ -46,11 +42,10 @@ module _ {E P : Type 0} (eq : E → E → Bool) (es : List E) (table : StateTabl
       ∙ sym (ap length (filter-append (λ e. is_some (table e)) own (entries_cited cs)) ∙ length-append (filter (λ e. is_some (table e)) own) (filter (λ e. is_some (table e)) (entries_cited cs)))
 
   -- so many cites are rendered again
-  pub cites-marked : {A : Type 0} (view : A → List ℕ) (places : List A) (rs : List (CiteRender E P)) → map view places ≡ map (λ c. map (λ i. place eq i.entry es) c.items) rs
-      → All (λ ps. All (λ p. p < length es) ps) (map view places) → sum_by (λ x. with_states states (view x)) places ≡ marked_among (entries_cited rs) table
-  cites-marked view places rs placed listed =
-      sum_by-map (with_states states) view places ∙ ap (sum_by (with_states states)) placed
-      ∙ rows-marked rs (subst (λ rows. All (λ ps. All (λ p. p < length es) ps) rows) placed listed)
+  pub cites-marked : (places : List (List ℕ)) (rs : List (CiteRender E P)) → places ≡ map (λ c. map (λ i. place eq i.entry es) c.items) rs
+      → All (λ ps. All (λ p. p < length es) ps) places → sum_by (with_states states) places ≡ marked_among (entries_cited rs) table
+  cites-marked places rs placed listed =
+      ap (sum_by (with_states states)) placed ∙ rows-marked rs (subst (λ rows. All (λ ps. All (λ p. p < length es) ps) rows) placed listed)
 
 module _ {E : Type 0} (eq : E → E → Bool) (es : List E) (table : StateTable E) (states : List (Option DisambiguateState))
     (at : (e : E) → place eq e es < length es → get_or states (place eq e es) None ≡ table e) where

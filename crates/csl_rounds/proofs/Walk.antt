@@ -7,8 +7,8 @@ use Rattle.csl_ambiguity.specs.SuffixMarks.{shows_dates}
 use Rattle.csl_base.specs.Answers.{Answers}
 use Rattle.csl_name_marks.specs.NameMarks.{name_marks}
 use Rattle.csl_rounds.specs.Gathered.{with_counting, with_group}
-use Rattle.csl_rounds.specs.RoundMarks.{Mark, MarkedGroups, all_ways, by_choice, by_full, by_suffix, by_three, counting, has_any, marked_groups, marks_of, or_others, round_marks, waits}
-use Rattle.csl_rounds.specs.declared.mode.RoundMode.{RoundMode}
+use Rattle.csl_round_laws.specs.RoundMarks.{Mark, MarkedGroups, all_ways, by_choice, by_full, by_suffix, by_three, counting, has_any, marked_groups, marks_of, or_others, round_marks, waits}
+use Rattle.csl_round_laws.specs.declared.mode.RoundMode.{RoundMode}
 
 module _ (n c s : List Place → List Mark) where
   abbrev with_one : List Mark → List Place → List Mark

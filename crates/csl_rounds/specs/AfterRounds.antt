@@ -3,19 +3,23 @@ use Rattle.std.specs.Prelude.{◌≡◌, ℕ, ◌-◌, ◌^◌, Bool, false, Lis
 use Rattle.csl_base.specs.Answers.{Answers}
 use Rattle.csl_lookup.specs.declared.state.DisambiguateState.{DisambiguateState}
 use Rattle.csl_passes.specs.Renders.{CiteRender}
-use Rattle.csl_rounds.specs.Rerenders.{AreStatesOf, rerenders}
-use Rattle.csl_rounds.specs.RoundMarks.{has_any}
-use Rattle.csl_rounds.specs.Rounds.{entries_cited}
-use Rattle.csl_rounds.specs.Tables.{disambiguated, last_states, marks_at, round_tables, rounds}
-use Rattle.csl_rounds.specs.declared.mode.RoundMode.{RoundMode}
+use Rattle.csl_round_laws.specs.Rerenders.{AreStatesOf, rerenders}
+use Rattle.csl_round_laws.specs.RoundMarks.{has_any}
+use Rattle.csl_round_laws.specs.Rounds.{entries_cited}
+use Rattle.csl_round_laws.specs.Tables.{disambiguated, last_states, marks_at, round_tables, rounds}
+use Rattle.csl_round_laws.specs.declared.mode.RoundMode.{RoundMode}
 use Rattle.csl_writing.specs.Counted.{counted_times}
 
--- so many rounds marked these first renders, and the entries have these states now; of the counter the old value and the new one
-pub record AreAfterRounds {E P : Type 0} (mode : RoundMode) (eq : E → E → Bool) (answers : E → Answers) (firsts : List (CiteRender E P)) (entries : List E) (old : ℕ)
+-- so many rounds marked these first renders, and the entries have these states now; of the counter the old
+-- value and the new one
+pub record AreAfterRounds {E P : Type 0} (mode : RoundMode) (eq : E → E → Bool) (answers : E
+    → Answers) (firsts : List (CiteRender E P)) (entries : List E) (old : ℕ)
     (now : List (CiteRender E P)) (states : List (Option DisambiguateState)) (marked count : ℕ) : Type 0 where
-  pub renders : now ≡ disambiguated mode eq answers firsts
+  pub cites : now ≡ disambiguated mode eq answers firsts
   pub states_are : AreStatesOf eq entries (last_states mode eq answers firsts) states
   pub marked_is : marked ≡ min (rounds mode eq answers firsts) (2 ^ 128 - 1)
-  pub counted : count ≡ counted_times (rerenders (entries_cited firsts) (round_tables mode eq answers firsts)) old
+  pub counted : count ≡ counted_times
+      (rerenders (entries_cited firsts) (round_tables mode eq answers firsts)) old
   -- in mode full they came to an end: at the last table nothing marks
-  pub ended : mode ≡ RoundMode.Full → has_any (marks_at mode eq answers firsts (last_states mode eq answers firsts)) ≡ false
+  pub ended : mode ≡ RoundMode.Full
+      → has_any (marks_at mode eq answers firsts (last_states mode eq answers firsts)) ≡ false

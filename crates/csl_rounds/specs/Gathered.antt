@@ -8,25 +8,26 @@ use Rattle.csl_lookup.specs.declared.state.DisambiguateState.{DisambiguateState}
 use Rattle.csl_name_marks.specs.NameMarks.{name_marks}
 use Rattle.csl_passes.specs.Renders.{CiteRender, ItemRender, Place}
 use Rattle.csl_passes.specs.Request.{Request}
-use Rattle.csl_rounds.specs.RoundMarks.{Mark, all_ways, by_choice, by_suffix, greatest_state, or_others, waits, ways}
-use Rattle.csl_rounds.specs.Rounds.{with_any}
-use Rattle.csl_rounds.specs.declared.mode.RoundMode.{RoundMode}
+use Rattle.csl_round_laws.specs.RoundMarks.{Mark, all_ways, by_choice, by_suffix, greatest_state, or_others, waits, ways}
+use Rattle.csl_round_laws.specs.Rounds.{with_any}
+use Rattle.csl_round_laws.specs.declared.mode.RoundMode.{RoundMode}
 
-module _ {E P : Type 0} (eq : E → E → Bool) (dated : Bool) (renders : List (CiteRender E P)) where
+module _ {E P : Type 0} (eq : E → E → Bool) (dated : Bool) (cites : List (CiteRender E P)) where
   -- the marks of the groups so far, and those of one more
   abbrev pub with_group : List Mark → List Place → List Mark
   with_group marks group =
-      or_others (or_others (marks ++ name_marks renders group) (by_choice eq renders group)) (by_suffix eq renders dated group)
+      or_others (or_others (marks ++ name_marks cites group) (by_choice eq cites group))
+      (by_suffix eq cites dated group)
 
   -- the marks of a group that count, in the first way that gives any
   abbrev pub counting_ways : List Place → List Mark
   counting_ways =
-      let w = ways eq renders dated RoundMode.Full in
+      let w = ways eq cites dated RoundMode.Full in
       all_ways w.by_names w.by_choice w.by_suffix
 
   -- in mode full: the marks so far, and those of a group that doesn't wait
   abbrev pub with_counting : List Mark → List Place → List Mark
-  with_counting marks group = marks ++ (if waits eq renders marks group then [] else counting_ways group)
+  with_counting marks group = marks ++ (if waits eq cites marks group then [] else counting_ways group)
 
 -- the greater of a mark and the state before it
 abbrev pub with_greater : Option DisambiguateState → DisambiguateState → Option DisambiguateState
@@ -45,17 +46,20 @@ pub record IsPlaced (places : List (List ℕ)) (count : ℕ) (at : Place) : Type
 
 -- the greatest of the marks of the entry at p
 abbrev pub greatest_at : List (List ℕ) → List Mark → ℕ → Option DisambiguateState
-greatest_at places marks p = greatest_state (map (λ m. m.1) (filter (λ m. nat_eq (entry_place places m.0) p) marks))
+greatest_at places marks p =
+    greatest_state (map (λ m. m.1) (filter (λ m. nat_eq (entry_place places m.0) p) marks))
 
 -- a list of such states
-pub record AreGreatest (places : List (List ℕ)) (marks : List Mark) (count : ℕ) (states : List (Option DisambiguateState)) : Type 0 where
+pub record AreGreatest (places : List (List ℕ)) (marks : List Mark) (count : ℕ)
+    (states : List (Option DisambiguateState)) : Type 0 where
   pub long : length states ≡ count
   pub at : (p : ℕ) → p < count → slice_index_or states p None ≡ greatest_at places marks p
 
 -- of the entries by their places, those that were marked before are, and those of these marks
 abbrev pub AreMarked : List (List ℕ) → List Mark → List Bool → List Bool → Type 0
 AreMarked places marks old new =
-    (p : ℕ) → p < length old → slice_index_or new p false ≡ (slice_index_or old p false || list_any (λ m. nat_eq (entry_place places m.0) p) marks)
+    (p : ℕ) → p < length old → slice_index_or new p false
+    ≡ (slice_index_or old p false || list_any (λ m. nat_eq (entry_place places m.0) p) marks)
 
 -- how many of these places have a state
 abbrev pub with_states : List (Option DisambiguateState) → List ℕ → ℕ
@@ -66,7 +70,8 @@ abbrev pub by_places : {X : Type 0} → (ℕ → X → X) → List X → List X
 by_places change xs = map (λ p. change p.0 p.1) (enumerate_from 0 xs)
 
 -- states before those that were there
-abbrev pub put_before : List (Option DisambiguateState) → List (Option DisambiguateState) → List (Option DisambiguateState)
+abbrev pub put_before : List (Option DisambiguateState) → List (Option DisambiguateState)
+    → List (Option DisambiguateState)
 put_before states = by_places (λ p. option_or (slice_index_or states p None))
 
 module _ {E P : Type 0} (answers : E → Answers) (states : List (Option DisambiguateState)) where

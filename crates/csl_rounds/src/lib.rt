@@ -4,9 +4,7 @@
 pub mod contexts;
 mod counting;
 pub mod first_renders;
-pub mod laws;
 mod marks;
-pub mod mode;
 mod rerender;
 pub mod rounds;
 mod states;

@@ -1,16 +1,14 @@
 //! The marks of a round.
-ghost use Rattle.std.specs.Prelude.{◌≡◌, ◌<◌, All, IfOk, OnOk, length, map};
+ghost use Rattle.std.specs.Prelude.{◌≡◌, IfOk, OnOk};
 ghost use Rattle.csl_ambiguity.specs.SuffixMarks.{shows_dates};
-ghost use Rattle.csl_entries.specs.Entries.{place};
 ghost use Rattle.csl_entries.specs.TableView.{table_view};
-ghost use Rattle.csl_passes.specs.Places.{AreDistinct, IsPlace};
 ghost use Rattle.csl_passes.specs.RendersView.{renders_view};
+ghost use Rattle.csl_rounds.specs.CitesOfTable.{AreCitesOfTable, IsGroupOf};
 ghost use Rattle.csl_rounds.specs.Gathered.{counting_ways, with_group};
-ghost use Rattle.csl_rounds.specs.RoundMarks.{round_marks};
-ghost use Rattle.csl_rounds.specs.declared.mode.RoundMode.{RoundMode};
+ghost use Rattle.csl_round_laws.specs.RoundMarks.{round_marks};
+ghost use Rattle.csl_round_laws.specs.declared.mode.RoundMode.{RoundMode};
 
 use crate::counting::{counting, none_marked, note, waits};
-use crate::mode::RoundMode;
 use csl_ambiguity::ambiguity::find_ambiguous_sets;
 use csl_ambiguity::choose::disambiguate_with_choose;
 use csl_ambiguity::suffixes::{disambiguate_dated_year_suffix, shows_dates};
@@ -18,29 +16,23 @@ use csl_base::entry::EntryLike;
 use csl_entries::table::EntryTable;
 use csl_name_marks::marks::disambiguate_names;
 use csl_passes::renders::{AmbiguousGroup, Marks, SpeculativeCiteRender};
+use csl_round_laws::mode::RoundMode;
 use std::alloc::{AllocError, Global};
 
-/// Adds the marks of a group to those of the groups before it: those by names, and others only where
-/// there is no mark yet.
-fn add_group<T: EntryLike, P>(
+/// The marks of a round.
+pub(crate) fn round_marks<'a, T: EntryLike, P>(
     alloc: Global,
-    renders: &[SpeculativeCiteRender<'_, '_, T, P>],
-    group: &AmbiguousGroup,
-    dated: bool,
-    marks: &mut Marks,
-) -> Result<(), AllocError>
-    requires exist { All (IsPlace (renders_view renders.now)) group.now.items }
-    requires distinct { AreDistinct group.now.items }
-    ensures { OnOk result (marks.new.items ≡ with_group T.eq dated (renders_view renders.now) marks.old.items group.now.items) }
+    cites: &[SpeculativeCiteRender<'_, 'a, T, P>],
+    table: &EntryTable<'a, T>,
+    mode: RoundMode,
+) -> Result<Marks, AllocError>
+    requires cites { AreCitesOfTable T.eq (table_view table.now) (renders_view cites.now) }
+    ensures { IfOk result (λ v. v.items ≡ round_marks mode T.eq T.answers (renders_view cites.now)) }
 {
-    marks.append(&mut disambiguate_names(alloc, renders, group)?)?;
-    if marks.is_empty() {
-        *marks = disambiguate_with_choose(alloc, renders, group)?;
+    match mode {
+        RoundMode::Three => marks_of_three(alloc, cites),
+        RoundMode::Full => marks_of_full(alloc, cites, table),
     }
-    if marks.is_empty() {
-        *marks = disambiguate_dated_year_suffix(alloc, renders, group, dated)?;
-    }
-    Ok(())
 }
 
 /// The marks of a round of three: those by names of every ambiguous group; and for the first group that
@@ -48,15 +40,65 @@ fn add_group<T: EntryLike, P>(
 /// none of these either.
 fn marks_of_three<T: EntryLike, P>(
     alloc: Global,
-    renders: &[SpeculativeCiteRender<'_, '_, T, P>],
+    cites: &[SpeculativeCiteRender<'_, '_, T, P>],
 ) -> Result<Marks, AllocError>
-    ensures { IfOk result (λ v. v.items ≡ round_marks RoundMode.Three T.eq T.answers (renders_view renders.now)) }
+    ensures { IfOk result (λ v. v.items
+        ≡ round_marks RoundMode.Three T.eq T.answers (renders_view cites.now)) }
 {
-    let dated = shows_dates(renders);
-    let groups = find_ambiguous_sets(alloc, renders)?;
+    let dated = shows_dates(cites);
+    let groups = find_ambiguous_sets(alloc, cites)?;
     let mut marks = Vec::new(alloc);
     for group in &groups {
-        add_group(alloc, renders, group, dated, &mut marks)?;
+        add_group(alloc, cites, group, dated, &mut marks)?;
+    }
+    Ok(marks)
+}
+
+/// Adds the marks of a group to those of the groups before it: those by names, and others only where
+/// there is no mark yet.
+fn add_group<T: EntryLike, P>(
+    alloc: Global,
+    cites: &[SpeculativeCiteRender<'_, '_, T, P>],
+    group: &AmbiguousGroup,
+    dated: bool,
+    marks: &mut Marks,
+) -> Result<(), AllocError>
+    requires group { IsGroupOf (renders_view cites.now) group.now.items }
+    ensures { OnOk result (marks.new.items
+        ≡ with_group T.eq dated (renders_view cites.now) marks.old.items group.now.items) }
+{
+    marks.append(&mut disambiguate_names(alloc, cites, group)?)?;
+    if marks.is_empty() {
+        *marks = disambiguate_with_choose(alloc, cites, group)?;
+    }
+    if marks.is_empty() {
+        *marks = disambiguate_dated_year_suffix(alloc, cites, group, dated)?;
+    }
+    Ok(())
+}
+
+/// The marks of a round of as many as mark: of each ambiguous group in turn those that count, unless an
+/// entry of it was marked before in this round.
+fn marks_of_full<'a, T: EntryLike, P>(
+    alloc: Global,
+    cites: &[SpeculativeCiteRender<'_, 'a, T, P>],
+    table: &EntryTable<'a, T>,
+) -> Result<Marks, AllocError>
+    requires cites { AreCitesOfTable T.eq (table_view table.now) (renders_view cites.now) }
+    ensures { IfOk result (λ v. v.items
+        ≡ round_marks RoundMode.Full T.eq T.answers (renders_view cites.now)) }
+{
+    let dated = shows_dates(cites);
+    let groups = find_ambiguous_sets(alloc, cites)?;
+    let places = table.places();
+    let mut marked = none_marked(alloc, table.len())?;
+    let mut marks = Vec::new(alloc);
+    for group in &groups {
+        if !waits(places, &marked, group) {
+            let mut own = counting_marks(alloc, cites, group, dated)?;
+            note(places, &mut marked, &own);
+            marks.append(&mut own)?;
+        }
     }
     Ok(marks)
 }
@@ -65,72 +107,25 @@ fn marks_of_three<T: EntryLike, P>(
 /// where there are none of these either.
 fn counting_marks<T: EntryLike, P>(
     alloc: Global,
-    renders: &[SpeculativeCiteRender<'_, '_, T, P>],
+    cites: &[SpeculativeCiteRender<'_, '_, T, P>],
     group: &AmbiguousGroup,
     dated: bool,
 ) -> Result<Marks, AllocError>
-    requires exist { All (IsPlace (renders_view renders.now)) group.now.items }
-    requires distinct { AreDistinct group.now.items }
-    ensures { IfOk result (λ v. v.items ≡ counting_ways T.eq dated (renders_view renders.now) group.now.items) }
+    requires group { IsGroupOf (renders_view cites.now) group.now.items }
+    ensures { IfOk result (λ v. v.items
+        ≡ counting_ways T.eq dated (renders_view cites.now) group.now.items) }
 {
-    let by_names = counting(alloc, renders, disambiguate_names(alloc, renders, group)?)?;
+    let by_names = counting(alloc, cites, disambiguate_names(alloc, cites, group)?)?;
     if !by_names.is_empty() {
         return Ok(by_names);
     }
-    let chosen = counting(
-        alloc,
-        renders,
-        disambiguate_with_choose(alloc, renders, group)?,
-    )?;
+    let chosen = counting(alloc, cites, disambiguate_with_choose(alloc, cites, group)?)?;
     if !chosen.is_empty() {
         return Ok(chosen);
     }
     counting(
         alloc,
-        renders,
-        disambiguate_dated_year_suffix(alloc, renders, group, dated)?,
+        cites,
+        disambiguate_dated_year_suffix(alloc, cites, group, dated)?,
     )
-}
-
-/// The marks of a round of as many as mark: of each ambiguous group in turn those that count, unless an
-/// entry of it was marked before in this round.
-fn marks_of_full<'a, T: EntryLike, P>(
-    alloc: Global,
-    renders: &[SpeculativeCiteRender<'_, 'a, T, P>],
-    table: &EntryTable<'a, T>,
-) -> Result<Marks, AllocError>
-    requires placed { (table_view table.now).places ≡ map (λ c. map (λ i. place T.eq i.entry (table_view table.now).entries) c.items) (renders_view renders.now) }
-    requires listed { All (λ ps. All (λ p. p < length (table_view table.now).entries) ps) (table_view table.now).places }
-    ensures { IfOk result (λ v. v.items ≡ round_marks RoundMode.Full T.eq T.answers (renders_view renders.now)) }
-{
-    let dated = shows_dates(renders);
-    let groups = find_ambiguous_sets(alloc, renders)?;
-    let places = table.places();
-    let mut marked = none_marked(alloc, table.len())?;
-    let mut marks = Vec::new(alloc);
-    for group in &groups {
-        if !waits(places, &marked, group) {
-            let mut own = counting_marks(alloc, renders, group, dated)?;
-            note(places, &mut marked, &own);
-            marks.append(&mut own)?;
-        }
-    }
-    Ok(marks)
-}
-
-/// The marks of a round.
-pub(crate) fn round_marks<'a, T: EntryLike, P>(
-    alloc: Global,
-    renders: &[SpeculativeCiteRender<'_, 'a, T, P>],
-    table: &EntryTable<'a, T>,
-    mode: RoundMode,
-) -> Result<Marks, AllocError>
-    requires placed { (table_view table.now).places ≡ map (λ c. map (λ i. place T.eq i.entry (table_view table.now).entries) c.items) (renders_view renders.now) }
-    requires listed { All (λ ps. All (λ p. p < length (table_view table.now).entries) ps) (table_view table.now).places }
-    ensures { IfOk result (λ v. v.items ≡ round_marks mode T.eq T.answers (renders_view renders.now)) }
-{
-    match mode {
-        RoundMode::Three => marks_of_three(alloc, renders),
-        RoundMode::Full => marks_of_full(alloc, renders, table),
-    }
 }

@@ -1,25 +1,24 @@
 //! The rounds in which cites that read alike are told apart.
-ghost use Rattle.std.specs.Prelude.{◌≡◌, ◌<◌, All, IfOk, OnOk, length, map};
-ghost use Rattle.csl_base.specs.Ring.{HasNoRing};
-ghost use Rattle.csl_entries.specs.Entries.{place};
+ghost use Rattle.std.specs.Prelude.{◌≡◌, IfOk, OnOk, length};
 ghost use Rattle.csl_entries.specs.TableView.{table_view};
 ghost use Rattle.csl_passes.specs.RendersView.{renders_view};
-ghost use Rattle.csl_rounds.specs.FirstRenders.{AreBegun};
 ghost use Rattle.csl_rounds.specs.AfterRounds.{AreAfterRounds};
-ghost use Rattle.csl_rounds.specs.Rerenders.{AreStatesOf, marked_among};
-ghost use Rattle.csl_rounds.specs.RoundMarks.{has_any, round_marks};
-ghost use Rattle.csl_rounds.specs.Rounds.{StateTable, at_table, entries_cited, mark_of, with_marks};
-ghost use Rattle.csl_rounds.specs.declared.mode.RoundMode.{RoundMode};
+ghost use Rattle.csl_rounds.specs.CitesOfTable.{AreCitesOfTable};
+ghost use Rattle.csl_round_laws.specs.FirstRenders.{AreBegun};
+ghost use Rattle.csl_round_laws.specs.Rerenders.{AreStatesOf, marked_among};
+ghost use Rattle.csl_round_laws.specs.RoundMarks.{has_any, round_marks};
+ghost use Rattle.csl_round_laws.specs.Rounds.{StateTable, at_table, entries_cited, marked_by, with_marks};
+ghost use Rattle.csl_round_laws.specs.declared.mode.RoundMode.{RoundMode};
 ghost use Rattle.csl_writing.specs.Counted.{counted_times};
 
 use crate::marks::round_marks;
-use crate::mode::RoundMode;
 use crate::rerender::render_marked;
 use crate::states::{greatest_marks, no_states, put_before};
 use csl_base::entry::EntryLike;
 use csl_entries::table::EntryTable;
 use csl_lookup::state::DisambiguateState;
 use csl_passes::renders::SpeculativeCiteRender;
+use csl_round_laws::mode::RoundMode;
 use csl_writing::counter::Renders;
 use std::alloc::{AllocError, Global};
 
@@ -31,102 +30,6 @@ pub struct Rounds {
     /// The states that the entries have after them, by their places in the table; none where no round
     /// marked the entry.
     pub states: Vec<Option<DisambiguateState>>,
-}
-
-/// One round: the cites whose entries get marks are rendered again with these, which are their states from
-/// now on. Whether there were any.
-fn run_round<'a, T: EntryLike, P>(
-    alloc: Global,
-    renders: &mut [SpeculativeCiteRender<'_, 'a, T, P>],
-    table: &EntryTable<'a, T>,
-    mode: RoundMode,
-    states: &mut [Option<DisambiguateState>],
-    counter: &mut Renders,
-) -> Result<bool, AllocError>
-    requires no_ring { All (λ c. HasNoRing c.request.style.macros) (renders_view renders.old) }
-    requires placed { (table_view table.now).places ≡ map (λ c. map (λ i. place T.eq i.entry (table_view table.now).entries) c.items) (renders_view renders.old) }
-    requires listed { All (λ ps. All (λ p. p < length (table_view table.now).entries) ps) (table_view table.now).places }
-    requires long { length states.old ≡ length (table_view table.now).entries }
-    ensures again { IfOk result (λ again. again ≡ has_any (round_marks mode T.eq T.answers (renders_view renders.old))) }
-    ensures marked { OnOk result (renders_view renders.new
-        ≡ at_table T.answers (mark_of T.eq (renders_view renders.old) (round_marks mode T.eq T.answers (renders_view renders.old))) (renders_view renders.old)) }
-    ensures states { OnOk result ((known : StateTable T) → AreStatesOf T.eq (table_view table.now).entries known states.old
-        → AreStatesOf T.eq (table_view table.now).entries (with_marks (mark_of T.eq (renders_view renders.old) (round_marks mode T.eq T.answers (renders_view renders.old))) known) states.new) }
-    ensures counted { OnOk result (counter.new ≡ counted_times (marked_among (entries_cited (renders_view renders.old))
-        (mark_of T.eq (renders_view renders.old) (round_marks mode T.eq T.answers (renders_view renders.old)))) counter.old) }
-{
-    let marks = round_marks(alloc, renders, table, mode)?;
-    if marks.is_empty() {
-        return Ok(false);
-    }
-    let marked = greatest_marks(alloc, table.places(), table.len(), marks)?;
-    render_marked(alloc, &marked, table.places(), renders, counter)?;
-    put_before(&marked, states)?;
-    Ok(true)
-}
-
-/// At most three rounds. One without marks is the last.
-fn three_rounds<'a, T: EntryLike, P>(
-    alloc: Global,
-    renders: &mut [SpeculativeCiteRender<'_, 'a, T, P>],
-    table: &EntryTable<'a, T>,
-    counter: &mut Renders,
-) -> Result<Rounds, AllocError>
-    requires no_ring { All (λ c. HasNoRing c.request.style.macros) (renders_view renders.old) }
-    requires placed { (table_view table.now).places ≡ map (λ c. map (λ i. place T.eq i.entry (table_view table.now).entries) c.items) (renders_view renders.old) }
-    requires listed { All (λ ps. All (λ p. p < length (table_view table.now).entries) ps) (table_view table.now).places }
-    ensures { IfOk result (λ r. AreAfterRounds RoundMode.Three T.eq T.answers (renders_view renders.old) (table_view table.now).entries counter.old
-        (renders_view renders.new) r.states.items r.marked counter.new) }
-{
-    let mut rounds = Rounds {
-        marked: 0,
-        states: no_states(alloc, table.len())?,
-    };
-    for _round in 0..3usize {
-        if !run_round(
-            alloc,
-            renders,
-            table,
-            RoundMode::Three,
-            &mut rounds.states,
-            counter,
-        )? {
-            return Ok(rounds);
-        }
-        rounds.marked = rounds.marked.saturating_add(1);
-    }
-    Ok(rounds)
-}
-
-/// Rounds until one has no marks that count.
-fn all_rounds<'a, T: EntryLike, P>(
-    alloc: Global,
-    renders: &mut [SpeculativeCiteRender<'_, 'a, T, P>],
-    table: &EntryTable<'a, T>,
-    counter: &mut Renders,
-) -> Result<Rounds, AllocError>
-    requires no_ring { All (λ c. HasNoRing c.request.style.macros) (renders_view renders.old) }
-    requires placed { (table_view table.now).places ≡ map (λ c. map (λ i. place T.eq i.entry (table_view table.now).entries) c.items) (renders_view renders.old) }
-    requires listed { All (λ ps. All (λ p. p < length (table_view table.now).entries) ps) (table_view table.now).places }
-    requires begun { AreBegun (renders_view renders.old) }
-    ensures { IfOk result (λ r. AreAfterRounds RoundMode.Full T.eq T.answers (renders_view renders.old) (table_view table.now).entries counter.old
-        (renders_view renders.new) r.states.items r.marked counter.new) }
-{
-    let mut rounds = Rounds {
-        marked: 0,
-        states: no_states(alloc, table.len())?,
-    };
-    while run_round(
-        alloc,
-        renders,
-        table,
-        RoundMode::Full,
-        &mut rounds.states,
-        counter,
-    )? {
-        rounds.marked = rounds.marked.saturating_add(1);
-    }
-    Ok(rounds)
 }
 
 /// Tells cites apart that read alike and cite different entries (CSL 1.0.2, disambiguation), in rounds.
@@ -142,29 +45,124 @@ fn all_rounds<'a, T: EntryLike, P>(
 /// with it, for its purpose and with no verdict. A round without marks is the last. Each rendering is
 /// counted: one in each round that marks for each cite whose entry it marks.
 ///
-/// `renders` has the first renders, its items in the order of their requests; `table` has the place of
-/// each one's entry. No style may have macros that call each other in a ring. In mode full no cite may be
-/// told apart already.
+/// `cites` are those of the requests of which `table` is made. In mode full none of them may be told apart
+/// already.
 ///
 /// # Errors
 ///
-/// Where memory is refused. Then the renders are of no further use.
+/// Where memory is refused. Then the cites are of no further use.
 pub fn disambiguate<'a, T: EntryLike, P>(
     alloc: Global,
-    renders: &mut [SpeculativeCiteRender<'_, 'a, T, P>],
+    cites: &mut [SpeculativeCiteRender<'_, 'a, T, P>],
     table: &EntryTable<'a, T>,
     mode: RoundMode,
     counter: &mut Renders,
 ) -> Result<Rounds, AllocError>
-    requires no_ring { All (λ c. HasNoRing c.request.style.macros) (renders_view renders.old) }
-    requires placed { (table_view table.now).places ≡ map (λ c. map (λ i. place T.eq i.entry (table_view table.now).entries) c.items) (renders_view renders.old) }
-    requires listed { All (λ ps. All (λ p. p < length (table_view table.now).entries) ps) (table_view table.now).places }
-    requires begun { mode ≡ RoundMode.Full → AreBegun (renders_view renders.old) }
-    ensures { IfOk result (λ r. AreAfterRounds mode T.eq T.answers (renders_view renders.old) (table_view table.now).entries counter.old
-        (renders_view renders.new) r.states.items r.marked counter.new) }
+    requires cites { AreCitesOfTable T.eq (table_view table.now) (renders_view cites.old) }
+    requires begun { mode ≡ RoundMode.Full → AreBegun (renders_view cites.old) }
+    ensures { IfOk result (λ r. AreAfterRounds mode T.eq T.answers (renders_view cites.old)
+        (table_view table.now).entries counter.old
+        (renders_view cites.new) r.states.items r.marked counter.new) }
 {
     match mode {
-        RoundMode::Three => three_rounds(alloc, renders, table, counter),
-        RoundMode::Full => all_rounds(alloc, renders, table, counter),
+        RoundMode::Three => three_rounds(alloc, cites, table, counter),
+        RoundMode::Full => all_rounds(alloc, cites, table, counter),
     }
+}
+
+/// At most three rounds. One without marks is the last.
+fn three_rounds<'a, T: EntryLike, P>(
+    alloc: Global,
+    cites: &mut [SpeculativeCiteRender<'_, 'a, T, P>],
+    table: &EntryTable<'a, T>,
+    counter: &mut Renders,
+) -> Result<Rounds, AllocError>
+    requires cites { AreCitesOfTable T.eq (table_view table.now) (renders_view cites.old) }
+    ensures { IfOk result (λ r. AreAfterRounds RoundMode.Three T.eq T.answers (renders_view cites.old)
+        (table_view table.now).entries counter.old
+        (renders_view cites.new) r.states.items r.marked counter.new) }
+{
+    let mut rounds = Rounds {
+        marked: 0,
+        states: no_states(alloc, table.len())?,
+    };
+    for _round in 0..3usize {
+        if !run_round(
+            alloc,
+            cites,
+            table,
+            RoundMode::Three,
+            &mut rounds.states,
+            counter,
+        )? {
+            return Ok(rounds);
+        }
+        rounds.marked = rounds.marked.saturating_add(1);
+    }
+    Ok(rounds)
+}
+
+/// Rounds until one has no marks that count.
+fn all_rounds<'a, T: EntryLike, P>(
+    alloc: Global,
+    cites: &mut [SpeculativeCiteRender<'_, 'a, T, P>],
+    table: &EntryTable<'a, T>,
+    counter: &mut Renders,
+) -> Result<Rounds, AllocError>
+    requires cites { AreCitesOfTable T.eq (table_view table.now) (renders_view cites.old) }
+    requires begun { AreBegun (renders_view cites.old) }
+    ensures { IfOk result (λ r. AreAfterRounds RoundMode.Full T.eq T.answers (renders_view cites.old)
+        (table_view table.now).entries counter.old
+        (renders_view cites.new) r.states.items r.marked counter.new) }
+{
+    let mut rounds = Rounds {
+        marked: 0,
+        states: no_states(alloc, table.len())?,
+    };
+    while run_round(
+        alloc,
+        cites,
+        table,
+        RoundMode::Full,
+        &mut rounds.states,
+        counter,
+    )? {
+        rounds.marked = rounds.marked.saturating_add(1);
+    }
+    Ok(rounds)
+}
+
+/// One round: the cites whose entries get marks are rendered again with these, which are their states from
+/// now on. Whether there were any.
+fn run_round<'a, T: EntryLike, P>(
+    alloc: Global,
+    cites: &mut [SpeculativeCiteRender<'_, 'a, T, P>],
+    table: &EntryTable<'a, T>,
+    mode: RoundMode,
+    states: &mut [Option<DisambiguateState>],
+    counter: &mut Renders,
+) -> Result<bool, AllocError>
+    requires cites { AreCitesOfTable T.eq (table_view table.now) (renders_view cites.old) }
+    requires long { length states.old ≡ length (table_view table.now).entries }
+    ensures again { IfOk result (λ again. again
+        ≡ has_any (round_marks mode T.eq T.answers (renders_view cites.old))) }
+    ensures marked { OnOk result (renders_view cites.new
+        ≡ at_table T.answers (marked_by mode T.eq T.answers (renders_view cites.old))
+        (renders_view cites.old)) }
+    ensures states { OnOk result ((known : StateTable T)
+        → AreStatesOf T.eq (table_view table.now).entries known states.old
+        → AreStatesOf T.eq (table_view table.now).entries
+        (with_marks (marked_by mode T.eq T.answers (renders_view cites.old)) known) states.new) }
+    ensures counted { OnOk result (counter.new
+        ≡ counted_times (marked_among (entries_cited (renders_view cites.old))
+        (marked_by mode T.eq T.answers (renders_view cites.old))) counter.old) }
+{
+    let marks = round_marks(alloc, cites, table, mode)?;
+    if marks.is_empty() {
+        return Ok(false);
+    }
+    let marked = greatest_marks(alloc, table.places(), table.len(), marks)?;
+    render_marked(alloc, cites, table, &marked, counter)?;
+    put_before(&marked, states)?;
+    Ok(true)
 }

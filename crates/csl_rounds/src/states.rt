@@ -10,36 +10,6 @@ use std::alloc::{AllocError, Global};
 /// By the places of entries, the state that each gets, if it gets one.
 pub(crate) type States = Vec<Option<DisambiguateState>>;
 
-/// No states for so many entries.
-pub(crate) fn no_states(alloc: Global, count: usize) -> Result<States, AllocError>
-    ensures { IfOk result (λ v. v.items ≡ replicate count None) }
-{
-    let mut states = Vec::with_capacity(alloc, count)?;
-    for _ in 0..count {
-        states.push(None)?;
-    }
-    Ok(states)
-}
-
-/// Raises a state to a mark, where that is greater.
-fn raise(state: &mut Option<DisambiguateState>, mark: DisambiguateState)
-    ensures { state.new ≡ with_greater state.old mark }
-{
-    *state = match state.take() {
-        Some(before) => Some(before.max(mark)),
-        None => Some(mark),
-    };
-}
-
-/// The place of the entry that is cited at a place.
-pub(crate) fn entry_place(places: &[Vec<usize>], at: (usize, usize), count: usize) -> usize
-    requires placed { IsPlaced (map (λ ps. ps.items) places.now) count at }
-    ensures { result ≡ entry_place (map (λ ps. ps.items) places.now) at }
-{
-    let (request, cite) = at;
-    places[request][cite]
-}
-
 /// The greatest of the marks of each entry.
 pub(crate) fn greatest_marks(
     alloc: Global,
@@ -58,17 +28,34 @@ pub(crate) fn greatest_marks(
     Ok(states)
 }
 
-/// Puts a state before the one that was there, if there is one.
-fn put_state_before(
-    state: &Option<DisambiguateState>,
-    kept: &mut Option<DisambiguateState>,
-) -> Result<(), AllocError>
-    ensures { OnOk result (kept.new ≡ option_or state.now kept.old) }
+/// Raises a state to a mark, where that is greater.
+fn raise(state: &mut Option<DisambiguateState>, mark: DisambiguateState)
+    ensures { state.new ≡ with_greater state.old mark }
 {
-    if let Some(state) = state {
-        *kept = Some(state.clone()?);
+    *state = match state.take() {
+        Some(before) => Some(before.max(mark)),
+        None => Some(mark),
+    };
+}
+
+/// No states for so many entries.
+pub(crate) fn no_states(alloc: Global, count: usize) -> Result<States, AllocError>
+    ensures { IfOk result (λ v. v.items ≡ replicate count None) }
+{
+    let mut states = Vec::with_capacity(alloc, count)?;
+    for _ in 0..count {
+        states.push(None)?;
     }
-    Ok(())
+    Ok(states)
+}
+
+/// The place of the entry that is cited at a place.
+pub(crate) fn entry_place(places: &[Vec<usize>], at: (usize, usize), count: usize) -> usize
+    requires placed { IsPlaced (map (λ ps. ps.items) places.now) count at }
+    ensures { result ≡ entry_place (map (λ ps. ps.items) places.now) at }
+{
+    let (request, cite) = at;
+    places[request][cite]
 }
 
 /// Puts the states of a round before those of the rounds before it: an entry that gets one has it from
@@ -82,6 +69,19 @@ pub(crate) fn put_before(
 {
     for place in 0..kept.len() {
         put_state_before(&states[place], &mut kept[place])?;
+    }
+    Ok(())
+}
+
+/// Puts a state before the one that was there, if there is one.
+fn put_state_before(
+    state: &Option<DisambiguateState>,
+    kept: &mut Option<DisambiguateState>,
+) -> Result<(), AllocError>
+    ensures { OnOk result (kept.new ≡ option_or state.now kept.old) }
+{
+    if let Some(state) = state {
+        *kept = Some(state.clone()?);
     }
     Ok(())
 }

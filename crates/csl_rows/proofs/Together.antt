@@ -13,9 +13,9 @@ use Rattle.csl_entries.proofs.Placed.{map-map}
 use Rattle.csl_lookup.specs.States.{year_suffix}
 use Rattle.csl_lookup.specs.declared.state.DisambiguateState.{DisambiguateState}
 use Rattle.csl_lookup.specs.declared.state.DisambiguateState.TheVariants.{YearSuffix}
-use Rattle.csl_rounds.specs.Rounds.{StateTable, no_states, told_by}
-use Rattle.csl_rounds.specs.Tables.{last_table}
-use Rattle.csl_rounds.specs.declared.mode.RoundMode.{RoundMode}
+use Rattle.csl_round_laws.specs.Rounds.{StateTable, no_states, told_by}
+use Rattle.csl_round_laws.specs.Tables.{last_table}
+use Rattle.csl_round_laws.specs.declared.mode.RoundMode.{RoundMode}
 use Rattle.csl_rows.specs.Clients.{GotSuffixesTogether, entries_of_group}
 
 some-inj : {X : Type 0} (x y : X) → Some x ≡ Some y → x ≡ y

@@ -10,9 +10,9 @@ use Rattle.csl_driver.specs.AnswerLaws.{KeepsLaws}
 use Rattle.csl_driver.specs.declared.account.Account.{Account}
 use Rattle.csl_entries.specs.Entries.{distinct}
 use Rattle.csl_passes.specs.Renders.{CiteRender, ItemRender, Place}
-use Rattle.csl_rounds.specs.Rounds.{StateTable, no_states}
-use Rattle.csl_rounds.specs.RunLaws.{GetsSuffixes, shown_at}
-use Rattle.csl_rounds.specs.declared.mode.RoundMode.{RoundMode}
+use Rattle.csl_round_laws.specs.Rounds.{StateTable, no_states}
+use Rattle.csl_round_laws.specs.RunLaws.{GetsSuffixes, shown_at}
+use Rattle.csl_round_laws.specs.declared.mode.RoundMode.{RoundMode}
 
 -- an entry and a number that stand at one place of an account
 pub record StandAtOnePlace {E : Type 0} (account : Account E) (e : E) (number : ℕ) : Type 0 where
@@ -20,7 +20,8 @@ pub record StandAtOnePlace {E : Type 0} (account : Account E) (e : E) (number : 
   pub entry : slice_get (map (λ e. e.now) account.entries.items) place ≡ Some e
   pub numbered : slice_get account.numbers.items place ≡ Some number
 
--- wherever collapsing hid the cites between two shown ones with these two numbers, it hid the numbers of the list
+-- wherever collapsing hid the cites between two shown ones with these two numbers, it hid the numbers of the
+-- list
 abbrev pub AreHiddenBetween : (E P : Type 0) → ℕ → ℕ → List ℕ → Type 0
 AreHiddenBetween E P first last numbers =
     (cites drawn : List (ItemRender E P)) (collapse : Option Collapse) (p q k : ℕ)
@@ -40,7 +41,8 @@ module _ {E P : Type 0} (eq : E → E → Bool) (payload_eq : P → P → Bool) 
 
   -- the distinct entries that a group cites at a table
   abbrev pub entries_of_group : StateTable E → List Place → List E
-  entries_of_group table group = distinct eq (map entry_of (members (shown_at mode eq answers firsts table) group))
+  entries_of_group table group =
+      distinct eq (map entry_of (members (shown_at mode eq answers firsts table) group))
 
   -- the entries at two places of the account are two of one group that was given suffixes in some round
   pub record GotSuffixesTogether (first second : ℕ) : Type 0 where

@@ -6,7 +6,7 @@ ghost use Rattle.csl_driver.specs.Answer.{Asked};
 ghost use Rattle.csl_driver.specs.AnswerLaws.{HaveNumbersOnce, KeepsLaws};
 ghost use Rattle.csl_lookup.specs.States.{year_suffix};
 ghost use Rattle.csl_lookup.specs.SuffixLetters.{suffix_letters};
-ghost use Rattle.csl_rounds.specs.declared.mode.RoundMode.{RoundMode};
+ghost use Rattle.csl_round_laws.specs.declared.mode.RoundMode.{RoundMode};
 ghost use Rattle.csl_rows.specs.Clients.{AreHiddenBetween, GotSuffixesTogether, StandAtOnePlace};
 
 use csl_base::entry::EntryLike;
@@ -23,8 +23,8 @@ fn place_of(numbers: &[usize], number: usize) -> Option<usize>
     numbers.iter().position(|each| *each == number)
 }
 
-/// The entry of an account that has this number; none where no entry has it. In the account of an answer each number
-/// from the offset on, as many as there are entries, is that of an entry.
+/// The entry of an account that has this number; none where no entry has it. In the account of an answer each
+/// number from the offset on, as many as there are entries, is that of an entry.
 pub fn entry_of_number<'a, T: EntryLike>(account: &Account<'a, T>, number: usize) -> Option<&'a T>
     ensures own { IfSome result (λ e. StandAtOnePlace account.now e.now number) }
     ensures each { (offset : ℕ)
@@ -52,7 +52,8 @@ fn numbers_between(alloc: Global, first: usize, last: usize) -> Result<Vec<usize
     Ok(numbers)
 }
 
-/// The numbers that a reader finds between two shown numbers that collapsing drew together, by these two alone.
+/// The numbers that a reader finds between two shown numbers that collapsing drew together, by these two
+/// alone.
 ///
 /// # Errors
 /// Where memory is refused.
@@ -77,8 +78,8 @@ fn suffix_at(states: &[DisambiguateState], place: usize) -> Option<usize>
     }
 }
 
-/// The letters of the suffixes that the entries at two places of an account have; none where one of them has no
-/// suffix. Two entries of one group that was given suffixes have different letters.
+/// The letters of the suffixes that the entries at two places of an account have; none where one of them has
+/// no suffix. Two entries of one group that was given suffixes have different letters.
 ///
 /// # Errors
 /// Where memory is refused.

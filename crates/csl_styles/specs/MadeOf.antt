@@ -12,10 +12,12 @@ use Rattle.csl_styles.specs.TablesView.{locales_of}
 
 -- what was prepared, where there is any, was made of this style and these files
 abbrev pub IsOf : Option Prepared → IndependentStyle → List Locale → Type 0
-IsOf prepared style files = ForSome prepared (λ p. (made_of p.style.now ≡ style) × (locales_of p.files.now ≡ files))
+IsOf prepared style files =
+    ForSome prepared (λ p. (made_of p.style.now ≡ style) × (locales_of p.files.now ≡ files))
 
 -- for ghost fields: there are no two proofs of that
-pub IsOf-prop : (prepared : Option Prepared) (style : IndependentStyle) (files : List Locale) → IsProp (IsOf prepared style files)
+pub IsOf-prop : (prepared : Option Prepared) (style : IndependentStyle) (files : List Locale)
+    → IsProp (IsOf prepared style files)
 IsOf-prop prepared style files x y = λ i p e. (
   Coded-set style_.the_row.coded (made_of p.style.now) style (x p e).0 (y p e).0 i,
   Coded-set (coded_list locale_.the_row.coded) (locales_of p.files.now) files (x p e).1 (y p e).1 i,

@@ -28,7 +28,8 @@ abbrev mutual
 
   pub suffix_in_branches : (Name → Bool) → Branches → Bool
   suffix_in_branches call (otherwise es) = suffix_in_all call es
-  suffix_in_branches call (branch conditions rule children bs) = suffix_in_all call children || suffix_in_branches call bs
+  suffix_in_branches call (branch conditions rule children bs) = suffix_in_all call children
+      || suffix_in_branches call bs
 
 -- where no call counts
 abbrev pub no_call : Name → Bool
@@ -53,14 +54,16 @@ suffix_in_bibliography macros (Some b) = suffix_stands macros b.layout.elements
 
 -- in either layout of a style
 abbrev pub explicit_suffix : StyleValue → Bool
-explicit_suffix style = suffix_stands style.macros style.citation.layout.elements || suffix_in_bibliography style.macros style.bibliography
+explicit_suffix style = suffix_stands style.macros style.citation.layout.elements
+    || suffix_in_bibliography style.macros style.bibliography
 
--- a call of a macro means the first macro of its name: the text stands in what is called where it stands in that
--- one's children
+-- a call of a macro means the first macro of its name: the text stands in what is called where it stands in
+-- that one's children
 abbrev pub suffix_called : List Macro → Name → Bool
 suffix_called macros name = option_map_or (suffix_stands macros) (body_of name macros) false
 
 -- it is looked for element by element, with that meaning of calls
 abbrev pub SuffixesUnfold : Type 0
 SuffixesUnfold =
-    (macros : List Macro) → HasNoRing macros → (es : Elements) → suffix_stands macros es ≡ suffix_in_all (suffix_called macros) es
+    (macros : List Macro) → HasNoRing macros → (es : Elements)
+    → suffix_stands macros es ≡ suffix_in_all (suffix_called macros) es

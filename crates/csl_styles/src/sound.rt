@@ -82,7 +82,8 @@ impl<'a> SoundStyle<'a> {
 
     /// The children of the first macro of a name; none without such a macro.
     pub fn body_of(&self, name: &str) -> Option<&'a Vec<LayoutRenderingElement>>
-        ensures { option_map (λ v. elements_view v.now.items) result ≡ body_of name.now (sound_view self.now).macros }
+        ensures { option_map (λ v. elements_view v.now.items) result
+            ≡ body_of name.now (sound_view self.now).macros }
     {
         self.macros.body_of(name)
     }
@@ -103,7 +104,8 @@ impl<'a> SoundStyle<'a> {
         form: TermForm,
     ) -> Option<&'a LocalizedTerm>
         ensures { option_map (λ t. term_view t.now) result
-            ≡ option_and_then (term_in name form) (locale_of (option_map (λ t. t.now) language.entry) (sound_view self.now).locale) }
+            ≡ option_and_then (term_in name form)
+            (locale_of (option_map (λ t. t.now) language.entry) (sound_view self.now).locale) }
     {
         self.terms.term_of(language, name, form)
     }

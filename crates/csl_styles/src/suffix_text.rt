@@ -22,10 +22,9 @@ fn has_suffix(element: &LayoutRenderingElement) -> bool
     ensures { result ≡ suffix_in no_call (element_view element.now) }
 {
     match element {
-        LayoutRenderingElement::Text { target, .. } => match target {
-            TextTarget::Standard(StandardVariable::YearSuffix) => true,
-            _ => false,
-        },
+        LayoutRenderingElement::Text { target, .. } => {
+            matches!(target, TextTarget::Standard(StandardVariable::YearSuffix))
+        }
         LayoutRenderingElement::Number { .. } => false,
         LayoutRenderingElement::Date { .. } => false,
         LayoutRenderingElement::Names { .. } => false,
@@ -70,7 +69,8 @@ fn add_new<'a>(
     name: &'a str,
     names: &mut IndexSet<&'a str>,
 ) -> Result<(), AllocError>
-    ensures { OnOk result (map (λ s. s.now) names.new.keys ≡ add_new (macros_of macros.now) name.now (map (λ s. s.now) names.old.keys)) }
+    ensures { OnOk result (map (λ s. s.now) names.new.keys
+        ≡ add_new (macros_of macros.now) name.now (map (λ s. s.now) names.old.keys)) }
 {
     if macros.body_of(name).is_some() {
         names.insert(name)?;
@@ -86,7 +86,8 @@ fn add_called<'a>(
     names: &mut IndexSet<&'a str>,
 ) -> Result<(), AllocError>
     ensures { OnOk result (map (λ s. s.now) names.new.keys
-        ≡ add_each (macros_of macros.now) (calls_of_all (elements_view elements.now.items)) (map (λ s. s.now) names.old.keys)) }
+        ≡ add_each (macros_of macros.now) (calls_of_all (elements_view elements.now.items))
+        (map (λ s. s.now) names.old.keys)) }
 {
     let mut called = Vec::new(alloc);
     add_all_calls(&mut called, elements)?;
@@ -105,8 +106,10 @@ fn look_at<'a>(
     names: &mut IndexSet<&'a str>,
 ) -> Result<bool, AllocError>
     ensures found { IfOk result (λ b. b ≡ suffix_in_body no_call (body_of name.now (macros_of macros.now))) }
-    ensures gathered { IfOk result (λ b. b ≡ false → map (λ s. s.now) names.new.keys
-        ≡ add_each (macros_of macros.now) (macro_calls (macros_of macros.now) name.now) (map (λ s. s.now) names.old.keys)) }
+    ensures gathered { IfOk result (λ b. b ≡ false
+        → map (λ s. s.now) names.new.keys
+        ≡ add_each (macros_of macros.now) (macro_calls (macros_of macros.now) name.now)
+        (map (λ s. s.now) names.old.keys)) }
 {
     match macros.body_of(name) {
         Some(body) => {

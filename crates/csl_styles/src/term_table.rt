@@ -36,7 +36,8 @@ impl<'a> TermTable<'a> {
 
     /// The first term of this name and form; none without such a term.
     pub fn term(&self, name: Term, form: TermForm) -> Option<&'a LocalizedTerm>
-        ensures { option_map (λ t. term_view t.now) result ≡ term_in name form (locale_view self.now.locale.now) }
+        ensures { option_map (λ t. term_view t.now) result
+            ≡ term_in name form (locale_view self.now.locale.now) }
     {
         match self.places.get(&(name, form)) {
             Some(place) => Some(&self.locale.terms[*place]),
@@ -50,7 +51,8 @@ fn term_places(
     alloc: Global,
     locale: &Locale,
 ) -> Result<HashMap<(Term, TermForm), usize>, AllocError>
-    ensures { IfOk result (λ places. (key : Term × TermForm) → term_placed places key ≡ place_of_term key.0 key.1 (locale_view locale.now)) }
+    ensures { IfOk result (λ places. (key : Term × TermForm)
+        → term_placed places key ≡ place_of_term key.0 key.1 (locale_view locale.now)) }
 {
     let mut places = HashMap::new(alloc);
     for i in 0..locale.terms.len() {

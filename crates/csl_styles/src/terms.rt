@@ -54,7 +54,8 @@ impl<'a> TermTables<'a> {
         form: TermForm,
     ) -> Option<&'a LocalizedTerm>
         ensures { option_map (λ t. term_view t.now) result
-            ≡ option_and_then (term_in name form) (locale_of (option_map (λ t. t.now) language.entry) (map locale_view (locales_of self.now))) }
+            ≡ option_and_then (term_in name form)
+            (locale_of (option_map (λ t. t.now) language.entry) (map locale_view (locales_of self.now))) }
     {
         for table in &self.tables {
             if is_language(table.locale, language) {

@@ -31,7 +31,8 @@ change_by PartialFirst kept own = NamesReplaced 1
 -- the change to a names element, where it is replaced
 abbrev pub change_of : SubsequentAuthorSubstituteRule → Option Elem → Elem → Option Change
 change_of rule None own = None
-change_of rule (Some kept) own = if is_replaced rule (Some kept) own then Some (change_by (rule_for rule own) kept own) else None
+change_of rule (Some kept) own = if is_replaced rule (Some kept) own
+    then Some (change_by (rule_for rule own) kept own) else None
 
 -- the change to a tree
 abbrev pub planned : SubsequentAuthorSubstituteRule → Option Elem → List Child → Option Change
@@ -52,7 +53,8 @@ elem_changed substitute change own = record own { children = changed substitute 
 -- the tree after a change of its first names element
 abbrev pub tree_changed : Formatted → Option Change → List Child → List Child
 tree_changed substitute None tree = tree
-tree_changed substitute (Some change) tree = elim (names_element tree) [ None ↦ tree | Some own ↦ put_names tree (elem_changed substitute change own) ]
+tree_changed substitute (Some change) tree =
+    elim (names_element tree) [ None ↦ tree | Some own ↦ put_names tree (elem_changed substitute change own) ]
 
 -- the trees after as many changes
 abbrev pub trees_changed : Formatted → List (Option Change) → List (List Child) → List (List Child)

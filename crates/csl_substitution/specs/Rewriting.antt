@@ -25,7 +25,8 @@ abbrev mutual
 
   pub kids_without_names : Kids → List Child
   kids_without_names no_kids = []
-  kids_without_names (kid c ks) = cond (child_is_name c) (kids_without_names ks) (child_without_names c ∷ kids_without_names ks)
+  kids_without_names (kid c ks) =
+      cond (child_is_name c) (kids_without_names ks) (child_without_names c ∷ kids_without_names ks)
 
 abbrev pub without_names : List Child → List Child
 without_names cs = kids_without_names (kids_of cs)
@@ -38,20 +39,25 @@ holds_name c = is_some (child_find is_name c)
 abbrev mutual
   pub name_replaced : Formatted → Child → Child
   name_replaced substitute (text f) = text f
-  name_replaced substitute (elem ks d m) = cond (is_name (elem_of ks d m)) (elem (kid (text substitute) no_kids) d m) (elem (kids_of (kids_name_replaced substitute ks)) d m)
+  name_replaced substitute (elem ks d m) =
+      cond (is_name (elem_of ks d m)) (elem (kid (text substitute) no_kids) d m)
+      (elem (kids_of (kids_name_replaced substitute ks)) d m)
   name_replaced substitute (markup s) = markup s
   name_replaced substitute (link f s) = link f s
   name_replaced substitute (transparent i f) = transparent i f
 
   pub kids_name_replaced : Formatted → Kids → List Child
   kids_name_replaced substitute no_kids = []
-  kids_name_replaced substitute (kid c ks) = cond (holds_name c) (name_replaced substitute c ∷ list_of ks) (c ∷ kids_name_replaced substitute ks)
+  kids_name_replaced substitute (kid c ks) =
+      cond (holds_name c) (name_replaced substitute c ∷ list_of ks) (c ∷ kids_name_replaced substitute ks)
 
 -- the same among the children of a tree
 abbrev pub first_name_replaced : Formatted → List Child → List Child
 first_name_replaced substitute cs = kids_name_replaced substitute (kids_of cs)
 
--- the children up to the first that holds a name, then those up to the next such, and so on n times; all where fewer do
+-- the children up to the first that holds a name, then those up to the next such, and so on n times; all
+-- where fewer do
 abbrev pub up_to_names : ℕ → List Child → List Child
 up_to_names zero cs = []
-up_to_names (suc n) cs = take (position_or_len holds_name cs + 1) cs ++ up_to_names n (drop (position_or_len holds_name cs + 1) cs)
+up_to_names (suc n) cs = take (position_or_len holds_name cs + 1) cs
+    ++ up_to_names n (drop (position_or_len holds_name cs + 1) cs)

@@ -1,5 +1,5 @@
--- When the names of an item are substituted by those of the item that it is compared with, and what is written then
--- (CSL 1.0.2, reference grouping).
+-- When the names of an item are substituted by those of the item that it is compared with, and what is
+-- written then (CSL 1.0.2, reference grouping).
 use Rattle.std.specs.Prelude.{ℕ, Bool, true, false, ◌&&◌, ◌||◌, not, nat_lt, List, [], ◌∷◌, map, if◌then◌else◌}
 use Rattle.std.specs.List.{common_prefix_len}
 use Rattle.std.specs.Cmp.Lexicographic.{pointwise}
@@ -44,7 +44,8 @@ partial_first_holds kept own = nat_lt 0 (names_in_common kept own)
 -- The rewritings: the new children of `own`.
 -- the substitute and, unless there are no names, the children without them
 abbrev pub complete_all : Formatted → Elem → Elem → List Child
-complete_all substitute kept own = text substitute ∷ (if none_of (names_of own) then [] else without_names own.children)
+complete_all substitute kept own =
+    text substitute ∷ (if none_of (names_of own) then [] else without_names own.children)
 
 -- the substitute, and the children with the substitute in the first name of each
 abbrev pub complete_each : Formatted → Elem → Elem → List Child
@@ -52,11 +53,13 @@ complete_each substitute kept own = text substitute ∷ map (name_replaced subst
 
 -- the substitute, and the children so written, up to as many names as are equal
 abbrev pub partial_each : Formatted → Elem → Elem → List Child
-partial_each substitute kept own = text substitute ∷ map (name_replaced substitute) (up_to_names (names_in_common kept own) own.children)
+partial_each substitute kept own =
+    text substitute ∷ map (name_replaced substitute) (up_to_names (names_in_common kept own) own.children)
 
 -- the same up to the first name
 abbrev pub partial_first : Formatted → Elem → Elem → List Child
-partial_first substitute kept own = text substitute ∷ map (name_replaced substitute) (up_to_names 1 own.children)
+partial_first substitute kept own =
+    text substitute ∷ map (name_replaced substitute) (up_to_names 1 own.children)
 
 -- the rule that an item goes by: one without names by CompleteAll, whatever the style's rule
 abbrev pub rule_for : SubsequentAuthorSubstituteRule → Elem → SubsequentAuthorSubstituteRule

@@ -23,10 +23,11 @@ module _ (rule : SubsequentAuthorSubstituteRule) where
 
   -- a tree's names element, where it has one and it isn't replaced
   abbrev pub stayed : Option Elem → List Child → Option Elem
-  stayed base tree = option_and_then (λ own. if is_replaced base own then None else Some own) (names_element tree)
+  stayed base tree = option_and_then (λ own. if is_replaced base own then None
+      else Some own) (names_element tree)
 
-  -- what an item after these is compared with, the latest given first: the names element of the latest that has one and
-  -- wasn't replaced
+  -- what an item after these is compared with, the latest given first: the names element of the latest that
+  -- has one and wasn't replaced
   abbrev pub base : List Item → Option Elem
   base [] = None
   base (item ∷ before) = option_or (stayed (base before) item.0) (base before)
@@ -36,7 +37,8 @@ module _ (text : Formatted) (rule : SubsequentAuthorSubstituteRule) where
   abbrev pub names_after : Elem → Elem → Elem
   names_after kept own = record own { children = rewritten_by (rule_for rule own) text kept own }
 
-  -- an item's tree after substitution: its first names element is another where it is replaced, and else all stays
+  -- an item's tree after substitution: its first names element is another where it is replaced, and else all
+  -- stays
   abbrev pub tree_after : Option Elem → List Child → List Child
   tree_after None tree = tree
   tree_after (Some kept) tree = elim (names_element tree) [
@@ -55,4 +57,5 @@ substitute_text bytes = record { text = bytes; formatting = normal }
 -- the items after substitution; without a substitute they stay
 abbrev pub substituted : Option (List ℕ) → SubsequentAuthorSubstituteRule → List Item → List Item
 substituted None rule items = items
-substituted (Some bytes) rule items = map (item_after (substitute_text bytes) rule items) (enumerate_from 0 items)
+substituted (Some bytes) rule items =
+    map (item_after (substitute_text bytes) rule items) (enumerate_from 0 items)

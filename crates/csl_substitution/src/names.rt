@@ -18,10 +18,7 @@ pub(crate) struct Named<'a> {
 pub(crate) fn is_name(elem: &Elem) -> bool
     ensures { result ≡ is_name elem.now }
 {
-    match elem.meta {
-        Some(ElemMeta::Name(_, _)) => true,
-        _ => false,
-    }
+    matches!(elem.meta, Some(ElemMeta::Name(_, _)))
 }
 
 /// The names element with its names.
@@ -39,7 +36,8 @@ pub(crate) fn with_names<'a>(alloc: Global, elem: &'a Elem) -> Result<Named<'a>,
 
 #[cycle(names)]
 fn add_names<'a>(names: &mut Vec<&'a Elem>, tree: &'a ElemChildren) -> Result<(), AllocError>
-    ensures { OnOk result (map (λ e. e.now) names.new.items ≡ map (λ e. e.now) names.old.items ++ names_in tree.now) }
+    ensures { OnOk result (map (λ e. e.now) names.new.items
+        ≡ map (λ e. e.now) names.old.items ++ names_in tree.now) }
 {
     for child in &tree.0 {
         add_names_of(names, child)?;
@@ -49,7 +47,8 @@ fn add_names<'a>(names: &mut Vec<&'a Elem>, tree: &'a ElemChildren) -> Result<()
 
 #[cycle(names)]
 fn add_names_of<'a>(names: &mut Vec<&'a Elem>, child: &'a ElemChild) -> Result<(), AllocError>
-    ensures { OnOk result (map (λ e. e.now) names.new.items ≡ map (λ e. e.now) names.old.items ++ child_names (child_view child.now)) }
+    ensures { OnOk result (map (λ e. e.now) names.new.items
+        ≡ map (λ e. e.now) names.old.items ++ child_names (child_view child.now)) }
 {
     match child {
         ElemChild::Elem(elem) => {

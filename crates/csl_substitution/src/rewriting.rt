@@ -98,7 +98,8 @@ fn replace_name(
     child: &mut ElemChild,
 ) -> Result<bool, AllocError>
     ensures found { IfOk result (λ found. found ≡ holds_name (child_view child.old)) }
-    ensures written { OnOk result (child_view child.new ≡ name_replaced substitute.now (child_view child.old)) }
+    ensures written { OnOk result (child_view child.new
+        ≡ name_replaced substitute.now (child_view child.old)) }
 {
     match child {
         ElemChild::Elem(elem) => {

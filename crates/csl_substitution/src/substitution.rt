@@ -40,7 +40,8 @@ pub fn substitute_subsequent_authors(
     rule: SubsequentAuthorSubstituteRule,
     items: &mut [(ElemChildren, String)],
 ) -> Result<(), AllocError>
-    ensures substituted { OnOk result (items_view items.new ≡ substituted (option_map (λ s. s.now) substitute.entry) rule (items_view items.old)) }
+    ensures substituted { OnOk result (items_view items.new
+        ≡ substituted (option_map (λ s. s.now) substitute.entry) rule (items_view items.old)) }
     ensures laws { OnOk result (KeepsAllButNames (items_view items.old) (items_view items.new)) }
 {
     match substitute {
@@ -77,8 +78,10 @@ fn plan_next<'a>(
     tree: &'a ElemChildren,
     changes: &mut Vec<Option<Change>>,
 ) -> Result<Option<Named<'a>>, AllocError>
-    ensures next { IfOk result (λ next. option_map (λ n. n.elem.now) next ≡ next_base rule (option_map (λ n. n.elem.now) base.entry) tree.now) }
-    ensures added { OnOk result (changes.new.items ≡ changes.old.items ++ planned rule (option_map (λ n. n.elem.now) base.entry) tree.now ∷ []) }
+    ensures next { IfOk result (λ next. option_map (λ n. n.elem.now) next
+        ≡ next_base rule (option_map (λ n. n.elem.now) base.entry) tree.now) }
+    ensures added { OnOk result (changes.new.items
+        ≡ changes.old.items ++ planned rule (option_map (λ n. n.elem.now) base.entry) tree.now ∷ []) }
 {
     match tree.find_names() {
         Some(elem) => {
@@ -106,7 +109,8 @@ fn carry_out(
     items: &mut [(ElemChildren, String)],
 ) -> Result<(), AllocError>
     requires { length items.old ≤ length changes.now }
-    ensures trees { OnOk result (map (λ p. p.0) items.new ≡ trees_changed text.now changes.now (map (λ p. p.0) items.old)) }
+    ensures trees { OnOk result (map (λ p. p.0) items.new
+        ≡ trees_changed text.now changes.now (map (λ p. p.0) items.old)) }
     ensures keys { OnOk result (map (λ p. p.1) items.new ≡ map (λ p. p.1) items.old) }
 {
     for i in 0..items.len() {

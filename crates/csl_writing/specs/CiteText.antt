@@ -28,7 +28,8 @@ aligns_second_field (Some bibliography) = is_some bibliography.second_field_alig
 
 -- a full cite has its first field in front, where the bibliography aligns second fields
 abbrev pub arranged : StyleValue → Option CitePurpose → List Child → List Child
-arranged style (Some CitePurpose.Full) cs = if aligns_second_field style.bibliography then first_field_first cs else cs
+arranged style (Some CitePurpose.Full) cs = if aligns_second_field style.bibliography
+    then first_field_first cs else cs
 arranged style _ cs = cs
 
 -- a cite: what is written of it, and what is noted on the way
@@ -45,7 +46,8 @@ rendered_cite s purpose verdict =
 -- steps between a prefix and a suffix; where they show nothing, nothing is written
 abbrev pub enclosed : Lookup → Affix → List PlanStep → State → State
 enclosed k affixes steps a =
-    suffixed k affixes.suffix (length a.formats) (length (term_text affixes.prefix)) (steps_written k steps (prefixed affixes.prefix a))
+    suffixed k affixes.suffix (length a.formats) (length (term_text affixes.prefix))
+    (steps_written k steps (prefixed affixes.prefix a))
 
 abbrev pub layout_affixes : LayoutValue → Affix
 layout_affixes layout = record { prefix = layout.prefix; suffix = layout.suffix }
@@ -54,7 +56,8 @@ layout_affixes layout = record { prefix = layout.prefix; suffix = layout.suffix 
 abbrev pub rendered_item : Subject → BibliographyValue → List Child
 rendered_item s bibliography =
     let section = item_section s bibliography Form.Full true (first_notes s.cite.usage) in
-    finished (enclosed (lookup s.source) (layout_affixes bibliography.layout) (step_of section ∷ []) (begun s.source.style.options))
+    finished (enclosed (lookup s.source) (layout_affixes bibliography.layout) (step_of section ∷ [])
+    (begun s.source.style.options))
 
 module _ {P : Type 0} where
   -- a cite of an entry in a style with its locales
@@ -62,9 +65,11 @@ module _ {P : Type 0} where
   cite source answers props = rendered_cite (subject source answers props)
 
   -- its tree
-  unfoldable pub cite_text : Source → Answers → Properties P → Option CitePurpose → Option CollapseVerdict → List Child
+  unfoldable pub cite_text : Source → Answers → Properties P → Option CitePurpose → Option CollapseVerdict
+      → List Child
   cite_text source answers props purpose verdict = (cite source answers props purpose verdict).children
 
   -- the entry's item of the bibliography, where the style has one
   unfoldable pub bibliography_text : Source → Answers → Properties P → Option (List Child)
-  bibliography_text source answers props = option_map (rendered_item (subject source answers props)) source.style.bibliography
+  bibliography_text source answers props =
+      option_map (rendered_item (subject source answers props)) source.style.bibliography

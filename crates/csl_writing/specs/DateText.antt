@@ -13,7 +13,8 @@ use Rattle.csl_lookup.specs.Years.{year_text}
 -- the first that an entry has of the dates that stand for it
 abbrev pub date_of_entry : Answers → Option Date
 date_of_entry answers =
-    first_answer answers.date (DateVariable.Issued ∷ DateVariable.EventDate ∷ DateVariable.Submitted ∷ DateVariable.OriginalDate ∷ [])
+    first_answer answers.date (DateVariable.Issued ∷ DateVariable.EventDate ∷ DateVariable.Submitted
+    ∷ DateVariable.OriginalDate ∷ [])
 
 -- a term in its long form, or these words where no locale has it
 abbrev pub long_term : Source → OtherTerm → List ℕ → List ℕ
@@ -21,8 +22,11 @@ long_term source = words_for (term_of (lookup source) None)
 
 abbrev pub date_words : Source → Option Date → List ℕ
 date_words source None = long_term source OtherTerm.NoDate (codes "n.d.")
-date_words source (Some d) = year_text d.year false (long_term source OtherTerm.Ad (codes " AD")) (long_term source OtherTerm.Bc (codes " BC"))
+date_words source (Some d) =
+    year_text d.year false (long_term source OtherTerm.Ad (codes " AD"))
+    (long_term source OtherTerm.Bc (codes " BC"))
 
 -- the date text of an entry: one text without formatting
 unfoldable pub date_text : Source → Answers → List Child
-date_text source answers = text (record { text = date_words source (date_of_entry answers); formatting = normal }) ∷ []
+date_text source answers =
+    text (record { text = date_words source (date_of_entry answers); formatting = normal }) ∷ []

@@ -12,4 +12,5 @@ spaced_behind cs = on_last_text (λ t. t ++ 32 ∷ []) cs
 -- the first child that stands for something, with a space behind its last text, and then the others
 abbrev pub first_field_first : List Child → List Child
 first_field_first cs =
-    spaced_behind (option_to_list (find child_has_any_meta cs)) ++ remove cs (position_or_len child_has_any_meta cs)
+    spaced_behind (option_to_list (find child_has_any_meta cs))
+    ++ remove cs (position_or_len child_has_any_meta cs)

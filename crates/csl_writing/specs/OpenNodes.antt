@@ -14,7 +14,8 @@ open_views = map open_view
 
 -- each open node has two frames, one upon another, of the topmost `height`
 abbrev pub IsNested : List OpenNode → ℕ → Type 0
-IsNested nodes height = (i : ℕ) (o : OpenNode) → slice_get nodes i ≡ Some o → o.prefix.0.frames + 2 * (length nodes - i) ≡ height
+IsNested nodes height = (i : ℕ) (o : OpenNode) → slice_get nodes i ≡ Some o
+    → o.prefix.0.frames + 2 * (length nodes - i) ≡ height
 
 -- how far writing has come
 abbrev pub run_of : List OpenNode → Bool → WritingContext → Run

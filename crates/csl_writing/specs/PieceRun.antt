@@ -11,7 +11,8 @@ pub record OpenValue : Type 0 where
   pub node : NodeValue
   pub formats : ℕ
 
--- the nodes that are open, the innermost last; whether a part stands before in the innermost; and what is written
+-- the nodes that are open, the innermost last; whether a part stands before in the innermost; and what is
+-- written
 pub record Run : Type 0 where
   pub nodes : List OpenValue
   pub after_part : Bool
@@ -28,16 +29,28 @@ unfoldable pub separated : Lookup → Run → State
 separated k r = if r.after_part then delimiter_pushed k (delimiter_of r.nodes) r.written else r.written
 
 unfoldable pub after_leaf : Lookup → LeafValue → Run → Run
-after_leaf k leaf r = record { nodes = r.nodes; after_part = true; written = leaf_written k leaf (separated k r) }
+after_leaf k leaf r = record {
+  nodes = r.nodes;
+  after_part = true;
+  written = leaf_written k leaf (separated k r);
+}
 
 unfoldable pub after_opening : Lookup → NodeValue → Run → Run
 after_opening k node r =
     let a = separated k r in
-    record { nodes = r.nodes ++ (record { node = node; formats = length a.formats }) ∷ []; after_part = false; written = node_begun k node a }
+    record {
+      nodes = r.nodes ++ (record { node = node; formats = length a.formats }) ∷ [];
+      after_part = false;
+      written = node_begun k node a;
+    }
 
 unfoldable pub closed_run : Lookup → Option OpenValue → Run → Run
 closed_run k None r = record r { after_part = true }
-closed_run k (Some o) r = record { nodes = take (length r.nodes - 1) r.nodes; after_part = true; written = node_ended k o.node o.formats r.written }
+closed_run k (Some o) r = record {
+  nodes = take (length r.nodes - 1) r.nodes;
+  after_part = true;
+  written = node_ended k o.node o.formats r.written;
+}
 
 unfoldable pub after_token : Lookup → Token → Run → Run
 after_token k (leaf_token leaf) r = after_leaf k leaf r

@@ -36,22 +36,26 @@ no_section n = record { formatting = no_formatting; picked = nothing n }
 abbrev pub citation_section : Subject → Form → Notes → Section
 citation_section s form n =
     let citation = s.source.style.citation in
-    picked_section citation.layout.formatting (env s citation.name_options form false) s.source.style.macros citation.layout.elements n
+    picked_section citation.layout.formatting
+    (env s citation.name_options form false) s.source.style.macros citation.layout.elements n
 
 -- the same as if the cite repeated no other, where it repeats one
 abbrev pub citation_anew : Subject → Form → Notes → Section
-citation_anew s form n = if is_repeated s.cite.ibid then citation_section (as_different s) form n else no_section n
+citation_anew s form n = if is_repeated s.cite.ibid then citation_section (as_different s) form n
+    else no_section n
 
 -- a bibliography's layout, under its name options
 abbrev pub item_section : Subject → BibliographyValue → Form → Bool → Notes → Section
 item_section s bibliography form is_bibliography n =
     let layout = bibliography.layout in
-    picked_section layout.formatting (env s bibliography.name_options form is_bibliography) s.source.style.macros layout.elements n
+    picked_section layout.formatting
+    (env s bibliography.name_options form is_bibliography) s.source.style.macros layout.elements n
 
 -- the bibliography's layout in a citation, where the style has a bibliography
 abbrev pub bibliography_section : Subject → Form → Notes → Section
 bibliography_section s form n =
-    elim s.source.style.bibliography [ None ↦ no_section n | Some bibliography ↦ item_section s bibliography form false n ]
+    elim s.source.style.bibliography
+    [ None ↦ no_section n | Some bibliography ↦ item_section s bibliography form false n ]
 
 abbrev pub no_options : NameOptions
 no_options = record {
@@ -65,7 +69,11 @@ no_options = record {
 }
 
 abbrev pub no_look : Look
-no_look = record { affixes = record { prefix = None; suffix = None }; formatting = no_formatting; display = None }
+no_look = record {
+  affixes = record { prefix = None; suffix = None };
+  formatting = no_formatting;
+  display = None;
+}
 
 -- a layout's elements: the author's names and nothing else
 abbrev pub names_alone : Elements
@@ -75,7 +83,8 @@ names_alone = element (names_element (NameVariable.Author ∷ []) [] no_options 
 abbrev pub names_section : Subject → Form → Notes → Section
 names_section s form n =
     let citation = s.source.style.citation in
-    picked_section citation.layout.formatting (env s citation.name_options form false) s.source.style.macros names_alone n
+    picked_section citation.layout.formatting
+    (env s citation.name_options form false) s.source.style.macros names_alone n
 
 abbrev pub has_parts : List Part → Bool
 has_parts [] = false
@@ -111,7 +120,12 @@ verdict_form (Some CollapseVerdict.YearSuffix) = Form.OnlyYearSuffix
 abbrev pub regular_section : Subject → Option CollapseVerdict → Notes → Section
 regular_section s verdict n = citation_section s (verdict_form verdict) n
 
--- a cite as the bibliography's layout writes it, without its affixes; as without a purpose where there is no bibliography
+-- a cite as the bibliography's layout writes it, without its affixes; as without a purpose where there is no
+-- bibliography
 abbrev pub full_section : Subject → Option CollapseVerdict → Notes → Section
 full_section s verdict n =
-    elim s.source.style.bibliography [ None ↦ regular_section s verdict n | Some bibliography ↦ item_section s bibliography Form.Full false n ]
+    elim s.source.style.bibliography [
+      | None ↦ regular_section s verdict n
+      | Some bibliography ↦ item_section s bibliography Form.Full
+          false n
+    ]

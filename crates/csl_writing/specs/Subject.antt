@@ -53,7 +53,8 @@ module _ {P : Type 0} where
 -- bibliography
 abbrev pub env : Subject → NameOptions → Form → Bool → Env
 env s options form is_bibliography =
-    env_for s.answers s.cite (lookup s.source) s.source.style.options options form s.explicit_suffix is_bibliography
+    env_for s.answers s.cite (lookup s.source) s.source.style.options options form s.explicit_suffix
+    is_bibliography
 
 -- the cite as if it repeated no other
 abbrev pub as_different : Subject → Subject

@@ -44,7 +44,8 @@ fn date_words<'a>(
     alloc: Global,
     date: Option<&Date>,
 ) -> Result<Text, AllocError>
-    ensures { IfOk result (λ t. t ≡ text.date_words (source_view style.now) (option_map (λ d. d.now) date.entry)) }
+    ensures { IfOk result (λ t. t
+        ≡ text.date_words (source_view style.now) (option_map (λ d. d.now) date.entry)) }
 {
     match date {
         Some(date) => {

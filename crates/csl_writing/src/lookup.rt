@@ -35,7 +35,11 @@ impl<'a> StyleContext<'a> {
         files: &'a [Locale],
     ) -> StyleContext<'a>
         ensures { context_source result
-            ≡ record { style = style_view style.now; locale = option_map (λ code. code_view code.now) locale.entry; files = map locale_view files.now } }
+            ≡ record {
+              style = style_view style.now;
+              locale = option_map (λ code. code_view code.now) locale.entry;
+              files = map locale_view files.now;
+            } }
     {
         StyleContext {
             locales: StyleLocales::new(style, locale, files),
@@ -49,7 +53,11 @@ impl<'a> StyleContext<'a> {
         files: &'a TermTables<'s>,
     ) -> StyleContext<'a>
         ensures { context_source result
-            ≡ record { style = sound_view sound.now; locale = option_map (λ code. code_view code.now) locale.entry; files = map locale_view (locales_of files.now) } }
+            ≡ record {
+              style = sound_view sound.now;
+              locale = option_map (λ code. code_view code.now) locale.entry;
+              files = map locale_view (locales_of files.now);
+            } }
     {
         StyleContext {
             locales: StyleLocales::of_sound(sound, locale, files),

@@ -53,7 +53,8 @@ fn open_quotes(
     writing: &mut WritingContext<'_>,
     asked: bool,
 ) -> Result<(), AllocError>
-    ensures done { OnOk result (state writing.new ≡ (if asked then quotes_opened (lookup_view style.now) (state writing.old) else state writing.old)) }
+    ensures done { OnOk result (state writing.new
+        ≡ (if asked then quotes_opened (lookup_view style.now) (state writing.old) else state writing.old)) }
     ensures height { length (state writing.new).frames ≡ length (state writing.old).frames }
 {
     if asked {
@@ -67,7 +68,9 @@ fn close_quotes(
     writing: &mut WritingContext<'_>,
     asked: bool,
 ) -> Result<(), AllocError>
-    ensures done { OnOk result (state writing.new ≡ (if asked then pulling_if_asked (lookup_view style.now) (quotes_closed (lookup_view style.now) (state writing.old)) else state writing.old)) }
+    ensures done { OnOk result (state writing.new
+        ≡ (if asked then pulling_if_asked (lookup_view style.now)
+        (quotes_closed (lookup_view style.now) (state writing.old)) else state writing.old)) }
     ensures height { length (state writing.new).frames ≡ length (state writing.old).frames }
 {
     if asked {
@@ -85,12 +88,14 @@ fn begin_node(
     writing: &mut WritingContext<'_>,
     node: &Node<'_>,
 ) -> Result<(DisplayLoc, usize, DisplayLoc), AllocError>
-    ensures done { OnOk result (state writing.new ≡ node_begun (lookup_view style.now) (node_view node.now) (state writing.old)) }
+    ensures done { OnOk result (state writing.new
+        ≡ node_begun (lookup_view style.now) (node_view node.now) (state writing.old)) }
     ensures frame { IfOk result (λ begun. begun.0.frames ≡ length (state writing.old).frames) }
     ensures formats { IfOk result (λ begun. begun.2.formats ≡ length (state writing.old).formats) }
     ensures within_prefix { IfOk result (λ begun. begun.2.frames ≡ begun.0.frames + 1) }
     ensures same_formats { IfOk result (λ begun. begun.2.formats ≡ begun.0.formats) }
-    ensures offset { IfOk result (λ begun. begun.1 ≡ length (term_text (node_view node.now).look.affixes.prefix)) }
+    ensures offset { IfOk result (λ begun. begun.1
+        ≡ length (term_text (node_view node.now).look.affixes.prefix)) }
     ensures height { OnOk result (length (state writing.new).frames ≡ length (state writing.old).frames + 2) }
 {
     let (prefix, offset) = begin_prefix(writing, prefix_of(node))?;
@@ -108,7 +113,9 @@ fn end_node(
     ended: OpenNode<'_>,
 ) -> Result<(), AllocError>
     requires { ended.elem.frames + 1 ≡ length (state writing.old).frames }
-    ensures done { OnOk result (state writing.new ≡ node_ended (lookup_view style.now) (node_view ended.entry.node) ended.entry.elem.formats (state writing.old)) }
+    ensures done { OnOk result (state writing.new
+        ≡ node_ended (lookup_view style.now) (node_view ended.entry.node) ended.entry.elem.formats
+        (state writing.old)) }
     ensures height { OnOk result (length (state writing.new).frames ≡ ended.entry.prefix.0.frames) }
 {
     let OpenNode { node, prefix, elem } = ended;
@@ -136,7 +143,8 @@ fn push_link_to_itself(
     writing: &mut WritingContext<'_>,
     text: &ChunkedString,
 ) -> Result<(), AllocError>
-    ensures done { OnOk result (state writing.new ≡ linked text.now.0 (joined_values text.now.0) (state writing.old)) }
+    ensures done { OnOk result (state writing.new
+        ≡ linked text.now.0 (joined_values text.now.0) (state writing.old)) }
     ensures height { length (state writing.new).frames ≡ length (state writing.old).frames }
 {
     let url = joined_values(allocator(writing), text)?;
@@ -149,7 +157,8 @@ fn push_leaf(
     writing: &mut WritingContext<'_>,
     leaf: &Leaf<'_>,
 ) -> Result<(), AllocError>
-    ensures done { OnOk result (state writing.new ≡ leaf_written (lookup_view style.now) (leaf_view leaf.now) (state writing.old)) }
+    ensures done { OnOk result (state writing.new
+        ≡ leaf_written (lookup_view style.now) (leaf_view leaf.now) (state writing.old)) }
     ensures height { length (state writing.new).frames ≡ length (state writing.old).frames }
 {
     let alloc = allocator(writing);
@@ -180,7 +189,9 @@ fn push_delimiter(
     writing: &mut WritingContext<'_>,
     delimiter: Option<&str>,
 ) -> Result<(), AllocError>
-    ensures done { OnOk result (state writing.new ≡ delimiter_pushed (lookup_view style.now) (option_map (λ s. s.now) delimiter.entry) (state writing.old)) }
+    ensures done { OnOk result (state writing.new
+        ≡ delimiter_pushed (lookup_view style.now) (option_map (λ s. s.now) delimiter.entry)
+        (state writing.old)) }
     ensures height { length (state writing.new).frames ≡ length (state writing.old).frames }
 {
     match delimiter {
@@ -207,7 +218,8 @@ fn separate(
     nodes: &[OpenNode<'_>],
     after_part: bool,
 ) -> Result<(), AllocError>
-    ensures done { OnOk result (state writing.new ≡ separated (lookup_view style.now) (run_of nodes.now after_part writing.old)) }
+    ensures done { OnOk result (state writing.new
+        ≡ separated (lookup_view style.now) (run_of nodes.now after_part writing.old)) }
     ensures height { length (state writing.new).frames ≡ length (state writing.old).frames }
 {
     if after_part {
@@ -224,7 +236,8 @@ fn write_leaf(
     after_part: bool,
     leaf: &Leaf<'_>,
 ) -> Result<(), AllocError>
-    ensures done { OnOk result (run_of nodes.now true writing.new ≡ after_leaf (lookup_view style.now) (leaf_view leaf.now) (run_of nodes.now after_part writing.old)) }
+    ensures done { OnOk result (run_of nodes.now true writing.new
+        ≡ after_leaf (lookup_view style.now) (leaf_view leaf.now) (run_of nodes.now after_part writing.old)) }
     ensures height { length (state writing.new).frames ≡ length (state writing.old).frames }
 {
     separate(style, writing, nodes, after_part)?;
@@ -240,7 +253,9 @@ fn open_node<'a>(
     node: Node<'a>,
 ) -> Result<(), AllocError>
     requires { IsNested nodes.old.items (length (state writing.old).frames) }
-    ensures done { OnOk result (run_of nodes.new.items false writing.new ≡ after_opening (lookup_view style.now) (node_view node.entry) (run_of nodes.old.items after_part writing.old)) }
+    ensures done { OnOk result (run_of nodes.new.items false writing.new
+        ≡ after_opening (lookup_view style.now) (node_view node.entry)
+        (run_of nodes.old.items after_part writing.old)) }
     ensures nested { OnOk result (IsNested nodes.new.items (length (state writing.new).frames)) }
 {
     separate(style, writing, nodes, after_part)?;
@@ -262,7 +277,9 @@ fn close_node(
     after_part: bool,
 ) -> Result<(), AllocError>
     requires { IsNested nodes.old.items (length (state writing.old).frames) }
-    ensures done { OnOk result (run_of nodes.new.items true writing.new ≡ closed_run (lookup_view style.now) (innermost (open_views nodes.old.items)) (run_of nodes.old.items after_part writing.old)) }
+    ensures done { OnOk result (run_of nodes.new.items true writing.new
+        ≡ closed_run (lookup_view style.now) (innermost (open_views nodes.old.items))
+        (run_of nodes.old.items after_part writing.old)) }
     ensures nested { OnOk result (IsNested nodes.new.items (length (state writing.new).frames)) }
 {
     match nodes.pop() {
@@ -281,7 +298,9 @@ fn write_piece<'a>(
     piece: Piece<'a>,
 ) -> Result<bool, AllocError>
     requires { IsNested nodes.old.items (length (state writing.old).frames) }
-    ensures done { IfOk result (λ after. run_of nodes.new.items after writing.new ≡ after_token (lookup_view style.now) (token_of piece.entry) (run_of nodes.old.items after_part writing.old)) }
+    ensures done { IfOk result (λ after. run_of nodes.new.items after writing.new
+        ≡ after_token (lookup_view style.now) (token_of piece.entry)
+        (run_of nodes.old.items after_part writing.old)) }
     ensures nested { OnOk result (IsNested nodes.new.items (length (state writing.new).frames)) }
 {
     match piece {
@@ -308,7 +327,9 @@ fn write_all<'a>(
     pieces: Vec<Piece<'a>>,
 ) -> Result<bool, AllocError>
     requires { IsNested nodes.old.items (length (state writing.old).frames) }
-    ensures { IfOk result (λ after. run_of nodes.new.items after writing.new ≡ after_tokens (lookup_view style.now) (tokens_of pieces.entry.items) (run_of nodes.old.items false writing.old)) }
+    ensures { IfOk result (λ after. run_of nodes.new.items after writing.new
+        ≡ after_tokens (lookup_view style.now) (tokens_of pieces.entry.items)
+        (run_of nodes.old.items false writing.old)) }
 {
     let mut after_part = false;
     for piece in pieces {
@@ -327,7 +348,8 @@ pub(crate) fn write_pieces<'a>(
     writing: &mut WritingContext<'_>,
     pieces: Vec<Piece<'a>>,
 ) -> Result<(), AllocError>
-    ensures { (parts : List Part) → tokens_of pieces.entry.items ≡ tokens parts → OnOk result (state writing.new ≡ parts_written (lookup_view style.now) parts (state writing.old)) }
+    ensures { (parts : List Part) → tokens_of pieces.entry.items ≡ tokens parts
+        → OnOk result (state writing.new ≡ parts_written (lookup_view style.now) parts (state writing.old)) }
 {
     let mut nodes = Vec::with_capacity(allocator(writing), DEPTH)?;
     write_all(style, writing, &mut nodes, pieces)?;

@@ -31,7 +31,9 @@ pub(crate) fn write_section(
     writing: &mut WritingContext<'_>,
     section: Section<'_>,
 ) -> Result<Notes, AllocError>
-    ensures { (value : sections.Section) → IsSection section.entry value → IfOk result (IsCarriedOut (lookup_view style.now) (plans.plan_of value) (state writing.old) (state writing.new)) }
+    ensures { (value : sections.Section) → IsSection section.entry value
+        → IfOk result (IsCarriedOut (lookup_view style.now) (plans.plan_of value) (state writing.old)
+        (state writing.new)) }
 {
     let Section {
         formatting,
@@ -52,11 +54,13 @@ pub(crate) fn write_section(
 fn has_labels(style: &IndependentStyle) -> bool
     ensures { result ≡ plans.has_labels (style_view style.now) }
 {
-    style.info.category.iter().any(|category| match category {
-        StyleCategory::CitationFormat {
-            format: CitationFormat::Label | CitationFormat::Numeric,
-        } => true,
-        _ => false,
+    style.info.category.iter().any(|category| {
+        matches!(
+            category,
+            StyleCategory::CitationFormat {
+                format: CitationFormat::Label | CitationFormat::Numeric,
+            }
+        )
     })
 }
 
@@ -79,7 +83,8 @@ fn write_gap(
     writing: &mut WritingContext<'_>,
     layout: &Layout,
 ) -> Result<(), AllocError>
-    ensures { OnOk result (IsWritten (lookup_view style.now) (plans.gap_steps (layout_view layout.now)) (state writing.old) (state writing.new)) }
+    ensures { OnOk result (IsWritten (lookup_view style.now) (plans.gap_steps (layout_view layout.now))
+        (state writing.old) (state writing.new)) }
 {
     if opens_with_space(&layout.prefix) {
         return Ok(());
@@ -95,7 +100,9 @@ fn write_enclosing(
     affix: &Option<String>,
     bracket: &str,
 ) -> Result<(), AllocError>
-    ensures { OnOk result (IsWritten (lookup_view style.now) (plans.text_steps (plans.enclosing (style_view style.now.style.now) (text_view affix.now) bracket.now)) (state writing.old) (state writing.new)) }
+    ensures { OnOk result (IsWritten (lookup_view style.now)
+        (plans.text_steps (plans.enclosing (style_view style.now.style.now)
+        (text_view affix.now) bracket.now)) (state writing.old) (state writing.new)) }
 {
     match affix {
         Some(affix) => push_str(style, writing, affix.as_str()),
@@ -116,7 +123,8 @@ impl<'a, T: EntryLike> Subject<'a, T> {
         verdict: Option<CollapseVerdict>,
         notes: Notes,
     ) -> Result<Section<'a>, AllocError>
-        ensures { IfOk result (λ s. IsSection s (plans.rest_section (subject_view T.answers self.now) verdict notes)) }
+        ensures { IfOk result (λ s. IsSection s
+            (plans.rest_section (subject_view T.answers self.now) verdict notes)) }
     {
         if has_labels(self.context.style) {
             return self.regular_section(alloc, verdict, notes);
@@ -130,7 +138,9 @@ impl<'a, T: EntryLike> Subject<'a, T> {
         alloc: Global,
         writing: &mut WritingContext<'_>,
     ) -> Result<Notes, AllocError>
-        ensures { IfOk result (IsCarriedOut (lookup_view self.now.context) (plans.plan_of (sections.author_section (subject_view T.answers self.now) (first_notes self.now.cite.usage))) (state writing.old) (state writing.new)) }
+        ensures { IfOk result (IsCarriedOut (lookup_view self.now.context)
+            (plans.plan_of (sections.author_section (subject_view T.answers self.now)
+            (first_notes self.now.cite.usage))) (state writing.old) (state writing.new)) }
     {
         let alone = names_alone(alloc)?;
         let subject = Subject {
@@ -150,7 +160,9 @@ impl<'a, T: EntryLike> Subject<'a, T> {
         verdict: Option<CollapseVerdict>,
         writing: &mut WritingContext<'_>,
     ) -> Result<Notes, AllocError>
-        ensures { IfOk result (IsCarriedOut (lookup_view self.now.context) (plans.prose_plan (subject_view T.answers self.now) verdict (first_notes self.now.cite.usage)) (state writing.old) (state writing.new)) }
+        ensures { IfOk result (IsCarriedOut (lookup_view self.now.context)
+            (plans.prose_plan (subject_view T.answers self.now) verdict (first_notes self.now.cite.usage))
+            (state writing.old) (state writing.new)) }
     {
         let style = &self.context;
         let layout = &style.style.citation.layout;
@@ -170,7 +182,9 @@ impl<'a, T: EntryLike> Subject<'a, T> {
         verdict: Option<CollapseVerdict>,
         writing: &mut WritingContext<'_>,
     ) -> Result<Notes, AllocError>
-        ensures { IfOk result (IsCarriedOut (lookup_view self.now.context) (plans.plan_of (sections.full_section (subject_view T.answers self.now) verdict (first_notes self.now.cite.usage))) (state writing.old) (state writing.new)) }
+        ensures { IfOk result (IsCarriedOut (lookup_view self.now.context)
+            (plans.plan_of (sections.full_section (subject_view T.answers self.now) verdict
+            (first_notes self.now.cite.usage))) (state writing.old) (state writing.new)) }
     {
         let notes = first_notes(self.cite.usage);
         let section = self.full_section(alloc, verdict, notes)?;
@@ -184,7 +198,9 @@ impl<'a, T: EntryLike> Subject<'a, T> {
         verdict: Option<CollapseVerdict>,
         writing: &mut WritingContext<'_>,
     ) -> Result<Notes, AllocError>
-        ensures { IfOk result (IsCarriedOut (lookup_view self.now.context) (plans.plan_of (sections.regular_section (subject_view T.answers self.now) verdict (first_notes self.now.cite.usage))) (state writing.old) (state writing.new)) }
+        ensures { IfOk result (IsCarriedOut (lookup_view self.now.context)
+            (plans.plan_of (sections.regular_section (subject_view T.answers self.now) verdict
+            (first_notes self.now.cite.usage))) (state writing.old) (state writing.new)) }
     {
         let notes = first_notes(self.cite.usage);
         let section = self.regular_section(alloc, verdict, notes)?;
@@ -199,7 +215,9 @@ impl<'a, T: EntryLike> Subject<'a, T> {
         verdict: Option<CollapseVerdict>,
         writing: &mut WritingContext<'_>,
     ) -> Result<Notes, AllocError>
-        ensures { IfOk result (IsCarriedOut (lookup_view self.now.context) (plans.cite_plan (subject_view T.answers self.now) purpose verdict (first_notes self.now.cite.usage)) (state writing.old) (state writing.new)) }
+        ensures { IfOk result (IsCarriedOut (lookup_view self.now.context)
+            (plans.cite_plan (subject_view T.answers self.now) purpose verdict
+            (first_notes self.now.cite.usage)) (state writing.old) (state writing.new)) }
     {
         match purpose {
             Some(CitePurpose::Author) => self.write_author(alloc, writing),

@@ -71,7 +71,8 @@ fn render_cite<T: EntryLike>(
     verdict: Option<CollapseVerdict>,
     renders: &mut Renders,
 ) -> Result<Cite, AllocError>
-    ensures cite { IfOk result (λ c. c ≡ rendered.rendered_cite (subject_view T.answers subject.now) purpose verdict) }
+    ensures cite { IfOk result (λ c. c
+        ≡ rendered.rendered_cite (subject_view T.answers subject.now) purpose verdict) }
     ensures count { renders.new ≡ renders.old }
 {
     let style = subject.context.style;
@@ -95,7 +96,8 @@ fn render_item<'a, T: EntryLike>(
     bibliography: &'a Bibliography,
     renders: &mut Renders,
 ) -> Result<ElemChildren, AllocError>
-    ensures item { IfOk result (λ tree. tree ≡ rendered.rendered_item (subject_view T.answers subject.now) (bibliography_view bibliography.now)) }
+    ensures item { IfOk result (λ tree. tree
+        ≡ rendered.rendered_item (subject_view T.answers subject.now) (bibliography_view bibliography.now)) }
     ensures count { renders.new ≡ renders.old }
 {
     let style = &subject.context;
@@ -118,7 +120,8 @@ impl<'a> StyleContext<'a> {
     // Whether the cite has a year suffix, and a text that writes it stands in a layout of the style.
     fn writes_suffix(&self, alloc: Global, state: &DisambiguateState) -> Result<bool, AllocError>
         requires { HasNoRing (context_source self.now).style.macros }
-        ensures { IfOk result (λ b. b ≡ (is_some (year_suffix state.now) && suffixes.explicit_suffix (context_source self.now).style)) }
+        ensures { IfOk result (λ b. b
+            ≡ (is_some (year_suffix state.now) && suffixes.explicit_suffix (context_source self.now).style)) }
     {
         match state {
             DisambiguateState::YearSuffix(_) => self.locales.explicit_suffix(alloc),
@@ -141,7 +144,9 @@ impl<'a> StyleContext<'a> {
     ) -> Result<Cite, AllocError>
         requires { HasNoRing (context_source self.now).style.macros }
         ensures count { renders.new ≡ renders.old }
-        ensures cite { IfOk result (λ c. c ≡ rendered.cite (context_source self.now) (T.answers entry.now) (properties_view props.now) purpose verdict) }
+        ensures cite { IfOk result (λ c. c
+            ≡ rendered.cite (context_source self.now) (T.answers entry.now)
+            (properties_view props.now) purpose verdict) }
     {
         let writes = self.writes_suffix(alloc, &props.speculative.disambiguation)?;
         let subject = Subject {
@@ -178,7 +183,9 @@ impl<'a> StyleContext<'a> {
         renders: &mut Renders,
     ) -> Result<Cite, AllocError>
         requires { HasNoRing (context_source self.now).style.macros }
-        ensures cite { IfOk result (λ c. c ≡ rendered.cite (context_source self.now) (T.answers entry.now) (properties_view props.now) purpose verdict) }
+        ensures cite { IfOk result (λ c. c
+            ≡ rendered.cite (context_source self.now) (T.answers entry.now)
+            (properties_view props.now) purpose verdict) }
         ensures count { renders.new ≡ counted renders.old }
     {
         let cite = self.cite_of(alloc, entry, props, purpose, verdict, renders);
@@ -205,7 +212,9 @@ impl<'a> StyleContext<'a> {
         renders: &mut Renders,
     ) -> Result<ElemChildren, AllocError>
         requires { HasNoRing (context_source self.now).style.macros }
-        ensures cite { IfOk result (λ tree. tree ≡ rendered.cite_text (context_source self.now) (T.answers entry.now) (properties_view props.now) purpose verdict) }
+        ensures cite { IfOk result (λ tree. tree
+            ≡ rendered.cite_text (context_source self.now) (T.answers entry.now)
+            (properties_view props.now) purpose verdict) }
         ensures count { renders.new ≡ counted renders.old }
     {
         renders.add_one();
@@ -230,7 +239,8 @@ impl<'a> StyleContext<'a> {
         _term_locale: Option<&LocaleCode>,
         renders: &mut Renders,
     ) -> Result<ElemChildren, AllocError>
-        ensures date { IfOk result (λ tree. tree ≡ rendered.date_text (context_source self.now) (T.answers entry.now)) }
+        ensures date { IfOk result (λ tree. tree
+            ≡ rendered.date_text (context_source self.now) (T.answers entry.now)) }
         ensures count { renders.new ≡ counted renders.old }
     {
         renders.add_one();
@@ -248,7 +258,10 @@ impl<'a> StyleContext<'a> {
     ) -> Result<ElemChildren, AllocError>
         requires { HasNoRing (context_source self.now).style.macros }
         ensures count { renders.new ≡ renders.old }
-        ensures item { IfOk result (λ tree. tree ≡ rendered.rendered_item (plain.subject (context_source self.now) (T.answers entry.now) (properties_view props.now)) (bibliography_view bibliography.now)) }
+        ensures item { IfOk result (λ tree. tree
+            ≡ rendered.rendered_item
+            (plain.subject (context_source self.now) (T.answers entry.now) (properties_view props.now))
+            (bibliography_view bibliography.now)) }
     {
         let writes = self.writes_suffix(alloc, &props.speculative.disambiguation)?;
         let subject = Subject {
@@ -271,7 +284,9 @@ impl<'a> StyleContext<'a> {
     ) -> Result<Option<ElemChildren>, AllocError>
         requires { HasNoRing (context_source self.now).style.macros }
         ensures count { renders.new ≡ renders.old }
-        ensures item { IfOk result (λ item. item ≡ rendered.bibliography_text (context_source self.now) (T.answers entry.now) (properties_view props.now)) }
+        ensures item { IfOk result (λ item. item
+            ≡ rendered.bibliography_text (context_source self.now) (T.answers entry.now)
+            (properties_view props.now)) }
     {
         match &self.locales.style.bibliography {
             Some(bibliography) => {
@@ -302,7 +317,9 @@ impl<'a> StyleContext<'a> {
         renders: &mut Renders,
     ) -> Result<Option<ElemChildren>, AllocError>
         requires { HasNoRing (context_source self.now).style.macros }
-        ensures item { IfOk result (λ item. item ≡ rendered.bibliography_text (context_source self.now) (T.answers entry.now) (properties_view props.now)) }
+        ensures item { IfOk result (λ item. item
+            ≡ rendered.bibliography_text (context_source self.now) (T.answers entry.now)
+            (properties_view props.now)) }
         ensures count { renders.new ≡ counted renders.old }
     {
         renders.add_one();

@@ -36,7 +36,8 @@ pub(crate) struct Section<'a> {
 impl<'a> Section<'a> {
     // Whether there is something to write.
     fn has_parts(&self) -> bool
-        ensures { (section : sections.Section) → IsSection self.now section → result ≡ sections.has_parts section.picked.parts }
+        ensures { (section : sections.Section) → IsSection self.now section
+            → result ≡ sections.has_parts section.picked.parts }
     {
         !self.picking.pieces.is_empty()
     }
@@ -78,7 +79,8 @@ fn pick_section<'a, T: EntryLike>(
     notes: Notes,
 ) -> Result<Section<'a>, AllocError>
     ensures { IfOk result (λ s. IsSection s
-        (sections.picked_section formatting (env_of (T.answers input.now.entry.now) input.now.setting) (macros_of input.now.setting) (elements_view elements.now.items) notes)) }
+        (sections.picked_section formatting (env_of (T.answers input.now.entry.now) input.now.setting)
+        (macros_of input.now.setting) (elements_view elements.now.items) notes)) }
 {
     let mut picking = Picking {
         pieces: Vec::with_capacity(alloc, ROOM)?,
@@ -100,7 +102,8 @@ impl<'a, T: EntryLike> Subject<'a, T> {
         form: Form,
         notes: Notes,
     ) -> Result<Section<'a>, AllocError>
-        ensures { IfOk result (λ s. IsSection s (sections.citation_section (subject_view T.answers self.now) form notes)) }
+        ensures { IfOk result (λ s. IsSection s
+            (sections.citation_section (subject_view T.answers self.now) form notes)) }
     {
         let citation = &self.context.style.citation;
         let input = self.input(form, &citation.name_options, false);
@@ -117,7 +120,9 @@ impl<'a, T: EntryLike> Subject<'a, T> {
         is_bibliography: bool,
         notes: Notes,
     ) -> Result<Section<'a>, AllocError>
-        ensures { IfOk result (λ s. IsSection s (sections.item_section (subject_view T.answers self.now) (bibliography_view bibliography.now) form is_bibliography notes)) }
+        ensures { IfOk result (λ s. IsSection s
+            (sections.item_section (subject_view T.answers self.now)
+            (bibliography_view bibliography.now) form is_bibliography notes)) }
     {
         let input = self.input(form, &bibliography.name_options, is_bibliography);
         let layout = &bibliography.layout;
@@ -131,7 +136,8 @@ impl<'a, T: EntryLike> Subject<'a, T> {
         verdict: Option<CollapseVerdict>,
         notes: Notes,
     ) -> Result<Section<'a>, AllocError>
-        ensures { IfOk result (λ s. IsSection s (sections.regular_section (subject_view T.answers self.now) verdict notes)) }
+        ensures { IfOk result (λ s. IsSection s
+            (sections.regular_section (subject_view T.answers self.now) verdict notes)) }
     {
         self.citation_section(alloc, verdict_form(verdict), notes)
     }
@@ -144,7 +150,8 @@ impl<'a, T: EntryLike> Subject<'a, T> {
         verdict: Option<CollapseVerdict>,
         notes: Notes,
     ) -> Result<Section<'a>, AllocError>
-        ensures { IfOk result (λ s. IsSection s (sections.full_section (subject_view T.answers self.now) verdict notes)) }
+        ensures { IfOk result (λ s. IsSection s
+            (sections.full_section (subject_view T.answers self.now) verdict notes)) }
     {
         match &self.context.style.bibliography {
             Some(bibliography) => self.item_section(alloc, bibliography, Form::Full, false, notes),
@@ -170,7 +177,8 @@ impl<'a, T: EntryLike> Subject<'a, T> {
         form: Form,
         notes: Notes,
     ) -> Result<Section<'a>, AllocError>
-        ensures { IfOk result (λ s. IsSection s (sections.citation_anew (subject_view T.answers self.now) form notes)) }
+        ensures { IfOk result (λ s. IsSection s
+            (sections.citation_anew (subject_view T.answers self.now) form notes)) }
     {
         if self.is_repeated() {
             let different = self.as_different();
@@ -186,7 +194,8 @@ impl<'a, T: EntryLike> Subject<'a, T> {
         form: Form,
         notes: Notes,
     ) -> Result<Section<'a>, AllocError>
-        ensures { IfOk result (λ s. IsSection s (sections.bibliography_section (subject_view T.answers self.now) form notes)) }
+        ensures { IfOk result (λ s. IsSection s
+            (sections.bibliography_section (subject_view T.answers self.now) form notes)) }
     {
         match &self.context.style.bibliography {
             Some(bibliography) => self.item_section(alloc, bibliography, form, false, notes),
@@ -202,7 +211,9 @@ impl<'a, T: EntryLike> Subject<'a, T> {
         form: Form,
     ) -> Result<Section<'a>, AllocError>
         requires { elements_view alone.now.items ≡ sections.names_alone }
-        ensures { IfOk result (λ s. IsSection s (sections.names_section (subject_view T.answers self.now) form (first_notes self.now.cite.usage))) }
+        ensures { IfOk result (λ s. IsSection s
+            (sections.names_section (subject_view T.answers self.now) form
+            (first_notes self.now.cite.usage))) }
     {
         let citation = &self.context.style.citation;
         let input = self.input(form, &citation.name_options, false);
@@ -218,7 +229,9 @@ impl<'a, T: EntryLike> Subject<'a, T> {
         form: Form,
     ) -> Result<Section<'a>, AllocError>
         requires { elements_view alone.now.items ≡ sections.names_alone }
-        ensures { IfOk result (λ s. IsSection s (sections.author_listed (subject_view T.answers self.now) form (first_notes self.now.cite.usage))) }
+        ensures { IfOk result (λ s. IsSection s
+            (sections.author_listed (subject_view T.answers self.now) form
+            (first_notes self.now.cite.usage))) }
     {
         let notes = first_notes(self.cite.usage);
         let listed = self.bibliography_section(alloc, form, notes)?;
@@ -236,7 +249,8 @@ impl<'a, T: EntryLike> Subject<'a, T> {
         form: Form,
     ) -> Result<Section<'a>, AllocError>
         requires { elements_view alone.now.items ≡ sections.names_alone }
-        ensures { IfOk result (λ s. IsSection s (sections.author_anew (subject_view T.answers self.now) form (first_notes self.now.cite.usage))) }
+        ensures { IfOk result (λ s. IsSection s
+            (sections.author_anew (subject_view T.answers self.now) form (first_notes self.now.cite.usage))) }
     {
         let notes = first_notes(self.cite.usage);
         let anew = self.citation_anew(alloc, form, notes)?;
@@ -255,7 +269,8 @@ impl<'a, T: EntryLike> Subject<'a, T> {
     ) -> Result<Section<'a>, AllocError>
         requires names { elements_view alone.now.items ≡ sections.names_alone }
         requires form { form ≡ sections.author_form (subject_view T.answers self.now) }
-        ensures { IfOk result (λ s. IsSection s (sections.author_section (subject_view T.answers self.now) (first_notes self.now.cite.usage))) }
+        ensures { IfOk result (λ s. IsSection s
+            (sections.author_section (subject_view T.answers self.now) (first_notes self.now.cite.usage))) }
     {
         let notes = first_notes(self.cite.usage);
         let usual = self.citation_section(alloc, form, notes)?;
@@ -273,7 +288,8 @@ impl<'a, T: EntryLike> Subject<'a, T> {
         alone: &'a Vec<LayoutRenderingElement>,
     ) -> Result<Section<'a>, AllocError>
         requires { elements_view alone.now.items ≡ sections.names_alone }
-        ensures { IfOk result (λ s. IsSection s (sections.author_section (subject_view T.answers self.now) (first_notes self.now.cite.usage))) }
+        ensures { IfOk result (λ s. IsSection s
+            (sections.author_section (subject_view T.answers self.now) (first_notes self.now.cite.usage))) }
     {
         let form = Form::VarOnly(Variable::Name(author_variable(self.entry)));
         self.author_in_form(alloc, alone, form)

@@ -2,3 +2,4 @@ pub mod FirstKeyed
 pub mod Pairs
 pub mod Rows
 pub mod Utf8
+pub mod Items

@@ -1,11 +1,14 @@
 -- Lists that are too short or too long to be read as a person or as a locator.
-use Rattle.std.proofs.Common.{◌≡◌, ◌<◌, ◌≤◌, length, List, [], ◌∷◌, Some, None, option_and_then, refl, ap, ◌∙◌, arith}
+use Rattle.std.proofs.Common.{◌≡◌, ◌<◌, ◌≤◌, length, List, [], ◌∷◌, Option, Some, None, option_and_then, refl, ap, ◌∙◌, arith}
 use Rattle.serde_json.specs.Data.{Data}
 use Rattle.serde_json.specs.Find.{as_array}
 use Rattle.serde_json.specs.View.{items_view}
 use Rattle.serde_json.specs.declared.value.Value.{Value}
 use Rattle.document_reading.specs.Entries.{person_of, person_form}
 use Rattle.document_reading.specs.Requests.{locator_of, locator_form}
+use Rattle.document_words.specs.Reads.{Fails}
+use Rattle.document_words.specs.declared.error.ReadError.{ReadError}
+use Rattle.document_words.specs.declared.error.ReadError.TheVariants as errors
 
 of_none : (vs : List Value) → length vs < 1 → person_of (items_view vs) ≡ None
 of_none [] h = refl
@@ -39,3 +42,8 @@ too_short d vs e h = ap (option_and_then locator_of) e ∙ of_one vs h
 
 pub too_long : (d : Data) (vs : List Value) → as_array d ≡ Some (items_view vs) → 3 ≤ length vs → locator_form d ≡ None
 too_long d vs e h = ap (option_and_then locator_of) e ∙ of_more vs h
+
+-- where nothing is read, any error may be returned
+pub fails_none : {A : Type 0} (e : ReadError) (read : Option A) → read ≡ None → Fails e read
+fails_none (errors.Document fault) read h = h
+fails_none errors.OutOfMemory read h = tt

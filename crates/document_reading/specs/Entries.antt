@@ -15,7 +15,8 @@ use Rattle.document_words.specs.Tables.{Table, name_variables, date_variables, s
 
 -- a person: a family name, or a family name and a given name
 abbrev pub person_of : Items → Option Person
-person_of (item family no_items) = option_map (λ name. record { name = name; given_name = None }) (as_str family)
+person_of (item family no_items) =
+    option_map (λ name. record { name = name; given_name = None }) (as_str family)
 person_of (item family (item given no_items)) = do
   name ← as_str family
   given_name ← as_str given
@@ -27,7 +28,8 @@ person_form d = option_and_then person_of (as_array d)
 
 -- a date: its year, of 32 bits
 abbrev pub year_form : Data → Option Date
-year_form d = option_map (λ year. record { year = year }) (whole_between (negsuc 2147483647) (pos 2147483647) d)
+year_form d = option_map (λ year. record { year = year })
+    (whole_between (negsuc 2147483647) (pos 2147483647) d)
 
 -- a text of one piece
 abbrev pub chunked : List ℕ → ChunkedString
@@ -54,8 +56,10 @@ pairs_at (row ∷ rows) f o = do
 abbrev pub entry_keys : List (List ℕ)
 entry_keys =
     codes "key" ∷ codes "label" ∷ codes "author" ∷ codes "editor" ∷ codes "translator"
-    ∷ codes "issued" ∷ codes "accessed" ∷ codes "available-date" ∷ codes "event-date" ∷ codes "submitted" ∷ codes "original-date"
-    ∷ codes "title" ∷ codes "container-title" ∷ codes "publisher" ∷ codes "publisher-place" ∷ codes "note" ∷ codes "url" ∷ codes "doi"
+    ∷ codes "issued" ∷ codes "accessed" ∷ codes "available-date" ∷ codes "event-date" ∷ codes "submitted"
+    ∷ codes "original-date"
+    ∷ codes "title" ∷ codes "container-title" ∷ codes "publisher" ∷ codes "publisher-place" ∷ codes "note"
+    ∷ codes "url" ∷ codes "doi"
     ∷ codes "volume" ∷ codes "issue" ∷ codes "number" ∷ codes "edition" ∷ []
 
 -- an entry; the last two of the texts and the first three of the numbers are no entry's

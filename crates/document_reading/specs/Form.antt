@@ -7,7 +7,7 @@ use Rattle.serde_json.specs.Read.{read}
 use Rattle.csl_base.specs.declared.entry.PlainEntry.{PlainEntry}
 use Rattle.csl_base.specs.Style.{LocaleValue, StyleValue}
 use Rattle.csl_passes.specs.Request.{Request}
-use Rattle.csl_rounds.specs.declared.mode.RoundMode.{RoundMode}
+use Rattle.csl_round_laws.specs.declared.mode.RoundMode.{RoundMode}
 use Rattle.document_words.specs.Names.{one_of}
 use Rattle.document_words.specs.Tables.{Table}
 use Rattle.document_words.specs.Words.{◌>>=◌, object_with, required, optional, items_at, optional_items, whole}
@@ -20,8 +20,8 @@ use Rattle.document_reading.specs.Requests.{request_form, wanted_form}
 abbrev pub round_modes : Table RoundMode
 round_modes = (codes "three", RoundMode.Three) ∷ (codes "full", RoundMode.Full) ∷ []
 
--- a document: its requests; the style, the locale and the order of the bibliography; the locales; the number of the
--- first entry; and the rounds
+-- a document: its requests; the style, the locale and the order of the bibliography; the locales; the number
+-- of the first entry; and the rounds
 pub record Document : Type 0 where
   pub requests : List (Request PlainEntry Infallible)
   pub style : StyleValue
@@ -32,19 +32,30 @@ pub record Document : Type 0 where
   pub rounds : RoundMode
 
 -- what is asked for, of the styles and entries that names and keys find, with these locales
-unfoldable pub asked_form : (List ℕ → Option StyleValue) → (List ℕ → Option PlainEntry) → List LocaleValue → Data → Option Document
+unfoldable pub asked_form : (List ℕ → Option StyleValue) → (List ℕ → Option PlainEntry) → List LocaleValue
+    → Data → Option Document
 asked_form style entry locales o = do
   requests ← items_at (request_form style entry locales) (codes "requests") o
   wanted ← required (wanted_form style entry) (codes "bibliography") o
   offset ← optional 0 whole (codes "offset") o
   rounds ← optional RoundMode.Three (one_of round_modes) (codes "rounds") o
-  Some (record { requests = requests; style = wanted.0; locale = wanted.1; locales = locales; order = wanted.2; offset = offset; rounds = rounds })
+  Some (record {
+    requests = requests;
+    style = wanted.0;
+    locale = wanted.1;
+    locales = locales;
+    order = wanted.2;
+    offset = offset;
+    rounds = rounds;
+  })
 
 -- an object of the document's keys
 abbrev pub top_form : Data → Option Data
-top_form d = object_with (codes "styles" ∷ codes "locales" ∷ codes "entries" ∷ codes "requests" ∷ codes "bibliography" ∷ codes "offset" ∷ codes "rounds" ∷ []) d
+top_form d = object_with (codes "styles" ∷ codes "locales" ∷ codes "entries" ∷ codes "requests"
+    ∷ codes "bibliography" ∷ codes "offset" ∷ codes "rounds" ∷ []) d
 
--- the document that a value is, or none; a name finds the style of that name, and a key the first entry that has it
+-- the document that a value is, or none; a name finds the style of that name, and a key the first entry that
+-- has it
 unfoldable pub document_form : Data → Option Document
 document_form d = do
   o ← top_form d

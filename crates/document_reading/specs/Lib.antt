@@ -6,4 +6,5 @@ pub mod Finders
 pub mod WantedView
 pub mod AskedView
 pub mod Form
+pub mod Faults
 pub mod DocumentView

@@ -32,10 +32,18 @@ item_form entry d = do
   locale ← where_present as_str (codes "locale") o
   hidden ← flag (codes "hidden") o
   purpose ← where_present (one_of purposes) (codes "purpose") o
-  Some (record { entry = cited; locator = locator; locale = locale; hidden = hidden; purpose = purpose; place = 0 })
+  Some (record {
+    entry = cited;
+    locator = locator;
+    locale = locale;
+    hidden = hidden;
+    purpose = purpose;
+    place = 0;
+  })
 
 module _ (style : List ℕ → Option StyleValue) (entry : List ℕ → Option PlainEntry) where
-  -- a request for a citation, with these locales; the note number is kept where the style's cites stand in notes
+  -- a request for a citation, with these locales; the note number is kept where the style's cites stand in
+  -- notes
   unfoldable pub request_form : List LocaleValue → Data → Option (Request PlainEntry Infallible)
   request_form locales d = do
     o ← object_with (codes "style" ∷ codes "locale" ∷ codes "note" ∷ codes "items" ∷ []) d
@@ -43,7 +51,13 @@ module _ (style : List ℕ → Option StyleValue) (entry : List ℕ → Option P
     locale ← where_present as_str (codes "locale") o
     note ← where_present whole (codes "note") o
     cites ← items_at (item_form entry) (codes "items") o
-    Some (record { cites = cites; style = by; locale = locale; locales = locales; note_number = (if is_note by.class then note else None) })
+    Some (record {
+      cites = cites;
+      style = by;
+      locale = locale;
+      locales = locales;
+      note_number = (if is_note by.class then note else None);
+    })
 
   -- what is asked of the bibliography: its style, its locale, and the order of its entries
   unfoldable pub wanted_form : Data → Option (StyleValue × Option (List ℕ) × Option (List PlainEntry))

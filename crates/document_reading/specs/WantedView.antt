@@ -8,4 +8,9 @@ use Rattle.document_reading.specs.declared.requests.Wanted.{Wanted}
 
 -- the style, the locale and the order
 abbrev pub asked_bibliography_view : Wanted → StyleValue × Option (List ℕ) × Option (List PlainEntry)
-asked_bibliography_view w = (style_view w.style.now.style.now, option_map code_view w.locale, option_map (λ v. entries_view v.items) w.order)
+asked_bibliography_view w = (
+  style_view w.style.now.style.now,
+  option_map code_view w.locale,
+  option_map
+      (λ v. entries_view v.items) w.order,
+)

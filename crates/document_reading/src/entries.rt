@@ -1,17 +1,20 @@
 //! Reading entries.
-ghost use Rattle.std.specs.Prelude.{◌≡◌, ◌++◌, IfOk, OnOk, codes};
+ghost use Rattle.std.specs.Prelude.{◌≡◌, ◌++◌, IfOk, OnOk, Some, codes};
+ghost use Rattle.serde_json.specs.Data.{Data, array};
 ghost use Rattle.serde_json.specs.View.{view, items_view};
-ghost use Rattle.serde_json.specs.Find.{as_str};
+ghost use Rattle.serde_json.specs.Find.{as_str, at};
 ghost use Rattle.document_words.specs.Words.{all_items, items_at, list_of, object_with, where_present};
 ghost use Rattle.document_words.specs.Names.{rows_view};
 ghost use Rattle.document_reading.specs.Entries.{person_form, year_form, chunked, chunked_form, pairs_of, pairs_at, entry_keys, entry_form};
-ghost use Rattle.document_words.specs.Reads.{Reads};
+ghost use Rattle.document_words.specs.Reads.{Faults, Reads};
 
 use csl_base::entry::{Chunk, ChunkKind, ChunkedString, Date, Person, PlainEntry};
 use csl_base::seq::Seq;
 use csl_base::taxonomy::{DateVariable, NameVariable, NumberVariable, StandardVariable};
 use csl_base::text::Text;
 use document_words::error::ReadError;
+use document_words::fault::Wanted;
+use document_words::refusals::unlike;
 use document_words::tables::{
     DATE_VARIABLES, NAME_VARIABLES, NUMBER_VARIABLES, STANDARD_VARIABLES,
 };
@@ -23,50 +26,69 @@ use std::alloc::{AllocError, Global};
 
 /// A copy of the text that the value is.
 fn held_text(alloc: Global, value: &Value) -> Result<Text, ReadError>
-    ensures { Reads (λ t. t) result (as_str (view value.now)) }
+    ensures read { Reads (λ t. t) result (as_str (view value.now)) }
+    ensures fault { Faults result (view value.now) }
 {
     match value.as_str() {
         Some(text) => Ok(Text::copied(alloc, text)?),
-        None => Err(ReadError::Document),
+        None => Err(unlike(alloc, value, Wanted::Text)),
     }
+}
+
+/// A copy of the text that the item at this place is.
+#[tactic(auto, using(document_words::proofs::Ways::fails_outside))]
+fn item_text(alloc: Global, item: &Value, place: usize) -> Result<Text, ReadError>
+    ensures read { Reads (λ t. t) result (as_str (view item.now)) }
+    ensures fault { (whole : Data) → at place whole ≡ Some (view item.now) → Faults result whole }
+{
+    held_text(alloc, item).map_err(|error| error.in_item(place))
 }
 
 fn person_of(alloc: Global, value: &Value) -> Result<Person, ReadError>
-    ensures { Reads (λ p. p) result (person_form (view value.now)) }
+    ensures read { Reads (λ p. p) result (person_form (view value.now)) }
+    ensures fault { Faults result (view value.now) }
 {
-    match list_of(value)? {
+    match list_of(alloc, value)? {
         [family] => Ok(Person {
-            name: held_text(alloc, family)?,
+            name: item_text(alloc, family, 0)?,
             given_name: None,
         }),
         [family, given] => Ok(Person {
-            name: held_text(alloc, family)?,
-            given_name: Some(held_text(alloc, given)?),
+            name: item_text(alloc, family, 0)?,
+            given_name: Some(item_text(alloc, given, 1)?),
         }),
-        _ => Err(ReadError::Document),
+        _ => Err(unlike(alloc, value, Wanted::Person)),
     }
 }
 
+#[tactic(auto, using(document_words::proofs::Ways::item_there))]
 fn all_persons(alloc: Global, items: &[Value]) -> Result<Vec<Person>, ReadError>
-    ensures { Reads (λ v. v.items) result (all_items person_form (items_view items.now)) }
+    ensures read { Reads (λ v. v.items) result (all_items person_form (items_view items.now)) }
+    ensures fault { Faults result (array (items_view items.now)) }
 {
     let mut persons = Vec::new(alloc);
-    for item in items {
-        persons.push(person_of(alloc, item)?)?;
+    for (place, item) in items.iter().enumerate() {
+        match person_of(alloc, item) {
+            Ok(person) => persons.push(person)?,
+            Err(error) => return Err(error.in_item(place)),
+        }
     }
     Ok(persons)
 }
 
 fn persons_of(alloc: Global, value: &Value) -> Result<Seq<Person>, ReadError>
-    ensures { Reads (λ s. s) result (list_of person_form (view value.now)) }
+    ensures read { Reads (λ s. s) result (list_of person_form (view value.now)) }
+    ensures fault { Faults result (view value.now) }
 {
-    Ok(Seq::new(all_persons(alloc, list_of(value)?)?))
+    let list = list_of(alloc, value)?;
+    Ok(Seq::new(all_persons(alloc, list)?))
 }
 
-fn date_of(value: &Value) -> Result<Date, ReadError>
-    ensures { Reads (λ d. d) result (year_form (view value.now)) }
+fn date_of(alloc: Global, value: &Value) -> Result<Date, ReadError>
+    ensures read { Reads (λ d. d) result (year_form (view value.now)) }
+    ensures fault { Faults result (view value.now) }
 {
-    let year = whole_between(value, -2_147_483_648, 2_147_483_647)?;
+    let year = whole_between(alloc, value, -2_147_483_648, 2_147_483_647, Wanted::Year)?;
     Ok(Date { year: year as i32 })
 }
 
@@ -83,7 +105,8 @@ fn chunked(alloc: Global, text: Text) -> Result<ChunkedString, AllocError>
 }
 
 fn chunked_of(alloc: Global, value: &Value) -> Result<ChunkedString, ReadError>
-    ensures { Reads (λ c. c) result (chunked_form (view value.now)) }
+    ensures read { Reads (λ c. c) result (chunked_form (view value.now)) }
+    ensures fault { Faults result (view value.now) }
 {
     Ok(chunked(alloc, held_text(alloc, value)?)?)
 }
@@ -104,16 +127,21 @@ fn push_held<V: Drop, A: Drop>(
     Ok(())
 }
 
+#[tactic(auto, using(document_words::proofs::Ways::fails_outside))]
 fn optional_persons(
     alloc: Global,
     object: &Value,
     key: &str,
 ) -> Result<Option<Seq<Person>>, ReadError>
-    ensures { Reads (λ h. h) result (where_present (list_of person_form) key.now (view object.now)) }
+    ensures read { Reads (λ h. h) result (where_present (list_of person_form) key.now (view object.now)) }
+    ensures fault { Faults result (view object.now) }
 {
     match object.get(key) {
         None => Ok(None),
-        Some(member) => Ok(Some(persons_of(alloc, member)?)),
+        Some(member) => match persons_of(alloc, member) {
+            Ok(persons) => Ok(Some(persons)),
+            Err(error) => Err(error.under(alloc, key)),
+        },
     }
 }
 
@@ -122,7 +150,9 @@ fn names_in(
     rows: &[(&str, NameVariable)],
     object: &Value,
 ) -> Result<Vec<(NameVariable, Seq<Person>)>, ReadError>
-    ensures { Reads (λ v. v.items) result (pairs_at (rows_view rows.now) (list_of person_form) (view object.now)) }
+    ensures read { Reads (λ v. v.items) result
+        (pairs_at (rows_view rows.now) (list_of person_form) (view object.now)) }
+    ensures fault { Faults result (view object.now) }
 {
     let mut pairs = Vec::new(alloc);
     for row in rows {
@@ -132,12 +162,17 @@ fn names_in(
     Ok(pairs)
 }
 
-fn optional_date(object: &Value, key: &str) -> Result<Option<Date>, ReadError>
-    ensures { Reads (λ h. h) result (where_present year_form key.now (view object.now)) }
+#[tactic(auto, using(document_words::proofs::Ways::fails_outside))]
+fn optional_date(alloc: Global, object: &Value, key: &str) -> Result<Option<Date>, ReadError>
+    ensures read { Reads (λ h. h) result (where_present year_form key.now (view object.now)) }
+    ensures fault { Faults result (view object.now) }
 {
     match object.get(key) {
         None => Ok(None),
-        Some(member) => Ok(Some(date_of(member)?)),
+        Some(member) => match date_of(alloc, member) {
+            Ok(date) => Ok(Some(date)),
+            Err(error) => Err(error.under(alloc, key)),
+        },
     }
 }
 
@@ -146,26 +181,32 @@ fn dates_in(
     rows: &[(&str, DateVariable)],
     object: &Value,
 ) -> Result<Vec<(DateVariable, Date)>, ReadError>
-    ensures { Reads (λ v. v.items) result (pairs_at (rows_view rows.now) year_form (view object.now)) }
+    ensures read { Reads (λ v. v.items) result (pairs_at (rows_view rows.now) year_form (view object.now)) }
+    ensures fault { Faults result (view object.now) }
 {
     let mut pairs = Vec::new(alloc);
     for row in rows {
-        let held = optional_date(object, row.0)?;
+        let held = optional_date(alloc, object, row.0)?;
         push_held(&mut pairs, row.1, held)?;
     }
     Ok(pairs)
 }
 
+#[tactic(auto, using(document_words::proofs::Ways::fails_outside))]
 fn optional_chunked(
     alloc: Global,
     object: &Value,
     key: &str,
 ) -> Result<Option<ChunkedString>, ReadError>
-    ensures { Reads (λ h. h) result (where_present chunked_form key.now (view object.now)) }
+    ensures read { Reads (λ h. h) result (where_present chunked_form key.now (view object.now)) }
+    ensures fault { Faults result (view object.now) }
 {
     match object.get(key) {
         None => Ok(None),
-        Some(member) => Ok(Some(chunked_of(alloc, member)?)),
+        Some(member) => match chunked_of(alloc, member) {
+            Ok(chunks) => Ok(Some(chunks)),
+            Err(error) => Err(error.under(alloc, key)),
+        },
     }
 }
 
@@ -174,7 +215,9 @@ fn texts_in(
     rows: &[(&str, StandardVariable)],
     object: &Value,
 ) -> Result<Vec<(StandardVariable, ChunkedString)>, ReadError>
-    ensures { Reads (λ v. v.items) result (pairs_at (rows_view rows.now) chunked_form (view object.now)) }
+    ensures read { Reads (λ v. v.items) result
+        (pairs_at (rows_view rows.now) chunked_form (view object.now)) }
+    ensures fault { Faults result (view object.now) }
 {
     let mut pairs = Vec::new(alloc);
     for row in rows {
@@ -184,12 +227,17 @@ fn texts_in(
     Ok(pairs)
 }
 
+#[tactic(auto, using(document_words::proofs::Ways::fails_outside))]
 fn optional_text(alloc: Global, object: &Value, key: &str) -> Result<Option<Text>, ReadError>
-    ensures { Reads (λ h. h) result (where_present as_str key.now (view object.now)) }
+    ensures read { Reads (λ h. h) result (where_present as_str key.now (view object.now)) }
+    ensures fault { Faults result (view object.now) }
 {
     match object.get(key) {
         None => Ok(None),
-        Some(member) => Ok(Some(held_text(alloc, member)?)),
+        Some(member) => match held_text(alloc, member) {
+            Ok(text) => Ok(Some(text)),
+            Err(error) => Err(error.under(alloc, key)),
+        },
     }
 }
 
@@ -198,7 +246,8 @@ fn numbers_in(
     rows: &[(&str, NumberVariable)],
     object: &Value,
 ) -> Result<Vec<(NumberVariable, Text)>, ReadError>
-    ensures { Reads (λ v. v.items) result (pairs_at (rows_view rows.now) as_str (view object.now)) }
+    ensures read { Reads (λ v. v.items) result (pairs_at (rows_view rows.now) as_str (view object.now)) }
+    ensures fault { Faults result (view object.now) }
 {
     let mut pairs = Vec::new(alloc);
     for row in rows {
@@ -211,10 +260,13 @@ fn numbers_in(
 // ---- entries
 
 /// The value, which has to be an object with no keys but those of an entry.
-fn entry_object(value: &Value) -> Result<&Value, ReadError>
-    ensures { Reads (λ v. view v.now) result (object_with entry_keys (view value.now)) }
+fn entry_object(alloc: Global, value: &Value) -> Result<&Value, ReadError>
+    ensures read { Reads (λ v. view v.now) result (object_with entry_keys (view value.now)) }
+    ensures fault { Faults result (view value.now) }
+    ensures same { IfOk result (λ v. v.now ≡ value.now) }
 {
     object_with(
+        alloc,
         &[
             "key",
             "label",
@@ -245,9 +297,10 @@ fn entry_object(value: &Value) -> Result<&Value, ReadError>
 
 #[tactic(auto, unfolding(crate::specs::Entries::entry_form))]
 fn read_entry(alloc: Global, value: &Value) -> Result<PlainEntry, ReadError>
-    ensures { Reads (λ e. e) result (entry_form (view value.now)) }
+    ensures read { Reads (λ e. e) result (entry_form (view value.now)) }
+    ensures fault { Faults result (view value.now) }
 {
-    let object = entry_object(value)?;
+    let object = entry_object(alloc, value)?;
     let key = text_at(alloc, object, "key")?;
     let label = optional_text(alloc, object, "label")?;
     let names = names_in(alloc, NAME_VARIABLES, object)?;
@@ -264,19 +317,30 @@ fn read_entry(alloc: Global, value: &Value) -> Result<PlainEntry, ReadError>
     })
 }
 
+#[tactic(auto, using(document_words::proofs::Ways::item_there))]
 fn all_entries(alloc: Global, items: &[Value]) -> Result<Vec<PlainEntry>, ReadError>
-    ensures { Reads (λ v. v.items) result (all_items entry_form (items_view items.now)) }
+    ensures read { Reads (λ v. v.items) result (all_items entry_form (items_view items.now)) }
+    ensures fault { Faults result (array (items_view items.now)) }
 {
     let mut entries = Vec::new(alloc);
-    for item in items {
-        entries.push(read_entry(alloc, item)?)?;
+    for (place, item) in items.iter().enumerate() {
+        match read_entry(alloc, item) {
+            Ok(entry) => entries.push(entry)?,
+            Err(error) => return Err(error.in_item(place)),
+        }
     }
     Ok(entries)
 }
 
 /// The entries of the document.
+#[tactic(auto, using(document_words::proofs::Ways::fails_outside))]
 pub fn entries_of(alloc: Global, object: &Value) -> Result<Vec<PlainEntry>, ReadError>
-    ensures { Reads (λ v. v.items) result (items_at entry_form (codes "entries") (view object.now)) }
+    ensures read { Reads (λ v. v.items) result (items_at entry_form (codes "entries") (view object.now)) }
+    ensures fault { Faults result (view object.now) }
 {
-    all_entries(alloc, required_list(object, "entries")?)
+    let list = required_list(alloc, object, "entries")?;
+    match all_entries(alloc, list) {
+        Ok(entries) => Ok(entries),
+        Err(error) => Err(error.under(alloc, "entries")),
+    }
 }

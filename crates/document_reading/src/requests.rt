@@ -1,5 +1,7 @@
 //! Reading what is asked for: citations, and a bibliography.
-ghost use Rattle.std.specs.Prelude.{◌≡◌, codes, map, option_map, IfOk};
+ghost use Rattle.std.specs.Prelude.{◌≡◌, Some, codes, map, option_map, string_bytes, IfOk};
+ghost use Rattle.serde_json.specs.Data.{Data, array};
+ghost use Rattle.serde_json.specs.Find.{as_str, at};
 ghost use Rattle.serde_json.specs.View.{view, items_view};
 ghost use Rattle.csl_base.specs.StyleView.{code_view, locale_view, style_view};
 ghost use Rattle.csl_lookup.specs.PropertiesView.{locator_view};
@@ -10,7 +12,9 @@ ghost use Rattle.document_words.specs.Words.{all_items, items_at, list_of, name_
 ghost use Rattle.document_reading.specs.Finders.{entry_in, style_in};
 ghost use Rattle.document_reading.specs.Requests.{locator_form, item_form, request_form, wanted_form};
 ghost use Rattle.document_reading.specs.WantedView.{asked_bibliography_view};
-ghost use Rattle.document_words.specs.Reads.{Reads};
+ghost use Rattle.document_words.specs.Names.{one_of};
+ghost use Rattle.document_words.specs.Tables.{locators};
+ghost use Rattle.document_words.specs.Reads.{Faults, IsErrorOf, Reads};
 
 use crate::finders::{EntriesByKey, StylesByName};
 use crate::found::FoundStyle;
@@ -23,6 +27,8 @@ use csl_passes::item::CitationItem;
 use csl_passes::request::CitationRequest;
 use csl_styles::terms::TermTables;
 use document_words::error::ReadError;
+use document_words::fault;
+use document_words::refusals::{lacking, unlike};
 use document_words::tables::{LOCATORS, PURPOSES};
 use document_words::words::{
     flag, list_of, object_with, one_of, optional_code, optional_name, optional_number,
@@ -67,48 +73,85 @@ pub struct AskedRequest<'e> {
 // ---- cites
 
 /// The entry whose key the value is.
-fn known_entry<'e>(entries: &EntriesByKey<'e>, value: &Value) -> Result<&'e PlainEntry, ReadError>
-    ensures { Reads (λ e. e.now) result (name_form (entry_in entries.now) (view value.now)) }
-{
-    let Some(key) = value.as_str() else {
-        return Err(ReadError::Document);
-    };
-    match entries.get(&key) {
-        Some(entry) => Ok(*entry),
-        None => Err(ReadError::Document),
-    }
-}
-
-fn required_entry<'e>(
+fn known_entry<'e>(
+    alloc: Global,
     entries: &EntriesByKey<'e>,
     value: &Value,
 ) -> Result<&'e PlainEntry, ReadError>
-    ensures { Reads (λ e. e.now) result (required (name_form (entry_in entries.now)) (codes "entry") (view value.now)) }
+    ensures read { Reads (λ e. e.now) result (name_form (entry_in entries.now) (view value.now)) }
+    ensures fault { Faults result (view value.now) }
+{
+    let Some(key) = value.as_str() else {
+        return Err(unlike(alloc, value, fault::Wanted::Entry));
+    };
+    match entries.get(&key) {
+        Some(entry) => Ok(*entry),
+        None => Err(unlike(alloc, value, fault::Wanted::Entry)),
+    }
+}
+
+#[tactic(auto, using(document_words::proofs::Ways::fails_outside))]
+fn required_entry<'e>(
+    alloc: Global,
+    entries: &EntriesByKey<'e>,
+    value: &Value,
+) -> Result<&'e PlainEntry, ReadError>
+    ensures read { Reads (λ e. e.now) result
+        (required (name_form (entry_in entries.now)) (codes "entry") (view value.now)) }
+    ensures fault { Faults result (view value.now) }
 {
     match value.get("entry") {
-        Some(member) => known_entry(entries, member),
-        None => Err(ReadError::Document),
+        Some(member) => known_entry(alloc, entries, member).map_err(|error| error.under(
+            alloc, "entry",
+        )),
+        None => Err(lacking(alloc, value, "entry")),
     }
 }
 
-fn locator_of(alloc: Global, value: &Value) -> Result<AskedLocator, ReadError>
-    ensures { Reads asked_locator_view result (locator_form (view value.now)) }
+/// What the first item of a locator says it counts.
+#[tactic(auto, using(document_words::proofs::Ways::fails_outside))]
+fn locator_kind(alloc: Global, item: &Value) -> Result<Locator, ReadError>
+    ensures read { Reads (λ k. k) result (one_of locators (view item.now)) }
+    ensures fault { (whole : Data) → at 0 whole ≡ Some (view item.now) → Faults result whole }
 {
-    match list_of(value)? {
+    one_of(alloc, LOCATORS, item).map_err(|error| error.in_item(0))
+}
+
+/// A copy of the second item of a locator, its text.
+#[tactic(auto, using(document_words::proofs::Ways::fails_outside))]
+fn locator_text(alloc: Global, item: &Value) -> Result<String, ReadError>
+    ensures read { Reads string_bytes result (as_str (view item.now)) }
+    ensures fault { (whole : Data) → at 1 whole ≡ Some (view item.now) → Faults result whole }
+{
+    text_of(alloc, item).map_err(|error| error.in_item(1))
+}
+
+#[tactic(auto, using(crate::proofs::Items::item_in))]
+fn locator_of(alloc: Global, value: &Value) -> Result<AskedLocator, ReadError>
+    ensures read { Reads asked_locator_view result (locator_form (view value.now)) }
+    ensures fault { Faults result (view value.now) }
+{
+    match list_of(alloc, value)? {
         [kind, text] => Ok(AskedLocator {
-            kind: one_of(LOCATORS, kind)?,
-            text: text_of(alloc, text)?,
+            kind: locator_kind(alloc, kind)?,
+            text: locator_text(alloc, text)?,
         }),
-        _ => Err(ReadError::Document),
+        _ => Err(unlike(alloc, value, fault::Wanted::Locator)),
     }
 }
 
+#[tactic(auto, using(document_words::proofs::Ways::fails_outside))]
 fn optional_locator(alloc: Global, value: &Value) -> Result<Option<AskedLocator>, ReadError>
-    ensures { Reads (option_map asked_locator_view) result (where_present locator_form (codes "locator") (view value.now)) }
+    ensures read { Reads (option_map asked_locator_view) result
+        (where_present locator_form (codes "locator") (view value.now)) }
+    ensures fault { Faults result (view value.now) }
 {
     match value.get("locator") {
         None => Ok(None),
-        Some(member) => Ok(Some(locator_of(alloc, member)?)),
+        Some(member) => match locator_of(alloc, member) {
+            Ok(locator) => Ok(Some(locator)),
+            Err(error) => Err(error.under(alloc, "locator")),
+        },
     }
 }
 
@@ -118,14 +161,19 @@ fn item_of<'e>(
     entries: &EntriesByKey<'e>,
     value: &Value,
 ) -> Result<AskedCite<'e>, ReadError>
-    ensures { Reads asked_cite_view result (item_form (entry_in entries.now) (view value.now)) }
+    ensures read { Reads asked_cite_view result (item_form (entry_in entries.now) (view value.now)) }
+    ensures fault { Faults result (view value.now) }
 {
-    let object = object_with(&["entry", "locator", "locale", "hidden", "purpose"], value)?;
-    let entry = required_entry(entries, object)?;
+    let object = object_with(
+        alloc,
+        &["entry", "locator", "locale", "hidden", "purpose"],
+        value,
+    )?;
+    let entry = required_entry(alloc, entries, object)?;
     let locator = optional_locator(alloc, object)?;
     let locale = optional_code(alloc, object, "locale")?;
-    let hidden = flag(object, "hidden")?;
-    let purpose = optional_name(PURPOSES, object, "purpose")?;
+    let hidden = flag(alloc, object, "hidden")?;
+    let purpose = optional_name(alloc, PURPOSES, object, "purpose")?;
     Ok(AskedCite {
         entry,
         locator,
@@ -135,32 +183,69 @@ fn item_of<'e>(
     })
 }
 
+#[tactic(auto, using(document_words::proofs::Ways::item_there))]
 fn all_cites<'e>(
     alloc: Global,
     entries: &EntriesByKey<'e>,
     items: &[Value],
 ) -> Result<Vec<AskedCite<'e>>, ReadError>
-    ensures { Reads (λ v. asked_cites_view v.items) result (all_items (item_form (entry_in entries.now)) (items_view items.now)) }
+    ensures read { Reads (λ v. asked_cites_view v.items) result
+        (all_items (item_form (entry_in entries.now)) (items_view items.now)) }
+    ensures fault { Faults result (array (items_view items.now)) }
 {
     let mut cites = Vec::with_capacity(alloc, items.len())?;
-    for item in items {
-        cites.push(item_of(alloc, entries, item)?)?;
+    for (place, item) in items.iter().enumerate() {
+        match item_of(alloc, entries, item) {
+            Ok(cite) => cites.push(cite)?,
+            Err(error) => return Err(error.in_item(place)),
+        }
     }
     Ok(cites)
 }
 
+/// The cites under the key `items`, which has to be there.
+#[tactic(auto, using(document_words::proofs::Ways::fails_outside))]
+fn cites_at<'e>(
+    alloc: Global,
+    entries: &EntriesByKey<'e>,
+    object: &Value,
+) -> Result<Vec<AskedCite<'e>>, ReadError>
+    ensures read { Reads (λ v. asked_cites_view v.items) result
+        (items_at (item_form (entry_in entries.now)) (codes "items") (view object.now)) }
+    ensures fault { Faults result (view object.now) }
+{
+    let list = required_list(alloc, object, "items")?;
+    match all_cites(alloc, entries, list) {
+        Ok(cites) => Ok(cites),
+        Err(error) => Err(error.under(alloc, "items")),
+    }
+}
+
 // ---- requests
 
+/// The error of an object whose key `style` names no style.
+fn unknown_style(alloc: Global, value: &Value) -> ReadError
+    ensures { IsErrorOf result (view value.now) }
+{
+    match value.get("style") {
+        Some(member) => unlike(alloc, member, fault::Wanted::Style).under(alloc, "style"),
+        None => lacking(alloc, value, "style"),
+    }
+}
+
 fn required_style<'e>(
+    alloc: Global,
     styles: &StylesByName<'e>,
     value: &Value,
 ) -> Result<&'e FoundStyle<'e>, ReadError>
-    ensures { Reads (λ s. style_view s.now.style.now) result (required (name_form (style_in styles.now)) (codes "style") (view value.now)) }
+    ensures read { Reads (λ s. style_view s.now.style.now) result
+        (required (name_form (style_in styles.now)) (codes "style") (view value.now)) }
+    ensures fault { Faults result (view value.now) }
 {
-    let name = required_text(value, "style")?;
+    let name = required_text(alloc, value, "style")?;
     match styles.get(&name) {
         Some(style) => Ok(*style),
-        None => Err(ReadError::Document),
+        None => Err(unknown_style(alloc, value)),
     }
 }
 
@@ -172,14 +257,16 @@ fn request_of<'e>(
     locales: &[Locale],
     value: &Value,
 ) -> Result<AskedRequest<'e>, ReadError>
-    ensures { Reads (asked_request_view (map locale_view locales.now)) result (request_form (style_in styles.now) (entry_in entries.now) (map locale_view locales.now) (view value.now)) }
+    ensures read { Reads (asked_request_view (map locale_view locales.now)) result
+        (request_form (style_in styles.now) (entry_in entries.now) (map locale_view locales.now)
+        (view value.now)) }
+    ensures fault { Faults result (view value.now) }
 {
-    let object = object_with(&["style", "locale", "note", "items"], value)?;
-    let style = required_style(styles, object)?;
+    let object = object_with(alloc, &["style", "locale", "note", "items"], value)?;
+    let style = required_style(alloc, styles, object)?;
     let locale = optional_code(alloc, object, "locale")?;
-    let note_number = optional_number(object, "note")?;
-    let list = required_list(object, "items")?;
-    let items = all_cites(alloc, entries, list)?;
+    let note_number = optional_number(alloc, object, "note")?;
+    let items = cites_at(alloc, entries, object)?;
     Ok(AskedRequest {
         items,
         style,
@@ -188,6 +275,7 @@ fn request_of<'e>(
     })
 }
 
+#[tactic(auto, using(document_words::proofs::Ways::item_there))]
 fn all_requests<'e>(
     alloc: Global,
     styles: &StylesByName<'e>,
@@ -195,16 +283,23 @@ fn all_requests<'e>(
     locales: &[Locale],
     items: &[Value],
 ) -> Result<Vec<AskedRequest<'e>>, ReadError>
-    ensures { Reads (λ v. asked_requests_view (map locale_view locales.now) v.items) result (all_items (request_form (style_in styles.now) (entry_in entries.now) (map locale_view locales.now)) (items_view items.now)) }
+    ensures read { Reads (λ v. asked_requests_view (map locale_view locales.now) v.items) result
+        (all_items (request_form (style_in styles.now) (entry_in entries.now) (map locale_view locales.now))
+        (items_view items.now)) }
+    ensures fault { Faults result (array (items_view items.now)) }
 {
     let mut requests = Vec::with_capacity(alloc, items.len())?;
-    for item in items {
-        requests.push(request_of(alloc, styles, entries, locales, item)?)?;
+    for (place, item) in items.iter().enumerate() {
+        match request_of(alloc, styles, entries, locales, item) {
+            Ok(request) => requests.push(request)?,
+            Err(error) => return Err(error.in_item(place)),
+        }
     }
     Ok(requests)
 }
 
 /// The requests of the document.
+#[tactic(auto, using(document_words::proofs::Ways::fails_outside))]
 pub fn requests_of<'e>(
     alloc: Global,
     styles: &StylesByName<'e>,
@@ -212,10 +307,16 @@ pub fn requests_of<'e>(
     locales: &[Locale],
     object: &Value,
 ) -> Result<Vec<AskedRequest<'e>>, ReadError>
-    ensures { Reads (λ v. asked_requests_view (map locale_view locales.now) v.items) result (items_at (request_form (style_in styles.now) (entry_in entries.now) (map locale_view locales.now)) (codes "requests") (view object.now)) }
+    ensures read { Reads (λ v. asked_requests_view (map locale_view locales.now) v.items) result
+        (items_at (request_form (style_in styles.now) (entry_in entries.now) (map locale_view locales.now))
+        (codes "requests") (view object.now)) }
+    ensures fault { Faults result (view object.now) }
 {
-    let list = required_list(object, "requests")?;
-    all_requests(alloc, styles, entries, locales, list)
+    let list = required_list(alloc, object, "requests")?;
+    match all_requests(alloc, styles, entries, locales, list) {
+        Ok(requests) => Ok(requests),
+        Err(error) => Err(error.under(alloc, "requests")),
+    }
 }
 
 // ---- requests for the driver
@@ -270,7 +371,8 @@ pub fn driver_request<'r, 'f: 'r>(
     request: &'r AskedRequest<'f>,
     files: &'r TermTables<'f>,
 ) -> Result<Request<'r>, AllocError>
-    ensures { IfOk result (λ r. request_view r ≡ asked_request_view (map locale_view (locales_of files.now)) request.now) }
+    ensures { IfOk result (λ r. request_view r
+        ≡ asked_request_view (map locale_view (locales_of files.now)) request.now) }
 {
     let items = driver_items(alloc, &request.items)?;
     let locale = copied_code(alloc, &request.locale)?;
@@ -295,30 +397,55 @@ pub struct Wanted<'e> {
     pub order: Option<Vec<&'e PlainEntry>>,
 }
 
+#[tactic(auto, using(document_words::proofs::Ways::item_there))]
 fn all_keyed<'e>(
     alloc: Global,
     entries: &EntriesByKey<'e>,
     items: &[Value],
 ) -> Result<Vec<&'e PlainEntry>, ReadError>
-    ensures { Reads (λ v. entries_view v.items) result (all_items (name_form (entry_in entries.now)) (items_view items.now)) }
+    ensures read { Reads (λ v. entries_view v.items) result
+        (all_items (name_form (entry_in entries.now)) (items_view items.now)) }
+    ensures fault { Faults result (array (items_view items.now)) }
 {
     let mut found = Vec::new(alloc);
-    for item in items {
-        found.push(known_entry(entries, item)?)?;
+    for (place, item) in items.iter().enumerate() {
+        match known_entry(alloc, entries, item) {
+            Ok(entry) => found.push(entry)?,
+            Err(error) => return Err(error.in_item(place)),
+        }
     }
     Ok(found)
 }
 
+fn order_of<'e>(
+    alloc: Global,
+    entries: &EntriesByKey<'e>,
+    value: &Value,
+) -> Result<Vec<&'e PlainEntry>, ReadError>
+    ensures read { Reads (λ v. entries_view v.items) result
+        (list_of (name_form (entry_in entries.now)) (view value.now)) }
+    ensures fault { Faults result (view value.now) }
+{
+    let list = list_of(alloc, value)?;
+    all_keyed(alloc, entries, list)
+}
+
+#[tactic(auto, using(document_words::proofs::Ways::fails_outside))]
 fn optional_order<'e>(
     alloc: Global,
     entries: &EntriesByKey<'e>,
     value: &Value,
 ) -> Result<Option<Vec<&'e PlainEntry>>, ReadError>
-    ensures { Reads (option_map (λ v. entries_view v.items)) result (where_present (list_of (name_form (entry_in entries.now))) (codes "order") (view value.now)) }
+    ensures read { Reads (option_map (λ v. entries_view v.items)) result
+        (where_present (list_of (name_form (entry_in entries.now))) (codes "order") (view value.now)) }
+    ensures fault { Faults result (view value.now) }
 {
     match value.get("order") {
         None => Ok(None),
-        Some(member) => Ok(Some(all_keyed(alloc, entries, list_of(member)?)?)),
+        Some(member) => match order_of(alloc, entries, member) {
+            Ok(order) => Ok(Some(order)),
+            Err(error) => Err(error.under(alloc, "order")),
+        },
     }
 }
 
@@ -330,10 +457,12 @@ pub fn wanted_of<'e>(
     entries: &EntriesByKey<'e>,
     value: &Value,
 ) -> Result<Wanted<'e>, ReadError>
-    ensures { Reads asked_bibliography_view result (wanted_form (style_in styles.now) (entry_in entries.now) (view value.now)) }
+    ensures read { Reads asked_bibliography_view result
+        (wanted_form (style_in styles.now) (entry_in entries.now) (view value.now)) }
+    ensures fault { Faults result (view value.now) }
 {
-    let object = object_with(&["style", "locale", "order"], value)?;
-    let style = required_style(styles, object)?;
+    let object = object_with(alloc, &["style", "locale", "order"], value)?;
+    let style = required_style(alloc, styles, object)?;
     let locale = optional_code(alloc, object, "locale")?;
     let order = optional_order(alloc, entries, object)?;
     Ok(Wanted {

@@ -1,3 +1,4 @@
 pub mod Members
 pub mod Nesting
 pub mod NonZero
+pub mod ListFaults

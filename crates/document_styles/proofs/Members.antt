@@ -1,9 +1,13 @@
 -- The members of an object are read one after another.
-use Rattle.std.proofs.Common.{◌≡◌, ℕ, List, [], ◌∷◌, ◌++◌, Option, Some, None, refl, ap, ◌∙◌, sym, append_assoc, append-nil, string_bytes, map, subst}
+use Rattle.std.proofs.Common.{◌≡◌, ℕ, suc, get_or, BTreeMap, string_cmp, List, [], ◌∷◌, ◌++◌, Option, Some, None, refl, ap, ◌∙◌, sym, append_assoc, append-nil, string_bytes, map, subst, arith}
 use Rattle.std.specs.Prelude.{option_map, option_and_then, String}
 use Rattle.std.proofs.lemmas.List.{map-append}
+use Rattle.std.specs.BTreeMap.{get}
+use Rattle.std.specs.List.{All}
 use Rattle.std.specs.declared.alloc.Global.{Global}
+use Rattle.serde_json.proofs.Views.{view-lookup}
 use Rattle.serde_json.specs.Data.{Data}
+use Rattle.serde_json.specs.Find.{get_member}
 use Rattle.serde_json.specs.View.{view, members_view}
 use Rattle.serde_json.specs.declared.value.Value.{Value}
 use Rattle.document_words.specs.Words.{member_form, all_members}
@@ -56,3 +60,20 @@ module _ {A : Type 0} (f : Data → Option A) where
       → all_members f (members_view whole) ≡ Some xs
   MembersProgress-end whole rest xs e was =
       sym was ∙ ap (λ ms. option_map (λ t. xs ++ t) (all_members f (members_view ms))) e ∙ ap Some (append-nil xs)
+
+-- each of these members is what the object has under its key
+abbrev pub AreFound : Entries → Entries → Type 0
+AreFound whole rest = All (λ m. get_member (string_bytes m.0) (members_view whole) ≡ Some (view m.1)) rest
+
+pub AreFound-start : (members : BTreeMap (String Global) Value) (rest : Entries) → rest ≡ members.entries
+    → All (λ m. get string_cmp members m.0 ≡ Some m.1) members.entries → AreFound members.entries rest
+AreFound-start members rest e h =
+    subst (AreFound members.entries) (sym e)
+    (λ k d b. sym (view-lookup (string_bytes (get_or members.entries k d).0) members.entries) ∙ ap (option_map view) (h k d b))
+
+pub AreFound-next : (whole rest others : Entries) (m : String Global × Value) → rest ≡ m ∷ others → AreFound whole rest → AreFound whole others
+AreFound-next whole rest others m e h k d b = (subst (AreFound whole) e h) (suc k) d (omega (arith, b))
+
+pub AreFound-first : (whole rest others : Entries) (m : String Global × Value) → rest ≡ m ∷ others → AreFound whole rest
+    → get_member (string_bytes m.0) (members_view whole) ≡ Some (view m.1)
+AreFound-first whole rest others m e h = (subst (AreFound whole) e h) 0 m (omega arith)

@@ -41,7 +41,7 @@ array_within (array es) ds q = let same : es ≡ ds = cc in omega (arith, ap ite
 array_within (object ms) ds q = cc
 
 -- a list under a key
-list_within : (k : List ℕ) (d : Data) (ds : Items) → required as_array k d ≡ Some ds → items_depth ds < depth d
+pub list_within : (k : List ℕ) (d : Data) (ds : Items) → required as_array k d ≡ Some ds → items_depth ds < depth d
 list_within k d ds q = by (get k d) refl q
   where
     by : (o : Option Data) → get k d ≡ o → option_and_then as_array o ≡ Some ds → items_depth ds < depth d

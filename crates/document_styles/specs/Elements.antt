@@ -39,11 +39,16 @@ look_form o = do
   suffix ← where_present as_str (codes "suffix") o
   formatting ← formatting_form o
   display ← where_present (one_of displays) (codes "display") o
-  Some (record { affixes = record { prefix = prefix; suffix = suffix }; formatting = formatting; display = display })
+  Some (record {
+    affixes = record { prefix = prefix; suffix = suffix };
+    formatting = formatting;
+    display = display;
+  })
 
 -- the keys of an element's kind and look
 abbrev pub look_keys : List (List ℕ)
-look_keys = codes "kind" ∷ codes "prefix" ∷ codes "suffix" ∷ codes "italic" ∷ codes "bold" ∷ codes "display" ∷ []
+look_keys = codes "kind" ∷ codes "prefix" ∷ codes "suffix" ∷ codes "italic" ∷ codes "bold" ∷ codes "display"
+    ∷ []
 
 -- ---- elements with no elements inside
 
@@ -52,7 +57,8 @@ abbrev pub target_of : TermForm → Bool → Option Data → Option Data → Opt
 target_of form plural (Some d) None None None = option_map value_target (as_str d)
 target_of form plural None (Some d) None None = option_map standard_target (one_of standard_variables d)
 target_of form plural None None (Some d) None = option_map macro_target (as_str d)
-target_of form plural None None None (Some d) = option_map (λ t. term_target t form plural) (name_form term_named d)
+target_of form plural None None None (Some d) =
+    option_map (λ t. term_target t form plural) (name_form term_named d)
 target_of form plural _ _ _ _ = None
 
 -- what a text writes
@@ -60,10 +66,12 @@ unfoldable pub target_form : Data → Option Target
 target_form o = do
   form ← optional TermForm.Long (one_of term_forms) (codes "form") o
   plural ← flag (codes "plural") o
-  target_of form plural (get (codes "value") o) (get (codes "variable") o) (get (codes "macro") o) (get (codes "term") o)
+  target_of form plural (get (codes "value") o) (get (codes "variable") o) (get (codes "macro") o)
+      (get (codes "term") o)
 
 abbrev pub text_keys : List (List ℕ)
-text_keys = look_keys ++ codes "value" ∷ codes "variable" ∷ codes "macro" ∷ codes "term" ∷ codes "form" ∷ codes "plural" ∷ codes "quotes" ∷ codes "strip_periods" ∷ []
+text_keys = look_keys ++ codes "value" ∷ codes "variable" ∷ codes "macro" ∷ codes "term" ∷ codes "form"
+    ∷ codes "plural" ∷ codes "quotes" ∷ codes "strip_periods" ∷ []
 
 -- an element that writes a text
 unfoldable pub text_form : Data → Option Element
@@ -112,11 +120,13 @@ variable_form d = do
 -- `disambiguate`, or a position
 abbrev pub condition_named : List ℕ → Option Condition
 condition_named name =
-    if pointwise nat_eq name (codes "disambiguate") then Some Condition.Disambiguate else option_map Condition.Position (named positions name)
+    if pointwise nat_eq name (codes "disambiguate") then Some Condition.Disambiguate
+    else option_map Condition.Position (named positions name)
 
 -- a condition's name, or an object that names a variable
 unfoldable pub condition_form : Data → Option Condition
-condition_form d = elim (as_str d) [ Some name ↦ condition_named name | None ↦ option_map Condition.Variable (variable_form d) ]
+condition_form d = elim (as_str d)
+    [ Some name ↦ condition_named name | None ↦ option_map Condition.Variable (variable_form d) ]
 
 -- ---- elements in which elements of the form `inner` stand
 

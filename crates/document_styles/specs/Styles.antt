@@ -47,13 +47,20 @@ layout_form o = do
   prefix ← where_present as_str (codes "prefix") o
   suffix ← where_present as_str (codes "suffix") o
   delimiter ← where_present as_str (codes "delimiter") o
-  Some (record { elements = elements_of elements; formatting = formatting; prefix = prefix; suffix = suffix; delimiter = delimiter })
+  Some (record {
+    elements = elements_of elements;
+    formatting = formatting;
+    prefix = prefix;
+    suffix = suffix;
+    delimiter = delimiter;
+  })
 
 abbrev pub citation_keys : List (List ℕ)
 citation_keys =
     codes "elements" ∷ codes "prefix" ∷ codes "suffix" ∷ codes "delimiter" ∷ codes "italic" ∷ codes "bold"
     ∷ codes "add_givenname" ∷ codes "givenname_rule" ∷ codes "add_names" ∷ codes "add_year_suffix"
-    ∷ codes "cite_group_delimiter" ∷ codes "year_suffix_delimiter" ∷ codes "after_collapse_delimiter" ∷ codes "collapse"
+    ∷ codes "cite_group_delimiter" ∷ codes "year_suffix_delimiter" ∷ codes "after_collapse_delimiter"
+    ∷ codes "collapse"
     ∷ codes "near_note_distance" ∷ codes "options" ∷ []
 
 -- how a style writes citations
@@ -88,8 +95,10 @@ citation_form d = do
 -- a bibliography's layout has no delimiter
 abbrev pub bibliography_keys : List (List ℕ)
 bibliography_keys =
-    codes "elements" ∷ codes "prefix" ∷ codes "suffix" ∷ codes "italic" ∷ codes "bold" ∷ codes "hanging_indent" ∷ codes "second_field_align"
-    ∷ codes "line_spacing" ∷ codes "entry_spacing" ∷ codes "substitute" ∷ codes "substitute_rule" ∷ codes "options" ∷ []
+    codes "elements" ∷ codes "prefix" ∷ codes "suffix" ∷ codes "italic" ∷ codes "bold"
+    ∷ codes "hanging_indent" ∷ codes "second_field_align"
+    ∷ codes "line_spacing" ∷ codes "entry_spacing" ∷ codes "substitute" ∷ codes "substitute_rule"
+    ∷ codes "options" ∷ []
 
 -- how a style writes its bibliography
 unfoldable pub bibliography_form : Data → Option BibliographyValue
@@ -101,7 +110,8 @@ bibliography_form d = do
   lines ← optional single line_spacing (codes "line_spacing") o
   entries ← optional (pos 1) spacing (codes "entry_spacing") o
   substitute ← where_present as_str (codes "substitute") o
-  rule ← optional SubsequentAuthorSubstituteRule.CompleteAll (one_of substitute_rules) (codes "substitute_rule") o
+  rule ← optional SubsequentAuthorSubstituteRule.CompleteAll (one_of substitute_rules)
+      (codes "substitute_rule") o
   options ← options_at o
   Some (record {
     layout = layout;
@@ -126,7 +136,8 @@ macro_form d = do
 
 abbrev pub style_keys : List (List ℕ)
 style_keys =
-    codes "class" ∷ codes "categories" ∷ codes "default_locale" ∷ codes "locale" ∷ codes "options" ∷ codes "macros" ∷ codes "citation" ∷ codes "bibliography" ∷ []
+    codes "class" ∷ codes "categories" ∷ codes "default_locale" ∷ codes "locale" ∷ codes "options"
+    ∷ codes "macros" ∷ codes "citation" ∷ codes "bibliography" ∷ []
 
 -- a style
 unfoldable pub style_form : Data → Option StyleValue

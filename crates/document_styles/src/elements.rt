@@ -1,12 +1,13 @@
 //! Reading elements.
 ghost use Rattle.std.specs.Prelude.{◌≡◌, codes, map, option_map, None};
+ghost use Rattle.serde_json.specs.Data.{array};
 ghost use Rattle.serde_json.specs.View.{view, items_view};
 ghost use Rattle.csl_base.specs.Element.{elements_of};
 ghost use Rattle.csl_base.specs.ElementView.{look, target_view, element_view, branch_view};
 ghost use Rattle.document_words.specs.Words.{all_items, items_at, required, name_form};
 ghost use Rattle.document_words.specs.Names.{variable_named};
 ghost use Rattle.document_styles.specs.Elements.{formatting_of, formatting_form, look_form, target_form, text_form, number_form, date_form, names_form, variable_form, condition_named, condition_form, group_form, branch_form, choose_form, element_form, element_over, ElementsNest};
-ghost use Rattle.document_words.specs.Reads.{Reads};
+ghost use Rattle.document_words.specs.Reads.{Faults, IsErrorOf, Reads};
 
 use crate::options::options_at;
 use csl_base::element::{
@@ -15,7 +16,9 @@ use csl_base::element::{
 use csl_base::formatting::{Display, FontStyle, FontWeight, StyleFormatting};
 use csl_base::taxonomy::{TermForm, Variable};
 use document_words::error::ReadError;
+use document_words::fault::Wanted;
 use document_words::names::{named, term_of, variable_of};
+use document_words::refusals::{lacking, unlike};
 use document_words::tables::{
     DATE_VARIABLES, DISPLAYS, MATCHES, NAME_VARIABLES, NUMBER_VARIABLES, POSITIONS,
     STANDARD_VARIABLES, TERM_FORMS,
@@ -52,22 +55,24 @@ fn formatting_of(italic: bool, bold: bool) -> StyleFormatting
 
 /// The formatting that an object's `italic` and `bold` ask for.
 #[tactic(auto, unfolding(crate::specs::Elements::formatting_form))]
-pub fn formatting_in(object: &Value) -> Result<StyleFormatting, ReadError>
-    ensures { Reads (λ f. f) result (formatting_form (view object.now)) }
+pub fn formatting_in(alloc: Global, object: &Value) -> Result<StyleFormatting, ReadError>
+    ensures read { Reads (λ f. f) result (formatting_form (view object.now)) }
+    ensures fault { Faults result (view object.now) }
 {
-    let italic = flag(object, "italic")?;
-    let bold = flag(object, "bold")?;
+    let italic = flag(alloc, object, "italic")?;
+    let bold = flag(alloc, object, "bold")?;
     Ok(formatting_of(italic, bold))
 }
 
 #[tactic(auto, unfolding(crate::specs::Elements::look_form))]
 fn look_of(alloc: Global, object: &Value) -> Result<Look, ReadError>
-    ensures { Reads (λ l. look l.affixes l.formatting l.display) result (look_form (view object.now)) }
+    ensures read { Reads (λ l. look l.affixes l.formatting l.display) result (look_form (view object.now)) }
+    ensures fault { Faults result (view object.now) }
 {
     let prefix = optional_text(alloc, object, "prefix")?;
     let suffix = optional_text(alloc, object, "suffix")?;
-    let formatting = formatting_in(object)?;
-    let display = optional_name(DISPLAYS, object, "display")?;
+    let formatting = formatting_in(alloc, object)?;
+    let display = optional_name(alloc, DISPLAYS, object, "display")?;
     Ok(Look {
         affixes: Affixes { prefix, suffix },
         formatting,
@@ -77,33 +82,46 @@ fn look_of(alloc: Global, object: &Value) -> Result<Look, ReadError>
 
 // ---- elements with no elements inside
 
-#[tactic(auto, unfolding(crate::specs::Elements::target_form))]
+#[tactic(auto, using(document_words::proofs::Ways::fails_outside), unfolding(crate::specs::Elements::target_form))]
 fn target_of(alloc: Global, object: &Value) -> Result<TextTarget, ReadError>
-    ensures { Reads target_view result (target_form (view object.now)) }
+    ensures read { Reads target_view result (target_form (view object.now)) }
+    ensures fault { Faults result (view object.now) }
 {
-    let form = name_or(TERM_FORMS, object, "form", TermForm::Long)?;
-    let plural = flag(object, "plural")?;
+    let form = name_or(alloc, TERM_FORMS, object, "form", TermForm::Long)?;
+    let plural = flag(alloc, object, "plural")?;
     match (
         object.get("value"),
         object.get("variable"),
         object.get("macro"),
         object.get("term"),
     ) {
-        (Some(text), None, None, None) => Ok(TextTarget::Value(text_of(alloc, text)?)),
-        (None, Some(name), None, None) => {
-            Ok(TextTarget::Standard(one_of(STANDARD_VARIABLES, name)?))
-        }
-        (None, None, Some(name), None) => Ok(TextTarget::Macro(text_of(alloc, name)?)),
-        (None, None, None, Some(name)) => Ok(TextTarget::Term(term_of(name)?, form, plural)),
-        _ => Err(ReadError::Document),
+        (Some(text), None, None, None) => match text_of(alloc, text) {
+            Ok(text) => Ok(TextTarget::Value(text)),
+            Err(error) => Err(error.under(alloc, "value")),
+        },
+        (None, Some(name), None, None) => match one_of(alloc, STANDARD_VARIABLES, name) {
+            Ok(variable) => Ok(TextTarget::Standard(variable)),
+            Err(error) => Err(error.under(alloc, "variable")),
+        },
+        (None, None, Some(name), None) => match text_of(alloc, name) {
+            Ok(name) => Ok(TextTarget::Macro(name)),
+            Err(error) => Err(error.under(alloc, "macro")),
+        },
+        (None, None, None, Some(name)) => match term_of(alloc, name) {
+            Ok(term) => Ok(TextTarget::Term(term, form, plural)),
+            Err(error) => Err(error.under(alloc, "term")),
+        },
+        _ => Err(unlike(alloc, object, Wanted::Target)),
     }
 }
 
 #[tactic(auto, unfolding(crate::specs::Elements::text_form))]
 fn text_element_of(alloc: Global, value: &Value) -> Result<LayoutRenderingElement, ReadError>
-    ensures { Reads element_view result (text_form (view value.now)) }
+    ensures read { Reads element_view result (text_form (view value.now)) }
+    ensures fault { Faults result (view value.now) }
 {
     let object = object_with(
+        alloc,
         &[
             "kind",
             "prefix",
@@ -123,8 +141,8 @@ fn text_element_of(alloc: Global, value: &Value) -> Result<LayoutRenderingElemen
         value,
     )?;
     let target = target_of(alloc, object)?;
-    let quotes = flag(object, "quotes")?;
-    let strip_periods = flag(object, "strip_periods")?;
+    let quotes = flag(alloc, object, "quotes")?;
+    let strip_periods = flag(alloc, object, "strip_periods")?;
     let look = look_of(alloc, object)?;
     Ok(LayoutRenderingElement::Text {
         target,
@@ -138,15 +156,17 @@ fn text_element_of(alloc: Global, value: &Value) -> Result<LayoutRenderingElemen
 
 #[tactic(auto, unfolding(crate::specs::Elements::number_form))]
 fn number_of(alloc: Global, value: &Value) -> Result<LayoutRenderingElement, ReadError>
-    ensures { Reads element_view result (number_form (view value.now)) }
+    ensures read { Reads element_view result (number_form (view value.now)) }
+    ensures fault { Faults result (view value.now) }
 {
     let object = object_with(
+        alloc,
         &[
             "kind", "prefix", "suffix", "italic", "bold", "display", "variable",
         ],
         value,
     )?;
-    let variable = name_at(NUMBER_VARIABLES, object, "variable")?;
+    let variable = name_at(alloc, NUMBER_VARIABLES, object, "variable")?;
     let look = look_of(alloc, object)?;
     Ok(LayoutRenderingElement::Number {
         variable,
@@ -158,15 +178,17 @@ fn number_of(alloc: Global, value: &Value) -> Result<LayoutRenderingElement, Rea
 
 #[tactic(auto, unfolding(crate::specs::Elements::date_form))]
 fn date_of(alloc: Global, value: &Value) -> Result<LayoutRenderingElement, ReadError>
-    ensures { Reads element_view result (date_form (view value.now)) }
+    ensures read { Reads element_view result (date_form (view value.now)) }
+    ensures fault { Faults result (view value.now) }
 {
     let object = object_with(
+        alloc,
         &[
             "kind", "prefix", "suffix", "italic", "bold", "display", "variable",
         ],
         value,
     )?;
-    let variable = name_at(DATE_VARIABLES, object, "variable")?;
+    let variable = name_at(alloc, DATE_VARIABLES, object, "variable")?;
     let look = look_of(alloc, object)?;
     Ok(LayoutRenderingElement::Date {
         variable,
@@ -178,9 +200,11 @@ fn date_of(alloc: Global, value: &Value) -> Result<LayoutRenderingElement, ReadE
 
 #[tactic(auto, unfolding(crate::specs::Elements::names_form))]
 fn names_of(alloc: Global, value: &Value) -> Result<LayoutRenderingElement, ReadError>
-    ensures { Reads element_view result (names_form (view value.now)) }
+    ensures read { Reads element_view result (names_form (view value.now)) }
+    ensures fault { Faults result (view value.now) }
 {
     let object = object_with(
+        alloc,
         &[
             "kind",
             "prefix",
@@ -211,21 +235,25 @@ fn names_of(alloc: Global, value: &Value) -> Result<LayoutRenderingElement, Read
 // ---- conditions
 
 /// The member of the key `variable`, which names a variable of any kind.
-fn required_variable(object: &Value) -> Result<Variable, ReadError>
-    ensures { Reads (λ v. v) result (required (name_form variable_named) (codes "variable") (view object.now)) }
+#[tactic(auto, using(document_words::proofs::Ways::fails_outside))]
+fn required_variable(alloc: Global, object: &Value) -> Result<Variable, ReadError>
+    ensures read { Reads (λ v. v) result
+        (required (name_form variable_named) (codes "variable") (view object.now)) }
+    ensures fault { Faults result (view object.now) }
 {
     match object.get("variable") {
-        Some(member) => variable_of(member),
-        None => Err(ReadError::Document),
+        Some(member) => variable_of(alloc, member).map_err(|error| error.under(alloc, "variable")),
+        None => Err(lacking(alloc, object, "variable")),
     }
 }
 
 #[tactic(auto, unfolding(crate::specs::Elements::variable_form))]
-fn tested_variable_of(value: &Value) -> Result<Variable, ReadError>
-    ensures { Reads (λ v. v) result (variable_form (view value.now)) }
+fn tested_variable_of(alloc: Global, value: &Value) -> Result<Variable, ReadError>
+    ensures read { Reads (λ v. v) result (variable_form (view value.now)) }
+    ensures fault { Faults result (view value.now) }
 {
-    let object = object_with(&["variable"], value)?;
-    required_variable(object)
+    let object = object_with(alloc, &["variable"], value)?;
+    required_variable(alloc, object)
 }
 
 fn condition_named(name: &str) -> Option<Condition>
@@ -241,66 +269,127 @@ fn condition_named(name: &str) -> Option<Condition>
 }
 
 #[tactic(auto, unfolding(crate::specs::Elements::condition_form))]
-fn condition_of(value: &Value) -> Result<Condition, ReadError>
-    ensures { Reads (λ c. c) result (condition_form (view value.now)) }
+fn condition_of(alloc: Global, value: &Value) -> Result<Condition, ReadError>
+    ensures read { Reads (λ c. c) result (condition_form (view value.now)) }
+    ensures fault { Faults result (view value.now) }
 {
     match value.as_str() {
-        Some(name) => condition_named(name).ok_or(ReadError::Document),
-        None => Ok(Condition::Variable(tested_variable_of(value)?)),
+        Some(name) => match condition_named(name) {
+            Some(condition) => Ok(condition),
+            None => Err(unlike(alloc, value, Wanted::Condition)),
+        },
+        None => Ok(Condition::Variable(tested_variable_of(alloc, value)?)),
     }
 }
 
+#[tactic(auto, using(document_words::proofs::Ways::item_there))]
 fn conditions_of(alloc: Global, items: &[Value]) -> Result<Vec<Condition>, ReadError>
-    ensures { Reads (λ v. v.items) result (all_items condition_form (items_view items.now)) }
+    ensures read { Reads (λ v. v.items) result (all_items condition_form (items_view items.now)) }
+    ensures fault { Faults result (array (items_view items.now)) }
 {
     let mut conditions = Vec::new(alloc);
-    for item in items {
-        conditions.push(condition_of(item)?)?;
+    for (place, item) in items.iter().enumerate() {
+        match condition_of(alloc, item) {
+            Ok(condition) => conditions.push(condition)?,
+            Err(error) => return Err(error.in_item(place)),
+        }
     }
     Ok(conditions)
 }
 
+/// The conditions under the key `if`, which has to be there.
+#[tactic(auto, using(document_words::proofs::Ways::fails_outside))]
+fn tests_at(alloc: Global, object: &Value) -> Result<Vec<Condition>, ReadError>
+    ensures read { Reads (λ v. v.items) result (items_at condition_form (codes "if") (view object.now)) }
+    ensures fault { Faults result (view object.now) }
+{
+    let list = required_list(alloc, object, "if")?;
+    match conditions_of(alloc, list) {
+        Ok(conditions) => Ok(conditions),
+        Err(error) => Err(error.under(alloc, "if")),
+    }
+}
+
 // ---- elements in which elements stand
+
+/// The error of an element of an unknown kind.
+fn unknown_kind(alloc: Global, value: &Value) -> ReadError
+    ensures { IsErrorOf result (view value.now) }
+{
+    match value.get("kind") {
+        Some(member) => unlike(alloc, member, Wanted::Kind).under(alloc, "kind"),
+        None => lacking(alloc, value, "kind"),
+    }
+}
 
 #[cycle(elements)]
 fn element_of(alloc: Global, value: &Value) -> Result<LayoutRenderingElement, ReadError>
-    ensures { Reads element_view result (element_form (view value.now)) }
+    ensures read { Reads element_view result (element_form (view value.now)) }
+    ensures fault { Faults result (view value.now) }
 {
     element_of_kind(alloc, value)
 }
 
 #[cycle(elements)]
 fn element_of_kind(alloc: Global, value: &Value) -> Result<LayoutRenderingElement, ReadError>
-    ensures { Reads element_view result (element_over element_form (view value.now)) }
+    ensures read { Reads element_view result (element_over element_form (view value.now)) }
+    ensures fault { Faults result (view value.now) }
 {
-    match required_text(value, "kind")? {
+    match required_text(alloc, value, "kind")? {
         "text" => text_element_of(alloc, value),
         "number" => number_of(alloc, value),
         "date" => date_of(alloc, value),
         "names" => names_of(alloc, value),
         "group" => group_of(alloc, value),
         "choose" => choose_of(alloc, value),
-        _ => Err(ReadError::Document),
+        _ => Err(unknown_kind(alloc, value)),
     }
 }
 
 #[cycle(elements)]
+#[tactic(auto, using(document_words::proofs::Ways::item_there))]
 fn all_elements(alloc: Global, items: &[Value]) -> Result<Vec<LayoutRenderingElement>, ReadError>
-    ensures { Reads (λ v. map element_view v.items) result (all_items element_form (items_view items.now)) }
+    ensures read { Reads (λ v. map element_view v.items) result
+        (all_items element_form (items_view items.now)) }
+    ensures fault { Faults result (array (items_view items.now)) }
 {
     let mut elements = Vec::new(alloc);
-    for item in items {
-        elements.push(element_of(alloc, item)?)?;
+    for (place, item) in items.iter().enumerate() {
+        match element_of(alloc, item) {
+            Ok(element) => elements.push(element)?,
+            Err(error) => return Err(error.in_item(place)),
+        }
     }
     Ok(elements)
+}
+
+/// The elements under a key, which has to be there.
+#[cycle(elements)]
+#[tactic(auto, using(document_words::proofs::Ways::fails_outside))]
+pub fn elements_at(
+    alloc: Global,
+    object: &Value,
+    key: &str,
+) -> Result<Vec<LayoutRenderingElement>, ReadError>
+    ensures read { Reads (λ v. map element_view v.items) result
+        (items_at element_form key.now (view object.now)) }
+    ensures fault { Faults result (view object.now) }
+{
+    let list = required_list(alloc, object, key)?;
+    match all_elements(alloc, list) {
+        Ok(elements) => Ok(elements),
+        Err(error) => Err(error.under(alloc, key)),
+    }
 }
 
 #[cycle(elements)]
 #[tactic(auto, unfolding(crate::specs::Elements::group_form))]
 fn group_of(alloc: Global, value: &Value) -> Result<LayoutRenderingElement, ReadError>
-    ensures { Reads element_view result (group_form element_form (view value.now)) }
+    ensures read { Reads element_view result (group_form element_form (view value.now)) }
+    ensures fault { Faults result (view value.now) }
 {
     let object = object_with(
+        alloc,
         &[
             "kind",
             "prefix",
@@ -313,8 +402,7 @@ fn group_of(alloc: Global, value: &Value) -> Result<LayoutRenderingElement, Read
         ],
         value,
     )?;
-    let list = required_list(object, "children")?;
-    let children = all_elements(alloc, list)?;
+    let children = elements_at(alloc, object, "children")?;
     let delimiter = optional_text(alloc, object, "delimiter")?;
     let look = look_of(alloc, object)?;
     Ok(LayoutRenderingElement::Group {
@@ -327,59 +415,70 @@ fn group_of(alloc: Global, value: &Value) -> Result<LayoutRenderingElement, Read
 }
 
 #[cycle(elements)]
-#[tactic(auto, unfolding(crate::specs::Elements::choose_form))]
+#[tactic(auto, using(document_words::proofs::Ways::fails_outside), unfolding(crate::specs::Elements::choose_form))]
 fn choose_of(alloc: Global, value: &Value) -> Result<LayoutRenderingElement, ReadError>
-    ensures { Reads element_view result (choose_form element_form (view value.now)) }
+    ensures read { Reads element_view result (choose_form element_form (view value.now)) }
+    ensures fault { Faults result (view value.now) }
 {
-    let object = object_with(&["kind", "branches", "else"], value)?;
-    let list = required_list(object, "branches")?;
-    let branches = all_branches(alloc, list)?;
-    let last = optional_list(object, "else")?;
-    let otherwise = all_elements(alloc, last)?;
-    Ok(LayoutRenderingElement::Choose {
-        branches,
-        otherwise,
-    })
+    let object = object_with(alloc, &["kind", "branches", "else"], value)?;
+    let branches = branches_at(alloc, object)?;
+    let last = optional_list(alloc, object, "else")?;
+    match all_elements(alloc, last) {
+        Ok(otherwise) => Ok(LayoutRenderingElement::Choose {
+            branches,
+            otherwise,
+        }),
+        Err(error) => Err(error.under(alloc, "else")),
+    }
 }
 
 #[cycle(elements)]
+#[tactic(auto, using(document_words::proofs::Ways::item_there))]
 fn all_branches(alloc: Global, items: &[Value]) -> Result<Vec<ChooseBranch>, ReadError>
-    ensures { Reads (λ v. map branch_view v.items) result (all_items (branch_form element_form) (items_view items.now)) }
+    ensures read { Reads (λ v. map branch_view v.items) result
+        (all_items (branch_form element_form) (items_view items.now)) }
+    ensures fault { Faults result (array (items_view items.now)) }
 {
     let mut branches = Vec::new(alloc);
-    for item in items {
-        branches.push(branch_of(alloc, item)?)?;
+    for (place, item) in items.iter().enumerate() {
+        match branch_of(alloc, item) {
+            Ok(branch) => branches.push(branch)?,
+            Err(error) => return Err(error.in_item(place)),
+        }
     }
     Ok(branches)
+}
+
+/// The branches under the key `branches`, which has to be there.
+#[cycle(elements)]
+#[tactic(auto, using(document_words::proofs::Ways::fails_outside))]
+fn branches_at(alloc: Global, object: &Value) -> Result<Vec<ChooseBranch>, ReadError>
+    ensures read { Reads (λ v. map branch_view v.items) result
+        (items_at (branch_form element_form) (codes "branches") (view object.now)) }
+    ensures fault { Faults result (view object.now) }
+{
+    let list = required_list(alloc, object, "branches")?;
+    match all_branches(alloc, list) {
+        Ok(branches) => Ok(branches),
+        Err(error) => Err(error.under(alloc, "branches")),
+    }
 }
 
 #[cycle(elements)]
 #[tactic(auto, unfolding(crate::specs::Elements::branch_form))]
 fn branch_of(alloc: Global, value: &Value) -> Result<ChooseBranch, ReadError>
-    ensures { Reads branch_view result (branch_form element_form (view value.now)) }
+    ensures read { Reads branch_view result (branch_form element_form (view value.now)) }
+    ensures fault { Faults result (view value.now) }
 {
-    let object = object_with(&["if", "match", "children"], value)?;
-    let list = required_list(object, "children")?;
-    let children = all_elements(alloc, list)?;
-    let tests = required_list(object, "if")?;
-    let conditions = conditions_of(alloc, tests)?;
-    let rule = name_or(MATCHES, object, "match", ChooseMatch::All)?;
+    let object = object_with(alloc, &["if", "match", "children"], value)?;
+    let children = elements_at(alloc, object, "children")?;
+    let conditions = tests_at(alloc, object)?;
+    let rule = name_or(alloc, MATCHES, object, "match", ChooseMatch::All)?;
     Ok(ChooseBranch {
         conditions,
         rule,
         children,
     })
-}
-
-/// The elements under a key, which has to be there.
-pub fn elements_at(
-    alloc: Global,
-    object: &Value,
-    key: &str,
-) -> Result<Vec<LayoutRenderingElement>, ReadError>
-    ensures { Reads (λ v. map element_view v.items) result (items_at element_form key.now (view object.now)) }
-{
-    all_elements(alloc, required_list(object, key)?)
 }
 
 /// What an element is doesn't depend on how deep elements may nest.

@@ -3,7 +3,7 @@ ghost use Rattle.std.specs.Prelude.{◌≡◌};
 ghost use Rattle.serde_json.specs.View.{view};
 ghost use Rattle.csl_base.specs.ElementView.{options_view};
 ghost use Rattle.document_styles.specs.Options.{no_options, options_form, options_at};
-ghost use Rattle.document_words.specs.Reads.{Reads};
+ghost use Rattle.document_words.specs.Reads.{Faults, Reads};
 
 use csl_base::element::InheritableNameOptions;
 use document_words::error::ReadError;
@@ -28,9 +28,11 @@ fn no_options() -> InheritableNameOptions
 
 #[tactic(auto, unfolding(crate::specs::Options::options_form))]
 fn options_of(alloc: Global, value: &Value) -> Result<InheritableNameOptions, ReadError>
-    ensures { Reads options_view result (options_form (view value.now)) }
+    ensures read { Reads options_view result (options_form (view value.now)) }
+    ensures fault { Faults result (view value.now) }
 {
     let object = object_with(
+        alloc,
         &[
             "and",
             "name_delimiter",
@@ -42,12 +44,12 @@ fn options_of(alloc: Global, value: &Value) -> Result<InheritableNameOptions, Re
         ],
         value,
     )?;
-    let and = optional_name(NAME_ANDS, object, "and")?;
+    let and = optional_name(alloc, NAME_ANDS, object, "and")?;
     let name_delimiter = optional_text(alloc, object, "name_delimiter")?;
     let names_delimiter = optional_text(alloc, object, "names_delimiter")?;
-    let et_al_min = optional_number(object, "et_al_min")?;
-    let et_al_use_first = optional_number(object, "et_al_use_first")?;
-    let name_form = optional_name(NAME_FORMS, object, "name_form")?;
+    let et_al_min = optional_number(alloc, object, "et_al_min")?;
+    let et_al_use_first = optional_number(alloc, object, "et_al_use_first")?;
+    let name_form = optional_name(alloc, NAME_FORMS, object, "name_form")?;
     let initialize_with = optional_text(alloc, object, "initialize_with")?;
     Ok(InheritableNameOptions {
         and,
@@ -61,11 +63,13 @@ fn options_of(alloc: Global, value: &Value) -> Result<InheritableNameOptions, Re
 }
 
 /// The name options under `options`; none is given where the key is absent.
+#[tactic(auto, using(document_words::proofs::Ways::fails_outside))]
 pub fn options_at(alloc: Global, value: &Value) -> Result<InheritableNameOptions, ReadError>
-    ensures { Reads options_view result (options_at (view value.now)) }
+    ensures read { Reads options_view result (options_at (view value.now)) }
+    ensures fault { Faults result (view value.now) }
 {
     match value.get("options") {
         None => Ok(no_options()),
-        Some(member) => options_of(alloc, member),
+        Some(member) => options_of(alloc, member).map_err(|error| error.under(alloc, "options")),
     }
 }

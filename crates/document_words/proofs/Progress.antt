@@ -66,5 +66,5 @@ module _ {A : Type 0} (f : Data → Option A) where
 
 -- an error of a part is one of the whole
 pub Fails-whole : {A B : Type 0} (e : ReadError) (part : Option A) (whole : Option B) → (part ≡ None → whole ≡ None) → Fails e part → Fails e whole
-Fails-whole errors.Document part whole h r = h r
+Fails-whole (errors.Document fault) part whole h r = h r
 Fails-whole errors.OutOfMemory part whole h r = tt

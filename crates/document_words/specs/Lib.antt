@@ -1,3 +1,4 @@
+pub mod Faults
 pub mod Reads
 pub mod Words
 pub mod Tables

@@ -2,6 +2,8 @@
 #![tactic(auto)]
 
 pub mod error;
+pub mod fault;
 pub mod names;
+pub mod refusals;
 pub mod tables;
 pub mod words;

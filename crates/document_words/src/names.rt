@@ -3,14 +3,17 @@ ghost use Rattle.std.specs.Prelude.{◌≡◌};
 ghost use Rattle.serde_json.specs.View.{view};
 ghost use Rattle.document_words.specs.Words.{name_form};
 ghost use Rattle.document_words.specs.Names.{named, rows_view, variable_named, locator_term_named, term_named};
-ghost use Rattle.document_words.specs.Reads.{Reads};
+ghost use Rattle.document_words.specs.Reads.{Faults, Reads};
 
 use crate::error::ReadError;
+use crate::fault::Wanted;
+use crate::refusals::unlike;
 use crate::tables::{
     DATE_VARIABLES, LOCATORS, NAME_VARIABLES, NUMBER_VARIABLES, OTHER_TERMS, STANDARD_VARIABLES,
 };
 use csl_base::taxonomy::{Term, Variable};
 use serde_json::Value;
+use std::alloc::Global;
 
 /// The value of a name: that of the first row that has the name.
 pub fn named<T: Copy>(rows: &[(&str, T)], name: &str) -> Option<T>
@@ -74,21 +77,29 @@ pub fn term_named(name: &str) -> Option<Term>
 }
 
 /// The term that the value names.
-pub fn term_of(value: &Value) -> Result<Term, ReadError>
-    ensures { Reads (λ t. t) result (name_form term_named (view value.now)) }
+pub fn term_of(alloc: Global, value: &Value) -> Result<Term, ReadError>
+    ensures read { Reads (λ t. t) result (name_form term_named (view value.now)) }
+    ensures fault { Faults result (view value.now) }
 {
     let Some(name) = value.as_str() else {
-        return Err(ReadError::Document);
+        return Err(unlike(alloc, value, Wanted::Term));
     };
-    term_named(name).ok_or(ReadError::Document)
+    match term_named(name) {
+        Some(term) => Ok(term),
+        None => Err(unlike(alloc, value, Wanted::Term)),
+    }
 }
 
 /// The variable that the value names, of any kind.
-pub fn variable_of(value: &Value) -> Result<Variable, ReadError>
-    ensures { Reads (λ v. v) result (name_form variable_named (view value.now)) }
+pub fn variable_of(alloc: Global, value: &Value) -> Result<Variable, ReadError>
+    ensures read { Reads (λ v. v) result (name_form variable_named (view value.now)) }
+    ensures fault { Faults result (view value.now) }
 {
     let Some(name) = value.as_str() else {
-        return Err(ReadError::Document);
+        return Err(unlike(alloc, value, Wanted::Variable));
     };
-    variable_named(name).ok_or(ReadError::Document)
+    match variable_named(name) {
+        Some(variable) => Ok(variable),
+        None => Err(unlike(alloc, value, Wanted::Variable)),
+    }
 }

@@ -21,11 +21,23 @@ dates b DateVariable.Issued = Some b.issued
 dates b _ = None
 
 abbrev pub book_answers : Book → Answers
-book_answers b = record { key = b.key; label = None; names = names b; date = dates b; text = λ v. None; number = λ v. None }
+book_answers b = record {
+  key = b.key;
+  label = None;
+  names = names b;
+  date = dates b;
+  text = λ v. None;
+  number = λ v. None;
+}
 
-pub equal_books_answer_equally : (a b : Book) → (book_eq.ghosts).eq a b ≡ true → book_answers a ≡ book_answers b
+pub equal_books_answer_equally : (a b : Book) → (book_eq.ghosts).eq a b ≡ true
+    → book_answers a ≡ book_answers b
 equal_books_answer_equally a b e =
     let p = both _ _ e in
     let q = both _ _ p.1 in
-    let same : a ≡ b = λ i. record { key = texts_find.equal a.key b.key p.0 i; authors = (lists_find persons_find).equal a.authors b.authors q.0 i; issued = dates_find.equal a.issued b.issued q.1 i } in
+    let same : a ≡ b = λ i. record {
+      key = texts_find.equal a.key b.key p.0 i;
+      authors = (lists_find persons_find).equal a.authors b.authors q.0 i;
+      issued = dates_find.equal a.issued b.issued q.1 i;
+    } in
     ap book_answers same

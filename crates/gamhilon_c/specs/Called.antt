@@ -16,14 +16,18 @@ HasRing d = (place : RingPlace) × (i : ℕ) × HasFirstRing place i d
 abbrev pub Fills : List ℕ → List ℕ → List ℕ → Type 0
 Fills text before after = (length text ≤ length before) × (after ≡ text ++ drop (length text) before)
 
--- A call that ended with the status `code` and told the length `needed`. The bytes that it was given are the document of `read`, or none;
--- it was asked for the text that `text_of` makes of the answer; and the room held `before` and then `after`.
-pub record Called (text_of : Rendered → List ℕ) (read : Option Document) (code : ℕ) (before after : List ℕ) (needed : ℕ) : Type 0 where
-  pub answered : code ≡ 0 → IsDocumentThat read (λ d. HasAnswer d × Fills (text_of (answer d)) before after × (needed ≡ length (text_of (answer d))))
+-- A call that ended with the status `code` and told the length `needed`. The bytes that it was given are the
+-- document of `read`, or none; it was asked for the text that `text_of` makes of the answer; and the room
+-- held `before` and then `after`.
+pub record Called (text_of : Rendered
+    → List ℕ) (read : Option Document) (code : ℕ) (before after : List ℕ) (needed : ℕ) : Type 0 where
+  pub answered : code ≡ 0 → IsDocumentThat read (λ d. HasAnswer d × Fills (text_of (answer d)) before after
+      × (needed ≡ length (text_of (answer d))))
   pub no_document : code ≡ 2 → read ≡ None
   pub ring : code ≡ 3 → IsDocumentThat read HasRing
   pub overflow : code ≡ 4 → IsDocumentThat read HasTooLargeNumbers
-  pub too_small : code ≡ 6 → IsDocumentThat read (λ d. HasAnswer d × (needed ≡ length (text_of (answer d))) × (length before < needed))
+  pub too_small : code ≡ 6 → IsDocumentThat read (λ d. HasAnswer d × (needed ≡ length (text_of (answer d)))
+      × (length before < needed))
   pub kept : code ≢ 0 → after ≡ before
   pub nothing_needed : code ≢ 0 → code ≢ 6 → needed ≡ 0
   pub is_status : (code ≤ 6) × (code ≢ 1)
@@ -33,7 +37,8 @@ pub record Called (text_of : Rendered → List ℕ) (read : Option Document) (co
 -- the text stands in the room where that is as long, and its length is told
 abbrev pub Places : List ℕ → ℕ → List ℕ → List ℕ → ℕ → Type 0
 Places text code before after needed =
-    (needed ≡ length text) × (((code ≡ 0) × Fills text before after) ⊎ ((code ≡ 6) × (after ≡ before) × (length before < length text)))
+    (needed ≡ length text) × (((code ≡ 0) × Fills text before after)
+    ⊎ ((code ≡ 6) × (after ≡ before) × (length before < length text)))
 
 -- so does a text, if there is one; else the status tells why there is none
 abbrev pub HandsOut : Result (String Global) RunError → ℕ → List ℕ → List ℕ → ℕ → Type 0

@@ -19,8 +19,8 @@ numbers_of places.Bibliography i = record { of_bibliography = 1; request = 0; ma
 abbrev pub TellsFirstRing : GamhilonRing → Document → Type 0
 TellsFirstRing r d = (place : RingPlace) × (i : ℕ) × (r ≡ numbers_of place i) × HasFirstRing place i d
 
--- A call that ended with the status `code`. The bytes that it was given are the document of `read`, or none; and the ring held `before`
--- and then `after`.
+-- A call that ended with the status `code`. The bytes that it was given are the document of `read`, or none;
+-- and the ring held `before` and then `after`.
 pub record FindsRing (read : Option Document) (code : ℕ) (before after : GamhilonRing) : Type 0 where
   pub answered : code ≡ 0 → IsDocumentThat read HasAnswer
   pub no_document : code ≡ 2 → read ≡ None

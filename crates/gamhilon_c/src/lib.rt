@@ -6,13 +6,16 @@
 mod ring;
 mod room;
 
+ghost use Rattle.document_reading.specs.Faults.{value_in};
 ghost use Rattle.document_reading.specs.Form.{form};
 ghost use Rattle.cite_document.specs.Print.{json_text, print};
 ghost use Rattle.gamhilon_c.specs.Called.{Called};
+ghost use Rattle.gamhilon_c.specs.FindsFault.{FindsFault};
 ghost use Rattle.gamhilon_c.specs.Ring.{FindsRing};
 
 use crate::ring::{GamhilonRing, hand_out_ring};
 use crate::room::hand_out;
+use cite_document::faults::print_fault_bytes;
 use cite_document::running::{answer_bytes, print_bytes, print_json_bytes};
 use std::alloc::Global;
 
@@ -42,6 +45,21 @@ pub extern "C" fn gamhilon_print_json(
     ensures { Called json_text (form document.now) result room.old room.new needed.new }
 {
     let text = print_json_bytes(alloc, document);
+    hand_out(&text, room, needed)
+}
+
+/// Puts the first fault of the document, as JSON, into the room, and tells how many bytes that takes: none
+/// where the document has no fault. Gives the status.
+#[unsafe(no_mangle)]
+pub extern "C" fn gamhilon_fault(
+    alloc: Global,
+    document: &[u8],
+    room: &mut [u8],
+    needed: &mut usize,
+) -> u32
+    ensures { FindsFault (form document.now) (value_in document.now) result room.old room.new needed.new }
+{
+    let text = print_fault_bytes(alloc, document);
     hand_out(&text, room, needed)
 }
 

@@ -30,7 +30,9 @@ fn names(alloc: Global, children: ElemChildren) -> Result<ElemChildren, AllocErr
 
 /// Writes one field. The contract shows what a caller learns of a tree that lent its last text.
 fn make_last_text_italic(tree: &mut ElemChildren)
-    ensures some { (f : Formatted) → last_text tree.old ≡ Some f → tree.new ≡ put_last_text tree.old (record f { formatting = record f.formatting { font_style = style.Italic } }) }
+    ensures some { (f : Formatted) → last_text tree.old ≡ Some f
+        → tree.new ≡ put_last_text tree.old
+        (record f { formatting = record f.formatting { font_style = style.Italic } }) }
     ensures none { last_text tree.old ≡ None → tree.new ≡ tree.old }
 {
     if let Some(text) = tree.last_text_mut() {
@@ -40,7 +42,8 @@ fn make_last_text_italic(tree: &mut ElemChildren)
 
 /// The same of the first names.
 fn strip_first_names(tree: &mut ElemChildren)
-    ensures some { (e : Elem) → find_elem has_names tree.old ≡ Some e → tree.new ≡ put_names tree.old (record e { meta = None }) }
+    ensures some { (e : Elem) → find_elem has_names tree.old ≡ Some e
+        → tree.new ≡ put_names tree.old (record e { meta = None }) }
     ensures none { find_elem has_names tree.old ≡ None → tree.new ≡ tree.old }
 {
     if let Some(elem) = tree.find_names_mut() {

@@ -5,9 +5,9 @@ use Rattle.csl_context.specs.WritingState.{flushed, formatted, saved, unformatte
 use Rattle.csl_driver.specs.Account.{cost}
 use Rattle.csl_name_marks.specs.NameMarks.{name_marks}
 use Rattle.csl_name_marks.specs.Steps.{step, steps}
-use Rattle.csl_rounds.specs.RoundMarks.{round_marks}
-use Rattle.csl_rounds.specs.Tables.{tables_from}
-use Rattle.csl_rounds.specs.declared.mode.RoundMode.{RoundMode}
+use Rattle.csl_round_laws.specs.RoundMarks.{round_marks}
+use Rattle.csl_round_laws.specs.Tables.{tables_from}
+use Rattle.csl_round_laws.specs.declared.mode.RoundMode.{RoundMode}
 use Rattle.csl_writing.specs.CiteText.{cite}
 use Rattle.csl_writing.specs.PartsWritten.{parts_written}
 use Rattle.wrong_answers.specs.Counts.{asked}

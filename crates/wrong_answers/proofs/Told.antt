@@ -6,12 +6,12 @@ use Rattle.csl_lookup.specs.States.{year_suffix}
 use Rattle.csl_lookup.specs.declared.state.DisambiguateState.{DisambiguateState}
 use Rattle.csl_lookup.specs.declared.state.DisambiguateState.TheVariants.{Choose, NameDisambiguation, YearSuffix}
 use Rattle.csl_passes.specs.Renders.{CiteRender, ItemRender, Place}
-use Rattle.csl_rounds.specs.FirstRenders.{AreBegun}
-use Rattle.csl_rounds.specs.RoundMarks.{Mark, has_any, marks_by_group, round_marks}
-use Rattle.csl_rounds.specs.Rounds.{StateTable, no_states, with_marks}
-use Rattle.csl_rounds.specs.RunLaws.{GetsSuffixes, IsInNoGroup, NothingLeft, StatesGoOn, SuffixesStay, shown_at}
-use Rattle.csl_rounds.specs.Tables.{marked_at, marks_at, tables, tables_from}
-use Rattle.csl_rounds.specs.declared.mode.RoundMode.{RoundMode}
+use Rattle.csl_round_laws.specs.FirstRenders.{AreBegun}
+use Rattle.csl_round_laws.specs.RoundMarks.{Mark, has_any, marks_by_group, round_marks}
+use Rattle.csl_round_laws.specs.Rounds.{StateTable, no_states, with_marks}
+use Rattle.csl_round_laws.specs.RunLaws.{GetsSuffixes, IsInNoGroup, NothingLeft, StatesGoOn, SuffixesStay, shown_at}
+use Rattle.csl_round_laws.specs.Tables.{marked_at, marks_at, tables, tables_from}
+use Rattle.csl_round_laws.specs.declared.mode.RoundMode.{RoundMode}
 use Rattle.csl_name_marks.specs.NameMarks.{name_marks}
 use Rattle.csl_name_marks.specs.Steps.{step, steps}
 use Rattle.wrong_answers.proofs.Differ.{above}

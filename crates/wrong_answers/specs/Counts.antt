@@ -7,7 +7,8 @@ use Rattle.wrong_answers.specs.declared.sample.Sample.{Sample}
 
 abbrev pub one_cite : ℕ → Request Sample ℕ
 one_cite n = record {
-  cites = record { entry = entry n; locator = None; locale = None; hidden = false; purpose = None; place = 0 } ∷ [];
+  cites = record { entry = entry n; locator = None; locale = None; hidden = false; purpose = None; place = 0 }
+      ∷ [];
   style = style;
   locale = None;
   locales = [];

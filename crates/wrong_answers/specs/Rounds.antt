@@ -7,7 +7,7 @@ use Rattle.csl_base.specs.declared.names.NameDisambiguationProperties.{NameDisam
 use Rattle.csl_lookup.specs.declared.state.DisambiguateState.{DisambiguateState}
 use Rattle.csl_lookup.specs.declared.state.DisambiguateState.TheVariants.{Choose, NameDisambiguation, YearSuffix}
 use Rattle.csl_passes.specs.Renders.{CiteRender, ItemRender}
-use Rattle.csl_rounds.specs.Rounds.{StateTable, no_states}
+use Rattle.csl_round_laws.specs.Rounds.{StateTable, no_states}
 use Rattle.wrong_answers.specs.Samples.{by_authors, cite, in_year, person, request_of, words}
 use Rattle.wrong_answers.specs.declared.sample.Sample.{Sample}
 
@@ -32,7 +32,8 @@ by_cite = no_states ∷ table ((0, YearSuffix 1) ∷ (1, YearSuffix 2) ∷ []) �
 
 -- two cites that read differently
 abbrev pub unlike : List (CiteRender Sample ℕ)
-unlike = one_by_one (cite 0 0 (in_year (codes "Doe 1999") ∷ []) ∷ cite 1 1 (in_year (codes "Roe 2000") ∷ []) ∷ [])
+unlike = one_by_one (cite 0 0 (in_year (codes "Doe 1999") ∷ []) ∷ cite 1 1 (in_year (codes "Roe 2000") ∷ [])
+    ∷ [])
 
 -- a suffix for each entry, though no cite is ambiguous
 abbrev pub on_every_entry : List (StateTable Sample)
@@ -53,11 +54,13 @@ asking n = record (cite n n (words (codes "X") ∷ [])) { checked_disambiguate =
 -- a cite of Lee and another author, which shows Lee alone
 abbrev pub by_lee_and : List ℕ → ℕ → ItemRender Sample ℕ
 by_lee_and other n =
-    record (cite n n (by_authors (person (codes "Lee") ∷ person other ∷ []) (codes "Lee et al.") ∷ [])) { first_name = Some one_shown }
+    record (cite n n (by_authors (person (codes "Lee") ∷ person other ∷ []) (codes "Lee et al.")
+    ∷ [])) { first_name = Some one_shown }
 
 -- the first entry is cited in two groups: in one a choice tells it apart, and in the next one names do
 abbrev pub in_two_groups : List (CiteRender Sample ℕ)
-in_two_groups = one_by_one (asking 1 ∷ asking 0 ∷ by_lee_and (codes "Kim") 0 ∷ by_lee_and (codes "Cho") 2 ∷ [])
+in_two_groups = one_by_one
+    (asking 1 ∷ asking 0 ∷ by_lee_and (codes "Kim") 0 ∷ by_lee_and (codes "Cho") 2 ∷ [])
 
 -- in one round the names of the later group are written over the choice
 abbrev pub overwritten_at_once : List (StateTable Sample)

@@ -79,7 +79,13 @@ cite n number tree = record {
   rendered = tree;
   entry = entry n;
   properties = record {
-    certain = record { note_number = None; first_note_number = None; is_near_note = false; is_first = false; initial_idx = 0 };
+    certain = record {
+      note_number = None;
+      first_note_number = None;
+      is_near_note = false;
+      is_first = false;
+      initial_idx = 0;
+    };
     speculative = record {
       locator = None;
       citation_number = number;
@@ -107,7 +113,8 @@ person family = record { name = family; given_name = None }
 
 -- an element for these authors, in which this text stands
 abbrev pub by_authors : List Person → List ℕ → Child
-by_authors authors shown = elem (kid (words shown) no_kids) None (Some (ElemMeta.Names ((authors, NameVariable.Author) ∷ [])))
+by_authors authors shown =
+    elem (kid (words shown) no_kids) None (Some (ElemMeta.Names ((authors, NameVariable.Author) ∷ [])))
 
 -- a year, as an element for a date
 abbrev pub in_year : List ℕ → Child

@@ -5,7 +5,14 @@ use Rattle.wrong_answers.specs.contracts.sample.SamplePartialEq.TheImpl as sampl
 use Rattle.wrong_answers.specs.declared.sample.Sample.{Sample}
 
 abbrev pub silent : Sample → Answers
-silent s = record { key = []; label = None; names = λ v. []; date = λ v. None; text = λ v. None; number = λ v. None }
+silent s = record {
+  key = [];
+  label = None;
+  names = λ v. [];
+  date = λ v. None;
+  text = λ v. None;
+  number = λ v. None;
+}
 
 abbrev pub same_sample : Sample → Sample → Bool
 same_sample = (sample_eq.ghosts).eq

@@ -34,6 +34,12 @@ Document = Union[Dict[str, Any], str, bytes]
 """A document: the value, or its JSON."""
 
 
+def _nested_too_deep() -> DocumentRefused:
+    """The refusal of a value that not even Python writes as JSON."""
+    found, wanted = 'a value that nests deeper than 127 levels', 'at most 127 levels'
+    return DocumentRefused(f'the document: {found}', '', found, wanted)
+
+
 def _bytes_of(document: Document) -> bytes:
     """The JSON of a document. Half of a surrogate pair becomes what the library refuses."""
     if isinstance(document, bytes):
@@ -41,7 +47,7 @@ def _bytes_of(document: Document) -> bytes:
     try:
         text = document if isinstance(document, str) else json.dumps(document)
     except RecursionError:
-        raise DocumentRefused('nested deeper than 127 levels') from None
+        raise _nested_too_deep() from None
     return text.encode('utf-8', 'surrogatepass')
 
 

@@ -10,11 +10,13 @@ import json
 import os
 from typing import Any, List, Optional, Tuple
 
+from . import _faults
 from .errors import DocumentRefused, LibraryMissing, MacroRing, NumberOverflow, OutOfMemory
 
 HERE = os.path.dirname(os.path.abspath(__file__))
 NAME = 'libgamhilon.so'
 OK, ROOM_TOO_SMALL = 0, 6
+FAULT_ROOM = 4096
 
 
 class RingPlace(ctypes.Structure):
@@ -45,19 +47,6 @@ class Library:
         status, _ = self._ring(document)
         if status != OK:
             raise self._refusal(status, document)
-
-    def fault(self, document: bytes) -> Optional[Tuple[str, str, str]]:
-        """Pointer, found and wanted of a document's first fault; None where there is none, or no call that tells.
-
-        `gamhilon_fault` is called as `gamhilon_print` is, and puts an object with these three texts into its room.
-        """
-        if not hasattr(self._functions, 'gamhilon_fault'):
-            return None
-        status, told = self._called(self._functions.gamhilon_fault, document, len(document) + 4096)
-        if status != OK or not told:
-            return None
-        said = json.loads(told)
-        return said['pointer'], said['found'], said['wanted']
 
     def _text(self, function: Any, document: bytes, room_length: int) -> bytes:
         status, text = self._called(function, document, room_length)
@@ -91,12 +80,13 @@ class Library:
             return OutOfMemory('memory was refused')
         return RuntimeError(f'{NAME} ended a call with status {status}, which this package does not know')
 
-    def _document_refused(self, document: bytes) -> DocumentRefused:
-        fault = self.fault(document)
-        if fault is None:
-            return DocumentRefused('not of the form of a document')
-        pointer, found, wanted = fault
-        return DocumentRefused(f'{pointer or "the whole document"}: found {found}, wanted {wanted}', *fault)
+    def _document_refused(self, document: bytes) -> Exception:
+        status, told = self._called(self._functions.gamhilon_fault, document, FAULT_ROOM)
+        if status != OK:
+            return OutOfMemory('memory was refused')
+        said = json.loads(told)
+        pointer, found, wanted = said['pointer'], said['found'], said['wanted']
+        return DocumentRefused(_faults.message(document, pointer, found, wanted), pointer, found, wanted)
 
     def _macro_ring(self, document: bytes) -> Exception:
         status, ring = self._ring(document)
@@ -120,13 +110,11 @@ def _loaded() -> ctypes.CDLL:
     place = path()
     try:
         library = ctypes.CDLL(place)
-        texts = [library.gamhilon_print, library.gamhilon_print_json]
+        texts = [library.gamhilon_print, library.gamhilon_print_json, library.gamhilon_fault]
         rings = [library.gamhilon_ring]
     except (OSError, AttributeError) as error:
         raise LibraryMissing(f'{error}: install the wheel of gamhilon, build {NAME} by embed/build.py, or name it in '
                              'the environment as GAMHILON_LIBRARY') from error
-    if hasattr(library, 'gamhilon_fault'):
-        texts.append(library.gamhilon_fault)
     given: List[Any] = [ctypes.c_char_p, ctypes.c_size_t]
     for function in texts:
         function.restype = ctypes.c_uint32

@@ -16,13 +16,12 @@ class DocumentRefused(Refused, ValueError):
     """The document isn't JSON, or not of the form of a document.
 
     `pointer` is the JSON Pointer (RFC 6901) of the first fault, `found` what stands there, and `wanted` what is asked
-    for. They are None where the library has no `gamhilon_fault`.
+    for there, as docs/DOCUMENT.md has them. The message says the same, with the text or number that stands there.
     """
 
     status = 2
 
-    def __init__(self, message: str, pointer: Optional[str] = None, found: Optional[str] = None,
-                 wanted: Optional[str] = None) -> None:
+    def __init__(self, message: str, pointer: str, found: str, wanted: str) -> None:
         super().__init__(message, pointer, found, wanted)
         self.pointer, self.found, self.wanted = pointer, found, wanted
 

@@ -16,10 +16,10 @@ from gamhilon import _library  # noqa: E402
 class MadeUpLibrary:
     """Stands in for the shared library: ends each call with a status, or with a text as its answer, and counts the calls."""
 
-    def __init__(self, text=b'', status=0, fault=None, ring=(0, 0, 0)):
+    def __init__(self, text=b'', status=0, fault=None, fault_status=0, ring=(0, 0, 0)):
         self.text, self.status, self.ring, self.calls = text, status, ring, []
-        if fault is not None:
-            self.gamhilon_fault = lambda *given: self._put(json.dumps(fault).encode(), 0, *given)
+        told = fault or {'pointer': '', 'found': 'an object', 'wanted': 'something else'}
+        self.gamhilon_fault = lambda *given: self._put(json.dumps(told).encode(), fault_status, *given)
 
     def gamhilon_print(self, *given):
         return self._put(self.text, self.status, *given)

@@ -50,27 +50,39 @@ def test_a_status_of_a_later_library_is_told(made_up):
         gamhilon.render(EMPTY)
 
 
-def test_a_fault_has_its_place_where_the_library_tells_it(made_up):
-    made_up(status=2, fault={'pointer': '/entries/0/titel', 'found': 'an unknown key', 'wanted': 'a key of an entry'})
-    with pytest.raises(gamhilon.DocumentRefused) as refusal:
-        gamhilon.check(EMPTY)
-    said = refusal.value
-    assert (said.pointer, said.found, said.wanted) == ('/entries/0/titel', 'an unknown key', 'a key of an entry')
-    assert all(it in str(said) for it in ('/entries/0/titel', 'an unknown key', 'a key of an entry'))
+@pytest.mark.parametrize('document, pointer, found, wanted, message', [
+    ({**EMPTY, 'rounds': 'all'}, '/rounds', 'a text', 'one of three, full', '/rounds: a text, "all"; wanted is one of three, full'),
+    ({**EMPTY, 'entries': {}}, '/entries', 'an object', 'a list', '/entries: an object; wanted is a list'),
+    ({**EMPTY, 'offset': -1}, '/offset', 'a number', 'a whole number from 0 to 18446744073709551615',
+     '/offset: a number, -1; wanted is a whole number from 0 to 18446744073709551615'),
+    ({**EMPTY, 'requests': [{'style': 's'}]}, '/requests/0', 'missing key items', 'this key', '/requests/0: missing key items'),
+    ({**EMPTY, 'bibliography': {'style': 's', 'a/b': 1}}, '/bibliography', 'unknown key a/b', 'one of the keys style, locale, order',
+     '/bibliography: unknown key a/b; wanted is one of the keys style, locale, order'),
+    ({**EMPTY, 'styles': {'~/é': 'x' * 100}}, '/styles/~0~1é', 'a text', 'an object',
+     '/styles/~0~1é: a text, "' + 'x' * 59 + ' ..; wanted is an object'),
+    ([], '', 'a list', 'an object', 'the document: a list; wanted is an object'),
+    ('{"styles":\n 5,]', '', 'no JSON from line 2, column 4', 'JSON', 'no JSON from line 2, column 4'),
+    (b'"\xff"', '', 'no UTF-8 from byte 1', 'UTF-8', 'no UTF-8 from byte 1'),
+])
+def test_a_fault_has_its_place(built, document, pointer, found, wanted, message):
+    for call in (gamhilon.render, gamhilon.print_document, gamhilon.check):
+        with pytest.raises(gamhilon.DocumentRefused) as refusal:
+            call(document)
+        said = refusal.value
+        assert (said.pointer, said.found, said.wanted) == (pointer, found, wanted)
+        assert str(said) == message
 
 
-def test_a_fault_has_no_place_where_the_library_has_no_such_call(made_up):
-    made_up(status=2)
-    with pytest.raises(gamhilon.DocumentRefused) as refusal:
+def test_a_fault_that_finds_no_memory_is_out_of_memory(made_up):
+    made_up(status=2, fault_status=5)
+    with pytest.raises(gamhilon.OutOfMemory):
         gamhilon.render(EMPTY)
-    assert (refusal.value.pointer, refusal.value.found, refusal.value.wanted) == (None, None, None)
-    assert str(refusal.value) == 'not of the form of a document'
 
 
 @pytest.mark.parametrize('error', [
     gamhilon.MacroRing('m', None, 3), gamhilon.MacroRing('m', 2, 0), gamhilon.NumberOverflow('m'),
     gamhilon.OutOfMemory('m'),
-    gamhilon.DocumentRefused('m', '/a', 'b', 'c'), gamhilon.DocumentRefused('m'), gamhilon.LibraryMissing('m'),
+    gamhilon.DocumentRefused('m', '/a', 'b', 'c'), gamhilon.LibraryMissing('m'),
 ])
 def test_errors_are_pickled_whole(error):
     again = pickle.loads(pickle.dumps(error))
@@ -94,8 +106,9 @@ def test_a_value_that_nests_too_deep_is_refused(built):
     value = []
     for _ in range(100000):
         value = [value]
-    with pytest.raises(gamhilon.DocumentRefused):
+    with pytest.raises(gamhilon.DocumentRefused, match='127') as refusal:
         gamhilon.render({'styles': value})
+    assert refusal.value.pointer == '' and refusal.value.wanted == 'at most 127 levels'
 
 
 def test_a_ring_comes_out_of_a_process_pool(built):

@@ -28,6 +28,13 @@ extern "C" {
         room_length: usize,
         length: *mut usize,
     ) -> u32;
+    fn gamhilon_fault(
+        document: *const u8,
+        document_length: usize,
+        room: *mut u8,
+        room_length: usize,
+        length: *mut usize,
+    ) -> u32;
     fn gamhilon_ring(document: *const u8, document_length: usize, ring: *mut Ring) -> u32;
     fn gamhilon_version() -> *const c_char;
 }
@@ -48,7 +55,7 @@ pub struct Ring {
 #[derive(Debug, Clone, Copy, PartialEq, Eq)]
 #[non_exhaustive]
 pub enum Refusal {
-    /// The document isn't JSON, or not of the form of a document.
+    /// The document isn't JSON, or not of the form of a document: `fault` tells where.
     Document,
     /// The macros of a style call each other in a ring.
     MacroRing(Ring),
@@ -146,6 +153,13 @@ pub fn print(document: &[u8]) -> Result<String, Refusal> {
 pub fn print_json(document: &[u8]) -> Result<String, Refusal> {
     // Each call does the whole work, so the room is one that mostly does.
     called(gamhilon_print_json, document, document.len().saturating_mul(8).saturating_add(4096))
+}
+
+/// The first fault of a document that isn't of the form, as a JSON object of three texts, `pointer`, `found` and `wanted`; and
+/// none where it is of the form.
+pub fn fault(document: &[u8]) -> Result<Option<String>, Refusal> {
+    let text = called(gamhilon_fault, document, document.len().saturating_add(4096))?;
+    Ok(Some(text).filter(|it| !it.is_empty()))
 }
 
 /// The version of the library, and the commit and the toolchain that it was proved and built by, where those are known.

@@ -18,6 +18,14 @@ fn what_is_no_document_is_refused() {
 }
 
 #[test]
+fn a_fault_has_its_place() -> Result<(), Box<dyn Error>> {
+    let told = gamhilon::fault(br#"{"styles": {"s": 5}}"#)?;
+    assert_eq!(told.as_deref(), Some(r#"{"found":"a number","pointer":"/styles/s","wanted":"an object"}"#));
+    assert_eq!(gamhilon::fault(FIRST)?, None);
+    Ok(())
+}
+
+#[test]
 fn a_ring_has_its_place() {
     let document = br#"{"styles": {"s": {"citation": {"elements": []}, "macros": [
         {"name": "a", "children": []}, {"name": "b", "children": [{"kind": "text", "macro": "b"}]}]}},

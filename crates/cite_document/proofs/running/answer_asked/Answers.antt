@@ -20,8 +20,8 @@ returns-in-Ok c =
     c.in_ok-driver.ensures.filled
     ∙ (λ i. record { requests = accepted (asked_requests_view (map locale_view (c.in_ok-files.ensures i)) (c.deref.ensures.value i)); offset = asked.offset }) in
     let wanted : w ≡ wanted_of d = c.in_ok-request.ensures ∙ (λ i. record (wanted_of d) { locales = map locale_view (c.in_ok-files.ensures i) }) in
-    let a = has_answer v w d made wanted c.in-Ok.ensures.ringless c.in-Ok.ensures.fits in
-    (d, refl, (a, is_answer v w d made wanted asked.rounds c.in-Ok.rendered refl c.in-Ok.ensures.ok))
+    let a = has_answer v w d made wanted c.in-Ok.ensures.no_ring c.in-Ok.ensures.fits in
+    (d, refl, (a, is_answer v w d made wanted asked.rounds c.in-Ok.rendered refl c.in-Ok.ensures.answer))
 
 pub returns-in-Err-MacroRing : goal.returns-in-Err-MacroRing
 returns-in-Err-MacroRing c =

@@ -1,8 +1,7 @@
 use Rattle.std.proofs.Common.{◌≡◌, [], drop, map}
 use Rattle.csl_entries.specs.Entries.{with_all_new}
-use Rattle.csl_entries.specs.Gathering.{same_entry}
 use Rattle.csl_passes.specs.RendersView.{renders_view}
-use Rattle.csl_ambiguity.specs.FirstCites.{first_cite_of, firsts_view}
+use Rattle.csl_ambiguity.specs.FirstCites.{first_cite_of, firsts_view, same_entry}
 use Rattle.csl_ambiguity.specs.Members.{members}
 use Rattle.csl_ambiguity.proofs.first_cites.first_cites.Given as goal
 

@@ -1,6 +1,7 @@
 use Rattle.std.proofs.Common.{◌≡◌, ◌++◌, drop, map}
-use Rattle.csl_passes.specs.RendersView.{items_view, render_view}
+use Rattle.csl_passes.specs.RendersView.{items_view}
 use Rattle.csl_passes.specs.Request.{source_of}
+use Rattle.csl_passes.specs.RequestView.{request_view}
 use Rattle.csl_assembly.specs.CitationTree.{shown, shown_cite}
 use Rattle.csl_assembly.specs.ShownView.{shown_views}
 use Rattle.csl_writing.specs.Counted.{counted_times}
@@ -8,9 +9,9 @@ use Rattle.csl_assembly.proofs.citation.shown_cites.Given as goal
 
 abbrev pub invariant-loop-item : goal.invariant-loop-item
 invariant-loop-item g l =
-    let request = (render_view l.render).request in
+    let request = request_view l.request.request.now in
     let one = shown_cite g.T.EntryLike.answers (source_of request) request.style.citation.layout in
     record {
-      cites : shown_views l.cites.items ++ map one (shown (items_view (drop l.item-index l.item-items))) ≡ map one (shown (items_view l.item-items));
-      counted : l.renders ≡ counted_times l.item-index l.fn.renders;
+      cites : shown_views l.cites.items ++ map one (shown (items_view (drop l.item-index l.items))) ≡ map one (shown (items_view l.items));
+      counted : l.counter ≡ counted_times l.item-index l.fn.counter;
     }

@@ -8,8 +8,8 @@ use Rattle.csl_driver.proofs.Listings.{table-once}
 use Rattle.csl_driver.proofs.Sizes.{all-counted}
 use Rattle.csl_entries.specs.TableView.{table_view}
 use Rattle.csl_passes.specs.Request.{cites_of}
-use Rattle.csl_rounds.specs.Rounds.{told_by}
-use Rattle.csl_rounds.specs.Tables.{last_states}
+use Rattle.csl_round_laws.specs.Rounds.{told_by}
+use Rattle.csl_round_laws.specs.Tables.{last_states}
 use Rattle.csl_writing.specs.Counted.{counted_times}
 use Rattle.csl_driver.proofs.finish.counted_answer.Goals as goal
 

@@ -1,17 +1,18 @@
-use Rattle.std.proofs.Common.{ap, arith, length, refl, rules, ◌∙◌}
+use Rattle.std.proofs.Common.{ap, arith, length, refl, rules, sym, ◌∙◌}
 use Rattle.std.specs.List.{sum_by}
+use Rattle.std.proofs.Math.ListN.{length-map}
 use Rattle.std.proofs.lemmas.Grind.{common_steps}
 use Rattle.std.proofs.lemmas.List.{take_all}
 use Rattle.csl_rounds.proofs.Pairs.{at_view, past_view, within_view}
 use Rattle.csl_writing.proofs.Counting.{counted_sum-more}
 use Rattle.csl_writing.specs.Counted.{counted_times}
 use Rattle.csl_base.specs.Ring.{HasNoRing}
-use Rattle.csl_passes.specs.RendersView.{render_view, renders_view}
+use Rattle.csl_passes.specs.RendersView.{item_view, render_view, renders_view}
 use Rattle.csl_positions.proofs.FinalPlaces.{all-at}
 use Rattle.csl_driver.proofs.finish.rendered_citations.Goals as goal
 
-pub citation_tree-requires : goal.citation_tree-requires
-citation_tree-requires g c = record {
+pub invariant_of-acyclic : goal.invariant_of-acyclic
+invariant_of-acyclic g c = record {
   no_ring = all-at (λ r. HasNoRing r.request.style.macros) render_view c.args.cites.now c.loop-cite.cite-index c.cite-item.result c.requires.no_ring c.loop-cite-test.true c.cite-item.is;
 }
 
@@ -23,7 +24,8 @@ loop-cite-preserved g c =
     record {
       citations = first_of (search (rules, common_steps), grind (arith, common_steps));
       counted = counted_sum-more (renders_view cites) k (render_view cite) (within_view render_view {xs = cites} k refl c.loop-cite-test.true) (at_view render_view {xs = cites} k refl cite c.cite-item.is)
-          c.args.renders.now c.loop-cite.renders c.citation_tree.new.renders (λ r. length r.items) c.loop-cite.invariant.counted c.in_ok-citation_tree.ensures.counted;
+          c.args.renders.now c.loop-cite.renders c.citation_tree.new.counter (λ r. length r.items) c.loop-cite.invariant.counted
+          (c.in_ok-citation_tree.ensures.counted ∙ ap (λ n. counted_times n c.loop-cite.renders) (ap length c.deref.ensures.value ∙ sym (length-map cite.items.items item_view)));
     }
 
 pub returns-clause-counted : goal.returns-clause-counted

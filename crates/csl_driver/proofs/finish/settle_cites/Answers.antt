@@ -1,4 +1,4 @@
-use Rattle.std.proofs.Common.{◌≡◌, [], ◌-◌, ◌^◌, false, ap, map, subst, sym, ◌∙◌}
+use Rattle.std.proofs.Common.{[], ◌-◌, ◌^◌, ap, map, subst, sym, ◌∙◌}
 use Rattle.std.specs.Prelude.{min}
 use Rattle.csl_base.specs.Ring.{HasNoRing}
 use Rattle.csl_driver.specs.Answer.{entries_listed, numbered_finally, order_in_use}
@@ -11,40 +11,34 @@ use Rattle.csl_passes.specs.RequestView.{requests_view, wanted_view}
 use Rattle.csl_positions.specs.FinalProperties.{with_final_properties}
 use Rattle.csl_positions.specs.FirstProperties.{numbered_by}
 use Rattle.csl_positions.specs.FirstProperties.{first_properties}
-use Rattle.csl_rounds.specs.FirstRenders.{AreBegun, first_renders}
-use Rattle.csl_rounds.specs.Rerenders.{AreStatesOf, rerenders}
-use Rattle.csl_rounds.specs.Rounds.{entries_cited}
-use Rattle.csl_rounds.specs.Tables.{disambiguated, last_states, round_tables, rounds}
-use Rattle.csl_rounds.specs.declared.mode.RoundMode.{RoundMode}
+use Rattle.csl_round_laws.specs.FirstRenders.{AreBegun, first_renders}
+use Rattle.csl_round_laws.specs.Rerenders.{AreStatesOf, rerenders}
+use Rattle.csl_round_laws.specs.Rounds.{entries_cited}
+use Rattle.csl_round_laws.specs.Tables.{disambiguated, last_states, round_tables, rounds}
 use Rattle.csl_writing.specs.Counted.{counted_times}
-use Rattle.csl_rounds.proofs.Begun.{first-begun}
+use Rattle.csl_round_laws.proofs.Begun.{first-begun}
 use Rattle.csl_driver.proofs.FirstPlaced.{first-cited, first-places}
 use Rattle.csl_driver.proofs.Listings.{table-within}
 use Rattle.csl_driver.proofs.Standing.{begun-stand, final-stand, of-requests, ordered-stand}
 use Rattle.csl_driver.proofs.finish.settle_cites.Goals as goal
 
-pub disambiguate-requires-clause-no_ring : goal.disambiguate-requires-clause-no_ring
-disambiguate-requires-clause-no_ring g c =
+pub disambiguate-requires-clause-cites : goal.disambiguate-requires-clause-cites
+disambiguate-requires-clause-cites g c =
     let eq = g.T.PartialEq.eq in
     let requests = requests_view c.args.requests.now in
     let wanted = wanted_view c.args.wanted.now in
     let cited_now = c.args.cited.now in
     let peq = g.P.PartialEq.eq in
-    let stand = begun-stand eq g.met.T.Eq.laws g.T.EntryLike.answers peq (number eq cited_now.offset (entries_listed eq wanted requests)) requests (table_view cited_now.table) c.requires.known.table (renders_view c.args.cites.now) c.requires.first in
-    of-requests (λ r. HasNoRing r.style.macros) (renders_view c.args.cites.now) requests stand.of c.requires.no_ring
-
-pub disambiguate-requires-clause-placed : goal.disambiguate-requires-clause-placed
-disambiguate-requires-clause-placed g c =
-    let eq = g.T.PartialEq.eq in
-    let requests = requests_view c.args.requests.now in
-    let wanted = wanted_view c.args.wanted.now in
-    let cited_now = c.args.cited.now in
-    let peq = g.P.PartialEq.eq in
-    first-places eq peq g.T.EntryLike.answers (number eq cited_now.offset (entries_listed eq wanted requests)) requests
-    (table_view cited_now.table) c.requires.known.table (renders_view c.args.cites.now) c.requires.first
-
-pub disambiguate-requires-clause-listed : goal.disambiguate-requires-clause-listed
-disambiguate-requires-clause-listed g c = table-within g.T.PartialEq.eq g.met.T.Eq.laws (requests_view c.args.requests.now) (table_view c.args.cited.now.table) c.requires.known.table
+    let number_of = number eq cited_now.offset (entries_listed eq wanted requests) in
+    let cites = renders_view c.args.cites.now in
+    let stand = begun-stand eq g.met.T.Eq.laws g.T.EntryLike.answers peq number_of requests (table_view cited_now.table)
+    c.requires.known.table cites c.requires.first in
+    record {
+      no_ring = of-requests (λ r. HasNoRing r.style.macros) cites requests stand.of c.requires.no_ring;
+      placed = first-places eq peq g.T.EntryLike.answers number_of requests (table_view cited_now.table)
+          c.requires.known.table cites c.requires.first;
+      listed = table-within eq g.met.T.Eq.laws requests (table_view cited_now.table) c.requires.known.table;
+    }
 
 pub disambiguate-requires-clause-begun : goal.disambiguate-requires-clause-begun
 disambiguate-requires-clause-begun g c = λ full.
@@ -63,7 +57,7 @@ final_numbers-requires-clause-cites g c =
     let cited_now = c.args.cited.now in
     let peq = g.P.PartialEq.eq in
     ordered-stand eq g.met.T.Eq.laws g.T.EntryLike.answers peq (number eq cited_now.offset (entries_listed eq wanted requests)) requests (table_view cited_now.table) c.requires.known.table (renders_view c.args.cites.now) c.requires.first
-    c.args.mode (renders_view c.disambiguate.new.renders) (renders_view c.group_all.new.cites) c.in_ok-rounds.ensures.renders c.in_ok-group_all.ensures
+    c.args.mode (renders_view c.disambiguate.new.cites) (renders_view c.group_all.new.cites) c.in_ok-rounds.ensures.cites c.in_ok-group_all.ensures
 
 pub set_final_properties-requires : goal.set_final_properties-requires
 set_final_properties-requires g c =
@@ -73,7 +67,7 @@ set_final_properties-requires g c =
     let cited_now = c.args.cited.now in
     let peq = g.P.PartialEq.eq in
     let stand = ordered-stand eq g.met.T.Eq.laws g.T.EntryLike.answers peq (number eq cited_now.offset (entries_listed eq wanted requests)) requests (table_view cited_now.table) c.requires.known.table (renders_view c.args.cites.now) c.requires.first
-    c.args.mode (renders_view c.disambiguate.new.renders) (renders_view c.group_all.new.cites) c.in_ok-rounds.ensures.renders c.in_ok-group_all.ensures in
+    c.args.mode (renders_view c.disambiguate.new.cites) (renders_view c.group_all.new.cites) c.in_ok-rounds.ensures.cites c.in_ok-group_all.ensures in
     record { placed = stand.placed }
 
 pub returns-clause-in_the_end : goal.returns-clause-in_the_end
@@ -88,7 +82,7 @@ returns-clause-in_the_end g c =
     c.set_final_properties.ensures ∙ ap (λ ns. with_final_properties eq peq (numbered_by eq ns (table_view cited_now.table).entries) now) c.deref.ensures.value
     ∙ ap (λ number_of. with_final_properties eq peq number_of now) c.in_ok-numbers.ensures.numbers
     ∙ ap (λ cs. with_final_properties eq peq (number eq cited_now.offset (numbered_finally eq order requests cs)) cs)
-    (c.in_ok-group_all.ensures ∙ ap (map grouped) (c.in_ok-rounds.ensures.renders ∙ ap (disambiguated c.args.mode eq g.T.EntryLike.answers) c.requires.first))
+    (c.in_ok-group_all.ensures ∙ ap (map grouped) (c.in_ok-rounds.ensures.cites ∙ ap (disambiguated c.args.mode eq g.T.EntryLike.answers) c.requires.first))
 
 pub returns-clause-stand : goal.returns-clause-stand
 returns-clause-stand g c =
@@ -98,7 +92,7 @@ returns-clause-stand g c =
     let cited_now = c.args.cited.now in
     let peq = g.P.PartialEq.eq in
     let stand = ordered-stand eq g.met.T.Eq.laws g.T.EntryLike.answers peq (number eq cited_now.offset (entries_listed eq wanted requests)) requests (table_view cited_now.table) c.requires.known.table (renders_view c.args.cites.now) c.requires.first
-    c.args.mode (renders_view c.disambiguate.new.renders) (renders_view c.group_all.new.cites) c.in_ok-rounds.ensures.renders c.in_ok-group_all.ensures in
+    c.args.mode (renders_view c.disambiguate.new.cites) (renders_view c.group_all.new.cites) c.in_ok-rounds.ensures.cites c.in_ok-group_all.ensures in
     let number_of = numbered_by eq c.deref.result.now (table_view cited_now.table).entries in
     subst (AreCitesOf eq (table_view cited_now.table) requests) (sym c.set_final_properties.ensures)
     (final-stand eq g.met.T.Eq.laws g.T.EntryLike.answers (table_view cited_now.table) requests (renders_view c.group_all.new.cites) stand peq number_of)
@@ -118,7 +112,7 @@ returns-clause-settled g c =
       long = c.in_ok-numbers.ensures.long;
       numbers = c.in_ok-numbers.ensures.numbers
           ∙ ap (λ cs. number eq cited_now.offset (numbered_finally eq (order_in_use wanted) requests cs))
-          (c.in_ok-group_all.ensures ∙ ap (map grouped) (c.in_ok-rounds.ensures.renders ∙ ap (disambiguated mode eq answers) c.requires.first));
+          (c.in_ok-group_all.ensures ∙ ap (map grouped) (c.in_ok-rounds.ensures.cites ∙ ap (disambiguated mode eq answers) c.requires.first));
     }
 
 pub returns-clause-counted : goal.returns-clause-counted

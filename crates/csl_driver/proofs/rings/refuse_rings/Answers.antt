@@ -1,4 +1,4 @@
-use Rattle.std.proofs.Common.{Some, ap, subst}
+use Rattle.std.proofs.Common.{Some, subst}
 use Rattle.csl_base.specs.Ring.{HasNoRing, IsFirstRing}
 use Rattle.csl_lookup.specs.Lookup.{Source}
 use Rattle.csl_driver.proofs.rings.refuse_rings.Goals as goal

@@ -7,7 +7,7 @@ use Rattle.csl_driver.proofs.standalone.lone_cites.Given as goal
 
 abbrev pub invariant-loop-item : goal.invariant-loop-item
 invariant-loop-item g l =
-    let request = request_view l.request in
+    let request = request_view l.acyclic.request.now in
     let one = behind (lone_delimiter request.style.citation.layout) in
     let trees = lone_trees g.T.EntryLike.answers (source_of request) in
     shown_views l.cites.items ++ map one (trees (cites_view (drop l.item-index l.item-items))) ≡ map one (trees (cites_view l.item-items))

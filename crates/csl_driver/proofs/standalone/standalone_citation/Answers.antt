@@ -3,12 +3,12 @@ use Rattle.csl_base.specs.Ring.{HasNoRing, IsFirstRing}
 use Rattle.csl_lookup.specs.Lookup.{Source}
 use Rattle.csl_driver.proofs.standalone.standalone_citation.Goals as goal
 
-pub lone_cites-requires : goal.lone_cites-requires
-lone_cites-requires g c =
+pub invariant_of-acyclic : goal.invariant_of-acyclic
+invariant_of-acyclic g c =
     record { no_ring = subst (λ (s : Source). HasNoRing s.style.macros) c.source.ensures (c.in_ok-macro_idx.ensures.none c.in_default.is) }
 
-pub returns-clause-ringless : goal.returns-clause-ringless
-returns-clause-ringless g c = subst (λ (s : Source). HasNoRing s.style.macros) c.source.ensures (c.in_ok-macro_idx.ensures.none c.in_default.is)
+pub returns-clause-no_ring : goal.returns-clause-no_ring
+returns-clause-no_ring g c = subst (λ (s : Source). HasNoRing s.style.macros) c.source.ensures (c.in_ok-macro_idx.ensures.none c.in_default.is)
 
 pub returns-in-Some-clause-refused : goal.returns-in-Some-clause-refused
 returns-in-Some-clause-refused g c = (

@@ -5,4 +5,4 @@ use Rattle.csl_rounds.proofs.FirstSteps.{RendersMade, row_of}
 use Rattle.csl_rounds.proofs.first_renders.first_renders.Given as goal
 
 abbrev pub invariant-loop-k : goal.invariant-loop-k
-invariant-loop-k g l = RendersMade g.T.EntryLike.answers (requests_view l.requests) (map row_of l.firsts) l.k l.fn.renders (renders_view l.made.renders.items) l.renders
+invariant-loop-k g l = RendersMade g.T.EntryLike.answers (requests_view l.requests.requests.now) (map row_of l.firsts) l.k l.fn.counter (renders_view l.cites.by_request.items) l.counter

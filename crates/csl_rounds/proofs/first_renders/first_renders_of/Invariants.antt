@@ -4,4 +4,4 @@ use Rattle.csl_rounds.proofs.FirstSteps.{ItemsMade}
 use Rattle.csl_rounds.proofs.first_renders.first_renders_of.Given as goal
 
 abbrev pub invariant-loop-k : goal.invariant-loop-k
-invariant-loop-k g l = ItemsMade g.T.EntryLike.answers (request_view l.request) l.firsts l.k l.fn.renders (render_view l.render) l.renders
+invariant-loop-k g l = ItemsMade g.T.EntryLike.answers (request_view l.request.request.now) l.firsts l.k l.fn.counter (render_view l.cites) l.counter

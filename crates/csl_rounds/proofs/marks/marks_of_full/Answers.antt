@@ -14,7 +14,7 @@ use Rattle.csl_rounds.proofs.marks.marks_of_full.Goals.{then-not-waits+in_ok-own
 
 pub waits-requires : goal.waits-requires
 waits-requires g c =
-    let rs = renders_view c.args.renders.now in
+    let rs = renders_view c.args.cites.now in
     let eq = g.T.PartialEq.eq in
     let table = table_view c.args.table.now in
     let group = c.group-item.result.items in
@@ -23,13 +23,13 @@ waits-requires g c =
     record {
       placed = subst (λ ps. All (IsPlaced ps (length c.deref.result.now)) group) (sym c.places-places.ensures)
           (subst (λ fs. All (IsPlaced table.places (length fs)) group) (sym c.deref.ensures.value)
-          (group-known eq c.shows_dates-dated.result rs table.entries table.places g.met.T.Eq.laws c.requires.placed c.requires.listed
+          (group-known eq c.shows_dates-dated.result rs table.entries table.places g.met.T.Eq.laws c.requires.cites.placed c.requires.cites.listed
           (map (λ p. p.items) (take c.loop-group.group-index c.deref-group-items.result.now)) c.loop-group.marks.items c.loop-group.marked.items c.loop-group.invariant group there));
     }
 
 pub note-requires : goal.note-requires
 note-requires g c =
-    let rs = renders_view c.args.renders.now in
+    let rs = renders_view c.args.cites.now in
     let eq = g.T.PartialEq.eq in
     let table = table_view c.args.table.now in
     let group = c.group-item.result.items in
@@ -39,13 +39,13 @@ note-requires g c =
     record {
       placed = subst (λ ps. All (λ m. IsPlaced ps (length c.deref_mut.result.now) m.0) own) (sym c.places-places.ensures)
           (subst (λ fs. All (λ m. IsPlaced table.places (length fs) m.0) own) (sym c.deref_mut.ensures.value)
-          (own-known eq c.shows_dates-dated.result rs table.entries table.places g.met.T.Eq.laws c.requires.placed c.requires.listed
+          (own-known eq c.shows_dates-dated.result rs table.entries table.places g.met.T.Eq.laws c.requires.cites.placed c.requires.cites.listed
           (map (λ p. p.items) (take c.loop-group.group-index c.deref-group-items.result.now)) c.loop-group.marks.items c.loop-group.marked.items c.loop-group.invariant group there own c.in_ok-own.ensures));
     }
 
 pub loop-group-preserved : goal.loop-group-preserved
 loop-group-preserved g c =
-    let rs = renders_view c.args.renders.now in
+    let rs = renders_view c.args.cites.now in
     let eq = g.T.PartialEq.eq in
     let dated = c.shows_dates-dated.result in
     let table = table_view c.args.table.now in
@@ -65,7 +65,7 @@ loop-group-preserved g c =
           let long : length w.note.new.marked ≡ length flags = w.note.ensures.long ∙ ap length w.deref_mut.ensures.value in
           let noted : c.if-not-waits.marked.items ≡ w.note.new.marked =
           ap (λ v. v.items) w.marked-is ∙ with_items_is c.loop-group.marked w.note.new.marked (long ∙ sym c.loop-group.marked.ok.0) in
-          group-marked eq dated rs table.entries table.places g.met.T.Eq.laws c.requires.placed c.requires.listed groups marks flags c.loop-group.invariant group there
+          group-marked eq dated rs table.entries table.places g.met.T.Eq.laws c.requires.cites.placed c.requires.cites.listed groups marks flags c.loop-group.invariant group there
           w.in_ok-own.own.items w.in_ok-own.ensures (told ∙ w.if-not-waits.true) c.if-not-waits.marks.items c.if-not-waits.marked.items
           (ap (λ v. v.items) w.marks-is ∙ w.in_ok-append.ensures.items) (ap length noted ∙ long)
           (subst (λ now. AreMarked table.places w.in_ok-own.own.items flags now) (sym noted)
@@ -74,13 +74,13 @@ loop-group-preserved g c =
       | else-not-waits w ↦
           subst (λ ms. MarkedSoFar eq dated rs table.entries table.places (groups ++ group ∷ []) ms c.if-not-waits.marked.items) (sym (ap (λ v. v.items) w.marks-is))
           (subst (λ fs. MarkedSoFar eq dated rs table.entries table.places (groups ++ group ∷ []) marks fs) (sym (ap (λ v. v.items) w.marked-is))
-          (group-waits eq dated rs table.entries table.places g.met.T.Eq.laws c.requires.placed c.requires.listed groups marks flags c.loop-group.invariant group there
+          (group-waits eq dated rs table.entries table.places g.met.T.Eq.laws c.requires.cites.placed c.requires.cites.listed groups marks flags c.loop-group.invariant group there
           (told ∙ w.if-not-waits.false)))
     ])
 
 pub returns : goal.returns
 returns g c =
-    let rs = renders_view c.args.renders.now in
+    let rs = renders_view c.args.cites.now in
     let eq = g.T.PartialEq.eq in
     c.loop-group.invariant.gathered
     ∙ ap (λ l. fold (with_counting eq c.shows_dates-dated.result rs) [] (map (λ p. p.items) l)) (all-taken c.deref-group-items.result.now c.loop-group.group-index c.loop-group-test.false)

@@ -6,5 +6,5 @@ use Rattle.csl_rounds.proofs.marks.marks_of_full.Given as goal
 
 abbrev pub invariant-loop-group : goal.invariant-loop-group
 invariant-loop-group g l =
-    MarkedSoFar g.T.PartialEq.eq l.dated (renders_view l.renders) (table_view l.table).entries (table_view l.table).places
+    MarkedSoFar g.T.PartialEq.eq l.dated (renders_view l.cites) (table_view l.table).entries (table_view l.table).places
     (map (λ p. p.items) (take l.group-index l.group-items)) l.marks.items l.marked.items

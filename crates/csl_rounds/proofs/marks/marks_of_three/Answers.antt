@@ -7,7 +7,7 @@ use Rattle.csl_rounds.proofs.marks.marks_of_three.Goals as goal
 
 pub returns : goal.returns
 returns g c =
-    let rs = renders_view c.args.renders.now in
+    let rs = renders_view c.args.cites.now in
     let eq = g.T.PartialEq.eq in
     c.loop-group.invariant
     ∙ ap (λ l. fold (with_group eq c.shows_dates-dated.result rs) [] (map (λ p. p.items) l)) (all-taken c.deref-group-items.result.now c.loop-group.group-index c.loop-group-test.false)

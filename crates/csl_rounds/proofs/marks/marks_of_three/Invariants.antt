@@ -6,4 +6,4 @@ use Rattle.csl_rounds.proofs.marks.marks_of_three.Given as goal
 
 abbrev pub invariant-loop-group : goal.invariant-loop-group
 invariant-loop-group g l =
-    l.marks.items ≡ fold (with_group g.T.PartialEq.eq l.dated (renders_view l.renders)) [] (map (λ p. p.items) (take l.group-index l.group-items))
+    l.marks.items ≡ fold (with_group g.T.PartialEq.eq l.dated (renders_view l.cites)) [] (map (λ p. p.items) (take l.group-index l.group-items))

@@ -1,45 +1,71 @@
-use Rattle.std.proofs.Common.{[], ap, get_or, length, map, subst, sym, ◌∙◌, ◌<◌}
+use Rattle.std.proofs.Common.{◌<◌, [], ap, arith, get_or, length, subst, sym, ◌∙◌}
+use Rattle.std.specs.Prelude.{All}
 use Rattle.std.proofs.Math.ListN.{get_or-map, length-map}
+use Rattle.std.proofs.lemmas.List.{get_or_default, with_items_is}
 use Rattle.csl_base.specs.Ring.{HasNoRing}
-use Rattle.csl_passes.specs.RendersView.{render_view, renders_view}
-use Rattle.csl_rounds.specs.Gathered.{request_again, with_states}
-use Rattle.csl_rounds.proofs.Halves.{agree_at, as_before, known_next, row_of, same_long, step}
+use Rattle.csl_entries.specs.TableView.{table_view}
+use Rattle.csl_passes.specs.RendersView.{item_view, items_view, render_view, renders_view}
+use Rattle.csl_rounds.specs.Gathered.{by_places, cite_again, request_again, with_states}
+use Rattle.csl_rounds.proofs.Halves.{as_before, known_next, step}
+use Rattle.csl_rounds.proofs.OfTable.{row-is, row-listed, row-long, row-within}
 use Rattle.csl_writing.proofs.Counting.{counted_sum-more}
 use Rattle.csl_writing.specs.Counted.{counted_times}
 use Rattle.csl_rounds.proofs.rerender.render_marked.Goals as goal
 
-pub render_request-requires-clause-no_ring : goal.render_request-requires-clause-no_ring
-render_request-requires-clause-no_ring g c =
-    let again = λ (r : _). request_again g.T.EntryLike.answers c.args.states.now (get_or (map (λ ps. ps.items) c.args.places.now) r []) in
-    known_next render_view again c.args.renders.now c.loop-r.renders c.loop-r.r c.loop-r.invariant.again (λ x. HasNoRing x.request.style.macros) c.requires.no_ring c.loop-r-test.true c.index-renders-r.result
+pub invariant_of-request : goal.invariant_of-request
+invariant_of-request g c =
+    let again = λ (r : _). request_again g.T.EntryLike.answers c.args.states.now (get_or (table_view c.args.table.now).places r []) in
+    record {
+      no_ring = known_next render_view again c.args.cites.now c.loop-r.cites c.loop-r.r c.loop-r.invariant.again (λ x. HasNoRing x.request.style.macros) c.requires.cites.no_ring c.loop-r-test.true c.index-cites-r.result;
+    }
 
-pub render_request-requires-clause-placed : goal.render_request-requires-clause-placed
-render_request-requires-clause-placed g c =
-    let again = λ (r : _). request_again g.T.EntryLike.answers c.args.states.now (get_or (map (λ ps. ps.items) c.args.places.now) r []) in
-    let olds = c.args.renders.now in
+pub render_items-requires : goal.render_items-requires
+render_items-requires g c =
+    let eq = g.T.PartialEq.eq in
+    let table = table_view c.args.table.now in
+    let again = λ (r : _). request_again g.T.EntryLike.answers c.args.states.now (get_or table.places r []) in
+    let olds = c.args.cites.now in
     let r = c.loop-r.r in
-    let found = c.index-renders-r.result in
+    let found = c.index-cites-r-in-loop-r.result in
     let within : r < length (renders_view olds) = subst (λ n. r < n) (sym (length-map olds render_view)) c.loop-r-test.true in
-    ap length c.deref.ensures.value
-    ∙ agree_at (λ ps. length ps.items) (λ x. length x.items) c.args.places.now (renders_view olds) r c.index-places-r.result (render_view found) c.requires.placed within c.index-places-r.is
-    ∙ ap (λ x. length x.items) (get_or-map render_view olds r found ∙ sym (as_before render_view again olds c.loop-r.renders r c.loop-r.invariant.again found))
+    let row = c.deref.ensures.value ∙ row-is eq table (renders_view olds) c.requires.cites r within (λ ps. ps.items) c.places-places.result.now c.index-places-r.result c.places-places.ensures c.index-places-r.is in
+    record {
+      placed = record {
+        each = ap length row
+            ∙ row-long eq table (renders_view olds) c.requires.cites r within (render_view found)
+            ∙ ap (λ x. length x.items) (get_or-map render_view olds r found ∙ sym (as_before render_view again olds c.loop-r.cites r c.loop-r.invariant.again found))
+            ∙ length-map _ item_view ∙ sym (ap length c.deref_mut.ensures.value);
+        below = subst (All (λ p. p < length c.args.states.now)) (sym row) (row-listed eq table (renders_view olds) c.requires.cites r within (length c.args.states.now) c.requires.long);
+      };
+    }
 
 pub loop-r-preserved : goal.loop-r-preserved
 loop-r-preserved g c =
+    let answers = g.T.EntryLike.answers in
+    let eq = g.T.PartialEq.eq in
+    let table = table_view c.args.table.now in
     let states = c.args.states.now in
-    let places = c.args.places.now in
-    let again = λ (r : _). request_again g.T.EntryLike.answers states (get_or (map (λ ps. ps.items) places) r []) in
-    let olds = c.args.renders.now in
+    let again = λ (r : _). request_again answers states (get_or table.places r []) in
+    let olds = c.args.cites.now in
+    let now = c.loop-r.cites in
     let r = c.loop-r.r in
-    let found = c.index-renders-r.result in
-    let long = same_long (λ ps. length ps.items) (λ x. length x.items) places (renders_view olds) c.requires.placed ∙ length-map olds render_view in
-    let within : r < length places = subst (λ n. r < n) (sym long) c.loop-r-test.true in
+    let found = c.index-cites-r-in-loop-r.result in
+    let old = render_view (get_or now r found) in
+    let own = get_or table.places r [] in
+    let within : r < length (renders_view olds) = subst (λ n. r < n) (sym (length-map olds render_view)) c.loop-r-test.true in
+    let inside : r < length now = let same = c.loop-r.auto.cites in let test = c.loop-r-test.true in omega (arith, same, test) in
+    let row = c.deref.ensures.value ∙ row-is eq table (renders_view olds) c.requires.cites r within (λ ps. ps.items) c.places-places.result.now c.index-places-r.result c.places-places.ensures c.index-places-r.is in
+    let one = ap (λ x. x.request) (ap render_view (get_or_default now r c.index-cites-r.result found inside)) in
+    let written = with_items_is (get_or now r found).items c.render_items.new.items (c.render_items.auto.items ∙ ap length c.deref_mut.ensures.value ∙ sym (get_or now r found).items.ok.0) in
     record {
-      again = step render_view again olds c.loop-r.renders r c.loop-r.invariant.again found c.render_request.new.render c.loop-r-test.true
-          (c.in_ok-render_request.ensures.again
-          ∙ ap (λ row. request_again g.T.EntryLike.answers states row (render_view (get_or c.loop-r.renders r found)))
-          (c.deref.ensures.value ∙ row_of (λ ps. ps.items) places r c.index-places-r.result [] within c.index-places-r.is));
-      counted = counted_sum-more places r c.index-places-r.result within c.index-places-r.is c.args.counter.now c.loop-r.counter c.render_request.new.counter
-          (λ ps. with_states states ps.items) c.loop-r.invariant.counted
-          (c.in_ok-render_request.ensures.counted ∙ ap (λ row. counted_times (with_states states row) c.loop-r.counter) c.deref.ensures.value);
+      again = step render_view again olds now r c.loop-r.invariant.again found _ c.loop-r-test.true
+          (ap (λ xs. record old { items = xs })
+          (ap items_view written ∙ c.in_ok-render_items.ensures.again
+          ∙ ap (λ q. by_places (cite_again answers states q c.deref.result.now) (items_view c.deref_mut.result.now)) one
+          ∙ ap (λ ps. by_places (cite_again answers states old.request ps) (items_view c.deref_mut.result.now)) row
+          ∙ ap (λ xs. by_places (cite_again answers states old.request own) (items_view xs)) c.deref_mut.ensures.value));
+      counted = counted_sum-more table.places r own (row-within eq table (renders_view olds) c.requires.cites r within)
+          (get_or_default table.places r [] own (row-within eq table (renders_view olds) c.requires.cites r within)) c.args.counter.now c.loop-r.counter c.render_items.new.counter
+          (with_states states) c.loop-r.invariant.counted
+          (c.in_ok-render_items.ensures.counted ∙ ap (λ ps. counted_times (with_states states ps) c.loop-r.counter) row);
     }

@@ -1,5 +1,6 @@
-use Rattle.std.proofs.Common.{◌≡◌, [], map, slice_index_or, take}
+use Rattle.std.proofs.Common.{◌≡◌, [], slice_index_or, take}
 use Rattle.std.specs.List.{sum_by}
+use Rattle.csl_entries.specs.TableView.{table_view}
 use Rattle.csl_passes.specs.RendersView.{renders_view}
 use Rattle.csl_rounds.specs.Gathered.{request_again, with_states}
 use Rattle.csl_rounds.proofs.Halves.{half}
@@ -8,6 +9,6 @@ use Rattle.csl_rounds.proofs.rerender.render_marked.Given as goal
 
 abbrev pub invariant-loop-r : goal.invariant-loop-r
 invariant-loop-r g l = record {
-  again : renders_view l.renders ≡ half (λ r. request_again g.T.EntryLike.answers l.states (slice_index_or (map (λ ps. ps.items) l.places) r [])) l.r (renders_view l.initial.renders);
-  counted : l.counter ≡ counted_times (sum_by (λ ps. with_states l.states ps.items) (take l.r l.places)) l.fn.counter;
+  again : renders_view l.cites ≡ half (λ r. request_again g.T.EntryLike.answers l.states (slice_index_or (table_view l.table).places r [])) l.r (renders_view l.initial.cites);
+  counted : l.counter ≡ counted_times (sum_by (with_states l.states) (take l.r (table_view l.table).places)) l.fn.counter;
 }

@@ -1,46 +1,37 @@
 use Rattle.std.proofs.Common.{subst, sym, ◌∙◌}
 use Rattle.csl_entries.specs.TableView.{table_view}
 use Rattle.csl_passes.specs.RendersView.{renders_view}
-use Rattle.csl_rounds.specs.Rerenders.{AreStatesOf}
-use Rattle.csl_rounds.specs.Rounds.{with_marks}
-use Rattle.csl_rounds.specs.declared.mode.RoundMode.{RoundMode}
-use Rattle.csl_rounds.proofs.InRounds.{begun, last-round, marks_on, no-round-left, one-round, put-back, three-not-full}
-use Rattle.csl_rounds.proofs.Marked.{places-after, rings-after}
+use Rattle.csl_round_laws.specs.Rerenders.{AreStatesOf}
+use Rattle.csl_round_laws.specs.Rounds.{marked_by, with_marks}
+use Rattle.csl_round_laws.specs.declared.mode.RoundMode.{RoundMode}
+use Rattle.csl_rounds.proofs.InRounds.{begun, last-round, no-round-left, one-round, put-back, three-not-full}
+use Rattle.csl_rounds.proofs.Marked.{still-of-table}
 use Rattle.csl_rounds.proofs.rounds.three_rounds.Goals as goal
 
 abbrev three : RoundMode
 three = RoundMode.Three
 
-pub run_round-requires-clause-no_ring : goal.run_round-requires-clause-no_ring
-run_round-requires-clause-no_ring g c = c.loop-round.invariant.no_ring
-
-pub run_round-requires-clause-placed : goal.run_round-requires-clause-placed
-run_round-requires-clause-placed g c = c.loop-round.invariant.placed
-
 pub loop-round-init : goal.loop-round-init
 loop-round-init g c = record {
-  no_ring = c.requires.no_ring;
-  placed = c.requires.placed;
-  rounds = begun three g.T.PartialEq.eq g.T.EntryLike.answers (renders_view c.args.renders.now) (table_view c.args.table.now).entries c.args.counter.now _ c.len.result c.in_ok-no_states.ensures c.len.ensures;
+  cites = c.requires.cites;
+  rounds = begun three g.T.PartialEq.eq g.T.EntryLike.answers (renders_view c.args.cites.now) (table_view c.args.table.now).entries c.args.counter.now _ c.len.result c.in_ok-no_states.ensures c.len.ensures;
 }
 
 pub loop-round-preserved : goal.loop-round-preserved
 loop-round-preserved g c =
     let eq = g.T.PartialEq.eq in
     let answers = g.T.EntryLike.answers in
-    let firsts = renders_view c.args.renders.now in
+    let firsts = renders_view c.args.cites.now in
     let es = (table_view c.args.table.now).entries in
-    let now = renders_view c.loop-round.renders in
+    let now = renders_view c.loop-round.cites in
     let so = c.loop-round.invariant.rounds in
-    let new = renders_view c.run_round.new.renders in
+    let new = renders_view c.run_round.new.cites in
     let old = c.loop-round.rounds.states.items in
     let did = c.in_ok-run_round.ensures in
-    let are = put-back eq es so.table (with_marks (marks_on three eq answers firsts now) so.table) old c.run_round.new.states c.loop-round.rounds.states.len c.loop-round.rounds.states.ok.0 so.states_are
+    let are = put-back eq es so.table (with_marks (marked_by three eq answers now) so.table) old c.run_round.new.states c.loop-round.rounds.states.len c.loop-round.rounds.states.ok.0 so.states_are
     (did.states so.table (subst (AreStatesOf eq es so.table) (sym c.deref_mut.ensures.value) so.states_are)) in
-    let table = table_view c.args.table.now in
     record {
-      no_ring = rings-after three eq answers now new did.marked c.loop-round.invariant.no_ring;
-      placed = places-after three eq answers now new did.marked table.entries table.places c.loop-round.invariant.placed;
+      cites = still-of-table three eq answers now new did.marked (table_view c.args.table.now) c.loop-round.invariant.cites;
       rounds = one-round three eq answers firsts es c.args.counter.now c.loop-round._round now old c.loop-round.rounds.marked c.loop-round.counter so new _ c.run_round.new.counter
           did.marked are did.counted c.loop-round-test.true _ (sym did.again ∙ c.if-not-branch.false) c.saturating_add.ensures;
     }
@@ -49,14 +40,14 @@ pub returns-then-not-branch : goal.returns-then-not-branch
 returns-then-not-branch g c =
     let eq = g.T.PartialEq.eq in
     let answers = g.T.EntryLike.answers in
-    let firsts = renders_view c.args.renders.now in
+    let firsts = renders_view c.args.cites.now in
     let es = (table_view c.args.table.now).entries in
-    let now = renders_view c.loop-round.renders in
+    let now = renders_view c.loop-round.cites in
     let so = c.loop-round.invariant.rounds in
-    let new = renders_view c.run_round.new.renders in
+    let new = renders_view c.run_round.new.cites in
     let old = c.loop-round.rounds.states.items in
     let did = c.in_ok-run_round.ensures in
-    let are = put-back eq es so.table (with_marks (marks_on three eq answers firsts now) so.table) old c.run_round.new.states c.loop-round.rounds.states.len c.loop-round.rounds.states.ok.0 so.states_are
+    let are = put-back eq es so.table (with_marks (marked_by three eq answers now) so.table) old c.run_round.new.states c.loop-round.rounds.states.len c.loop-round.rounds.states.ok.0 so.states_are
     (did.states so.table (subst (AreStatesOf eq es so.table) (sym c.deref_mut.ensures.value) so.states_are)) in
     last-round three eq answers firsts es c.args.counter.now c.loop-round._round now new old _ c.loop-round.rounds.marked c.loop-round.counter c.run_round.new.counter so
     did.marked are did.counted (sym did.again ∙ c.if-not-branch.true)
@@ -65,8 +56,8 @@ pub returns : goal.returns
 returns g c =
     let eq = g.T.PartialEq.eq in
     let answers = g.T.EntryLike.answers in
-    let firsts = renders_view c.args.renders.now in
+    let firsts = renders_view c.args.cites.now in
     let es = (table_view c.args.table.now).entries in
-    let now = renders_view c.loop-round.renders in
+    let now = renders_view c.loop-round.cites in
     no-round-left three eq answers firsts es c.args.counter.now c.loop-round._round now c.loop-round.rounds.states.items c.loop-round.rounds.marked c.loop-round.counter
     c.loop-round.invariant.rounds c.loop-round-test.false three-not-full

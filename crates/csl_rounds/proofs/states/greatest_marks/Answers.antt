@@ -2,7 +2,7 @@ use Rattle.std.proofs.Common.{◌<◌, ap, map, subst, sym, ◌∙◌}
 use Rattle.std.proofs.Math.ListN.{set}
 use Rattle.std.specs.Vec.Iter.{into_iter_items}
 use Rattle.csl_rounds.specs.Gathered.{with_greater}
-use Rattle.csl_rounds.specs.RoundMarks.{Mark}
+use Rattle.csl_round_laws.specs.RoundMarks.{Mark}
 use Rattle.csl_rounds.proofs.Raising.{next-placed, one-more}
 use Rattle.csl_rounds.proofs.states.greatest_marks.Goals as goal
 

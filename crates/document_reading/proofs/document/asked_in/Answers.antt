@@ -12,11 +12,11 @@ use Rattle.document_words.specs.Reads.{Reads}
 use Rattle.document_styles.specs.Styles.{style_named}
 use Rattle.document_reading.proofs.document.asked_in.Goals as goal
 
-pub returns : goal.returns
-returns c =
+pub returns-clause-read : goal.returns-clause-read
+returns-clause-read c =
     let result = c.asked_of.result in
     let locales = map locale_view c.args.locales.now in
     let object = view c.args.object.now in
     let styles = style_named (found_views c.args.styles.now) in
     subst (λ (entry : List ℕ → Option PlainEntry). Reads document_view result (asked_form styles entry locales object)) c.in_ok-by_key.ensures
-    (subst (λ (style : List ℕ → Option StyleValue). Reads document_view result (asked_form style (entry_in c.in_ok-by_key.by_key) locales object)) c.in_ok-by_name.ensures c.asked_of.ensures)
+    (subst (λ (style : List ℕ → Option StyleValue). Reads document_view result (asked_form style (entry_in c.in_ok-by_key.by_key) locales object)) c.in_ok-by_name.ensures c.asked_of.ensures.read)

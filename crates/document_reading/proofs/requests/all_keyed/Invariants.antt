@@ -5,5 +5,5 @@ use Rattle.document_reading.specs.Finders.{entry_in}
 use Rattle.document_words.proofs.Progress.{Progress}
 use Rattle.document_reading.proofs.requests.all_keyed.Given as goal
 
-abbrev pub invariant-loop-item : goal.invariant-loop-item
-invariant-loop-item l = Progress (name_form (entry_in l.entries)) l.items l.item-index (entries_view l.found.items)
+abbrev pub invariant-loop-place : goal.invariant-loop-place
+invariant-loop-place l = Progress (name_form (entry_in l.entries)) l.items l.place (entries_view l.found.items)

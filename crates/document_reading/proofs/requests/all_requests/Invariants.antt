@@ -7,6 +7,6 @@ use Rattle.document_reading.specs.Requests.{request_form}
 use Rattle.document_words.proofs.Progress.{Progress}
 use Rattle.document_reading.proofs.requests.all_requests.Given as goal
 
-abbrev pub invariant-loop-item : goal.invariant-loop-item
-invariant-loop-item l =
-    Progress (request_form (style_in l.styles) (entry_in l.entries) (map locale_view l.locales)) l.items l.item-index (asked_requests_view (map locale_view l.locales) l.requests.items)
+abbrev pub invariant-loop-place : goal.invariant-loop-place
+invariant-loop-place l =
+    Progress (request_form (style_in l.styles) (entry_in l.entries) (map locale_view l.locales)) l.items l.place (asked_requests_view (map locale_view l.locales) l.requests.items)

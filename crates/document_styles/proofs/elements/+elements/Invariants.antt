@@ -8,28 +8,34 @@ use Rattle.document_words.proofs.Progress.{Progress}
 use Rattle.document_styles.proofs.elements.+elements.Given as goal
 
 abbrev pub decreases-element_of : goal.decreases-element_of
-decreases-element_of l = 4 * depth (view l.value.now) + 3
+decreases-element_of l = 5 * depth (view l.value.now) + 4
 
 abbrev pub decreases-element_of_kind : goal.decreases-element_of_kind
-decreases-element_of_kind l = 4 * depth (view l.value.now) + 2
+decreases-element_of_kind l = 5 * depth (view l.value.now) + 3
 
 abbrev pub decreases-all_elements : goal.decreases-all_elements
-decreases-all_elements l = 4 * items_depth (items_view l.items.now) + 4
+decreases-all_elements l = 5 * items_depth (items_view l.items.now) + 5
+
+abbrev pub decreases-elements_at : goal.decreases-elements_at
+decreases-elements_at l = 5 * depth (view l.object.now) + 1
 
 abbrev pub decreases-group_of : goal.decreases-group_of
-decreases-group_of l = 4 * depth (view l.value.now) + 1
+decreases-group_of l = 5 * depth (view l.value.now) + 2
 
 abbrev pub decreases-choose_of : goal.decreases-choose_of
-decreases-choose_of l = 4 * depth (view l.value.now) + 1
+decreases-choose_of l = 5 * depth (view l.value.now) + 2
 
 abbrev pub decreases-all_branches : goal.decreases-all_branches
-decreases-all_branches l = 4 * items_depth (items_view l.items.now) + 4
+decreases-all_branches l = 5 * items_depth (items_view l.items.now) + 5
+
+abbrev pub decreases-branches_at : goal.decreases-branches_at
+decreases-branches_at l = 5 * depth (view l.object.now) + 1
 
 abbrev pub decreases-branch_of : goal.decreases-branch_of
-decreases-branch_of l = 4 * depth (view l.value.now) + 1
+decreases-branch_of l = 5 * depth (view l.value.now) + 2
 
-abbrev pub invariant-all_elements-loop-item : goal.invariant-all_elements-loop-item
-invariant-all_elements-loop-item l = Progress element_form l.items l.item-index (map element_view l.elements.items)
+abbrev pub invariant-all_elements-loop-place : goal.invariant-all_elements-loop-place
+invariant-all_elements-loop-place l = Progress element_form l.items l.place (map element_view l.elements.items)
 
-abbrev pub invariant-all_branches-loop-item : goal.invariant-all_branches-loop-item
-invariant-all_branches-loop-item l = Progress (branch_form element_form) l.items l.item-index (map branch_view l.branches.items)
+abbrev pub invariant-all_branches-loop-place : goal.invariant-all_branches-loop-place
+invariant-all_branches-loop-place l = Progress (branch_form element_form) l.items l.place (map branch_view l.branches.items)

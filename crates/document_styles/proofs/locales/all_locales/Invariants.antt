@@ -5,5 +5,5 @@ use Rattle.document_styles.specs.Locales.{locale_form}
 use Rattle.document_words.proofs.Progress.{Progress}
 use Rattle.document_styles.proofs.locales.all_locales.Given as goal
 
-abbrev pub invariant-loop-item : goal.invariant-loop-item
-invariant-loop-item l = Progress locale_form l.items l.item-index (map locale_view l.locales.items)
+abbrev pub invariant-loop-place : goal.invariant-loop-place
+invariant-loop-place l = Progress locale_form l.items l.place (map locale_view l.locales.items)

@@ -5,5 +5,5 @@ use Rattle.document_styles.specs.Locales.{term_form}
 use Rattle.document_words.proofs.Progress.{Progress}
 use Rattle.document_styles.proofs.locales.all_terms.Given as goal
 
-abbrev pub invariant-loop-item : goal.invariant-loop-item
-invariant-loop-item l = Progress term_form l.items l.item-index (map term_view l.terms.items)
+abbrev pub invariant-loop-place : goal.invariant-loop-place
+invariant-loop-place l = Progress term_form l.items l.place (map term_view l.terms.items)

@@ -4,5 +4,5 @@ use Rattle.document_styles.specs.Styles.{macro_form}
 use Rattle.document_words.proofs.Progress.{Progress}
 use Rattle.document_styles.proofs.styles.all_macros.Given as goal
 
-abbrev pub invariant-loop-item : goal.invariant-loop-item
-invariant-loop-item l = Progress macro_form l.items l.item-index (macros_view l.macros.items)
+abbrev pub invariant-loop-place : goal.invariant-loop-place
+invariant-loop-place l = Progress macro_form l.items l.place (macros_view l.macros.items)

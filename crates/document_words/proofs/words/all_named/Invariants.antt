@@ -3,5 +3,5 @@ use Rattle.document_words.specs.Names.{one_of, rows_view}
 use Rattle.document_words.proofs.Progress.{Progress}
 use Rattle.document_words.proofs.words.all_named.Given as goal
 
-abbrev pub invariant-loop-item : goal.invariant-loop-item
-invariant-loop-item g l = Progress (one_of (rows_view l.rows)) l.items l.item-index l.found.items
+abbrev pub invariant-loop-place : goal.invariant-loop-place
+invariant-loop-place g l = Progress (one_of (rows_view l.rows)) l.items l.place l.found.items

@@ -1,4 +1,4 @@
-use Rattle.csl_rounds.specs.declared.mode.RoundMode.{RoundMode}
+use Rattle.csl_round_laws.specs.declared.mode.RoundMode.{RoundMode}
 use Rattle.wrong_answers.proofs.Told.{at-once, chosen-next, two-groups-begun}
 use Rattle.wrong_answers.specs.Rounds.{in_two_groups}
 use Rattle.wrong_answers.proofs.rounds.later_mark_overwrites.Goals as goal

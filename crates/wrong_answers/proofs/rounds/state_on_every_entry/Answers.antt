@@ -1,6 +1,6 @@
 use Rattle.std.proofs.Common.{◌-◌, length, subst}
-use Rattle.csl_rounds.specs.RunLaws.{NothingLeft}
-use Rattle.csl_rounds.specs.declared.mode.RoundMode.{RoundMode}
+use Rattle.csl_round_laws.specs.RunLaws.{NothingLeft}
+use Rattle.csl_round_laws.specs.declared.mode.RoundMode.{RoundMode}
 use Rattle.wrong_answers.proofs.Told.{none-marked, on-every, unlike-begun}
 use Rattle.wrong_answers.specs.Rounds.{unlike}
 use Rattle.wrong_answers.specs.Silent.{same_sample, silent}

@@ -1,6 +1,6 @@
 use Rattle.wrong_answers.proofs.Told.{alike-begun, alike-next, by-cite}
 use Rattle.wrong_answers.specs.Rounds.{alike}
-use Rattle.csl_rounds.specs.declared.mode.RoundMode.{RoundMode}
+use Rattle.csl_round_laws.specs.declared.mode.RoundMode.{RoundMode}
 use Rattle.wrong_answers.proofs.rounds.suffix_by_cite.Goals as goal
 
 pub returns-clause-refuted : goal.returns-clause-refuted

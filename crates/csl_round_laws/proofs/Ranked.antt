@@ -1,0 +1,35 @@
+-- In mode full rounds come to an end by themselves, since each that marks raises the sum of ranks; so in both modes nothing is left.
+use Rattle.std.proofs.Common.{◌≡◌, Bool, false, List, subst, arith}
+use Rattle.std.specs.Cmp.{IsEquivalence}
+use Rattle.csl_ambiguity.specs.MarkLaws.{AmbiguousStandTogether}
+use Rattle.csl_base.specs.Answers.{Answers}
+use Rattle.csl_entries.specs.Entries.{distinct}
+use Rattle.csl_passes.specs.Renders.{CiteRender}
+use Rattle.csl_round_laws.specs.FirstRenders.{AreBegun}
+use Rattle.csl_round_laws.specs.RoundMarks.{has_any}
+use Rattle.csl_round_laws.specs.Rounds.{entries_cited, no_states}
+use Rattle.csl_round_laws.specs.RunLaws.{NothingLeft}
+use Rattle.csl_round_laws.specs.Tables.{last_states, marks_at, most_rounds, rounds, tables}
+use Rattle.csl_round_laws.specs.declared.mode.RoundMode.{RoundMode}
+use Rattle.csl_round_laws.proofs.GoneOn.{AreMarkLaws, are-steps, goes_on, next}
+use Rattle.csl_round_laws.proofs.Left.{nothing-left, three-ends}
+use Rattle.csl_round_laws.proofs.RankSums.{IsSound, in-distinct, ranks, ranks-most, ranks-rise, sound-after, sound-begun}
+use Rattle.csl_round_laws.proofs.Runs.{final, run-bounded}
+
+-- at the last table of mode full nothing marks
+full-ends : {E P : Type 0} (eq : E → E → Bool) (answers : E → Answers) (firsts : List (CiteRender E P)) → IsEquivalence eq → AreBegun firsts
+    → has_any (marks_at RoundMode.Full eq answers firsts (last_states RoundMode.Full eq answers firsts)) ≡ false
+full-ends eq answers firsts laws begun =
+    let es = distinct eq (entries_cited firsts) in
+    subst (λ ts. goes_on RoundMode.Full eq answers firsts (final ts no_states) ≡ false) (are-steps RoundMode.Full eq answers firsts)
+    (run-bounded (goes_on RoundMode.Full eq answers firsts) (next RoundMode.Full eq answers firsts) (IsSound answers firsts begun eq laws)
+    (λ t sound go. sound-after answers firsts begun eq laws t sound) (ranks answers firsts begun es) (most_rounds RoundMode.Full eq firsts)
+    (λ t sound go. ranks-rise answers firsts begun eq laws t sound es (in-distinct answers firsts begun eq laws) go) (λ t sound. ranks-most answers firsts begun eq laws t sound es)
+    no_states (most_rounds RoundMode.Full eq firsts) no_states (sound-begun answers firsts begun eq laws) (omega arith))
+
+-- in both modes nothing is left
+pub nothing-is-left : {E P : Type 0} (mode : RoundMode) (eq : E → E → Bool) (answers : E → Answers) (firsts : List (CiteRender E P)) → AreMarkLaws E P eq
+    → ((cites : List (CiteRender E P)) → AmbiguousStandTogether eq cites) → AreBegun firsts
+    → NothingLeft mode eq answers firsts (tables mode eq answers firsts) (rounds mode eq answers firsts)
+nothing-is-left RoundMode.Three eq answers firsts laws together begun = nothing-left RoundMode.Three eq answers firsts laws (together _) (three-ends eq answers firsts)
+nothing-is-left RoundMode.Full eq answers firsts laws together begun = nothing-left RoundMode.Full eq answers firsts laws (together _) (λ ended. full-ends eq answers firsts laws.equal begun)

@@ -1,0 +1,64 @@
+-- The first renders of cites, before any of them is told apart from others.
+use Rattle.std.specs.Prelude.{◌≡◌, All, List, None, flat_map, length, map, zip}
+use Rattle.csl_base.specs.Answers.{Answers}
+use Rattle.csl_lookup.specs.NoProperties.{speculated}
+use Rattle.csl_lookup.specs.Properties.{Properties}
+use Rattle.csl_lookup.specs.declared.state.DisambiguateState.{DisambiguateState}
+use Rattle.csl_lookup.specs.declared.state.IdentifierUsage.{IdentifierUsage}
+use Rattle.csl_passes.specs.Renders.{CiteRender, ItemRender}
+use Rattle.csl_passes.specs.Request.{RequestedCite, Request, source_of}
+use Rattle.csl_passes.specs.declared.first.FirstProperties.{FirstProperties}
+use Rattle.csl_writing.specs.CiteText.{cite}
+
+-- each cite of each request has its properties
+abbrev pub HasShapeOf : {E P : Type 0} → List (Request E P) → List (List FirstProperties) → Type 0
+HasShapeOf requests firsts = map length firsts ≡ map (λ r. length r.cites) requests
+
+-- what a cite is rendered by first: it has no locator, and nothing tells its entry apart
+abbrev pub first_written_by : {P : Type 0} → FirstProperties → Properties P
+first_written_by first = record {
+  certain = first.certain;
+  speculative = speculated None first.number first.ibid;
+}
+
+-- the properties of a cite that has written these identifiers
+abbrev pub noted : {P : Type 0} → Properties P → IdentifierUsage → Properties P
+noted properties usage =
+    record properties { speculative = record properties.speculative { identifier_usage = usage } }
+
+module _ {E P : Type 0} (answers : E → Answers) where
+  -- a cite as it is rendered first, for its purpose; which identifiers it wrote is noted
+  abbrev pub first_render : Request E P → RequestedCite E P → FirstProperties → ItemRender E P
+  first_render request c first =
+      let properties : Properties P = first_written_by first in
+      let made = cite (source_of request) (answers c.entry) properties c.purpose None in
+      record {
+        rendered = made.children;
+        entry = c.entry;
+        properties = noted properties made.identifier_usage;
+        checked_disambiguate = made.checked_disambiguate;
+        first_name = made.first_name;
+        delimiter_override = None;
+        group = None;
+        locator = c.locator;
+        hidden = c.hidden;
+        locale = c.locale;
+        purpose = c.purpose;
+        verdict = None;
+      }
+
+  -- the cites of a request
+  abbrev pub first_renders_of : Request E P → List FirstProperties → CiteRender E P
+  first_renders_of request firsts = record {
+    items = map (λ c. first_render request c.0 c.1) (zip request.cites firsts);
+    request = request;
+  }
+
+  -- those of all requests
+  abbrev pub first_renders : List (Request E P) → List (List FirstProperties) → List (CiteRender E P)
+  first_renders requests firsts = map (λ r. first_renders_of r.0 r.1) (zip requests firsts)
+
+-- no cite is told apart yet
+abbrev pub AreBegun : {E P : Type 0} → List (CiteRender E P) → Type 0
+AreBegun cites = All (λ i. i.properties.speculative.disambiguation
+    ≡ DisambiguateState.None) (flat_map (λ c. c.items) cites)

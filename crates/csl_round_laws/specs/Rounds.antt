@@ -1,0 +1,63 @@
+-- The states of entries, and cites that are rendered again with them.
+use Rattle.std.specs.Prelude.{Bool, List, map, filter, flat_map, Option, Some, None, unwrap_or}
+use Rattle.std.specs.Option.{option_or}
+use Rattle.csl_base.specs.Answers.{Answers}
+use Rattle.csl_lookup.specs.Properties.{Properties}
+use Rattle.csl_lookup.specs.declared.state.DisambiguateState.{DisambiguateState}
+use Rattle.csl_passes.specs.Renders.{CiteRender, ItemRender}
+use Rattle.csl_passes.specs.Request.{Request, source_of}
+use Rattle.csl_round_laws.specs.RoundMarks.{Mark, cites_entry, greatest_state, round_marks}
+use Rattle.csl_round_laws.specs.declared.mode.RoundMode.{RoundMode}
+use Rattle.csl_writing.specs.CiteText.{cite_text}
+
+-- by what means entries are told apart; for most there is none
+abbrev pub StateTable : Type 0 → Type 0
+StateTable E = E → Option DisambiguateState
+
+abbrev pub no_states : {E : Type 0} → StateTable E
+no_states e = None
+
+-- by what means an entry with this state, or with none, is told apart
+abbrev pub told_by : Option DisambiguateState → DisambiguateState
+told_by state = unwrap_or state DisambiguateState.None
+
+-- the table with marks: an entry that has one gets it, the others keep theirs
+abbrev pub with_marks : {E : Type 0} → StateTable E → StateTable E → StateTable E
+with_marks marks table e = option_or (marks e) (table e)
+
+abbrev pub with_state : {P : Type 0} → DisambiguateState → Properties P → Properties P
+with_state s p = record p { speculative = record p.speculative { disambiguation = s } }
+
+module _ {E P : Type 0} where
+  -- the entries that cites cite, in their order
+  abbrev pub entries_cited : List (CiteRender E P) → List E
+  entries_cited cites = flat_map (λ c. map (λ i. i.entry) c.items) cites
+
+  -- the greatest of the marks of cites of e
+  abbrev pub mark_of : (E → E → Bool) → List (CiteRender E P) → List Mark → StateTable E
+  mark_of eq cites marks e =
+      greatest_state (map (λ m. m.1) (filter (λ m. cites_entry eq cites e m.0) marks))
+
+  -- what a round marks that begins with these cites
+  abbrev pub marked_by : RoundMode → (E → E → Bool) → (E → Answers) → List (CiteRender E P) → StateTable E
+  marked_by mode eq answers cites = mark_of eq cites (round_marks mode eq answers cites)
+
+  module _ (answers : E → Answers) where
+    -- the cite rendered again with this state of its entry, for its purpose; what else is known of it stays
+    abbrev pub rendered_again : Request E P → DisambiguateState → ItemRender E P → ItemRender E P
+    rendered_again request s i = record i {
+      properties = with_state s i.properties;
+      rendered = cite_text (source_of request) (answers i.entry) (with_state s i.properties) i.purpose None;
+    }
+
+    -- rendered again where there is a state
+    abbrev pub with_any : Request E P → Option DisambiguateState → ItemRender E P → ItemRender E P
+    with_any request None i = i
+    with_any request (Some s) i = rendered_again request s i
+
+    abbrev pub request_at : StateTable E → CiteRender E P → CiteRender E P
+    request_at table c = record c { items = map (λ i. with_any c.request (table i.entry) i) c.items }
+
+    -- the cites whose entries the table has states for, rendered again with these; the others stay
+    abbrev pub at_table : StateTable E → List (CiteRender E P) → List (CiteRender E P)
+    at_table table = map (request_at table)

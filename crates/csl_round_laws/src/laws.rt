@@ -1,0 +1,77 @@
+//! Laws of the whole run, for every document, in both modes.
+ghost use Rattle.std.specs.Prelude.{List};
+ghost use Rattle.csl_passes.specs.Renders.{CiteRender};
+ghost use Rattle.csl_passes.specs.Request.{Request};
+ghost use Rattle.csl_passes.specs.declared.first.FirstProperties.{FirstProperties};
+ghost use Rattle.csl_round_laws.specs.FirstRenders.{AreBegun, first_renders};
+ghost use Rattle.csl_round_laws.specs.RunLaws.{IsLawful, NothingLeft, RanksRise, StatesGoOn, SuffixesStay};
+ghost use Rattle.csl_round_laws.specs.Tables.{rounds, tables};
+ghost use Rattle.csl_round_laws.specs.declared.mode.RoundMode.{RoundMode};
+
+use csl_base::entry::EntryLike;
+
+/// All of these laws hold of each run that begins with first renders.
+pub fn runs_are_lawful<T: EntryLike, P>()
+    ensures { (mode : RoundMode) (requests : List (Request T P)) (properties : List (List FirstProperties))
+        → let firsts = first_renders T.answers requests properties in
+        IsLawful mode T.eq T.answers firsts (tables mode T.eq T.answers firsts)
+        (rounds mode T.eq T.answers firsts) }
+{
+    states_go_on::<T, P>();
+    suffixes_stay::<T, P>();
+    nothing_is_left::<T, P>();
+    ranks_rise::<T, P>();
+}
+
+/// A law: in each table of a run equal entries have one state, and each cite is rendered with the state of
+/// its entry; from each table to the next the state of each entry goes on, also where an entry stands in
+/// several groups; and no mark of a round is greater than the state that the round leaves.
+pub fn states_go_on<T: EntryLike, P>()
+    ensures { (mode : RoundMode) (firsts : List (CiteRender T P)) → AreBegun firsts
+        → StatesGoOn mode T.eq T.answers firsts (tables mode T.eq T.answers firsts) }
+{
+    csl_lookup::laws::states_have_a_greatest();
+    csl_lookup::laws::states_go_on();
+    csl_name_marks::laws::name_marks_go_on::<T, P>();
+    csl_ambiguity::laws::ambiguous_stand_together::<T, P>();
+    csl_ambiguity::laws::choose_and_suffix_go_on::<T, P>();
+}
+
+/// A law: suffixes stay. An entry with a suffix has it in all later tables, and is in no ambiguous group; and
+/// in a group that was given suffixes the distinct entries have 0, 1, 2 and on in the next table, in the
+/// order of their first cites there.
+pub fn suffixes_stay<T: EntryLike, P>()
+    ensures { (mode : RoundMode) (firsts : List (CiteRender T P)) → AreBegun firsts
+        → SuffixesStay mode T.eq T.answers firsts (tables mode T.eq T.answers firsts) }
+{
+    csl_lookup::laws::states_have_a_greatest();
+    csl_lookup::laws::states_go_on();
+    csl_entries::laws::bibliography_holds_each_once::<T>();
+    csl_name_marks::laws::name_marks_go_on::<T, P>();
+    csl_ambiguity::laws::ambiguous_stand_together::<T, P>();
+    csl_ambiguity::laws::choose_and_suffix_go_on::<T, P>();
+    csl_ambiguity::laws::suffixes_count_entries::<T, P>();
+}
+
+/// A law: only the ambiguous are marked, and nothing is left. An entry that is in no ambiguous group of a
+/// table but the last has no state in the last one. Where the rounds came to an end, as they always do in
+/// mode full, no group of the last table can be marked (in mode full by no mark that counts), so two
+/// ambiguous cites of a document that shows dates are of styles that add no suffixes.
+pub fn nothing_is_left<T: EntryLike, P>()
+    ensures { (mode : RoundMode) (firsts : List (CiteRender T P)) → AreBegun firsts
+        → NothingLeft mode T.eq T.answers firsts (tables mode T.eq T.answers firsts)
+        (rounds mode T.eq T.answers firsts) }
+{
+    csl_lookup::laws::states_have_a_greatest();
+    csl_lookup::laws::states_go_on();
+    csl_name_marks::laws::name_marks_go_on::<T, P>();
+    csl_ambiguity::laws::ambiguous_stand_together::<T, P>();
+    csl_ambiguity::laws::choose_and_suffix_go_on::<T, P>();
+}
+
+/// A law of mode full: from each table to the next no entry's rank falls and that of some cited entry rises;
+/// so of n distinct entries, where no first name has more than F forms, at most n times 3F + 3 rounds mark.
+pub fn ranks_rise<T: EntryLike, P>()
+    ensures { (firsts : List (CiteRender T P)) → AreBegun firsts
+        → RanksRise RoundMode.Full T.eq T.answers firsts (tables RoundMode.Full T.eq T.answers firsts) }
+{}

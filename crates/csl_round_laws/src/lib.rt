@@ -1,0 +1,5 @@
+//! What the rounds are in which cites that read alike are told apart, and laws of every run of them.
+#![tactic(auto)]
+
+pub mod laws;
+pub mod mode;

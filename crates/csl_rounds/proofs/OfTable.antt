@@ -1,0 +1,42 @@
+-- The cites of a table, request by request.
+use Rattle.std.proofs.Common.{◌≡◌, ℕ, ◌<◌, Bool, List, [], length, map, get_or, ap, sym, subst, ◌∙◌}
+use Rattle.std.specs.Prelude.{All}
+use Rattle.std.proofs.Math.ListN.{get_or-map, length-map}
+use Rattle.std.proofs.lemmas.List.Elements.{All-get_or}
+use Rattle.std.proofs.lemmas.List.{get_or_default}
+use Rattle.csl_entries.specs.Entries.{place}
+use Rattle.csl_entries.specs.Table.{Table}
+use Rattle.csl_passes.specs.Renders.{CiteRender}
+use Rattle.csl_rounds.specs.CitesOfTable.{AreCitesOfTable}
+use Rattle.csl_rounds.proofs.Halves.{row_of}
+
+module _ {E P : Type 0} (eq : E → E → Bool) (table : Table E) (cites : List (CiteRender E P)) (are : AreCitesOfTable eq table cites) where
+  abbrev places_of : CiteRender E P → List ℕ
+  places_of c = map (λ i. place eq i.entry table.entries) c.items
+
+  -- there are places for each request
+  pub rows-long : length table.places ≡ length cites
+  rows-long = ap length are.placed ∙ length-map cites places_of
+
+  module _ (r : ℕ) (within : r < length cites) where
+    pub row-within : r < length table.places
+    row-within = subst (λ n. r < n) (sym rows-long) within
+
+    -- the places as the table has them
+    pub row-is : {A : Type 0} (view : A → List ℕ) (rows : List A) (row : A) → map view rows ≡ table.places → row ≡ get_or rows r row → view row ≡ get_or table.places r []
+    row-is view rows row same here =
+        let inside : r < length rows = subst (λ n. r < n) (ap length (sym same) ∙ length-map rows view) row-within in
+        row_of view rows r row [] inside here ∙ ap (λ l. get_or l r []) same
+
+    -- one for each of its cites
+    pub row-long : (c : CiteRender E P) → length (get_or table.places r []) ≡ length (get_or cites r c).items
+    row-long c =
+        ap (λ rows. length (get_or rows r [])) are.placed
+        ∙ ap length (get_or_default (map places_of cites) r [] (places_of c) (subst (λ n. r < n) (sym (length-map cites places_of)) within) ∙ get_or-map places_of cites r c)
+        ∙ length-map (get_or cites r c).items (λ i. place eq i.entry table.entries)
+
+    -- and an entry stands at each
+    pub row-listed : (n : ℕ) → n ≡ length table.entries → All (λ p. p < n) (get_or table.places r [])
+    row-listed n same =
+        subst (λ m. All (λ p. p < m) (get_or table.places r [])) (sym same)
+        (All-get_or (λ ps. All (λ p. p < length table.entries) ps) table.places r [] row-within are.listed)

@@ -1,5 +1,0 @@
-use Rattle.csl_rounds.proofs.Risen.{ranks-rise}
-use Rattle.csl_rounds.proofs.laws.ranks_rise.Goals as goal
-
-pub returns : goal.returns
-returns g c = λ firsts begun. ranks-rise g.T.PartialEq.eq g.met.T.Eq.laws g.T.EntryLike.answers firsts begun
