@@ -25,6 +25,7 @@ ARCHIVE = f'{CRATE}/out/libgamhilon_c.a'
 NOTE = 'gamhilon_build.json'
 EXPORTS = [
     'gamhilon_fault',
+    'gamhilon_limits',
     'gamhilon_print',
     'gamhilon_print_json',
     'gamhilon_ring',

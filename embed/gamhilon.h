@@ -35,6 +35,17 @@
  * the tests try the deepest take 145 KiB, and embed/test.py holds all of them to 256. JSON nests no deeper than 127, but macros
  * that call one another deepen trees further. Running out of stack ends the process, as everywhere in C.
  *
+ * Documents from others. Macros make much work of a small document: a chain of them takes more stack the longer it is, and 24
+ * macros that each call the next one twice, in less than 3 KB, would take gigabytes. Ask gamhilon_limits first, with the depth
+ * and the number of elements that a layout may have, and answer the document only where that ends with GAMHILON_OK:
+ *
+ *     uint32_t status = gamhilon_limits(document, document_length, 100, 100000);
+ *     if (status == GAMHILON_OK) status = gamhilon_print(document, document_length, room, room_length, &length);
+ *
+ * Within a depth of 100 all calls keep to 256 KiB of stack on the documents that the tests try, and gamhilon_limits on those that
+ * it refuses too. The other calls have no limits of their own. Limit the length of documents as well: each cite may write all
+ * elements of its layout, and each element a long text.
+ *
  * What each call does with document, room, `length` and `ring` is proved, for callers that keep to the lines above
  * (crates/gamhilon_c). The C compiler and malloc are trusted. gamhilon_version and gamhilon_status_text are plain C.
  *
@@ -60,11 +71,13 @@ extern "C" {
  * and the rest of it is as it was. `*length` is the length of the whole answer at GAMHILON_OK and at
  * GAMHILON_ROOM_TOO_SMALL, and else 0. There is no status 1: that is the program's, where reading or writing fails. */
 #define GAMHILON_OK 0u
-#define GAMHILON_DOCUMENT_REFUSED 2u /* not JSON, or not of the form of a document: gamhilon_fault tells where */
-#define GAMHILON_MACRO_RING 3u       /* the macros of a style call each other in a ring: gamhilon_ring tells where */
-#define GAMHILON_NUMBER_OVERFLOW 4u  /* the citation numbers don't fit 64 bits */
-#define GAMHILON_OUT_OF_MEMORY 5u    /* memory was refused */
-#define GAMHILON_ROOM_TOO_SMALL 6u   /* the answer has *length bytes, more than the room */
+#define GAMHILON_DOCUMENT_REFUSED 2u  /* not JSON, or not of the form of a document: gamhilon_fault tells where */
+#define GAMHILON_MACRO_RING 3u        /* the macros of a style call each other in a ring: gamhilon_ring tells where */
+#define GAMHILON_NUMBER_OVERFLOW 4u   /* the citation numbers don't fit 64 bits */
+#define GAMHILON_OUT_OF_MEMORY 5u     /* memory was refused */
+#define GAMHILON_ROOM_TOO_SMALL 6u    /* the answer has *length bytes, more than the room */
+#define GAMHILON_TOO_DEEP 7u          /* the elements of a layout nest deeper than gamhilon_limits was told */
+#define GAMHILON_TOO_MANY_ELEMENTS 8u /* a layout has more elements than gamhilon_limits was told */
 
 /* Puts the answer to the document, as text, into the room. */
 uint32_t gamhilon_print(const uint8_t *document, size_t document_length,
@@ -95,6 +108,18 @@ typedef struct {
 /* Ends with a status as gamhilon_print does, and never with GAMHILON_ROOM_TOO_SMALL. At GAMHILON_MACRO_RING `*ring` is the
  * place of the first ring, and at every other status it is as it was. */
 uint32_t gamhilon_ring(const uint8_t *document, size_t document_length, gamhilon_ring_place *ring);
+
+/* Tells whether each layout of each style of the document is within limits: whether its elements nest no deeper than `depth`,
+ * and are no more than `elements`. It renders nothing, and stops at the first element that is too deep or too many.
+ *
+ * An element in a group, in a branch of a choice or in the children of a macro stands one deeper than the group, the choice or
+ * the call of the macro. So an empty layout is within a depth of 0, and within a depth of 1 no element stands in another. Each
+ * element counts: those of all branches of a choice, each call of a macro, and at each call all that the macro's children hold.
+ * A style whose macros call each other in a ring is let through, as no answer comes of it.
+ *
+ * Ends with GAMHILON_OK, GAMHILON_TOO_DEEP, GAMHILON_TOO_MANY_ELEMENTS or GAMHILON_OUT_OF_MEMORY; with GAMHILON_DOCUMENT_REFUSED
+ * where the document isn't JSON, or its keys or its styles aren't of their form: of the rest it reads nothing. */
+uint32_t gamhilon_limits(const uint8_t *document, size_t document_length, size_t depth, size_t elements);
 
 /* What a status means: a text for people, with no line feed, that is never freed. */
 const char *gamhilon_status_text(uint32_t status);

@@ -1,5 +1,5 @@
-/* many COUNT FILE..: COUNT calls in four threads, for valgrind: of each document the text, the JSON, the fault and the place of
- * a ring, in rooms of every length around the right one, and in none. */
+/* many COUNT FILE..: COUNT calls in four threads, for valgrind: of each document the text, the JSON, the fault, the place of a
+ * ring and whether it is within limits, in rooms of every length around the right one, and in none. */
 #include "gamhilon.h"
 
 #include <pthread.h>
@@ -14,7 +14,7 @@ typedef uint32_t call(const uint8_t *, size_t, uint8_t *, size_t, size_t *);
 typedef struct {
     uint8_t *document;
     size_t n, lengths[3];
-    uint32_t statuses[3];
+    uint32_t statuses[3], limited;
 } work;
 
 static call *const calls[3] = {gamhilon_print, gamhilon_print_json, gamhilon_fault};
@@ -35,9 +35,10 @@ static void *worker(void *first) {
     size_t wrong = 0;
     for (int t = *(int *)first; t < times; t += THREADS) {
         const work *it = &works[t % count];
-        int form = t / count % 4, step = t / count / 4 % (2 * AROUND + 1) - AROUND;
+        int form = t / count % 5, step = t / count / 5 % (2 * AROUND + 1) - AROUND;
         gamhilon_ring_place ring;
         if (form == 3) wrong += gamhilon_ring(it->document, it->n, &ring) != it->statuses[0];
+        else if (form == 4) wrong += gamhilon_limits(it->document, it->n, 100, 100000) != it->limited;
         else if (step < 0 && it->lengths[form] < (size_t)-step) wrong += tried(it, form, 0);
         else wrong += tried(it, form, it->lengths[form] + (size_t)step);
     }
@@ -61,6 +62,7 @@ int main(int argc, char **argv) {
         memcpy(works[i].document, room, n);
         for (int form = 0; form < 3; form++)
             works[i].statuses[form] = calls[form](works[i].document, n, room, ROOM, &works[i].lengths[form]);
+        works[i].limited = gamhilon_limits(works[i].document, n, 100, 100000);
     }
     for (int i = 0; i < THREADS; i++) {
         firsts[i] = i;

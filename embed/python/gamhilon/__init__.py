@@ -6,28 +6,33 @@
     for citation in answer.citations:
         print(gamhilon.to_html(citation.content))
 
+A document from others is answered within limits: `gamhilon.render(document, limits=gamhilon.Limits(100, 100000))`.
+
 `csl_json` reads the entries of a reference manager, `styles` has four styles to begin with, and `python -m gamhilon`
 does the same from the command line. Calls may be made from any number of threads and processes at once.
 """
 from __future__ import annotations
 
 import json
-from typing import Any, Dict, Union
+from typing import Any, Dict, Optional, Union
 
 from . import csl_json, styles
 from ._library import library
+from ._limits import Limits
 from ._version import Version, __version__, version
 from .answer import Answer, Bibliography, Citation, Item, Node, Tree, answer_of, plain
-from .errors import DocumentRefused, LibraryMissing, MacroRing, NumberOverflow, OutOfMemory, Refused
+from .errors import (DocumentRefused, LibraryMissing, LimitExceeded, MacroRing, NumberOverflow, OutOfMemory, Refused,
+                     TooDeep, TooManyElements)
 from .html_writer import bibliography_to_html, to_html
 from .latex_writer import bibliography_to_latex, to_latex
 from .markdown_writer import bibliography_to_markdown, to_markdown
 
 __all__ = [
-    'Answer', 'Bibliography', 'Citation', 'Document', 'DocumentRefused', 'Item', 'LibraryMissing', 'MacroRing', 'Node',
-    'NumberOverflow', 'OutOfMemory', 'Refused', 'Tree', 'Version', '__version__', 'bibliography_to_html',
-    'bibliography_to_latex', 'bibliography_to_markdown', 'check', 'csl_json', 'plain', 'print_document', 'print_json',
-    'render', 'styles', 'to_html', 'to_latex', 'to_markdown', 'version',
+    'Answer', 'Bibliography', 'Citation', 'Document', 'DocumentRefused', 'Item', 'LibraryMissing', 'LimitExceeded',
+    'Limits', 'MacroRing', 'Node', 'NumberOverflow', 'OutOfMemory', 'Refused', 'TooDeep', 'TooManyElements', 'Tree',
+    'Version', '__version__', 'bibliography_to_html', 'bibliography_to_latex', 'bibliography_to_markdown', 'check',
+    'csl_json', 'plain', 'print_document', 'print_json', 'render', 'styles', 'to_html', 'to_latex', 'to_markdown',
+    'version',
 ]
 
 Document = Union[Dict[str, Any], str, bytes]
@@ -51,26 +56,35 @@ def _bytes_of(document: Document) -> bytes:
     return text.encode('utf-8', 'surrogatepass')
 
 
-def print_document(document: Document) -> str:
+def _within(document: Document, limits: Optional[Limits]) -> bytes:
+    """The JSON of a document, which is within the limits where there are some."""
+    given = _bytes_of(document)
+    if limits is not None:
+        library().check_limits(given, limits)
+    return given
+
+
+def print_document(document: Document, *, limits: Optional[Limits] = None) -> str:
     """The text that the document prints: each citation on a line, and then, where there is a bibliography, an empty line
     and a line for each item, with its key, a tab and its text. Raises as `render` does."""
-    return library().print_document(_bytes_of(document)).decode()
+    return library().print_document(_within(document, limits)).decode()
 
 
-def print_json(document: Document) -> str:
+def print_json(document: Document, *, limits: Optional[Limits] = None) -> str:
     """The answer to the document as JSON (docs/ANSWER.md). Raises as `render` does."""
-    return library().print_json(_bytes_of(document)).decode()
+    return library().print_json(_within(document, limits)).decode()
 
 
-def render(document: Document) -> Answer:
+def render(document: Document, *, limits: Optional[Limits] = None) -> Answer:
     """The answer to the document.
 
     Raises DocumentRefused, MacroRing, NumberOverflow or OutOfMemory, each a Refused, where there is none, and
-    LibraryMissing where there is no library.
+    LibraryMissing where there is no library. Where there are limits, they are checked before anything is rendered: a
+    document that isn't within them raises TooDeep or TooManyElements, each a LimitExceeded and so a Refused.
     """
-    return answer_of(print_json(document))
+    return answer_of(print_json(document, limits=limits))
 
 
-def check(document: Document) -> None:
+def check(document: Document, *, limits: Optional[Limits] = None) -> None:
     """Raises what `render` would raise, and gives nothing where there is an answer."""
-    library().check(_bytes_of(document))
+    library().check(_within(document, limits))

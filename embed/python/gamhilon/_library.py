@@ -11,7 +11,8 @@ import os
 from typing import Any, List, Optional, Tuple
 
 from . import _faults
-from .errors import DocumentRefused, LibraryMissing, MacroRing, NumberOverflow, OutOfMemory
+from ._limits import Limits
+from .errors import DocumentRefused, LibraryMissing, MacroRing, NumberOverflow, OutOfMemory, TooDeep, TooManyElements
 
 HERE = os.path.dirname(os.path.abspath(__file__))
 NAME = 'libgamhilon.so'
@@ -45,6 +46,17 @@ class Library:
     def check(self, document: bytes) -> None:
         """Raises what `render` would raise, and gives nothing where there is an answer."""
         status, _ = self._ring(document)
+        if status != OK:
+            raise self._refusal(status, document)
+
+    def check_limits(self, document: bytes, limits: Limits) -> None:
+        """Raises TooDeep or TooManyElements where a layout of a style isn't within the limits, and DocumentRefused where
+        the styles aren't of their form."""
+        status = self._functions.gamhilon_limits(document, len(document), limits.depth, limits.elements)
+        if status == TooDeep.status:
+            raise TooDeep(f'the elements of a layout nest deeper than {limits.depth}')
+        if status == TooManyElements.status:
+            raise TooManyElements(f'a layout has more elements than {limits.elements}')
         if status != OK:
             raise self._refusal(status, document)
 
@@ -111,7 +123,7 @@ def _loaded() -> ctypes.CDLL:
     try:
         library = ctypes.CDLL(place)
         texts = [library.gamhilon_print, library.gamhilon_print_json, library.gamhilon_fault]
-        rings = [library.gamhilon_ring]
+        rings, limits = [library.gamhilon_ring], [library.gamhilon_limits]
     except (OSError, AttributeError) as error:
         raise LibraryMissing(f'{error}: install the wheel of gamhilon, build {NAME} by embed/build.py, or name it in '
                              'the environment as GAMHILON_LIBRARY') from error
@@ -121,6 +133,8 @@ def _loaded() -> ctypes.CDLL:
         function.argtypes = [*given, ctypes.c_void_p, ctypes.c_size_t, ctypes.POINTER(ctypes.c_size_t)]
     for function in rings:
         function.restype, function.argtypes = ctypes.c_uint32, [*given, ctypes.POINTER(RingPlace)]
+    for function in limits:
+        function.restype, function.argtypes = ctypes.c_uint32, [*given, ctypes.c_size_t, ctypes.c_size_t]
     return library
 
 

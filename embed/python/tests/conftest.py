@@ -14,10 +14,12 @@ from gamhilon import _library  # noqa: E402
 
 
 class MadeUpLibrary:
-    """Stands in for the shared library: ends each call with a status, or with a text as its answer, and counts the calls."""
+    """Stands in for the shared library: ends each call with a status, or with a text as its answer, and counts the calls, those
+    of gamhilon_limits by themselves."""
 
-    def __init__(self, text=b'', status=0, fault=None, fault_status=0, ring=(0, 0, 0)):
+    def __init__(self, text=b'', status=0, fault=None, fault_status=0, ring=(0, 0, 0), limits_status=0):
         self.text, self.status, self.ring, self.calls = text, status, ring, []
+        self.limits_status, self.limits_calls = limits_status, []
         told = fault or {'pointer': '', 'found': 'an object', 'wanted': 'something else'}
         self.gamhilon_fault = lambda *given: self._put(json.dumps(told).encode(), fault_status, *given)
 
@@ -32,6 +34,11 @@ class MadeUpLibrary:
             place = ring._obj
             place.of_bibliography, place.request, place.macro_place = self.ring
         return self.status
+
+    def gamhilon_limits(self, document, document_length, depth, elements):
+        assert document_length == len(document)
+        self.limits_calls.append((document, depth, elements))
+        return self.limits_status
 
     def _put(self, text, status, document, document_length, room, room_length, length):
         assert document_length == len(document)

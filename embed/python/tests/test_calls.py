@@ -10,11 +10,15 @@ import pytest
 from conftest import PACKAGE
 
 import gamhilon
+from gamhilon import _library
 
 RING = {'styles': {'s': {'citation': {'elements': []}, 'macros': [
     {'name': 'a', 'children': []}, {'name': 'b', 'children': [{'kind': 'text', 'macro': 'b'}]}]}},
     'entries': [], 'requests': [], 'bibliography': {'style': 's'}}
 EMPTY = {'styles': {'s': {'citation': {'elements': []}}}, 'entries': [], 'requests': [], 'bibliography': {'style': 's'}}
+NESTED = {**EMPTY, 'styles': {'s': {'citation': {'elements': [{'kind': 'text', 'macro': 'm'}, {'kind': 'text', 'macro': 'm'}]},
+                                    'macros': [{'name': 'm', 'children': [{'kind': 'text', 'value': 'x'}]}]}}}
+CALLS = (gamhilon.render, gamhilon.print_json, gamhilon.print_document, gamhilon.check)
 
 
 def test_an_answer_of_five_times_its_document_is_computed_once(made_up):
@@ -37,17 +41,71 @@ def test_a_room_that_is_too_small_grows_to_what_is_told(made_up):
 ])
 def test_each_status_has_its_error(made_up, status, kind, base):
     made_up(status=status)
-    for call in (gamhilon.render, gamhilon.print_json, gamhilon.print_document, gamhilon.check):
+    for call in CALLS:
         with pytest.raises(kind) as refusal:
             call(EMPTY)
         assert refusal.value.status == status
         assert isinstance(refusal.value, base) and isinstance(refusal.value, gamhilon.Refused)
 
 
+@pytest.mark.parametrize('status, kind, base, message', [
+    (2, gamhilon.DocumentRefused, ValueError, 'the document: an object'), (5, gamhilon.OutOfMemory, MemoryError, 'memory'),
+    (7, gamhilon.TooDeep, gamhilon.LimitExceeded, '^the elements of a layout nest deeper than 100$'),
+    (8, gamhilon.TooManyElements, gamhilon.LimitExceeded, '^a layout has more elements than 5000$'),
+])
+def test_what_is_not_within_limits_is_refused_before_anything_else(made_up, status, kind, base, message):
+    for call in CALLS:
+        library = made_up(limits_status=status)
+        with pytest.raises(kind, match=message) as refusal:
+            call(b'{}', limits=gamhilon.Limits(depth=100, elements=5000))
+        assert refusal.value.status == status
+        assert isinstance(refusal.value, base) and isinstance(refusal.value, gamhilon.Refused)
+        assert library.limits_calls == [(b'{}', 100, 5000)]
+        assert library.calls == ([(b'{}', _library.FAULT_ROOM)] if status == 2 else [])
+
+
+def test_what_is_within_limits_is_answered(made_up):
+    for call in CALLS:
+        library = made_up(text=b'{"citations":[]}')
+        call(b'{}', limits=gamhilon.Limits(0, 2 ** 64 - 1))
+        assert library.limits_calls == [(b'{}', 0, 2 ** 64 - 1)] and len(library.calls) == 1
+
+
+def test_without_limits_none_are_checked(made_up):
+    for call in CALLS:
+        library = made_up(text=b'{"citations":[]}', limits_status=7)
+        call(b'{}')
+        assert library.limits_calls == [] and len(library.calls) == 1
+
+
+@pytest.mark.parametrize('depth, elements, name', [(-1, 0, 'depth'), (0, -1, 'elements'), (2 ** 64, 0, 'depth'),
+                                                   (0, 2 ** 64, 'elements')])
+def test_limits_are_numbers_of_64_bits(depth, elements, name):
+    with pytest.raises(ValueError, match=name):
+        gamhilon.Limits(depth, elements)
+
+
+def test_limits_of_a_document(built):
+    for call in CALLS:
+        call(NESTED, limits=gamhilon.Limits(depth=2, elements=4))
+        with pytest.raises(gamhilon.TooDeep):
+            call(NESTED, limits=gamhilon.Limits(depth=1, elements=4))
+        with pytest.raises(gamhilon.TooManyElements):
+            call(NESTED, limits=gamhilon.Limits(depth=2, elements=3))
+        with pytest.raises(gamhilon.MacroRing):
+            call(RING, limits=gamhilon.Limits(0, 0))
+        with pytest.raises(gamhilon.DocumentRefused) as refusal:
+            call({**EMPTY, 'styles': {'s': 5}}, limits=gamhilon.Limits(100, 100000))
+        assert refusal.value.pointer == '/styles/s'
+
+
 def test_a_status_of_a_later_library_is_told(made_up):
     made_up(status=17)
     with pytest.raises(RuntimeError, match='17'):
         gamhilon.render(EMPTY)
+    made_up(limits_status=17)
+    with pytest.raises(RuntimeError, match='17'):
+        gamhilon.render(EMPTY, limits=gamhilon.Limits(1, 1))
 
 
 @pytest.mark.parametrize('document, pointer, found, wanted, message', [
@@ -81,7 +139,7 @@ def test_a_fault_that_finds_no_memory_is_out_of_memory(made_up):
 
 @pytest.mark.parametrize('error', [
     gamhilon.MacroRing('m', None, 3), gamhilon.MacroRing('m', 2, 0), gamhilon.NumberOverflow('m'),
-    gamhilon.OutOfMemory('m'),
+    gamhilon.OutOfMemory('m'), gamhilon.TooDeep('m'), gamhilon.TooManyElements('m'),
     gamhilon.DocumentRefused('m', '/a', 'b', 'c'), gamhilon.LibraryMissing('m'),
 ])
 def test_errors_are_pickled_whole(error):

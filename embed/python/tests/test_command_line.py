@@ -25,7 +25,9 @@ def test_no_words_is_not_a_command_line():
 
 
 @pytest.mark.parametrize('words', [['rendre'], ['render'], ['render', 'a', '--to', 'pdf'], ['styles', 'apa'],
-                                   ['check', 'a', 'b']])
+                                   ['check', 'a', 'b'], ['render', 'a', '--depth'], ['render', 'a', '--depth', '-1'],
+                                   ['check', 'a', '--elements', 'x'], ['check', 'a', '--elements', '18446744073709551616'],
+                                   ['entries', 'a', '--depth', '1']])
 def test_wrong_words_are_not_a_command_line(words):
     status, out, error = run(*words)
     assert status == 64 and out == '' and error.startswith(('usage', 'gamhilon: there is no style'))
@@ -58,6 +60,44 @@ def test_what_is_refused_has_the_status_of_the_program(built, document, status):
     for words in (['render', '-'], ['render', '-', '--to', 'html'], ['check', '-']):
         got, out, error = run(*words, given=document.encode())
         assert got == status and out == '' and error.startswith('gamhilon: ') and error.count('\n') == 1
+
+
+@pytest.mark.parametrize('words, limits', [
+    ([], []), (['--depth', '100', '--elements', '5000'], [(100, 5000)]), (['--depth', '0'], [(0, 2 ** 64 - 1)]),
+    (['--elements', '18446744073709551615', '--depth', '7'], [(7, 2 ** 64 - 1)]), (['--elements', '9'], [(2 ** 64 - 1, 9)]),
+])
+def test_limits_of_the_command_line(monkeypatch, tmp_path, capfd, words, limits):
+    path = tmp_path / 'a.json'
+    path.write_text('{"styles": {}, "entries": [], "requests": []}')
+    for command in (['render'], ['render', '--to', 'json'], ['check']):
+        library = MadeUpLibrary(text=b'{"citations":[]}')
+        monkeypatch.setattr(_library, '_library', _library.Library(library))
+        assert command_line.main([*command, str(path), *words]) == 0
+        assert [it[1:] for it in library.limits_calls] == limits and len(library.calls) == 1
+        assert capfd.readouterr().err == ''
+
+
+@pytest.mark.parametrize('status, said', [(7, 'deeper than 100'), (8, 'more elements than 5000')])
+def test_what_is_not_within_limits_has_the_status_of_the_library(monkeypatch, tmp_path, capfd, status, said):
+    path = tmp_path / 'a.json'
+    path.write_text('{}')
+    for command in (['render'], ['render', '--to', 'html'], ['check']):
+        monkeypatch.setattr(_library, '_library', _library.Library(MadeUpLibrary(limits_status=status)))
+        assert command_line.main([*command, str(path), '--depth', '100', '--elements', '5000']) == status
+        out, error = capfd.readouterr()
+        assert out == '' and error.startswith('gamhilon: ') and said in error and error.count('\n') == 1
+
+
+def test_limits_of_documents(built, example):
+    style = {'citation': {'elements': [{'kind': 'group', 'children': [{'kind': 'text', 'value': 'x'}]}]}}
+    document = json.dumps({'styles': {'s': style}, 'entries': [], 'requests': [], 'bibliography': {'style': 's'}}).encode()
+    for words in (['render', '-'], ['render', '-', '--to', 'html'], ['check', '-']):
+        assert run(*words, '--depth', '2', '--elements', '2', given=document)[::2] == (0, '')
+        for limits, status in ((['--depth', '1'], 7), (['--elements', '1'], 8)):
+            got, out, error = run(*words, *limits, given=document)
+            assert got == status and out == '' and error.startswith('gamhilon: ') and error.count('\n') == 1
+    words = ['render', f'{ROOT}/examples/first.json', '--depth', '100', '--elements', '100000']
+    assert run(*words) == (0, example('first.txt'), '')
 
 
 def test_check_tells_what_a_document_holds_and_what_it_can_hardly_mean(built):

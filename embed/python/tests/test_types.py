@@ -22,6 +22,11 @@ def pages(path: str) -> List[str]:
         raise SystemExit(f'{place}, {ring.macro_place + 1}')
     except gamhilon.DocumentRefused as refusal:
         raise SystemExit(refusal.pointer or '')
+    limits: Optional[gamhilon.Limits] = gamhilon.Limits(depth=100, elements=100000)
+    try:
+        gamhilon.check(document, limits=limits)
+    except (gamhilon.TooDeep, gamhilon.TooManyElements) as exceeded:
+        raise SystemExit(exceeded.status)
     items = answer.bibliography.items if answer.bibliography else []
     return [it.key + gamhilon.to_html(it.content) for it in items] + [str(gamhilon.version())]
 '''
@@ -29,6 +34,7 @@ WRONG = '''
 import gamhilon
 gamhilon.render(3)
 gamhilon.render({}).citations[0].note_number + 1
+gamhilon.render({}, gamhilon.Limits(1, 1))
 '''
 
 
@@ -51,4 +57,4 @@ def test_callers_see_the_types(tmp_path):
     assert os.path.exists(f'{PACKAGE}/gamhilon/py.typed')
     assert mypy(tmp_path, 'user.py').startswith('Success')
     told = mypy(tmp_path, 'wrong.py')
-    assert told.count('wrong.py:3: error') == 1 and 'wrong.py:4: error' in told
+    assert told.count('wrong.py:3: error') == 1 and 'wrong.py:4: error' in told and 'wrong.py:5: error' in told

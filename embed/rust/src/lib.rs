@@ -36,6 +36,7 @@ extern "C" {
         length: *mut usize,
     ) -> u32;
     fn gamhilon_ring(document: *const u8, document_length: usize, ring: *mut Ring) -> u32;
+    fn gamhilon_limits(document: *const u8, document_length: usize, depth: usize, elements: usize) -> u32;
     fn gamhilon_version() -> *const c_char;
 }
 
@@ -51,6 +52,15 @@ pub struct Ring {
     pub macro_place: usize,
 }
 
+/// What a host of documents from others allows, as gamhilon.h counts it.
+#[derive(Debug, Clone, Copy, PartialEq, Eq)]
+pub struct Limits {
+    /// How deep the elements of a layout may nest.
+    pub depth: usize,
+    /// How many elements a layout may have. The children of a macro count at each of its calls.
+    pub elements: usize,
+}
+
 /// Why there is no answer.
 #[derive(Debug, Clone, Copy, PartialEq, Eq)]
 #[non_exhaustive]
@@ -63,6 +73,10 @@ pub enum Refusal {
     NumberOverflow,
     /// Memory was refused: to the library, or for the room of the answer.
     OutOfMemory,
+    /// The elements of a layout nest deeper than the limit.
+    TooDeep,
+    /// A layout has more elements than the limit.
+    TooManyElements,
     /// The library ended the call with a status that this crate doesn't know.
     Unknown(u32),
 }
@@ -75,6 +89,8 @@ impl Refusal {
             Refusal::MacroRing(_) => 3,
             Refusal::NumberOverflow => 4,
             Refusal::OutOfMemory => 5,
+            Refusal::TooDeep => 7,
+            Refusal::TooManyElements => 8,
             Refusal::Unknown(status) => status,
         }
     }
@@ -85,6 +101,8 @@ impl Refusal {
             3 => ring_of(document),
             4 => Refusal::NumberOverflow,
             5 => Refusal::OutOfMemory,
+            7 => Refusal::TooDeep,
+            8 => Refusal::TooManyElements,
             _ => Refusal::Unknown(status),
         }
     }
@@ -102,6 +120,8 @@ impl fmt::Display for Refusal {
             }
             Refusal::NumberOverflow => write!(f, "the citation numbers don't fit 64 bits"),
             Refusal::OutOfMemory => write!(f, "memory was refused"),
+            Refusal::TooDeep => write!(f, "the elements of a layout nest too deep"),
+            Refusal::TooManyElements => write!(f, "a layout has too many elements"),
             Refusal::Unknown(status) => {
                 write!(f, "the library ended with status {status}, which this crate does not know")
             }
@@ -162,6 +182,23 @@ pub fn fault(document: &[u8]) -> Result<Option<String>, Refusal> {
     Ok(Some(text).filter(|it| !it.is_empty()))
 }
 
+/// Whether each layout of each style of a document is within limits. Renders nothing. A host of documents from others asks this
+/// first, since the other calls have no limits of their own:
+///
+/// ```no_run
+/// fn answered(document: &[u8]) -> Result<String, gamhilon::Refusal> {
+///     gamhilon::check_limits(document, gamhilon::Limits { depth: 100, elements: 100_000 })?;
+///     gamhilon::print(document)
+/// }
+/// ```
+pub fn check_limits(document: &[u8], limits: Limits) -> Result<(), Refusal> {
+    // SAFETY: a slice is valid for its length.
+    match unsafe { gamhilon_limits(document.as_ptr(), document.len(), limits.depth, limits.elements) } {
+        0 => Ok(()),
+        status => Err(Refusal::of(status, document)),
+    }
+}
+
 /// The version of the library, and the commit and the toolchain that it was proved and built by, where those are known.
 pub fn version() -> &'static str {
     // SAFETY: the library gives a text that ends with a NUL and is never freed.
@@ -186,6 +223,16 @@ mod tests {
     fn a_room_that_cannot_be_had_is_out_of_memory() {
         assert_eq!(called(asks_for_all_memory, b"", 0), Err(Refusal::OutOfMemory));
         assert_eq!(called(asks_for_all_memory, b"", usize::MAX), Err(Refusal::OutOfMemory));
+    }
+
+    #[test]
+    fn what_exceeds_limits_has_its_status() {
+        for (status, refusal) in [(7, Refusal::TooDeep), (8, Refusal::TooManyElements)] {
+            assert_eq!(Refusal::of(status, b""), refusal);
+            assert_eq!(refusal.status(), status);
+        }
+        assert_eq!(Refusal::TooDeep.to_string(), "the elements of a layout nest too deep");
+        assert_eq!(Refusal::TooManyElements.to_string(), "a layout has too many elements");
     }
 
     #[test]

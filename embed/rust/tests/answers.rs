@@ -35,6 +35,21 @@ fn a_ring_has_its_place() {
 }
 
 #[test]
+fn limits_are_held_to() {
+    let document = br#"{"styles": {"s": {"citation": {"elements": [{"kind": "text", "macro": "m"}, {"kind": "text", "macro": "m"}]},
+        "macros": [{"name": "m", "children": [{"kind": "text", "value": "x"}]}]}},
+        "entries": [], "requests": [], "bibliography": {"style": "s"}}"#;
+    let checked = |depth, elements| gamhilon::check_limits(document, gamhilon::Limits { depth, elements });
+    assert_eq!(checked(2, 4), Ok(()));
+    assert_eq!(checked(usize::MAX, usize::MAX), Ok(()));
+    assert_eq!(checked(1, 4), Err(gamhilon::Refusal::TooDeep));
+    assert_eq!(checked(2, 3), Err(gamhilon::Refusal::TooManyElements));
+    let limits = gamhilon::Limits { depth: 100, elements: 100_000 };
+    assert_eq!(gamhilon::check_limits(FIRST, limits), Ok(()));
+    assert_eq!(gamhilon::check_limits(b"{", limits), Err(gamhilon::Refusal::Document));
+}
+
+#[test]
 fn the_version_is_that_of_the_header() {
     let header = include_str!("../../gamhilon.h");
     let version = gamhilon::version().split(' ').next().unwrap_or("");
