@@ -10,6 +10,7 @@ import collections
 import glob
 import json
 import os
+import resource
 import shutil
 import subprocess
 import sys
@@ -23,6 +24,7 @@ OUT = f'{HERE}/out'
 ROOT = os.path.dirname(HERE)
 FORMS = ('text', 'json')
 STACK_TOLD = 256 * 1024
+DEPTH, ELEMENTS = 100, 100000
 TEN = ['rows/*.json', 'layouts/*.json', 'disambiguation/*.json', 'grouping/*.json', 'collapsing/*.json',
        'bibliography/*.json',
        'parts/*.json', 'purposes/*.json', 'hostile/*.json', 'refused/*.json']
@@ -88,7 +90,8 @@ def compile_all(room):
     compiler = os.environ.get('CC', 'cc').split()
     strict = ['-Wall', '-Wextra', '-pedantic', '-Werror', f'-I{HERE}']
     wraps = ['-Wl,--wrap=malloc,--wrap=realloc,--wrap=free']
-    sources = {'calls': [], 'stack': [], 'threads': [], 'many': [], 'about': [], 'failing': wraps, '../c/print': []}
+    sources = {'calls': [], 'stack': [], 'threads': [], 'many': [], 'about': [], 'limits': [], 'failing': wraps,
+               '../c/print': []}
     for name, more in sources.items():
         standard = '-std=c99' if name.startswith('..') else '-std=gnu11'
         made = ran(*compiler, standard, '-O1', '-g', '-pthread', *strict, *more, '-o', f'{room}/{os.path.basename(name)}',
@@ -149,14 +152,88 @@ def try_from_c(room, cases):
     return [it[1] for it in texts['json']]
 
 
+def faults():
+    """The faults of documents/faults.txt, by the names of the documents."""
+    rows = [it.split(' | ') for it in read(f'{ROOT}/documents/faults.txt').decode().splitlines() if it and it[0] != '#']
+    return {f'documents/{base}.json': dict(zip(('pointer', 'found', 'wanted'), row)) for base, *row in rows}
+
+
 def try_faults(room, cases):
     """The first fault of each refused document, which is the one of documents/faults.txt where that has it; of others none."""
-    rows = [it.split(' | ') for it in read(f'{ROOT}/documents/faults.txt').decode().splitlines() if it and it[0] != '#']
-    must = {f'documents/{base}.json': dict(zip(('pointer', 'found', 'wanted'), row)) for base, *row in rows}
+    must = faults()
     for length in (1 << 12, 1):
         for case, (status, told) in zip(cases, answers_of(room, 'fault', length, cases)):
             hold(status == 0 and bool(told) == (case.status == 2), f'{case.name}: fault, status {status}, {told!r}')
             hold(must.get(case.name) in (None, json.loads(told or 'null')), f'{case.name}: the fault is {told!r}')
+
+
+def borders(path, depth, elements):
+    """The limits at which a document whose layouts need this depth and this number of elements is tried, and the status of
+    each: what it needs, all there is, and one less of either."""
+    most = 2 ** 64 - 1
+    rows = [(path, depth, elements, 0), (path, most, most, 0)]
+    rows += [(path, depth - 1, elements, 7)] if depth else []
+    return rows + ([(path, depth, elements - 1, 8)] if elements else [])
+
+
+def hold_limits(room, stack, rows):
+    """Calls gamhilon_limits, in a thread of so much stack, with each of some rows: a document, limits and the status."""
+    done = ran(f'{room}/limits', str(stack), *[str(it) for path, *limits, _ in rows for it in (*limits, path)])
+    statuses = done.stdout.split()
+    hold(done.returncode == 0 and len(statuses) == len(rows), f'limits in {stack} bytes of stack: {done.returncode}, {done.stderr!r}')
+    for (path, depth, elements, status), got in zip(rows, statuses):
+        hold(int(got) == status, f'{os.path.basename(path)}: limits {depth} and {elements}: status {int(got)}, and not {status}')
+
+
+def limits_of_cases(layouts, cases):
+    """Rows for the documents of the tests: those that have the form, and those whose first fault is told."""
+    must, rows = faults(), []
+    for case in cases:
+        pointer, found = (must.get(case.name, {}).get(it, '') for it in ('pointer', 'found'))
+        if pointer.startswith('/styles') or pointer == '' and found and not found.startswith('missing key'):
+            rows.append((case.path, DEPTH, ELEMENTS, 2))
+        elif case.status != 2 or pointer:
+            depth, elements = layouts.measured(json.loads(case.bytes))
+            rows += borders(case.path, depth, elements) if elements <= ELEMENTS else [(case.path, DEPTH, ELEMENTS, 8)]
+    return rows
+
+
+def try_limits(room, cases):
+    """gamhilon_limits: of layouts of a known size, and of those of each document; that it doesn't take long, and little stack; and
+    that what it lets through is answered within the stack that the header tells."""
+    sys.path.insert(0, f'{HERE}/tests')
+    import layouts
+
+    def put(what, document):
+        with open(f'{room}/{what}.json', 'w', encoding='utf-8') as file:
+            json.dump(document, file)
+        return file.name
+
+    known = [(put(what, document), *size) for what, document, *size in layouts.KNOWN]
+    allowed = [(put(what, document), *size) for what, document, *size, _ in layouts.ALLOWED]
+    chains = [(put(what, document), *size) for what, document, *size in layouts.CHAINS]
+    rows = [row for it in [*known, *allowed] for row in borders(*it)] + limits_of_cases(layouts, cases)
+    hold_limits(room, STACK_TOLD, rows + [(path, DEPTH, ELEMENTS, 7) for path, *_ in chains])
+    hold_limits(room, 1 << 26, [row for it in chains for row in borders(*it)])
+
+    doubling = [put(f'macros that double {it} deep', layouts.doubling(it)) for it in (24, 64)]
+    many = put('many macros', layouts.many_macros(10000, ELEMENTS // 2))
+    before = resource.getrusage(resource.RUSAGE_CHILDREN)
+    hold_limits(room, STACK_TOLD, [*[(it, DEPTH, ELEMENTS, 8) for it in doubling], (many, 2, ELEMENTS, 0)])
+    after = resource.getrusage(resource.RUSAGE_CHILDREN)
+    seconds = after.ru_utime + after.ru_stime - before.ru_utime - before.ru_stime
+    hold(seconds < 1, f'limits of macros that double and of many macros: {seconds:.2f} s')
+
+    for what, *_, text in layouts.ALLOWED:
+        with open(f'{room}/{what}.txt', 'w', encoding='utf-8') as file:
+            file.write(text)
+    answered = [Case(path) for path, *_ in allowed]
+    for case, text, answer in zip(answered, *[answers_of(room, form, 1 << 21, answered) for form in FORMS]):
+        hold(text == (0, case.text), f'{case.name}: the text within the limits')
+        hold(answer[0] == 0 and printed(json.loads(answer[1])).encode() == case.text, f'{case.name}: the JSON within the limits')
+    hold_stack(room, [it.path for it in answered])
+    exceeding = [chains[0][0], f'{ROOT}/documents/hostile/macros_that_give_nothing_40_deep.json']
+    hold(ran(f'{room}/failing', *exceeding).returncode == 0, 'each allocation refused in turn, beyond the limits')
 
 
 def members(part):
@@ -289,7 +366,7 @@ def try_about(room):
     note = json.loads(read(f'{OUT}/gamhilon_build.json'))
     hold(lines[1].startswith(build.version()) and all(it in lines[1] for it in note.values() if it),
          'the version of the library')
-    hold(len(lines) == 10 and len(set(lines[2:])) == 7 and lines[3] == lines[9],
+    hold(len(lines) == 12 and len(set(lines[2:])) == 9 and lines[3] == lines[11],
          'each status has a text of its own, and others one')
 
 
@@ -380,6 +457,16 @@ def ten(cases):
     return [it for it in cases if it.path in chosen]
 
 
+def hold_stack(room, paths):
+    """Measures the need of stack of each call, and holds it to what the header tells."""
+    done = ran(f'{room}/stack', *paths)
+    hold(done.returncode == 0, 'the need of stack is measured')
+    for line in done.stdout.decode().strip().split('\n'):
+        form, size, path = line.split(' ', 2)
+        print(f'stack: {form} takes at most {int(size) // 1024} KiB, at {os.path.relpath(path, ROOT)}')
+        hold(int(size) <= STACK_TOLD, f'{form} takes {size} bytes of stack, and the header tells {STACK_TOLD}')
+
+
 def try_hard(room, cases, calls):
     """Memory refused, threads, valgrind, and the need of stack."""
     few = [it.path for it in ten(cases)]
@@ -399,12 +486,7 @@ def try_hard(room, cases, calls):
         done = ran(*words, f'{room}/many', str(calls), *few, timeout=3600)
         print(f'valgrind: {done.stdout.decode().strip()}')
         hold(done.returncode == 0, f'valgrind, {calls} calls in four threads: {done.stderr.decode()[:900]}')
-    done = ran(f'{room}/stack', *[it.path for it in cases])
-    hold(done.returncode == 0, 'the need of stack is measured')
-    for line in done.stdout.decode().strip().split('\n'):
-        form, size, path = line.split(' ', 2)
-        print(f'stack: {form} takes at most {int(size) // 1024} KiB, at {os.path.relpath(path, ROOT)}')
-        hold(int(size) <= STACK_TOLD, f'{form} takes {size} bytes of stack, and the header tells {STACK_TOLD}')
+    hold_stack(room, [it.path for it in cases])
 
 
 def main(words):
@@ -422,6 +504,7 @@ def main(words):
             if not failures:
                 jsons = try_from_c(room, cases)
                 try_from_python(cases, jsons)
+                try_limits(room, cases)
                 try_building()
                 try_about(room)
                 try_package(room)
