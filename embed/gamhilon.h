@@ -36,7 +36,7 @@
  * that call one another deepen trees further. Running out of stack ends the process, as everywhere in C.
  *
  * Documents from others. Macros make much work of a small document: a chain of them takes more stack the longer it is, and 24
- * macros that each call the next one twice, in less than 3 KB, would take gigabytes. Ask gamhilon_limits first, with the depth
+ * macros that each call the next one twice and write, in 3 KB, would take gigabytes. Ask gamhilon_limits first, with the depth
  * and the number of elements that a layout may have, and answer the document only where that ends with GAMHILON_OK:
  *
  *     uint32_t status = gamhilon_limits(document, document_length, 100, 100000);
@@ -117,8 +117,9 @@ uint32_t gamhilon_ring(const uint8_t *document, size_t document_length, gamhilon
  * element counts: those of all branches of a choice, each call of a macro, and at each call all that the macro's children hold.
  * A style whose macros call each other in a ring is let through, as no answer comes of it.
  *
- * Ends with GAMHILON_OK, GAMHILON_TOO_DEEP, GAMHILON_TOO_MANY_ELEMENTS or GAMHILON_OUT_OF_MEMORY; with GAMHILON_DOCUMENT_REFUSED
- * where the document isn't JSON, or its keys or its styles aren't of their form: of the rest it reads nothing. */
+ * Ends with GAMHILON_OK, GAMHILON_TOO_DEEP, GAMHILON_TOO_MANY_ELEMENTS or GAMHILON_OUT_OF_MEMORY; and with
+ * GAMHILON_DOCUMENT_REFUSED where the document isn't JSON, has a key that no document has, or a style that isn't of its form. The
+ * rest of it isn't read. */
 uint32_t gamhilon_limits(const uint8_t *document, size_t document_length, size_t depth, size_t elements);
 
 /* What a status means: a text for people, with no line feed, that is never freed. */

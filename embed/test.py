@@ -190,7 +190,7 @@ def limits_of_cases(layouts, cases):
     must, rows = faults(), []
     for case in cases:
         pointer, found = (must.get(case.name, {}).get(it, '') for it in ('pointer', 'found'))
-        if pointer.startswith('/styles') or pointer == '' and found and not found.startswith('missing key'):
+        if pointer.startswith('/styles') or (pointer == '' and found and not found.startswith('missing key')):
             rows.append((case.path, DEPTH, ELEMENTS, 2))
         elif case.status != 2 or pointer:
             depth, elements = layouts.measured(json.loads(case.bytes))
@@ -198,42 +198,52 @@ def limits_of_cases(layouts, cases):
     return rows
 
 
+def put(room, what, document):
+    """Writes a document into a folder, and gives its path."""
+    path = f'{room}/{what}.json'
+    with open(path, 'w', encoding='utf-8') as file:
+        json.dump(document, file)
+    return path
+
+
 def try_limits(room, cases):
-    """gamhilon_limits: of layouts of a known size, and of those of each document; that it doesn't take long, and little stack; and
-    that what it lets through is answered within the stack that the header tells."""
+    """gamhilon_limits: of layouts of a known size and of those of each document, in the stack that the header tells; and that it
+    doesn't take long. What is within the limits is answered in that stack, and refused memory is told beyond them too."""
     sys.path.insert(0, f'{HERE}/tests')
     import layouts
-
-    def put(what, document):
-        with open(f'{room}/{what}.json', 'w', encoding='utf-8') as file:
-            json.dump(document, file)
-        return file.name
-
-    known = [(put(what, document), *size) for what, document, *size in layouts.KNOWN]
-    allowed = [(put(what, document), *size) for what, document, *size, _ in layouts.ALLOWED]
-    chains = [(put(what, document), *size) for what, document, *size in layouts.CHAINS]
+    known = [(put(room, what, document), *size) for what, document, *size in layouts.KNOWN]
+    allowed = [(put(room, what, document), *size) for what, document, *size, _ in layouts.ALLOWED]
+    chains = [(put(room, what, document), *size) for what, document, *size in layouts.CHAINS]
     rows = [row for it in [*known, *allowed] for row in borders(*it)] + limits_of_cases(layouts, cases)
     hold_limits(room, STACK_TOLD, rows + [(path, DEPTH, ELEMENTS, 7) for path, *_ in chains])
     hold_limits(room, 1 << 26, [row for it in chains for row in borders(*it)])
+    try_much_work(room, layouts)
+    try_allowed(room, [(path, text) for (path, *_), (*_, text) in zip(allowed, layouts.ALLOWED)])
+    exceeding = [chains[0][0], f'{ROOT}/documents/hostile/macros_that_give_nothing_40_deep.json']
+    hold(ran(f'{room}/failing', *exceeding).returncode == 0, 'each allocation refused in turn, beyond the limits')
 
-    doubling = [put(f'macros that double {it} deep', layouts.doubling(it)) for it in (24, 64)]
-    many = put('many macros', layouts.many_macros(10000, ELEMENTS // 2))
+
+def try_much_work(room, layouts):
+    """What would be much work beyond the limits, and what is just within them, take little processor time."""
+    rows = [(put(room, f'macros that double {it} deep', layouts.doubling(it)), DEPTH, ELEMENTS, 8) for it in (24, 64)]
+    rows.append((put(room, 'many macros', layouts.many_macros(10000, ELEMENTS // 2)), 2, ELEMENTS, 0))
     before = resource.getrusage(resource.RUSAGE_CHILDREN)
-    hold_limits(room, STACK_TOLD, [*[(it, DEPTH, ELEMENTS, 8) for it in doubling], (many, 2, ELEMENTS, 0)])
+    hold_limits(room, STACK_TOLD, rows)
     after = resource.getrusage(resource.RUSAGE_CHILDREN)
     seconds = after.ru_utime + after.ru_stime - before.ru_utime - before.ru_stime
     hold(seconds < 1, f'limits of macros that double and of many macros: {seconds:.2f} s')
 
-    for what, *_, text in layouts.ALLOWED:
-        with open(f'{room}/{what}.txt', 'w', encoding='utf-8') as file:
+
+def try_allowed(room, rows):
+    """What documents at the limits print, and the stack that they take."""
+    for path, text in rows:
+        with open(f'{path[:-len(".json")]}.txt', 'w', encoding='utf-8') as file:
             file.write(text)
-    answered = [Case(path) for path, *_ in allowed]
-    for case, text, answer in zip(answered, *[answers_of(room, form, 1 << 21, answered) for form in FORMS]):
+    cases = [Case(path) for path, _ in rows]
+    for case, text, answer in zip(cases, *[answers_of(room, form, 1 << 21, cases) for form in FORMS]):
         hold(text == (0, case.text), f'{case.name}: the text within the limits')
         hold(answer[0] == 0 and printed(json.loads(answer[1])).encode() == case.text, f'{case.name}: the JSON within the limits')
-    hold_stack(room, [it.path for it in answered])
-    exceeding = [chains[0][0], f'{ROOT}/documents/hostile/macros_that_give_nothing_40_deep.json']
-    hold(ran(f'{room}/failing', *exceeding).returncode == 0, 'each allocation refused in turn, beyond the limits')
+    hold_stack(room, [it.path for it in cases])
 
 
 def members(part):

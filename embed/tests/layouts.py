@@ -2,7 +2,6 @@
 was worked out by hand from what gamhilon.h says of gamhilon_limits."""
 
 TEXT = {'kind': 'text', 'variable': 'title'}
-UNLIMITED = 2 ** 64 - 1
 
 
 def call(name):
