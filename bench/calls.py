@@ -36,20 +36,20 @@ def start(program, given):
 
 def main():
     import bench
-    import gamhilon
+    from gamhilon._library import library
 
     words = argparse.ArgumentParser()
     words.add_argument("--program", default=str(ROOT / "crates/cite_run/out/cite_run"))
     words.add_argument("--runs", type=int, default=200)
     words = words.parse_args()
-    library, has_program = gamhilon._library, os.path.exists(words.program)
+    calls, has_program = library(), os.path.exists(words.program)
     print(f"{'citations':>9} {'bytes':>9} {'text, us':>9} {'JSON, us':>9} {'cite_run, us':>12}")
     for size in SIZES:
         given = json.dumps(bench.whole_author_date(size)).encode()
         runs = max(words.runs // max(size // 10, 1), 5)
-        rooms = [len(gamhilon._called(it, given)) for it in (library.gamhilon_print, library.gamhilon_print_json)]
-        text = best(lambda: gamhilon._called(library.gamhilon_print, given, rooms[0]), runs)
-        tree = best(lambda: gamhilon._called(library.gamhilon_print_json, given, rooms[1]), runs)
+        text_room, tree_room = len(calls.print_document(given)), len(calls.print_json(given))
+        text = best(lambda: calls.print_document(given, text_room), runs)
+        tree = best(lambda: calls.print_json(given, tree_room), runs)
         program = f"{best(lambda: start(words.program, given), runs):.0f}" if has_program else "not built"
         print(f"{size:>9} {len(given):>9} {text:>9.0f} {tree:>9.0f} {program:>12}")
 

@@ -3,3 +3,4 @@ pub mod Print
 pub mod Run
 pub mod FaultText
 pub mod TellsFault
+pub mod Limited

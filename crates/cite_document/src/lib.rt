@@ -8,5 +8,6 @@
 pub mod error;
 pub mod faults;
 pub mod input;
+pub mod limits;
 mod printing;
 pub mod running;

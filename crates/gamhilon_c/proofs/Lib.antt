@@ -1,3 +1,4 @@
 pub mod Calls
 pub mod Rings
 pub mod Faults
+pub mod Limited

@@ -1,3 +1,4 @@
 pub mod Called
 pub mod Ring
 pub mod FindsFault
+pub mod KeepsLimits

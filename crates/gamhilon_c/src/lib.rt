@@ -8,15 +8,19 @@ mod room;
 
 ghost use Rattle.document_reading.specs.Faults.{value_in};
 ghost use Rattle.document_reading.specs.Form.{form};
+ghost use Rattle.cite_document.specs.Limited.{styles_in};
 ghost use Rattle.cite_document.specs.Print.{json_text, print};
 ghost use Rattle.gamhilon_c.specs.Called.{Called};
 ghost use Rattle.gamhilon_c.specs.FindsFault.{FindsFault};
+ghost use Rattle.gamhilon_c.specs.KeepsLimits.{KeepsLimits};
 ghost use Rattle.gamhilon_c.specs.Ring.{FindsRing};
 
 use crate::ring::{GamhilonRing, hand_out_ring};
-use crate::room::hand_out;
+use crate::room::{ANSWERED, hand_out};
 use cite_document::faults::print_fault_bytes;
+use cite_document::limits::check_limits;
 use cite_document::running::{answer_bytes, print_bytes, print_json_bytes};
+use csl_limits::limits::Limits;
 use std::alloc::Global;
 
 /// Puts what the document prints into the room, and tells how many bytes that takes. Gives the status.
@@ -61,6 +65,22 @@ pub extern "C" fn gamhilon_fault(
 {
     let text = print_fault_bytes(alloc, document);
     hand_out(&text, room, needed)
+}
+
+/// Tells whether each layout of each style of the document is within the limits. Gives the status.
+#[unsafe(no_mangle)]
+pub extern "C" fn gamhilon_limits(
+    alloc: Global,
+    document: &[u8],
+    depth: usize,
+    elements: usize,
+) -> u32
+    ensures { KeepsLimits (record { depth = depth; elements = elements }) (styles_in document.now) result }
+{
+    match check_limits(alloc, document, &Limits { depth, elements }) {
+        Ok(()) => ANSWERED,
+        Err(error) => u32::from(error.status()),
+    }
 }
 
 /// Puts the place of the first ring of macros into `ring`, where the document has one. Gives the status.

@@ -4,8 +4,8 @@ ghost use Rattle.gamhilon_c.specs.Called.{HandsOut, Places};
 
 use cite_document::error::RunError;
 
-/// The room begins with the text.
-const ANSWERED: u32 = 0;
+/// The room begins with the text, or there is nothing to refuse.
+pub(crate) const ANSWERED: u32 = 0;
 
 /// The text is longer than the room.
 const ROOM_TOO_SMALL: u32 = 6;
