@@ -1,3 +1,4 @@
 pub mod Consumed
 pub mod Refusals
 pub mod Written
+pub mod LimitSteps

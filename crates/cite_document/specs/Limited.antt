@@ -1,10 +1,10 @@
 -- Which documents are within limits.
-use Rattle.std.specs.Prelude.{◌≡◌, ℕ, List, map, Option, Some, None, Result, Ok, Err, option_map, ⊤, ⊥}
+use Rattle.std.specs.Prelude.{◌≡◌, ℕ, List, map, Option, Some, None, Result, Ok, Err, option_map, ⊤}
 use Rattle.std.specs.List.{All, Any}
 use Rattle.serde_json.specs.Read.{read}
 use Rattle.csl_base.specs.Ring.{HasNoRing}
 use Rattle.csl_base.specs.Style.{StyleValue}
-use Rattle.csl_limits.specs.Limited.{Exceeds, IsWithin}
+use Rattle.csl_limits.specs.Limited.{Exceeds, IsWithinLimits}
 use Rattle.csl_limits.specs.declared.limits.Excess.TheVariants as excess
 use Rattle.csl_limits.specs.declared.limits.Limits.{Limits}
 use Rattle.document_reading.specs.Form.{top_form, utf8_text}
@@ -15,7 +15,8 @@ use Rattle.document_words.specs.declared.error.ReadError.TheVariants as parts
 use Rattle.cite_document.specs.declared.limits.LimitError.{LimitError}
 use Rattle.cite_document.specs.declared.limits.LimitError.TheVariants as errors
 
--- the styles of the document that the bytes are, by their names, where they are of their form; what else stands there isn't read
+-- the styles of the document that the bytes are, by their names, where they are of their form; of the rest of
+-- the document only the keys are read
 unfoldable pub named_styles_in : List ℕ → Option (List NamedStyle)
 named_styles_in bytes = do
   text ← utf8_text bytes
@@ -30,12 +31,19 @@ styles_in bytes = option_map (map (λ s. s.1)) (named_styles_in bytes)
 abbrev pub AreStylesThat : Option (List StyleValue) → (List StyleValue → Type 0) → Type 0
 AreStylesThat styles Such = (ss : List StyleValue) × (styles ≡ Some ss) × Such ss
 
--- each style without a ring is within the limits; or some style exceeds one; or there are no styles
+-- each style without a ring is within the limits, or some style exceeds one; a check of styles that are there
+-- doesn't call them no document
+abbrev pub ChecksEach : Limits → List StyleValue → Result ⊤ LimitError → Type 0
+ChecksEach limits styles (Ok done) = All (λ s. HasNoRing s.macros → IsWithinLimits limits s) styles
+ChecksEach limits styles (Err (errors.Exceeded which)) = Any (Exceeds which limits) styles
+ChecksEach limits styles (Err errors.Document) = ⊥
+ChecksEach limits styles (Err errors.OutOfMemory) = ⊤
+
+-- the same of styles that may not be there
 abbrev pub ChecksStyles : Limits → Option (List StyleValue) → Result ⊤ LimitError → Type 0
-ChecksStyles limits styles (Ok done) = AreStylesThat styles (All (λ s. HasNoRing s.macros → IsWithin limits s))
-ChecksStyles limits styles (Err (errors.Exceeded which)) = AreStylesThat styles (Any (Exceeds which limits))
 ChecksStyles limits styles (Err errors.Document) = styles ≡ None
 ChecksStyles limits styles (Err errors.OutOfMemory) = ⊤
+ChecksStyles limits styles result = AreStylesThat styles (λ ss. ChecksEach limits ss result)
 
 abbrev pub limit_status : LimitError → ℕ
 limit_status errors.Document = 2
@@ -47,10 +55,3 @@ limit_status (errors.Exceeded excess.Elements) = 8
 abbrev pub unread : ReadError → LimitError
 unread (parts.Document fault) = errors.Document
 unread parts.OutOfMemory = errors.OutOfMemory
-
--- ---- for private clauses
-
--- the same of styles that are there
-abbrev pub Checked : Limits → List StyleValue → Result ⊤ LimitError → Type 0
-Checked limits styles (Err errors.Document) = ⊥
-Checked limits styles result = ChecksStyles limits (Some styles) result

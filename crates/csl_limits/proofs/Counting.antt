@@ -12,20 +12,20 @@ use Rattle.csl_base.proofs.Views.{branches_rest, elements_rest}
 use Rattle.csl_limits.specs.declared.limits.Excess.{Excess}
 use Rattle.csl_limits.specs.declared.limits.Excess.TheVariants as excess
 use Rattle.csl_limits.specs.declared.limits.Limits.{Limits}
-use Rattle.csl_limits.specs.Limited.{Checked, Counted, Exceeds}
-use Rattle.csl_limits.specs.Nesting.{branch_items, count_to, inside, items, nests_within}
+use Rattle.csl_limits.specs.Limited.{ChecksLayout, Counted, Exceeds}
+use Rattle.csl_limits.specs.Nesting.{branch_items, count_to, children_of, items, nests_within}
 
 module _ (macros : List Macro) where
   pub nests-joined : (depth : ℕ) (xs ys : List Element)
       → nests_within macros depth (xs ++ ys) ≡ (nests_within macros depth xs && nests_within macros depth ys)
   nests-joined zero [] ys = refl
   nests-joined zero (x ∷ xs) ys = refl
-  nests-joined (suc depth) xs ys = list_all-append (λ e. nests_within macros depth (inside macros e)) xs ys
+  nests-joined (suc depth) xs ys = list_all-append (λ e. nests_within macros depth (children_of macros e)) xs ys
 
   pub count-joined : (depth : ℕ) (xs ys : List Element)
       → count_to macros depth (xs ++ ys) ≡ count_to macros depth xs + count_to macros depth ys
   count-joined zero xs ys = refl
-  count-joined (suc depth) xs ys = sum_by-append (λ e. 1 + count_to macros depth (inside macros e)) xs ys
+  count-joined (suc depth) xs ys = sum_by-append (λ e. 1 + count_to macros depth (children_of macros e)) xs ys
 
   -- none are within any limit
   pub none-counted : (depth left : ℕ) → Counted macros depth [] left (Ok left)
@@ -50,7 +50,7 @@ module _ (macros : List Macro) where
 
   -- an element counts one more than those in it
   pub one-counted : (depth allowed : ℕ) (e : Element) (r : Result ℕ Excess) → 0 < depth → 0 < allowed
-      → Counted macros (depth - 1) (inside macros e) (allowed - 1) r → Counted macros depth (e ∷ []) allowed r
+      → Counted macros (depth - 1) (children_of macros e) (allowed - 1) r → Counted macros depth (e ∷ []) allowed r
   one-counted zero allowed e r p q h = absurd (omega arith)
   one-counted (suc depth) zero e r p q h = absurd (omega arith)
   one-counted (suc depth) (suc allowed) e (Ok left) p q h = search (rules, arith, h)
@@ -101,6 +101,6 @@ module _ (macros : List Macro) where
 
 -- what is found in the bibliography's layout, is found in the style
 pub exceeded-there : (limits : Limits) (style : StyleValue) (b : BibliographyValue) (r : Result ⊤ Excess) → style.bibliography ≡ Some b
-    → Checked limits style.macros (items b.layout.elements) r → IfErr r (λ which. Exceeds which limits style)
+    → ChecksLayout limits style.macros (items b.layout.elements) r → IfErr r (λ which. Exceeds which limits style)
 exceeded-there limits style b (Ok done) e h = search rules
 exceeded-there limits style b (Err which) e h = inr (b, e, h)

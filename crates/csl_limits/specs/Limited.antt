@@ -21,8 +21,8 @@ SomeLayout Such style =
     ⊎ ((b : BibliographyValue) × (style.bibliography ≡ Some b) × Such (items b.layout.elements))
 
 -- elements nest no deeper than allowed, and are no more than allowed
-abbrev pub AreWithin : Limits → List Macro → List Element → Type 0
-AreWithin limits macros es =
+abbrev pub AreWithinLimits : Limits → List Macro → List Element → Type 0
+AreWithinLimits limits macros es =
     (nests_within macros limits.depth es ≡ true) × (count_to macros limits.depth es ≤ limits.elements)
 
 -- elements exceed a limit
@@ -31,8 +31,8 @@ Exceed excess.Depth limits macros es = nests_within macros limits.depth es ≡ f
 Exceed excess.Elements limits macros es = limits.elements < count_to macros limits.depth es
 
 -- each layout of a style is within the limits
-abbrev pub IsWithin : Limits → StyleValue → Type 0
-IsWithin limits style = EachLayout (AreWithin limits style.macros) style
+abbrev pub IsWithinLimits : Limits → StyleValue → Type 0
+IsWithinLimits limits style = EachLayout (AreWithinLimits limits style.macros) style
 
 -- a layout of a style exceeds a limit
 abbrev pub Exceeds : Excess → Limits → StyleValue → Type 0
@@ -41,9 +41,9 @@ Exceeds which limits style = SomeLayout (Exceed which limits style.macros) style
 -- ---- for private clauses
 
 -- a check of elements: they are within the limits, or exceed one
-abbrev pub Checked : Limits → List Macro → List Element → Result ⊤ Excess → Type 0
-Checked limits macros es (Ok done) = AreWithin limits macros es
-Checked limits macros es (Err which) = Exceed which limits macros es
+abbrev pub ChecksLayout : Limits → List Macro → List Element → Result ⊤ Excess → Type 0
+ChecksLayout limits macros es (Ok done) = AreWithinLimits limits macros es
+ChecksLayout limits macros es (Err which) = Exceed which limits macros es
 
 -- of so many elements that are allowed, so many are left behind these
 abbrev pub Counted : List Macro → ℕ → List Element → ℕ → Result ℕ Excess → Type 0

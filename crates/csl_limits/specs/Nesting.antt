@@ -19,20 +19,20 @@ abbrev pub called : List Macro → Target → List Element
 called macros (macro_target name) = option_map_or items (body_of name macros) []
 called macros _ = []
 
--- what stands in an element
-abbrev pub inside : List Macro → Element → List Element
-inside macros (text_element target quotes strip look) = called macros target
-inside macros (group_element children delimiter look) = items children
-inside macros (choose_element branches) = branch_items branches
-inside macros _ = []
+-- what stands directly in an element
+abbrev pub children_of : List Macro → Element → List Element
+children_of macros (text_element target quotes strip look) = called macros target
+children_of macros (group_element children delimiter look) = items children
+children_of macros (choose_element branches) = branch_items branches
+children_of macros _ = []
 
--- they nest at most so deep: not at all where there are none, and else what stands in each nests one less deep
+-- they nest at most so deep: no elements nest within 0, and else what stands in each nests one less deep
 abbrev pub nests_within : List Macro → ℕ → List Element → Bool
 nests_within macros zero [] = true
 nests_within macros zero (e ∷ es) = false
-nests_within macros (suc depth) es = list_all (λ e. nests_within macros depth (inside macros e)) es
+nests_within macros (suc depth) es = list_all (λ e. nests_within macros depth (children_of macros e)) es
 
 -- how many there are down to that depth: each, and what stands in it
 abbrev pub count_to : List Macro → ℕ → List Element → ℕ
 count_to macros zero es = 0
-count_to macros (suc depth) es = sum_by (λ e. 1 + count_to macros depth (inside macros e)) es
+count_to macros (suc depth) es = sum_by (λ e. 1 + count_to macros depth (children_of macros e)) es

@@ -2,8 +2,8 @@
 ghost use Rattle.std.specs.Prelude.{[], ◌∷◌, IfErr, OnOk};
 ghost use Rattle.csl_base.specs.ElementView.{branches_view, element_view, elements_view, target_view};
 ghost use Rattle.csl_styles.specs.SoundView.{sound_view};
-ghost use Rattle.csl_limits.specs.Limited.{Checked, Counted, Exceeds, IsWithin};
-ghost use Rattle.csl_limits.specs.Nesting.{branch_items, called, inside, items};
+ghost use Rattle.csl_limits.specs.Limited.{ChecksLayout, Counted, Exceeds, IsWithinLimits};
+ghost use Rattle.csl_limits.specs.Nesting.{branch_items, called, children_of, items};
 
 use csl_base::element::{ChooseBranch, LayoutRenderingElement, TextTarget};
 use csl_styles::sound::SoundStyle;
@@ -38,7 +38,7 @@ impl Limits {
     ///
     /// Which limit a layout exceeds: the first that is found from left to right.
     pub fn check(&self, style: &SoundStyle<'_>) -> Result<(), Excess>
-        ensures within { OnOk result (IsWithin self.now (sound_view style.now)) }
+        ensures within { OnOk result (IsWithinLimits self.now (sound_view style.now)) }
         ensures exceeded { IfErr result (λ which. Exceeds which self.now (sound_view style.now)) }
     {
         let sheet = style.style();
@@ -54,7 +54,8 @@ impl Limits {
         style: &SoundStyle<'_>,
         elements: &[LayoutRenderingElement],
     ) -> Result<(), Excess>
-        ensures { Checked self.now (sound_view style.now).macros (items (elements_view elements.now)) result }
+        ensures { ChecksLayout self.now (sound_view style.now).macros
+            (items (elements_view elements.now)) result }
     {
         count_all(style, elements, self.depth, self.elements)?;
         Ok(())
@@ -106,7 +107,7 @@ fn count_inside(
     left: usize,
 ) -> Result<usize, Excess>
     ensures { let macros = (sound_view style.now).macros in
-        Counted macros depth (inside macros (element_view element.now)) left result }
+        Counted macros depth (children_of macros (element_view element.now)) left result }
 {
     match element {
         LayoutRenderingElement::Text { target, .. } => count_called(style, target, depth, left),

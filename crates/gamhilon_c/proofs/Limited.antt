@@ -1,4 +1,4 @@
--- What a check of limits says is what its status says.
+-- What a refusal of limits says is what its status says.
 use Rattle.std.proofs.Common.{◌≡◌, ℕ, Option, List, Result, Ok, Err, arith, inl, inr}
 use Rattle.std.specs.Prelude.{⊤}
 use Rattle.csl_base.specs.Style.{StyleValue}
@@ -10,15 +10,6 @@ use Rattle.cite_document.specs.declared.limits.LimitError.TheVariants as errors
 use Rattle.gamhilon_c.specs.KeepsLimits.{KeepsLimits}
 
 module _ (limits : Limits) (styles : Option (List StyleValue)) (code : ℕ) where
-  pub within : ChecksStyles limits styles (Ok tt) → code ≡ 0 → KeepsLimits limits styles code
-  within h s = record {
-    within = λ c. h;
-    no_document = λ c. absurd (omega arith);
-    too_deep = λ c. absurd (omega arith);
-    too_many = λ c. absurd (omega arith);
-    is_status = inl s;
-  }
-
   pub refused : (e : LimitError) → ChecksStyles limits styles (Err e) → code ≡ limit_status e → KeepsLimits limits styles code
   refused errors.Document h s = record {
     within = λ c. absurd (omega arith);
