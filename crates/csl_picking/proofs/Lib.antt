@@ -8,7 +8,6 @@ pub mod MacroCalls
 pub mod Agree
 pub mod Nesting
 pub mod WorkSteps
-pub mod TextView
 pub mod AllKept
 pub mod Noted
 pub mod QuietMacros

@@ -1,5 +1,5 @@
 -- Forms of names that were noted are noted still, whatever is picked.
-use Rattle.std.proofs.Common.{◌≡◌, ℕ, zero, suc, List, [], ◌∷◌, Bool, true, false, cond, Option, Some, None, refl, sym, ap, ◌∙◌}
+use Rattle.std.proofs.Common.{◌≡◌, ℕ, zero, suc, List, [], ◌∷◌, Bool, true, false, cond, Option, Some, None, refl, ap, ◌∙◌}
 use Rattle.csl_base.specs.declared.names.NameDisambiguationProperties.{NameDisambiguationProperties}
 use Rattle.csl_base.specs.declared.taxonomy.Variable.{Variable}
 use Rattle.csl_base.specs.declared.taxonomy.NameVariable.{NameVariable}
@@ -7,7 +7,6 @@ use Rattle.csl_base.specs.declared.taxonomy.DateVariable.{DateVariable}
 use Rattle.csl_base.specs.declared.elem.ElemMeta.TheVariants as meta
 use Rattle.csl_base.specs.declared.taxonomy.StandardVariable.TheVariants as standard
 use Rattle.csl_base.specs.declared.taxonomy.NumberVariable.TheVariants as number
-use Rattle.csl_base.specs.declared.element.Condition.{Condition}
 use Rattle.csl_base.specs.Answers.{Answers}
 use Rattle.csl_base.specs.Forms.{Forms}
 use Rattle.csl_base.specs.Element.{Name, Look, NameOptions, Target, value_target, standard_target, macro_target, term_target, Element, text_element, number_element, date_element, names_element, group_element, choose_element, Elements, no_elements, element, Branches, otherwise, branch, Macro}
@@ -20,7 +19,7 @@ use Rattle.csl_picking.specs.Names.{stand_in, blocks, author_variable, written_b
 use Rattle.csl_picking.specs.Options.{applied_options}
 use Rattle.csl_picking.specs.NameRules.{Rules, rules_of}
 use Rattle.csl_picking.specs.Pieces.{NodeValue, node_of, leaves_of, plain_node}
-use Rattle.csl_picking.specs.Picked.{Picked, Held, gives, nothing, without_content, called_with}
+use Rattle.csl_picking.specs.Picked.{Picked, Held, added, gives, nothing, without_content, called_with}
 use Rattle.csl_picking.specs.Variables.{meant, is_plain, writes, text_leaves, variable_leaf, suffix_behind, variable_meta, dated, noted_use, noted_behind, pick_variable, pick_words, date_leaves, pick_date}
 use Rattle.csl_picking.specs.Pick.{Call, pick_text, pick_with, pick_all_with, pick_first_with, body_picked, called_macro, picks_all}
 use Rattle.csl_picking.specs.Quiet.{Keeps}
@@ -141,14 +140,17 @@ call-kept env ms (suc depth) name node n = body-kept env (called_macro env ms de
 pub picks-kept : (env : Env) (ms : List Macro) (depth : ℕ) (es : Elements) (n : Notes) → Keeps n (picks_all env ms depth es n).noted
 picks-kept env ms depth es n = all-kept env (called_macro env ms depth) (call-kept env ms depth) es n
 
--- an element that is picked at once
-pub plain-kept : (env : Env) (call : Call) (e : Element) (h : Held) → Keeps h.noted (plain_done env call e h).noted
-plain-kept env call (text_element (value_target t) quotes strip look) h = λ p e. words-same env.form (Some t) look quotes strip h.noted ∙ e
-plain-kept env call (text_element (standard_target v) quotes strip look) h = λ p e. variable-same env (meant env.is_bibliography env.cite.usage (Variable.Standard v)) look quotes strip h.noted ∙ e
-plain-kept env call (text_element (macro_target name) quotes strip look) h = kept h.noted
-plain-kept env call (text_element (term_target t form plural) quotes strip look) h = λ p e. words-same env.form (env.term t form plural) look quotes strip h.noted ∙ e
-plain-kept env call (number_element v look) h = λ p e. variable-same env (meant env.is_bibliography env.cite.usage (Variable.Number v)) look false false h.noted ∙ e
-plain-kept env call (date_element v look) h = date-kept env v look h.noted
-plain-kept env call (names_element variables substitute options look) h = names-kept env variables substitute options look h.noted
-plain-kept env call (group_element children delimiter look) h = kept h.noted
-plain-kept env call (choose_element branches) h = kept h.noted
+-- once a variable is picked, and once an element without others inside is
+pub variable-kept : (env : Env) (v : Variable) (look : Look) (quotes strip : Bool) (s now : Held) → now ≡ added (pick_variable env v look quotes strip s.noted) s → Keeps s.noted now.noted
+variable-kept env v look quotes strip s now is p h = ap (λ x. x.noted.first_name) is ∙ variable-same env v look quotes strip s.noted ∙ h
+
+pub plain-kept : (env : Env) (e : Element) (s now : Held) → now ≡ plain_done env e s → Keeps s.noted now.noted
+plain-kept env e s now is p h = ap (λ x. x.noted.first_name) is ∙ by e p h
+  where
+    by : (e : Element) → Keeps s.noted (plain_done env e s).noted
+    by (number_element v look) = λ p e. variable-same env (meant env.is_bibliography env.cite.usage (Variable.Number v)) look false false s.noted ∙ e
+    by (date_element v look) = date-kept env v look s.noted
+    by (names_element variables substitute options look) = names-kept env variables substitute options look s.noted
+    by (text_element target quotes strip look) = kept s.noted
+    by (group_element children delimiter look) = kept s.noted
+    by (choose_element branches) = kept s.noted

@@ -15,8 +15,8 @@ use Rattle.csl_picking.specs.contracts.quiet.SeenPartialEq.TheImpl as seen_eq
 use Rattle.csl_lookup.proofs.Equal.{usage_find}
 use Rattle.csl_picking.specs.declared.quiet.QuietMacros.{QuietMacros}
 use Rattle.csl_picking.specs.Nodes.{inside, remembered, is_empty_node, cut_back, closed_as, is_without_content, macro_closed, group_closed}
-use Rattle.csl_picking.specs.Pieces.{NodeValue, Part}
-use Rattle.csl_picking.specs.Picked.{Picked, Held, added, in_macro}
+use Rattle.csl_picking.specs.Pieces.{Part}
+use Rattle.csl_picking.specs.Picked.{Held, added, in_macro}
 use Rattle.csl_picking.specs.Pick.{Call}
 use Rattle.csl_picking.specs.Quiet.{seen, told, Keeps, GivesNothing, IsQuiet, IsOpened}
 use Rattle.csl_picking.proofs.Tokens.{is_filled}

@@ -1,5 +1,5 @@
 -- Steps that are added to a picking's list, over plain data.
-use Rattle.std.proofs.Common.{◌≡◌, ℕ, zero, suc, ◌+◌, ◌-◌, ◌<◌, List, [], ◌∷◌, ◌++◌, length, Bool, true, false, cond, Some, None, Bor, refl, sym, ap, ◌∙◌, subst, arith}
+use Rattle.std.proofs.Common.{◌≡◌, ℕ, zero, suc, ◌+◌, ◌-◌, ◌*◌, ◌<◌, List, [], ◌∷◌, ◌++◌, length, Bool, true, false, cond, Some, None, Bor, refl, sym, ap, ◌∙◌, subst, arith}
 use Rattle.std.proofs.lemmas.List.{map-append, append-nil}
 use Rattle.csl_base.specs.declared.element.LayoutRenderingElement.{LayoutRenderingElement}
 use Rattle.csl_base.specs.declared.element.Condition.{Condition}
@@ -7,7 +7,7 @@ use Rattle.csl_base.specs.declared.element.ChooseMatch.{ChooseMatch}
 use Rattle.csl_base.specs.Element.{Name, value_target, standard_target, macro_target, term_target, Element, text_element, number_element, date_element, names_element, group_element, choose_element, Elements, element, Branches, branch, Macro}
 use Rattle.csl_base.specs.ElementView.{elements_view}
 use Rattle.csl_base.specs.Ring.{body_of}
-use Rattle.csl_base.specs.Weight.{weight_all_with}
+use Rattle.csl_base.specs.Weight.{weight_with, weight_all_with}
 use Rattle.csl_picking.specs.declared.held.Opened.{Opened}
 use Rattle.csl_picking.specs.declared.notes.Called.{Called}
 use Rattle.csl_picking.specs.declared.notes.Notes.{Notes}
@@ -22,7 +22,8 @@ use Rattle.csl_picking.specs.Picked.{Picked, Held, added, grouped}
 use Rattle.csl_picking.specs.Nodes.{inside, remembered, group_closed, macro_closed}
 use Rattle.csl_picking.specs.Quiet.{seen, IsOpened}
 use Rattle.csl_picking.specs.Pick.{Call, pick_all_with, pick_first_with, body_picked, called_macro, picks, picks_all}
-use Rattle.csl_picking.specs.Work.{StepValue, step_view, steps_view, done, all_done, plain_done, inside_done, Fits, AllFit, body_weight, macro_weight, weight_all, step_work, work}
+use Rattle.csl_picking.specs.Work.{StepValue, step_view, steps_view, done, all_done, element_done, Fits, AllFit, body_weight, macro_weight, weight, weight_all, step_work, work}
+use Rattle.csl_picking.specs.Walk.{Walk, walk, GoesOn, TakesElement}
 use Rattle.csl_picking.proofs.Tokens.{group_step, macro_step, added-nothing, added-followed}
 use Rattle.csl_picking.proofs.MacroCalls.{macro_called}
 use Rattle.csl_picking.proofs.Noted.{picks-kept}
@@ -69,6 +70,25 @@ fits_popped env ms new old x h e f =
 -- a macro that is passed over
 pub passed_over : (p : Picked) (c : Called) (s now : Held) → p ≡ record { parts = []; called = c; noted = s.noted } → now ≡ record s { called = joined s.called c } → now ≡ added p s
 passed_over p c s now e f = f ∙ (λ i. record { tokens = sym (append-nil s.tokens) i; called = joined s.called c; noted = s.noted }) ∙ ap (λ q. added q s) (sym e)
+
+-- a walk that goes on with the same steps
+pub goes_on : (env : Env) (ms : List Macro) (limit : ℕ) (a : List Step) (h now : Held) → now ≡ h → 0 < limit → GoesOn env ms limit (walk a h) (walk a now)
+goes_on env ms limit a h now is more = record {
+  done = ap (all_done env ms (steps_view a)) is;
+  fit = subst (AllFit env ms (steps_view a)) (sym is);
+  falls = omega (arith, more);
+}
+
+element-positive : (call : Name → ℕ) (e : Element) → 0 < weight_with call e
+element-positive call (text_element (value_target t) quotes strip look) = omega arith
+element-positive call (text_element (standard_target v) quotes strip look) = omega arith
+element-positive call (text_element (macro_target name) quotes strip look) = omega arith
+element-positive call (text_element (term_target t form plural) quotes strip look) = omega arith
+element-positive call (number_element variable look) = omega arith
+element-positive call (date_element variable look) = omega arith
+element-positive call (names_element variables substitute options look) = omega arith
+element-positive call (group_element children delimiter look) = omega arith
+element-positive call (choose_element branches) = omega arith
 
 module _ (env : Env) (ms : List Macro) (depth : ℕ) where
   -- a group, which is opened
@@ -118,40 +138,24 @@ module _ (env : Env) (ms : List Macro) (depth : ℕ) where
         fits_more env ms b c (steps.Elements slice (call.depth - 1)) now f
         (fits_more env ms a b (steps.CloseMacro call) (done env ms (step_view (steps.Elements slice (call.depth - 1))) now) e (subst (AllFit env ms (steps_view a)) (sym macro_is) all) opened) tt
 
-  -- an element: at once, or by the steps inside
-  plain_inside : (e : Element) (h : Held) → inside_done env ms depth e (plain_done env (called_macro env ms depth) e h) ≡ added (picks env ms depth e h.noted) h
-  plain_inside (text_element (value_target t) quotes strip look) h = refl
-  plain_inside (text_element (standard_target v) quotes strip look) h = refl
-  plain_inside (text_element (macro_target name) quotes strip look) h = refl
-  plain_inside (text_element (term_target t form plural) quotes strip look) h = refl
-  plain_inside (number_element variable look) h = refl
-  plain_inside (date_element variable look) h = refl
-  plain_inside (names_element variables substitute options look) h = refl
-  plain_inside (group_element children delimiter look) h = refl
-  plain_inside (choose_element branches) h = refl
+  -- an element that is picked at once
+  pub picked_at_once : (e : Element) (a : List Step) (s now : Held) → now ≡ element_done env ms depth e s → TakesElement env ms depth e (walk a s) (walk a now)
+  picked_at_once e a s now is = goes_on env ms (2 * weight ms depth e) a (element_done env ms depth e s) now is (omega (arith, element-positive (macro_weight ms depth) e))
 
   -- and then those behind it
-  pub element_taken : (a b c : List Step) (slice : Bor (List LayoutRenderingElement)) (e : Element) (s now after : Held)
-      → b ≡ a ++ steps.Elements slice depth ∷ [] → now ≡ plain_done env (called_macro env ms depth) e s
-      → all_done env ms (steps_view c) after ≡ all_done env ms (steps_view b) (inside_done env ms depth e now)
-      → all_done env ms (steps_view c) after ≡ all_done env ms (steps_view a) (added (picks_all env ms depth (element e (elements_view slice.now)) s.noted) s)
-  element_taken a b c slice e s now after p q k =
+  pub elements_taken : (a b : List Step) (slice : Bor (List LayoutRenderingElement)) (e : Element) (s : Held) (new : Walk)
+      → b ≡ a ++ steps.Elements slice depth ∷ [] → TakesElement env ms depth e (walk b s) new
+      → GoesOn env ms (2 * weight_all ms depth (element e (elements_view slice.now)))
+      (walk a (added (picks_all env ms depth (element e (elements_view slice.now)) s.noted) s)) new
+  elements_taken a b slice e s new p k =
       let one = picks env ms depth e s.noted in
       let h : Held = added one s in
-      k ∙ ap (λ x. all_done env ms (steps_view b) (inside_done env ms depth e x)) q ∙ ap (all_done env ms (steps_view b)) (plain_inside e s)
-      ∙ pushed env ms a b (steps.Elements slice depth) h p
-      ∙ ap (all_done env ms (steps_view a)) (added-followed one (picks_all env ms depth (elements_view slice.now) one.noted) s)
-
-  pub element_fits : (a b c : List Step) (slice : Bor (List LayoutRenderingElement)) (e : Element) (s now after : Held)
-      → b ≡ a ++ steps.Elements slice depth ∷ [] → now ≡ plain_done env (called_macro env ms depth) e s
-      → (AllFit env ms (steps_view b) (inside_done env ms depth e now) → AllFit env ms (steps_view c) after)
-      → AllFit env ms (steps_view a) (added (picks_all env ms depth (element e (elements_view slice.now)) s.noted) s) → AllFit env ms (steps_view c) after
-  element_fits a b c slice e s now after p q k all =
-      let one = picks env ms depth e s.noted in
-      let h : Held = added one s in
-      let is : inside_done env ms depth e now ≡ h = ap (inside_done env ms depth e) q ∙ plain_inside e s in
       let rest = added-followed one (picks_all env ms depth (elements_view slice.now) one.noted) s in
-      k (subst (AllFit env ms (steps_view b)) (sym is) (fits_more env ms a b (steps.Elements slice depth) h p (subst (AllFit env ms (steps_view a)) (sym rest) all) tt))
+      record {
+        done = k.done ∙ pushed env ms a b (steps.Elements slice depth) h p ∙ ap (all_done env ms (steps_view a)) rest;
+        fit = λ all. k.fit (fits_more env ms a b (steps.Elements slice depth) h p (subst (AllFit env ms (steps_view a)) (sym rest) all) tt);
+        falls = omega (arith, k.falls, pushed-work ms a b (steps.Elements slice depth) p);
+      }
 
 -- a branch whose test holds, and one whose doesn't
 module _ (env : Env) (call : Call) (conditions : List Condition) (rule : ChooseMatch) (children : Elements) (bs : Branches) (test : Bool) (n noted : Notes) where

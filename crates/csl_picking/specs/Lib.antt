@@ -18,4 +18,5 @@ pub mod Pick
 pub mod Quiet
 pub mod InputView
 pub mod Work
+pub mod Walk
 pub mod HeldView

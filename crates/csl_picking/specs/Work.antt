@@ -1,7 +1,8 @@
 -- For the code: what a picking has still to do, as a list of steps of which the last comes next.
-use Rattle.std.specs.Prelude.{ℕ, zero, suc, ◌+◌, ◌*◌, List, [], ◌∷◌, map, Option, Some, None, ⊤}
-use Rattle.csl_base.specs.Element.{Name, macro_target, Element, text_element, group_element, choose_element, Elements, Macro}
+use Rattle.std.specs.Prelude.{ℕ, zero, suc, ◌+◌, ◌*◌, List, [], ◌∷◌, map, false, Option, Some, None, ⊤}
+use Rattle.csl_base.specs.Element.{Name, Element, number_element, date_element, names_element, group_element, choose_element, Elements, Macro}
 use Rattle.csl_base.specs.ElementView.{elements_view}
+use Rattle.csl_base.specs.declared.taxonomy.Variable.{Variable}
 use Rattle.csl_base.specs.Ring.{body_of}
 use Rattle.csl_base.specs.Weight.{weight_with, weight_all_with}
 use Rattle.csl_picking.specs.declared.held.Opened.{Opened}
@@ -9,11 +10,12 @@ use Rattle.csl_picking.specs.declared.quiet.Seen.{Seen}
 use Rattle.csl_picking.specs.declared.picking.Step.{Step}
 use Rattle.csl_picking.specs.declared.picking.Step.TheVariants as steps
 use Rattle.csl_picking.specs.Env.{Env}
-use Rattle.csl_picking.specs.Pieces.{plain_node}
 use Rattle.csl_picking.specs.Picked.{Held, added}
+use Rattle.csl_picking.specs.Variables.{meant, pick_variable, pick_date}
+use Rattle.csl_picking.specs.Names.{pick_names}
 use Rattle.csl_picking.specs.Nodes.{group_closed, macro_closed}
 use Rattle.csl_picking.specs.Quiet.{IsOpened}
-use Rattle.csl_picking.specs.Pick.{Call, pick_with, picks, picks_all, picks_first, called_macro}
+use Rattle.csl_picking.specs.Pick.{Call, picks, picks_all, called_macro}
 
 -- these elements are to be picked, with macros nested so deep; a node is to be closed
 pub data StepValue : Type 0 where
@@ -52,21 +54,26 @@ AllFit env macros [] h = ⊤
 AllFit env macros (x ∷ xs) h = Fits (called_macro env macros) x (all_done env macros xs h)
     × AllFit env macros xs h
 
--- an element that has none inside is picked at once
-abbrev pub plain_done : Env → Call → Element → Held → Held
-plain_done env call (text_element (macro_target name) quotes strip look) h = h
-plain_done env call (group_element children delimiter look) h = h
-plain_done env call (choose_element branches) h = h
-plain_done env call e h = added (pick_with env call e h.noted) h
+-- once an element is picked
+abbrev pub element_done : Env → List Macro → ℕ → Element → Held → Held
+element_done env macros depth e h = added (picks env macros depth e h.noted) h
 
--- any other by further steps
+-- once a number, a date or names are picked, and nothing of any other element
+abbrev pub plain_done : Env → Element → Held → Held
+plain_done env (number_element v look) h =
+    let variable = meant env.is_bibliography env.cite.usage (Variable.Number v) in
+    added (pick_variable env variable look false false h.noted) h
+plain_done env (date_element v look) h = added (pick_date env v look false false h.noted) h
+plain_done env (names_element variables substitute options look) h =
+    added (pick_names env variables substitute options look h.noted) h
+plain_done env e h = h
+
+-- once a group or a choice is picked, and nothing of any other element
 abbrev pub inside_done : Env → List Macro → ℕ → Element → Held → Held
-inside_done env macros depth (text_element (macro_target name) quotes strip look) h =
-    added (called_macro env macros depth name (plain_node look quotes strip None) h.noted) h
 inside_done env macros depth (group_element children delimiter look) h =
-    added (picks env macros depth (group_element children delimiter look) h.noted) h
+    element_done env macros depth (group_element children delimiter look) h
 inside_done env macros depth (choose_element branches) h =
-    added (picks_first env macros depth branches h.noted) h
+    element_done env macros depth (choose_element branches) h
 inside_done env macros depth e h = h
 
 -- how many steps there are at most, macros and all

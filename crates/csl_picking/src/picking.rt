@@ -1,15 +1,15 @@
 //! Picking: what a layout writes, from left to right, apart from writing it.
-ghost use Rattle.std.specs.Prelude.{◌≡◌, ℕ, ◌+◌, ◌*◌, ◌<◌, OnOk, None, false};
+ghost use Rattle.std.specs.Prelude.{◌≡◌, ℕ, ◌*◌, ◌<◌, OnOk, false};
 ghost use Rattle.csl_base.specs.ElementView.{element_view, elements_view, branches_view, target_view, text_view, look};
-ghost use Rattle.csl_base.specs.Element.{Name, text_element};
+ghost use Rattle.csl_base.specs.Element.{Name, macro_target};
 ghost use Rattle.csl_base.specs.Weight.{weight_all_with, weight_branches_with};
 ghost use Rattle.csl_picking.specs.Picked.{added};
 ghost use Rattle.csl_picking.specs.PiecesView.{node_view, shape_look};
-ghost use Rattle.csl_picking.specs.Pieces.{plain_node};
-ghost use Rattle.csl_picking.specs.Pick.{Call, group_node, pick_all_with, pick_first_with, called_macro, pick_layout, MacrosUnfold};
+ghost use Rattle.csl_picking.specs.Pick.{Call, group_node, pick_all_with, pick_first_with, pick_layout, MacrosUnfold};
 ghost use Rattle.csl_picking.specs.Nodes.{macro_closed};
 ghost use Rattle.csl_picking.specs.Quiet.{Keeps, IsQuiet, IsOpened};
-ghost use Rattle.csl_picking.specs.Work.{steps_view, step_view, done, all_done, plain_done, inside_done, Fits, AllFit, macro_weight, weight, step_work, work};
+ghost use Rattle.csl_picking.specs.Work.{step_view, done, inside_done, Fits, weight, step_work};
+ghost use Rattle.csl_picking.specs.Walk.{env_in, calls_in, plain_in, text_of, walk, GoesOn, TakesElement};
 ghost use Rattle.csl_picking.specs.HeldView.{held};
 ghost use Rattle.csl_picking.specs.InputView.{env_of, macros_of};
 
@@ -20,7 +20,7 @@ use crate::names::pick_names;
 use crate::notes::Notes;
 use crate::pieces::{Node, Shape};
 use crate::quiet::{QuietMacros, Seen};
-use crate::variables::{meant, pick_date, pick_variable, pick_words};
+use crate::variables::{pick_date, pick_meant, pick_words};
 use csl_base::element::{Affixes, ChooseBranch, LayoutRenderingElement, TextTarget};
 use csl_base::entry::EntryLike;
 use csl_base::formatting::{Display, StyleFormatting};
@@ -88,43 +88,23 @@ enum Step<'a> {
     CloseMacro(OpenMacro<'a>),
 }
 
-// Picks an element that has none inside, and nothing of any other.
+// Picks a number, a date or names, and nothing of any other element.
 fn pick_plain<'a, T: EntryLike>(
     input: &Input<'a, T>,
     element: &'a LayoutRenderingElement,
     picking: &mut Picking<'a>,
 ) -> Result<(), AllocError>
-    ensures { let env = env_of (T.answers input.now.entry.now) input.now.setting in
-        OnOk result ((call : Call)
-        → held picking.new ≡ plain_done env call (element_view element.now) (held picking.old)) }
+    ensures { OnOk result (held picking.new ≡ plain_in T.answers input.now element.now (held picking.old)) }
 {
     match element {
-        LayoutRenderingElement::Text {
-            target,
-            quotes,
-            strip_periods,
-            affixes,
-            formatting,
-            display,
-        } => {
-            let shape = Shape {
-                affixes,
-                formatting: *formatting,
-                display: *display,
-                quotes: *quotes,
-                strip_periods: *strip_periods,
-            };
-            pick_text(input, target, shape, picking)
-        }
         LayoutRenderingElement::Number {
             variable,
             affixes,
             formatting,
             display,
         } => {
-            let variable = meant(&input.setting, Variable::Number(*variable));
             let shape = plain_shape(affixes, *formatting, *display);
-            pick_variable(input, variable, shape, picking)
+            pick_meant(input, Variable::Number(*variable), shape, picking)
         }
         LayoutRenderingElement::Date {
             variable,
@@ -146,34 +126,7 @@ fn pick_plain<'a, T: EntryLike>(
             let shape = plain_shape(affixes, *formatting, *display);
             pick_names(input, variables, substitute, options, shape, picking)
         }
-        LayoutRenderingElement::Group { .. } => Ok(()),
-        LayoutRenderingElement::Choose { .. } => Ok(()),
-    }
-}
-
-// Picks a text, but nothing of a macro.
-fn pick_text<'a, T: EntryLike>(
-    input: &Input<'a, T>,
-    target: &'a TextTarget,
-    shape: Shape<'a>,
-    picking: &mut Picking<'a>,
-) -> Result<(), AllocError>
-    ensures { let env = env_of (T.answers input.now.entry.now) input.now.setting in
-        let element = text_element (target_view target.now) shape.entry.quotes shape.entry.strip_periods
-        (shape_look shape.entry) in
-        OnOk result ((call : Call) → held picking.new ≡ plain_done env call element (held picking.old)) }
-{
-    match target {
-        TextTarget::Value(text) => pick_words(&input.setting, Some(text.as_str()), shape, picking),
-        TextTarget::Term(name, form, plural) => {
-            let words = input.setting.term(*name, *form, *plural);
-            pick_words(&input.setting, words, shape, picking)
-        }
-        TextTarget::Standard(variable) => {
-            let variable = meant(&input.setting, Variable::Standard(*variable));
-            pick_variable(input, variable, shape, picking)
-        }
-        TextTarget::Macro(_) => Ok(()),
+        _ => Ok(()),
     }
 }
 
@@ -185,7 +138,7 @@ fn chosen_children<'a, T: EntryLike>(
     otherwise: &'a Vec<LayoutRenderingElement>,
     notes: &mut Notes,
 ) -> &'a Vec<LayoutRenderingElement>
-    ensures chosen { let env = env_of (T.answers input.now.entry.now) input.now.setting in (call : Call)
+    ensures chosen { let env = env_in T.answers input.now in (call : Call)
         → pick_first_with env call (branches_view branches.now.items otherwise.now.items) notes.old
         ≡ pick_all_with env call (elements_view result.now.items) notes.new }
     ensures keeps { Keeps notes.old notes.new }
@@ -201,50 +154,22 @@ fn chosen_children<'a, T: EntryLike>(
     otherwise
 }
 
-// Adds the steps of an element that has others inside, and none of any other.
+// Adds the steps of a group or a choice, and none of any other element.
 fn step_inside<'a, T: EntryLike>(
     input: &Input<'a, T>,
     element: &'a LayoutRenderingElement,
     depth: usize,
     steps: &mut Vec<Step<'a>>,
-    quiet: &QuietMacros<'a>,
     picking: &mut Picking<'a>,
 ) -> Result<(), AllocError>
-    requires { IsQuiet (called_macro (env_of (T.answers input.now.entry.now) input.now.setting)
-        (macros_of input.now.setting)) quiet.now picking.old.notes }
-    ensures done { let env = env_of (T.answers input.now.entry.now) input.now.setting in
-        let ms = macros_of input.now.setting in
-        OnOk result (all_done env ms (steps_view steps.new.items) (held picking.new)
-        ≡ all_done env ms (steps_view steps.old.items)
-        (inside_done env ms depth (element_view element.now) (held picking.old))) }
-    ensures fit { let env = env_of (T.answers input.now.entry.now) input.now.setting in
-        let ms = macros_of input.now.setting in
-        OnOk result (AllFit env ms (steps_view steps.old.items)
-        (inside_done env ms depth (element_view element.now) (held picking.old))
-        → AllFit env ms (steps_view steps.new.items) (held picking.new)) }
+    ensures steps { let env = env_in T.answers input.now in let ms = macros_of input.now.setting in
+        let e = element_view element.now in
+        OnOk result (GoesOn env ms (2 * weight ms depth e)
+        (walk steps.old.items (inside_done env ms depth e (held picking.old)))
+        (walk steps.new.items (held picking.new))) }
     ensures keeps { OnOk result (Keeps picking.old.notes picking.new.notes) }
-    ensures falls { let ms = macros_of input.now.setting in
-        OnOk result (work ms (steps_view steps.new.items)
-        < work ms (steps_view steps.old.items) + 2 * weight ms depth (element_view element.now)) }
 {
     match element {
-        LayoutRenderingElement::Text {
-            target: TextTarget::Macro(name),
-            quotes,
-            strip_periods,
-            affixes,
-            formatting,
-            display,
-        } => {
-            let shape = Shape {
-                affixes,
-                formatting: *formatting,
-                display: *display,
-                quotes: *quotes,
-                strip_periods: *strip_periods,
-            };
-            step_macro(input, name.as_str(), shape, depth, steps, quiet, picking)
-        }
         LayoutRenderingElement::Group {
             children,
             delimiter,
@@ -280,24 +205,11 @@ fn step_macro<'a, T: EntryLike>(
     quiet: &QuietMacros<'a>,
     picking: &mut Picking<'a>,
 ) -> Result<(), AllocError>
-    requires { IsQuiet (called_macro (env_of (T.answers input.now.entry.now) input.now.setting)
-        (macros_of input.now.setting)) quiet.now picking.old.notes }
-    ensures done { let env = env_of (T.answers input.now.entry.now) input.now.setting in
-        let ms = macros_of input.now.setting in
-        let node = plain_node (shape_look shape.entry) shape.entry.quotes shape.entry.strip_periods None in
-        OnOk result (all_done env ms (steps_view steps.new.items) (held picking.new)
-        ≡ all_done env ms (steps_view steps.old.items)
-        (added (called_macro env ms depth name.now node (held picking.old).noted) (held picking.old))) }
-    ensures fit { let env = env_of (T.answers input.now.entry.now) input.now.setting in
-        let ms = macros_of input.now.setting in
-        let node = plain_node (shape_look shape.entry) shape.entry.quotes shape.entry.strip_periods None in
-        OnOk result (AllFit env ms (steps_view steps.old.items)
-        (added (called_macro env ms depth name.now node (held picking.old).noted) (held picking.old))
-        → AllFit env ms (steps_view steps.new.items) (held picking.new)) }
+    requires { IsQuiet (calls_in T.answers input.now) quiet.now picking.old.notes }
+    ensures steps { let e = text_of (macro_target name.now) shape.entry in
+        OnOk result (TakesElement (env_in T.answers input.now) (macros_of input.now.setting) depth e
+        (walk steps.old.items (held picking.old)) (walk steps.new.items (held picking.new))) }
     ensures same { OnOk result (picking.new.notes ≡ picking.old.notes) }
-    ensures falls { let ms = macros_of input.now.setting in
-        OnOk result (work ms (steps_view steps.new.items)
-        < work ms (steps_view steps.old.items) + 2 * (1 + macro_weight ms depth name.now)) }
 {
     if depth == 0 {
         return Ok(());
@@ -320,6 +232,77 @@ fn step_macro<'a, T: EntryLike>(
             steps.push(Step::CloseMacro(call))?;
             steps.push(Step::Elements(elements.as_slice(), depth - 1))?;
             Ok(())
+        }
+    }
+}
+
+// Picks a text, or adds the steps of the macro that it calls.
+fn take_text<'a, T: EntryLike>(
+    input: &Input<'a, T>,
+    target: &'a TextTarget,
+    shape: Shape<'a>,
+    depth: usize,
+    steps: &mut Vec<Step<'a>>,
+    quiet: &QuietMacros<'a>,
+    picking: &mut Picking<'a>,
+) -> Result<(), AllocError>
+    requires { IsQuiet (calls_in T.answers input.now) quiet.now picking.old.notes }
+    ensures steps { let e = text_of (target_view target.now) shape.entry in
+        OnOk result (TakesElement (env_in T.answers input.now) (macros_of input.now.setting) depth e
+        (walk steps.old.items (held picking.old)) (walk steps.new.items (held picking.new))) }
+    ensures keeps { OnOk result (Keeps picking.old.notes picking.new.notes) }
+{
+    match target {
+        TextTarget::Value(text) => pick_words(&input.setting, Some(text.as_str()), shape, picking),
+        TextTarget::Term(name, form, plural) => {
+            let words = input.setting.term(*name, *form, *plural);
+            pick_words(&input.setting, words, shape, picking)
+        }
+        TextTarget::Standard(variable) => {
+            pick_meant(input, Variable::Standard(*variable), shape, picking)
+        }
+        TextTarget::Macro(name) => {
+            step_macro(input, name.as_str(), shape, depth, steps, quiet, picking)
+        }
+    }
+}
+
+// Picks an element, or adds the steps that do.
+fn take_element<'a, T: EntryLike>(
+    input: &Input<'a, T>,
+    element: &'a LayoutRenderingElement,
+    depth: usize,
+    steps: &mut Vec<Step<'a>>,
+    quiet: &QuietMacros<'a>,
+    picking: &mut Picking<'a>,
+) -> Result<(), AllocError>
+    requires { IsQuiet (calls_in T.answers input.now) quiet.now picking.old.notes }
+    ensures steps { let e = element_view element.now in
+        OnOk result (TakesElement (env_in T.answers input.now) (macros_of input.now.setting) depth e
+        (walk steps.old.items (held picking.old)) (walk steps.new.items (held picking.new))) }
+    ensures keeps { OnOk result (Keeps picking.old.notes picking.new.notes) }
+{
+    match element {
+        LayoutRenderingElement::Text {
+            target,
+            quotes,
+            strip_periods,
+            affixes,
+            formatting,
+            display,
+        } => {
+            let shape = Shape {
+                quotes: *quotes,
+                strip_periods: *strip_periods,
+                ..plain_shape(affixes, *formatting, *display)
+            };
+            take_text(input, target, shape, depth, steps, quiet, picking)
+        }
+        LayoutRenderingElement::Number { .. }
+        | LayoutRenderingElement::Date { .. }
+        | LayoutRenderingElement::Names { .. } => pick_plain(input, element, picking),
+        LayoutRenderingElement::Group { .. } | LayoutRenderingElement::Choose { .. } => {
+            step_inside(input, element, depth, steps, picking)
         }
     }
 }
@@ -367,33 +350,19 @@ fn take_step<'a, T: EntryLike>(
     quiet: &mut QuietMacros<'a>,
     picking: &mut Picking<'a>,
 ) -> Result<(), AllocError>
-    requires quiet { IsQuiet (called_macro (env_of (T.answers input.now.entry.now) input.now.setting)
-        (macros_of input.now.setting)) quiet.old picking.old.notes }
-    requires fits { Fits (called_macro (env_of (T.answers input.now.entry.now) input.now.setting)
-        (macros_of input.now.setting)) (step_view step) (held picking.old) }
-    ensures done { let env = env_of (T.answers input.now.entry.now) input.now.setting in
-        let ms = macros_of input.now.setting in
-        OnOk result (all_done env ms (steps_view steps.new.items) (held picking.new)
-        ≡ all_done env ms (steps_view steps.old.items)
-        (done env ms (step_view step.entry) (held picking.old))) }
-    ensures fit { let env = env_of (T.answers input.now.entry.now) input.now.setting in
-        let ms = macros_of input.now.setting in
-        OnOk result (AllFit env ms (steps_view steps.old.items)
-        (done env ms (step_view step.entry) (held picking.old))
-        → AllFit env ms (steps_view steps.new.items) (held picking.new)) }
-    ensures quiet { OnOk result
-        (IsQuiet (called_macro (env_of (T.answers input.now.entry.now) input.now.setting)
-        (macros_of input.now.setting)) quiet.new picking.new.notes) }
-    ensures falls { let ms = macros_of input.now.setting in
-        OnOk result (work ms (steps_view steps.new.items) < work ms (steps_view steps.old.items)
-        + step_work ms (step_view step.entry)) }
+    requires quiet { IsQuiet (calls_in T.answers input.now) quiet.old picking.old.notes }
+    requires fits { Fits (calls_in T.answers input.now) (step_view step) (held picking.old) }
+    ensures steps { let env = env_in T.answers input.now in let ms = macros_of input.now.setting in
+        let x = step_view step.entry in
+        OnOk result (GoesOn env ms (step_work ms x)
+        (walk steps.old.items (done env ms x (held picking.old))) (walk steps.new.items (held picking.new))) }
+    ensures quiet { OnOk result (IsQuiet (calls_in T.answers input.now) quiet.new picking.new.notes) }
 {
     match step {
         Step::Elements(elements, depth) => {
             if let Some((element, rest)) = elements.split_first() {
                 steps.push(Step::Elements(rest, depth))?;
-                pick_plain(input, element, picking)?;
-                step_inside(input, element, depth, steps, quiet, picking)?;
+                take_element(input, element, depth, steps, quiet, picking)?;
             }
             Ok(())
         }

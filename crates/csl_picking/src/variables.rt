@@ -266,9 +266,9 @@ impl Notes {
     }
 }
 
-/// The variable that an element means which names this one: in the bibliography the label and the
-/// number stand for each other where only one of them was used.
-pub fn meant(setting: &Setting, variable: Variable) -> Variable
+// The variable that an element means which names this one: in the bibliography the label and the
+// number stand for each other where only one of them was used.
+fn meant(setting: &Setting, variable: Variable) -> Variable
     ensures { result ≡ meant setting.now.is_bibliography setting.now.cite.usage variable }
 {
     if !setting.is_bibliography {
@@ -292,8 +292,8 @@ pub fn called_with(given: bool) -> Called
     if given { Called::Filled } else { Called::Empty }
 }
 
-/// A text or a number of a variable.
-pub fn pick_variable<'a, T: EntryLike>(
+// A text or a number of a variable.
+fn pick_variable<'a, T: EntryLike>(
     input: &Input<'a, T>,
     variable: Variable,
     shape: Shape<'a>,
@@ -316,6 +316,23 @@ pub fn pick_variable<'a, T: EntryLike>(
     picking.called = picking.called.and(called_with(given));
     picking.notes.note_variable(&input.setting, variable, given);
     Ok(())
+}
+
+/// A text or a number of the variable that is meant by this one.
+pub fn pick_meant<'a, T: EntryLike>(
+    input: &Input<'a, T>,
+    variable: Variable,
+    shape: Shape<'a>,
+    picking: &mut Picking<'a>,
+) -> Result<(), AllocError>
+    ensures { let env = env_of (T.answers input.now.entry.now) input.now.setting in
+        let v = meant env.is_bibliography env.cite.usage variable in
+        OnOk result (held picking.new
+        ≡ added (pick_variable env v
+        (shape_look shape.entry) shape.entry.quotes shape.entry.strip_periods picking.old.notes)
+        (held picking.old)) }
+{
+    pick_variable(input, meant(&input.setting, variable), shape, picking)
 }
 
 /// A text that names no variable, if there is one.

@@ -80,42 +80,23 @@ fn change_against(
     ensures { result ≡ change_of rule (Some kept.now.elem.now) own.now.elem.now }
 {
     if is_nameless(own) {
-        return if has_same_names(kept, own) && is_same(kept.elem, own.elem) {
-            Some(Change::TextAlone)
-        } else {
-            None
-        };
+        let is_equal = has_same_names(kept, own) && is_same(kept.elem, own.elem);
+        return is_equal.then_some(Change::TextAlone);
     }
     match rule {
         SubsequentAuthorSubstituteRule::CompleteAll => {
-            if has_same_names(kept, own) {
-                Some(Change::WithoutNames)
-            } else {
-                None
-            }
+            has_same_names(kept, own).then_some(Change::WithoutNames)
         }
         SubsequentAuthorSubstituteRule::CompleteEach => {
             let elem = own.elem;
-            if has_same_names(kept, own) {
-                Some(Change::NamesReplaced(elem.children.0.len()))
-            } else {
-                None
-            }
+            has_same_names(kept, own).then_some(Change::NamesReplaced(elem.children.0.len()))
         }
         SubsequentAuthorSubstituteRule::PartialEach => {
             let common = names_in_common(kept, own);
-            if common > 0 {
-                Some(Change::NamesReplaced(common))
-            } else {
-                None
-            }
+            (common > 0).then_some(Change::NamesReplaced(common))
         }
         SubsequentAuthorSubstituteRule::PartialFirst => {
-            if names_in_common(kept, own) > 0 {
-                Some(Change::NamesReplaced(1))
-            } else {
-                None
-            }
+            (names_in_common(kept, own) > 0).then_some(Change::NamesReplaced(1))
         }
     }
 }

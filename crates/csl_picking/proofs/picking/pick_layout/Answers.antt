@@ -14,7 +14,7 @@ pub loop-step-smaller : goal.loop-step-smaller
 loop-step-smaller g c =
     let ms = macros_of c.args.input.now.setting in
     let one = pushed-work ms c.pop.new.self.items c.loop-step.steps.items c.in-Some.step c.in-Some.ensures.items in
-    let falls = c.in_ok-take_step.ensures.falls in
+    let falls = c.in_ok-take_step.ensures.steps.falls in
     let h : work ms (steps_view c.take_step.new.steps.items) < work ms (steps_view c.loop-step.steps.items) = omega (arith, one, falls) in
     h
 
@@ -30,9 +30,9 @@ loop-step-preserved g c =
     let ms = macros_of c.args.input.now.setting in
     let popped = fits_popped env ms c.pop.new.self.items c.loop-step.steps.items c.in-Some.step (held c.loop-step.picking) c.in-Some.ensures.items c.loop-step.invariant.fit in
     record {
-      all = c.in_ok-take_step.ensures.done ∙ sym (pushed env ms c.pop.new.self.items c.loop-step.steps.items c.in-Some.step (held c.loop-step.picking) c.in-Some.ensures.items)
+      all = c.in_ok-take_step.ensures.steps.done ∙ sym (pushed env ms c.pop.new.self.items c.loop-step.steps.items c.in-Some.step (held c.loop-step.picking) c.in-Some.ensures.items)
           ∙ c.loop-step.invariant.all;
-      fit = c.in_ok-take_step.ensures.fit popped.0;
+      fit = c.in_ok-take_step.ensures.steps.fit popped.0;
       quiet = c.in_ok-take_step.ensures.quiet;
     }
 
