@@ -9,4 +9,3 @@ pub mod Account
 pub mod AnswerLaws
 pub mod Promised
 pub mod AskedView
-pub mod AreSettled
