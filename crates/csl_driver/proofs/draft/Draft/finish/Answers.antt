@@ -1,14 +1,11 @@
-use Rattle.std.proofs.Common.{◌-◌, ◌^◌, ap, length, map, subst, sym, ◌∙◌}
-use Rattle.std.specs.Prelude.{min}
+use Rattle.std.proofs.Common.{ap, length, map, subst, sym, ◌∙◌}
 use Rattle.std.specs.List.{sum_by}
-use Rattle.csl_driver.specs.Account.{listed_count, rerendered}
 use Rattle.csl_driver.specs.Answer.{drawn_together, entries_listed, final_number, numbered_finally, order_in_use, rendered_first}
 use Rattle.csl_driver.specs.AskedView.{asked_view}
 use Rattle.csl_driver.proofs.ByEntries.{numbers-of, states-of}
-use Rattle.csl_driver.proofs.FirstPlaced.{first-cited}
 use Rattle.csl_driver.proofs.KeptLaws.{is-answer}
 use Rattle.csl_driver.proofs.Listings.{table-once}
-use Rattle.csl_driver.proofs.Sizes.{all-counted, last-size, three-counted}
+use Rattle.csl_driver.proofs.Sizes.{all-counted, last-size}
 use Rattle.csl_driver.proofs.Standing.{begun-of-table, drawn-requests, ordered-stand, settled-stand}
 use Rattle.csl_driver.proofs.Whole.{whole}
 use Rattle.csl_entries.specs.Entries.{number}
@@ -19,9 +16,8 @@ use Rattle.csl_passes.specs.Request.{cites_of}
 use Rattle.csl_positions.specs.FinalProperties.{with_final_properties}
 use Rattle.csl_positions.specs.FirstProperties.{first_properties, numbered_by}
 use Rattle.csl_round_laws.specs.FirstRenders.{AreBegun}
-use Rattle.csl_round_laws.specs.Rerenders.{rerenders}
 use Rattle.csl_round_laws.specs.Rounds.{told_by}
-use Rattle.csl_round_laws.specs.Tables.{last_states, round_tables}
+use Rattle.csl_round_laws.specs.Tables.{last_states}
 use Rattle.csl_rounds.specs.AfterRounds.{AreAfterRounds}
 use Rattle.csl_writing.specs.Counted.{counted_times}
 use Rattle.csl_round_laws.proofs.Begun.{first-begun}
@@ -116,16 +112,14 @@ returns g c =
     c.set_final_properties.ensures
     ∙ (λ i. with_final_properties eq peq ((ap (λ ns. numbered_by eq ns table.entries) c.deref.ensures.value ∙ numbers) i) (ordered i)) in
     let account = c.in_ok-account.ensures in
-    let n = length (cites_of asked.requests) in
     let last = last_states mode eq answers firsts in
-    let again = rounds.counted ∙ ap (λ es. counted_times (rerenders es (round_tables mode eq answers firsts)) _) (first-cited eq peq answers (number eq asked.offset (entries_listed eq asked.wanted asked.requests)) _ asked.requests) in
     let sizes = ap (sum_by (λ r. length r.items)) (c.collapse_all.ensures ∙ ap (map drawn_together) settled) ∙ last-size eq peq answers mode asked in
     is-answer eq peq answers mode asked _ (c.answers_keep_laws.ensures mode asked) (record {
       ok = whole eq peq answers mode asked (renders_view c.set_final_properties.new.renders) (renders_view c.collapse_all.new.cites) settled c.collapse_all.ensures
           (c.new.ensures ∙ c.in_ok-citations.ensures.citations) c.in_ok-bibliography.ensures.bibliography;
       renders = account.renders
-          ∙ all-counted n (listed_count eq asked.wanted asked.requests) (rerendered eq peq answers mode asked) _ _ (c.in_ok-first.ensures.counted ∙ ap (counted_times n) c.new-counter.ensures)
-          (three-counted _ _ _ n _ _ _ _ again c.in_ok-bibliography.ensures.counted c.in_ok-citations.ensures.counted sizes);
+          ∙ all-counted eq peq answers mode asked _ _ _ _ _ (c.in_ok-first.ensures.counted ∙ ap (counted_times (length (cites_of asked.requests))) c.new-counter.ensures)
+          rounds.counted c.in_ok-bibliography.ensures.counted c.in_ok-citations.ensures.counted sizes;
       rounds = account.rounds ∙ rounds.marked_is;
       entries = account.entries ∙ ap (λ t. t.entries) draft.known.table;
       states = account.states ∙ states-of eq g.met.T.Eq.laws table.entries once last _ rounds.states_are ∙ ap (λ t. map (λ e. told_by (last e)) t.entries) draft.known.table;

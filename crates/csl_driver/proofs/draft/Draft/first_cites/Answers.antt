@@ -21,8 +21,11 @@ first_items-requires-clause-once g c =
 pub index-first-requires : goal.index-first-requires
 index-first-requires g c =
     let entries = (table_view c.args.self.cited.now.table).entries in
-    within-firsts g.T.PartialEq.eq entries (renders_view c.args.cites.now) c.in_ok-places.places.items c.in_ok-places.ensures c.order-order.result.now c.loop-entry.entry-index
-    (subst (λ ps. All (λ q. q < length entries) ps) (sym c.order-order.ensures) (known-within c.args.self.known g.met.T.Eq.laws)) c.loop-entry-test.true
+    let order = c.order-order.result.now in
+    let places = c.in_ok-places.places in
+    let listed = subst (λ ps. All (λ q. q < length entries) ps) (sym c.order-order.ensures) (known-within c.args.self.known g.met.T.Eq.laws) in
+    subst (λ n. get_or order c.loop-entry.entry-index 0 < n) (sym places.ok.0)
+    (within-firsts g.T.PartialEq.eq entries (renders_view c.args.cites.now) places.items c.in_ok-places.ensures order c.loop-entry.entry-index listed c.loop-entry-test.true)
 
 pub loop-entry-preserved : goal.loop-entry-preserved
 loop-entry-preserved g c =
