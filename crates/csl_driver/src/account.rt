@@ -1,5 +1,6 @@
 //! What an answer cost, and how it numbers its entries and tells them apart.
 ghost use Rattle.std.specs.Prelude.{◌≡◌, ◌+◌, IfOk, length, map, take};
+ghost use Rattle.csl_driver.specs.DraftView.{table_in};
 ghost use Rattle.csl_entries.specs.TableView.{table_view};
 ghost use Rattle.csl_round_laws.specs.Rounds.{told_by};
 
@@ -38,11 +39,10 @@ impl<'d, 'o, 'a, T: EntryLike, P> Draft<'d, 'o, 'a, T, P> {
     ) -> Result<Account<'a, T>, AllocError>
         ensures renders { IfOk result (λ a. a.renders ≡ counter.now) }
         ensures rounds { IfOk result (λ a. a.rounds ≡ rounds.marked) }
-        ensures entries { IfOk result (λ a. map (λ e. e.now) a.entries.items
-            ≡ (table_view self.entry.cited.now.table).entries) }
+        ensures entries { IfOk result (λ a. map (λ e. e.now) a.entries.items ≡ (table_in self.entry).entries) }
         ensures states { IfOk result (λ a. a.states.items ≡ map told_by rounds.states.items) }
         ensures numbers { IfOk result (λ a. a.numbers.items
-            ≡ take (length (table_view self.entry.cited.now.table).entries) numbers.items) }
+            ≡ take (length (table_in self.entry).entries) numbers.items) }
     {
         let table = &self.cited.table;
         let marked = rounds.marked;

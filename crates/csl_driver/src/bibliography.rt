@@ -2,15 +2,13 @@
 ghost use Rattle.std.specs.Prelude.{◌≡◌, All, IfOk, OnOk, option_map};
 ghost use Rattle.std.specs.List.{filter_map};
 ghost use Rattle.csl_assembly.specs.BibliographyItems.{bibliography_of, cites_at};
-ghost use Rattle.csl_base.specs.StyleView.{style_view};
 ghost use Rattle.csl_driver.specs.Account.{listed_count};
 ghost use Rattle.csl_driver.specs.Answer.{entries_listed};
 ghost use Rattle.csl_driver.specs.AreCitesOf.{AreCitesOf};
-ghost use Rattle.csl_entries.specs.TableView.{table_view};
+ghost use Rattle.csl_driver.specs.DraftView.{asked_in, table_in};
 ghost use Rattle.csl_passes.specs.Places.{IsPlace};
 ghost use Rattle.csl_passes.specs.RendersView.{renders_view};
 ghost use Rattle.csl_passes.specs.Request.{wanted_source};
-ghost use Rattle.csl_passes.specs.RequestView.{requests_view, wanted_view};
 ghost use Rattle.csl_positions.specs.FinalProperties.{first_item};
 ghost use Rattle.csl_writing.specs.Counted.{counted_times};
 
@@ -31,17 +29,16 @@ impl<'d, 'o, 'a, T: EntryLike, P: Drop> Draft<'d, 'o, 'a, T, P> {
         cites: &[SpeculativeCiteRender<'_, 'a, T, P>],
         counter: &mut Renders,
     ) -> Result<Option<RenderedBibliography>, AllocError>
-        requires cites { AreCitesOf T.eq (table_view self.cited.now.table)
-            (requests_view self.requests.requests.now) (renders_view cites.now) }
-        ensures bibliography { let wanted = wanted_view self.entry.wanted.wanted.now in
+        requires cites { AreCitesOf T.eq (table_in self) (asked_in self).requests (renders_view cites.now) }
+        ensures bibliography { let asked = asked_in self.entry in
             IfOk result (λ r. r
-            ≡ option_map (λ b. bibliography_of T.answers (wanted_source wanted) b
+            ≡ option_map (λ b. bibliography_of T.answers (wanted_source asked.wanted) b
             (filter_map (first_item T.eq (renders_view cites.now))
-            (entries_listed T.eq wanted (requests_view self.entry.requests.requests.now))))
-            wanted.style.bibliography) }
-        ensures counted { OnOk result (counter.new
-            ≡ counted_times (listed_count T.eq (wanted_view self.entry.wanted.wanted.now)
-            (requests_view self.entry.requests.requests.now)) counter.old) }
+            (entries_listed T.eq asked.wanted asked.requests)))
+            asked.wanted.style.bibliography) }
+        ensures counted { let asked = asked_in self.entry in
+            OnOk result (counter.new
+            ≡ counted_times (listed_count T.eq asked.wanted asked.requests) counter.old) }
     {
         match &self.wanted.wanted.style.bibliography {
             Some(style) => {
@@ -59,12 +56,11 @@ impl<'d, 'o, 'a, T: EntryLike, P: Drop> Draft<'d, 'o, 'a, T, P> {
         alloc: Global,
         cites: &[SpeculativeCiteRender<'_, 'a, T, P>],
     ) -> Result<Vec<(usize, usize)>, AllocError>
-        requires cites { AreCitesOf T.eq (table_view self.cited.now.table)
-            (requests_view self.requests.requests.now) (renders_view cites.now) }
-        ensures firsts { IfOk result (λ v. cites_at (renders_view cites.now) v.items
+        requires cites { AreCitesOf T.eq (table_in self) (asked_in self).requests (renders_view cites.now) }
+        ensures firsts { let asked = asked_in self.entry in
+            IfOk result (λ v. cites_at (renders_view cites.now) v.items
             ≡ filter_map (first_item T.eq (renders_view cites.now))
-            (entries_listed T.eq (wanted_view self.entry.wanted.wanted.now)
-            (requests_view self.entry.requests.requests.now))) }
+            (entries_listed T.eq asked.wanted asked.requests)) }
         ensures exist { IfOk result (λ v. All (IsPlace (renders_view cites.now)) v.items) }
     {
         let places = first_items(alloc, cites, &self.cited.table)?;

@@ -3,14 +3,13 @@ ghost use Rattle.std.specs.Prelude.{◌≡◌, ◌+◌, length, map, OnOk, IfOk}
 ghost use Rattle.std.specs.List.{sum_by};
 ghost use Rattle.csl_driver.specs.Answer.{citation_of, drawn_together, numbered_finally, order_in_use, rendered, rendered_first};
 ghost use Rattle.csl_driver.specs.AreCitesOf.{AreCitesOf};
-ghost use Rattle.csl_driver.specs.AskedView.{asked_of, asked_view};
+ghost use Rattle.csl_driver.specs.AskedView.{asked_of};
+ghost use Rattle.csl_driver.specs.DraftView.{asked_in, table_in};
 ghost use Rattle.csl_driver.specs.Promised.{Finishes, IsAnswer};
 ghost use Rattle.csl_entries.specs.Entries.{number};
-ghost use Rattle.csl_entries.specs.TableView.{table_view};
 ghost use Rattle.csl_grouping.specs.Blocks.{grouped};
 ghost use Rattle.csl_passes.specs.RendersView.{render_view, renders_view};
 ghost use Rattle.csl_passes.specs.Request.{cites_of};
-ghost use Rattle.csl_passes.specs.RequestView.{requests_view, wanted_view};
 ghost use Rattle.csl_positions.specs.FirstProperties.{numbered_by};
 ghost use Rattle.csl_round_laws.specs.declared.mode.RoundMode.{RoundMode};
 ghost use Rattle.csl_writing.specs.Counted.{counted_times};
@@ -101,8 +100,8 @@ impl<'a, T: EntryLike, P: Eq + Drop> BibliographyDriver<'a, T, P> {
         self.answered(&request, RoundMode::Full)
     }
 
-    /// Answers all requests with so many rounds, and gives the account: rings are refused, the cited entries
-    /// are listed, and the rest is done by `Draft::finish`.
+    /// Answers all requests with so many rounds, and gives the account: rings are refused, the entries that
+    /// are cited are listed, and what is then known is finished.
     fn answered(
         &self,
         request: &BibliographyRequest<'_, 'a, T>,
@@ -124,16 +123,15 @@ impl<'a, T: EntryLike, P: Eq + Drop> BibliographyDriver<'a, T, P> {
 }
 
 impl<'d, 'o, 'a, T: EntryLike, P: Eq + Drop> Draft<'d, 'o, 'a, T, P> {
-    /// The answer, and its account: the cites are rendered first, told apart, brought into their final order,
-    /// numbered and put in their positions; the bibliography is written; the cites are drawn together, and
-    /// the citations written.
+    /// The answer, and its account. The cites are rendered a first time, told apart and grouped, and their
+    /// entries numbered in their final order; then the bibliography is written, and from the collapsed cites
+    /// the citations.
     pub(crate) fn finish(
         self,
         alloc: Global,
         mode: RoundMode,
     ) -> Result<(Rendered, Account<'a, T>), AllocError>
-        ensures { IfOk result (IsAnswer T.eq P.eq T.answers mode (asked_view
-            self.entry.requests.requests.now self.entry.cited.now.offset self.entry.wanted.wanted.now)) }
+        ensures { IfOk result (IsAnswer T.eq P.eq T.answers mode (asked_in self.entry)) }
     {
         let table = &self.cited.table;
         let mut counter = Renders::new();
@@ -163,10 +161,9 @@ impl<'d, 'o, 'a, T: EntryLike, P: Eq + Drop> Draft<'d, 'o, 'a, T, P> {
         counter: &mut Renders,
     ) -> Result<Cites<'d, 'a, T, P>, AllocError>
         ensures cites { IfOk result (λ c. renders_view c.by_request.items
-            ≡ rendered_first T.eq P.eq T.answers (asked_view
-            self.entry.requests.requests.now self.entry.cited.now.offset self.entry.wanted.wanted.now)) }
+            ≡ rendered_first T.eq P.eq T.answers (asked_in self.entry)) }
         ensures counted { OnOk result (counter.new
-            ≡ counted_times (length (cites_of (requests_view self.entry.requests.requests.now))) counter.old) }
+            ≡ counted_times (length (cites_of (asked_in self.entry).requests)) counter.old) }
     {
         let table = &self.cited.table;
         let numbers = self.cited.numbers(alloc, &self.cited.listing)?;
@@ -183,14 +180,12 @@ impl<'d, 'o, 'a, T: EntryLike, P: Eq + Drop> Draft<'d, 'o, 'a, T, P> {
         alloc: Global,
         cites: &[SpeculativeCiteRender<'_, 'a, T, P>],
     ) -> Result<Vec<usize>, AllocError>
-        requires cites { AreCitesOf T.eq (table_view self.cited.now.table)
-            (requests_view self.requests.requests.now) (renders_view cites.now) }
-        ensures long { IfOk result (λ v. length v.items
-            ≡ length (table_view self.entry.cited.now.table).entries + 1) }
-        ensures numbers { IfOk result (λ v. numbered_by T.eq v.items (table_view self.entry.cited.now.table).entries
-            ≡ number T.eq self.entry.cited.now.offset
-            (numbered_finally T.eq (order_in_use (wanted_view self.entry.wanted.wanted.now))
-            (requests_view self.entry.requests.requests.now) (renders_view cites.now))) }
+        requires cites { AreCitesOf T.eq (table_in self) (asked_in self).requests (renders_view cites.now) }
+        ensures long { IfOk result (λ v. length v.items ≡ length (table_in self.entry).entries + 1) }
+        ensures numbers { let asked = asked_in self.entry in
+            IfOk result (λ v. numbered_by T.eq v.items (table_in self.entry).entries
+            ≡ number T.eq asked.offset
+            (numbered_finally T.eq (order_in_use asked.wanted) asked.requests (renders_view cites.now))) }
     {
         match used_order(self.wanted.wanted) {
             Some(_) => self.cited.numbers(alloc, &self.cited.listing),
@@ -208,9 +203,9 @@ impl<'d, 'o, 'a, T: EntryLike, P: Eq + Drop> Draft<'d, 'o, 'a, T, P> {
         cites: &[SpeculativeCiteRender<'_, '_, T, P>],
         counter: &mut Renders,
     ) -> Result<Vec<RenderedCitation>, AllocError>
-        requires cites { map (λ c. c.request) (renders_view cites.now)
-            ≡ requests_view self.requests.requests.now }
-        ensures citations { IfOk result (λ v. v.items ≡ map (citation_of T.answers) (renders_view cites.now)) }
+        requires cites { map (λ c. c.request) (renders_view cites.now) ≡ (asked_in self).requests }
+        ensures citations { IfOk result (λ v. v.items
+            ≡ map (citation_of T.answers) (renders_view cites.now)) }
         ensures counted { OnOk result (counter.new
             ≡ counted_times (sum_by (λ c. length c.items) (renders_view cites.now)) counter.old) }
     {

@@ -51,8 +51,10 @@ final_numbers-requires g c =
     let asked = asked_view draft.requests.requests.now draft.cited.now.offset draft.wanted.wanted.now in
     let table = table_view draft.cited.now.table in
     let first = ap renders_view c.deref_mut-cites.ensures.value ∙ c.in_ok-first.ensures.cites in
-    record { cites = ordered-stand eq g.met.T.Eq.laws answers g.P.PartialEq.eq asked table draft.known.table (renders_view c.deref_mut-cites.result.now) first
-    c.args.mode (renders_view c.disambiguate.new.cites) (renders_view c.group_all.new.cites) c.in_ok-rounds.ensures.cites c.in_ok-group_all.ensures }
+    record {
+      cites = ordered-stand eq g.met.T.Eq.laws answers g.P.PartialEq.eq asked table draft.known.table (renders_view c.deref_mut-cites.result.now) first
+          c.args.mode (renders_view c.disambiguate.new.cites) (renders_view c.group_all.new.cites) c.in_ok-rounds.ensures.cites c.in_ok-group_all.ensures;
+    }
 
 pub set_final_properties-requires : goal.set_final_properties-requires
 set_final_properties-requires g c =
@@ -62,8 +64,10 @@ set_final_properties-requires g c =
     let asked = asked_view draft.requests.requests.now draft.cited.now.offset draft.wanted.wanted.now in
     let table = table_view draft.cited.now.table in
     let first = ap renders_view c.deref_mut-cites.ensures.value ∙ c.in_ok-first.ensures.cites in
-    record { placed = (ordered-stand eq g.met.T.Eq.laws answers g.P.PartialEq.eq asked table draft.known.table (renders_view c.deref_mut-cites.result.now) first
-    c.args.mode (renders_view c.disambiguate.new.cites) (renders_view c.group_all.new.cites) c.in_ok-rounds.ensures.cites c.in_ok-group_all.ensures).placed }
+    record {
+      placed = (ordered-stand eq g.met.T.Eq.laws answers g.P.PartialEq.eq asked table draft.known.table (renders_view c.deref_mut-cites.result.now) first
+          c.args.mode (renders_view c.disambiguate.new.cites) (renders_view c.group_all.new.cites) c.in_ok-rounds.ensures.cites c.in_ok-group_all.ensures).placed;
+    }
 
 pub bibliography-requires : goal.bibliography-requires
 bibliography-requires g c =
@@ -73,9 +77,11 @@ bibliography-requires g c =
     let asked = asked_view draft.requests.requests.now draft.cited.now.offset draft.wanted.wanted.now in
     let table = table_view draft.cited.now.table in
     let first = ap renders_view c.deref_mut-cites.ensures.value ∙ c.in_ok-first.ensures.cites in
-    record { cites = settled-stand eq g.met.T.Eq.laws answers g.P.PartialEq.eq asked table draft.known.table (renders_view c.deref_mut-cites.result.now) first
-    c.args.mode (renders_view c.disambiguate.new.cites) (renders_view c.group_all.new.cites) c.in_ok-rounds.ensures.cites c.in_ok-group_all.ensures
-    (numbered_by eq c.deref.result.now table.entries) (renders_view c.set_final_properties.new.renders) c.set_final_properties.ensures }
+    record {
+      cites = settled-stand eq g.met.T.Eq.laws answers g.P.PartialEq.eq asked table draft.known.table (renders_view c.deref_mut-cites.result.now) first
+          c.args.mode (renders_view c.disambiguate.new.cites) (renders_view c.group_all.new.cites) c.in_ok-rounds.ensures.cites c.in_ok-group_all.ensures
+          (numbered_by eq c.deref.result.now table.entries) (renders_view c.set_final_properties.new.renders) c.set_final_properties.ensures;
+    }
 
 pub citations-requires : goal.citations-requires
 citations-requires g c =
@@ -104,7 +110,7 @@ returns g c =
     let once = table-once eq g.met.T.Eq.laws asked.requests table draft.known.table in
     let rounds =
     subst (λ fs. AreAfterRounds mode eq answers fs table.entries c.first_renders.new.counter (renders_view c.disambiguate.new.cites) c.in_ok-rounds.rounds.states.items c.in_ok-rounds.rounds.marked c.disambiguate.new.counter)
-        first c.in_ok-rounds.ensures in
+    first c.in_ok-rounds.ensures in
     let ordered = c.in_ok-group_all.ensures ∙ ap (map grouped) rounds.cites in
     let number_of = final_number eq peq answers mode asked in
     let numbers = c.in_ok-numbers.ensures.numbers ∙ ap (λ cs. number eq asked.offset (numbered_finally eq (order_in_use asked.wanted) asked.requests cs)) ordered in
