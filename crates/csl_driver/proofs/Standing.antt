@@ -159,8 +159,8 @@ module _ {E P : Type 0} (eq : E → E → Bool) (laws : IsEquivalence eq) (answe
         settled : ℕ → CiteRender E P → CiteRender E P
         settled k c = record c { items = with_final_items eq payload_eq number_of (items_before renders k) c.items }
 
-module _ {E P : Type 0} (eq : E → E → Bool) (laws : IsEquivalence eq) (answers : E → Answers) (payload_eq : P → P → Bool) (asked : Asked E P)
-    (table : Table E) (is : table ≡ table_of eq asked.requests) (begun : List (CiteRender E P)) (first : begun ≡ rendered_first eq payload_eq answers asked) where
+module _ {E P : Type 0} {eq : E → E → Bool} (laws : IsEquivalence eq) (answers : E → Answers) (payload_eq : P → P → Bool) (asked : Asked E P)
+    {table : Table E} (is : table ≡ table_of eq asked.requests) {begun : List (CiteRender E P)} (first : begun ≡ rendered_first eq payload_eq answers asked) where
   -- the first renders, over the table
   begun-stand : AreCitesOf eq table asked.requests begun
   begun-stand =
@@ -176,7 +176,7 @@ module _ {E P : Type 0} (eq : E → E → Bool) (laws : IsEquivalence eq) (answe
     listed = table-within eq laws asked.requests table is;
   }
 
-  module _ (mode : RoundMode) (told ordered : List (CiteRender E P)) (apart : told ≡ disambiguated mode eq answers begun) (grouping : ordered ≡ map grouped told) where
+  module _ (mode : RoundMode) {told ordered : List (CiteRender E P)} (apart : told ≡ disambiguated mode eq answers begun) (grouping : ordered ≡ map grouped told) where
     -- told apart and in their blocks
     pub ordered-stand : AreCitesOf eq table asked.requests ordered
     ordered-stand =
@@ -185,6 +185,6 @@ module _ {E P : Type 0} (eq : E → E → Bool) (laws : IsEquivalence eq) (answe
         (subst (AreCitesOf eq table asked.requests) (sym apart) (disambiguated-stand eq laws answers table asked.requests begun begun-stand mode)))
 
     -- and with their final properties
-    pub settled-stand : (number_of : E → ℕ) (settled : List (CiteRender E P)) → settled ≡ with_final_properties eq payload_eq number_of ordered → AreCitesOf eq table asked.requests settled
-    settled-stand number_of settled are =
+    pub settled-stand : (number_of : E → ℕ) {settled : List (CiteRender E P)} → settled ≡ with_final_properties eq payload_eq number_of ordered → AreCitesOf eq table asked.requests settled
+    settled-stand number_of {settled} are =
         subst (AreCitesOf eq table asked.requests) (sym are) (final-stand eq laws answers table asked.requests ordered ordered-stand payload_eq number_of)

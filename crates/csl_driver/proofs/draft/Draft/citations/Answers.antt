@@ -8,7 +8,7 @@ use Rattle.csl_writing.proofs.Counting.{counted_sum-more}
 use Rattle.csl_writing.specs.Counted.{counted_times}
 use Rattle.csl_base.specs.Ring.{HasNoRing}
 use Rattle.csl_passes.specs.RendersView.{item_view, render_view, renders_view}
-use Rattle.csl_passes.specs.RequestView.{requests_view}
+use Rattle.csl_driver.specs.DraftView.{asked_in}
 use Rattle.csl_positions.proofs.FinalPlaces.{all-at}
 use Rattle.csl_driver.proofs.Standing.{of-requests}
 use Rattle.csl_driver.proofs.draft.Draft.citations.Goals as goal
@@ -16,7 +16,7 @@ use Rattle.csl_driver.proofs.draft.Draft.citations.Goals as goal
 pub invariant_of-request : goal.invariant_of-request
 invariant_of-request g c =
     let cites = c.args.cites.now in
-    let acyclic = of-requests (λ r. HasNoRing r.style.macros) (renders_view cites) (requests_view c.args.self.requests.requests.now) c.requires.cites c.args.self.requests.no_ring in
+    let acyclic = of-requests (λ r. HasNoRing r.style.macros) (renders_view cites) (asked_in c.args.self).requests c.requires.cites c.args.self.requests.no_ring in
     record { no_ring = all-at (λ r. HasNoRing r.request.style.macros) render_view cites c.loop-cite.cite-index c.cite-item.result acyclic c.loop-cite-test.true c.cite-item.is }
 
 pub loop-cite-preserved : goal.loop-cite-preserved

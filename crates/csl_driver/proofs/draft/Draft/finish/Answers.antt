@@ -1,7 +1,7 @@
 use Rattle.std.proofs.Common.{ap, length, map, subst, sym, ◌∙◌}
 use Rattle.std.specs.List.{sum_by}
 use Rattle.csl_driver.specs.Answer.{drawn_together, entries_listed, final_number, numbered_finally, order_in_use, rendered_first}
-use Rattle.csl_driver.specs.AskedView.{asked_view}
+use Rattle.csl_driver.specs.DraftView.{asked_in, table_in}
 use Rattle.csl_driver.proofs.ByEntries.{numbers-of, states-of}
 use Rattle.csl_driver.proofs.KeptLaws.{is-answer}
 use Rattle.csl_driver.proofs.Listings.{table-once}
@@ -9,7 +9,6 @@ use Rattle.csl_driver.proofs.Sizes.{all-counted, last-size}
 use Rattle.csl_driver.proofs.Standing.{begun-of-table, drawn-requests, ordered-stand, settled-stand}
 use Rattle.csl_driver.proofs.Whole.{whole}
 use Rattle.csl_entries.specs.Entries.{number}
-use Rattle.csl_entries.specs.TableView.{table_view}
 use Rattle.csl_grouping.specs.Blocks.{grouped}
 use Rattle.csl_passes.specs.RendersView.{renders_view}
 use Rattle.csl_passes.specs.Request.{cites_of}
@@ -25,75 +24,45 @@ use Rattle.csl_driver.proofs.draft.Draft.finish.Goals as goal
 
 pub disambiguate-requires-clause-cites : goal.disambiguate-requires-clause-cites
 disambiguate-requires-clause-cites g c =
-    let eq = g.T.PartialEq.eq in
-    let answers = g.T.EntryLike.answers in
     let draft = c.args.self in
-    let asked = asked_view draft.requests.requests.now draft.cited.now.offset draft.wanted.wanted.now in
-    let table = table_view draft.cited.now.table in
-    let first = ap renders_view c.deref_mut-cites.ensures.value ∙ c.in_ok-first.ensures.cites in
-    begun-of-table eq g.met.T.Eq.laws answers g.P.PartialEq.eq asked table draft.known.table (renders_view c.deref_mut-cites.result.now) first draft.requests.no_ring
+    begun-of-table g.met.T.Eq.laws g.T.EntryLike.answers g.P.PartialEq.eq (asked_in draft) draft.known.table (ap renders_view c.deref_mut-cites.ensures.value ∙ c.in_ok-first.ensures.cites) draft.requests.no_ring
 
 pub disambiguate-requires-clause-begun : goal.disambiguate-requires-clause-begun
 disambiguate-requires-clause-begun g c = λ full.
     let eq = g.T.PartialEq.eq in
-    let answers = g.T.EntryLike.answers in
-    let draft = c.args.self in
-    let asked = asked_view draft.requests.requests.now draft.cited.now.offset draft.wanted.wanted.now in
-    let first = ap renders_view c.deref_mut-cites.ensures.value ∙ c.in_ok-first.ensures.cites in
-    subst AreBegun (sym first)
-    (first-begun answers asked.requests (first_properties eq g.P.PartialEq.eq (number eq asked.offset (entries_listed eq asked.wanted asked.requests)) asked.requests))
+    let asked = asked_in c.args.self in
+    subst AreBegun (sym (ap renders_view c.deref_mut-cites.ensures.value ∙ c.in_ok-first.ensures.cites))
+    (first-begun g.T.EntryLike.answers asked.requests (first_properties eq g.P.PartialEq.eq (number eq asked.offset (entries_listed eq asked.wanted asked.requests)) asked.requests))
 
 pub final_numbers-requires : goal.final_numbers-requires
 final_numbers-requires g c =
-    let eq = g.T.PartialEq.eq in
-    let answers = g.T.EntryLike.answers in
     let draft = c.args.self in
-    let asked = asked_view draft.requests.requests.now draft.cited.now.offset draft.wanted.wanted.now in
-    let table = table_view draft.cited.now.table in
-    let first = ap renders_view c.deref_mut-cites.ensures.value ∙ c.in_ok-first.ensures.cites in
     record {
-      cites = ordered-stand eq g.met.T.Eq.laws answers g.P.PartialEq.eq asked table draft.known.table (renders_view c.deref_mut-cites.result.now) first
-          c.args.mode (renders_view c.disambiguate.new.cites) (renders_view c.group_all.new.cites) c.in_ok-rounds.ensures.cites c.in_ok-group_all.ensures;
+      cites = ordered-stand g.met.T.Eq.laws g.T.EntryLike.answers g.P.PartialEq.eq (asked_in draft) draft.known.table (ap renders_view c.deref_mut-cites.ensures.value ∙ c.in_ok-first.ensures.cites)
+          c.args.mode c.in_ok-rounds.ensures.cites c.in_ok-group_all.ensures;
     }
 
 pub set_final_properties-requires : goal.set_final_properties-requires
 set_final_properties-requires g c =
-    let eq = g.T.PartialEq.eq in
-    let answers = g.T.EntryLike.answers in
     let draft = c.args.self in
-    let asked = asked_view draft.requests.requests.now draft.cited.now.offset draft.wanted.wanted.now in
-    let table = table_view draft.cited.now.table in
-    let first = ap renders_view c.deref_mut-cites.ensures.value ∙ c.in_ok-first.ensures.cites in
     record {
-      placed = (ordered-stand eq g.met.T.Eq.laws answers g.P.PartialEq.eq asked table draft.known.table (renders_view c.deref_mut-cites.result.now) first
-          c.args.mode (renders_view c.disambiguate.new.cites) (renders_view c.group_all.new.cites) c.in_ok-rounds.ensures.cites c.in_ok-group_all.ensures).placed;
+      placed = (ordered-stand g.met.T.Eq.laws g.T.EntryLike.answers g.P.PartialEq.eq (asked_in draft) draft.known.table (ap renders_view c.deref_mut-cites.ensures.value ∙ c.in_ok-first.ensures.cites)
+          c.args.mode c.in_ok-rounds.ensures.cites c.in_ok-group_all.ensures).placed;
     }
 
 pub bibliography-requires : goal.bibliography-requires
 bibliography-requires g c =
-    let eq = g.T.PartialEq.eq in
-    let answers = g.T.EntryLike.answers in
     let draft = c.args.self in
-    let asked = asked_view draft.requests.requests.now draft.cited.now.offset draft.wanted.wanted.now in
-    let table = table_view draft.cited.now.table in
-    let first = ap renders_view c.deref_mut-cites.ensures.value ∙ c.in_ok-first.ensures.cites in
     record {
-      cites = settled-stand eq g.met.T.Eq.laws answers g.P.PartialEq.eq asked table draft.known.table (renders_view c.deref_mut-cites.result.now) first
-          c.args.mode (renders_view c.disambiguate.new.cites) (renders_view c.group_all.new.cites) c.in_ok-rounds.ensures.cites c.in_ok-group_all.ensures
-          (numbered_by eq c.deref.result.now table.entries) (renders_view c.set_final_properties.new.renders) c.set_final_properties.ensures;
+      cites = settled-stand g.met.T.Eq.laws g.T.EntryLike.answers g.P.PartialEq.eq (asked_in draft) draft.known.table (ap renders_view c.deref_mut-cites.ensures.value ∙ c.in_ok-first.ensures.cites)
+          c.args.mode c.in_ok-rounds.ensures.cites c.in_ok-group_all.ensures _ c.set_final_properties.ensures;
     }
 
 pub citations-requires : goal.citations-requires
 citations-requires g c =
-    let eq = g.T.PartialEq.eq in
-    let answers = g.T.EntryLike.answers in
     let draft = c.args.self in
-    let asked = asked_view draft.requests.requests.now draft.cited.now.offset draft.wanted.wanted.now in
-    let table = table_view draft.cited.now.table in
-    let first = ap renders_view c.deref_mut-cites.ensures.value ∙ c.in_ok-first.ensures.cites in
-    let stand = settled-stand eq g.met.T.Eq.laws answers g.P.PartialEq.eq asked table draft.known.table (renders_view c.deref_mut-cites.result.now) first
-    c.args.mode (renders_view c.disambiguate.new.cites) (renders_view c.group_all.new.cites) c.in_ok-rounds.ensures.cites c.in_ok-group_all.ensures
-    (numbered_by eq c.deref.result.now table.entries) (renders_view c.set_final_properties.new.renders) c.set_final_properties.ensures in
+    let stand = settled-stand g.met.T.Eq.laws g.T.EntryLike.answers g.P.PartialEq.eq (asked_in draft) draft.known.table (ap renders_view c.deref_mut-cites.ensures.value ∙ c.in_ok-first.ensures.cites)
+    c.args.mode c.in_ok-rounds.ensures.cites c.in_ok-group_all.ensures _ c.set_final_properties.ensures in
     record { cites = ap (map (λ r. r.request)) c.collapse_all.ensures ∙ drawn-requests (renders_view c.set_final_properties.new.renders) ∙ stand.of }
 
 pub returns : goal.returns
@@ -101,8 +70,8 @@ returns g c =
     let eq = g.T.PartialEq.eq in
     let answers = g.T.EntryLike.answers in
     let draft = c.args.self in
-    let asked = asked_view draft.requests.requests.now draft.cited.now.offset draft.wanted.wanted.now in
-    let table = table_view draft.cited.now.table in
+    let asked = asked_in draft in
+    let table = table_in draft in
     let first = ap renders_view c.deref_mut-cites.ensures.value ∙ c.in_ok-first.ensures.cites in
     let peq = g.P.PartialEq.eq in
     let mode = c.args.mode in

@@ -4,9 +4,8 @@ use Rattle.std.specs.List.{filter_map}
 use Rattle.csl_driver.specs.Answer.{order_in_use}
 use Rattle.csl_entries.specs.Entries.{bibliography_order}
 use Rattle.csl_entries.specs.Listed.{Listed}
-use Rattle.csl_entries.specs.TableView.{table_view}
+use Rattle.csl_driver.specs.DraftView.{asked_in, table_in}
 use Rattle.csl_passes.specs.Request.{cited}
-use Rattle.csl_passes.specs.RequestView.{requests_view, wanted_view}
 use Rattle.csl_passes.specs.RendersView.{renders_view}
 use Rattle.csl_name_marks.proofs.Marking.{same-default}
 use Rattle.csl_driver.proofs.FirstCites.{Found, first-cites, first_of, found-more, found-same, within-firsts}
@@ -16,11 +15,11 @@ use Rattle.csl_driver.proofs.draft.Draft.first_cites.Goals as goal
 
 pub first_items-requires-clause-once : goal.first_items-requires-clause-once
 first_items-requires-clause-once g c =
-    table-once g.T.PartialEq.eq g.met.T.Eq.laws (requests_view c.args.self.requests.requests.now) (table_view c.args.self.cited.now.table) c.args.self.known.table
+    table-once g.T.PartialEq.eq g.met.T.Eq.laws (asked_in c.args.self).requests (table_in c.args.self) c.args.self.known.table
 
 pub index-first-requires : goal.index-first-requires
 index-first-requires g c =
-    let entries = (table_view c.args.self.cited.now.table).entries in
+    let entries = (table_in c.args.self).entries in
     let order = c.order-order.result.now in
     let places = c.in_ok-places.places in
     let listed = subst (λ ps. All (λ q. q < length entries) ps) (sym c.order-order.ensures) (known-within c.args.self.known g.met.T.Eq.laws) in
@@ -30,7 +29,7 @@ index-first-requires g c =
 pub loop-entry-preserved : goal.loop-entry-preserved
 loop-entry-preserved g c =
     let eq = g.T.PartialEq.eq in
-    let entries = (table_view c.args.self.cited.now.table).entries in
+    let entries = (table_in c.args.self).entries in
     let cites = renders_view c.args.cites.now in
     let order = c.order-order.result.now in
     let k = c.loop-entry.entry-index in
@@ -54,10 +53,11 @@ loop-entry-preserved g c =
 pub returns-clause-firsts : goal.returns-clause-firsts
 returns-clause-firsts g c =
     let eq = g.T.PartialEq.eq in
-    let entries = (table_view c.args.self.cited.now.table).entries in
+    let entries = (table_in c.args.self).entries in
     let cites = renders_view c.args.cites.now in
     let listed = known-listed c.args.self.known in
-    let order = bibliography_order eq (order_in_use (wanted_view c.args.self.wanted.wanted.now)) (cited (requests_view c.args.self.requests.requests.now)) in
+    let asked = asked_in c.args.self in
+    let order = bibliography_order eq (order_in_use asked.wanted) (cited asked.requests) in
     let past : length c.order-order.result.now ≤ c.loop-entry.entry-index = omega (arith, c.loop-entry-test.false) in
     c.loop-entry.invariant.cites
     ∙ ap (filter_map (first_of eq entries cites)) (take_all c.loop-entry.entry-index c.order-order.result.now past ∙ c.order-order.ensures ∙ ap (λ (l : Listed). l.order) listed.listed)
