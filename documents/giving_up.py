@@ -19,8 +19,7 @@ ROOT = os.path.dirname(HERE)
 OUT_OF_MEMORY = 'Err(DriverError::OutOfMemory(std::alloc::AllocError))'
 # The file, what stands there once, and what stands there in its place.
 FINISH = [
-    ('csl_driver/src/finish.rt', 'let result = checked_answer(alloc, &citations, &request, mode, offset);',
-     'let _ = (alloc, &request, mode, offset); let result = %s;' % OUT_OF_MEMORY),
+    ('csl_driver/src/finish.rt', 'let alloc = self.alloc;', 'if true { return %s; } let alloc = self.alloc;' % OUT_OF_MEMORY),
     ('csl_driver/src/standalone.rt', 'let cites = lone_cites(alloc, acyclic)?;', 'if true { return %s; } let cites = lone_cites(alloc, acyclic)?;' % OUT_OF_MEMORY),
 ]
 CITATION = [('csl_driver/src/driver.rt', 'if let Err(_) = self.citations.try_reserve(1) {', 'if true {')]

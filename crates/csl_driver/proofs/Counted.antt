@@ -51,14 +51,7 @@ module _ {E : Type 0} (eq : E → E → Bool) (entries order : List E) (l : List
       (most (λ e. place eq e order) (length l.order) bound entries p) in
       omega (arith, shown, counted, small)
 
-  -- there is one for each entry
-  pub enough : (n : ℕ) → n ≤ length (numbers_at l offset n)
-  enough n =
-      let shown : length (map (listed_number l offset) (range_with_len 0 n)) ≡ n = length-map-range_with_len (listed_number l offset) 0 n in
-      let more = length-append (map (listed_number l offset) (range_with_len 0 n)) (listed_number l offset n ∷ []) in
-      omega (arith, shown, more)
-
-  -- and one for the next
+  -- there is one for each entry, and one for the next
   pub one-behind : (n : ℕ) → length (numbers_at l offset n) ≡ n + 1
   one-behind n =
       let shown : length (map (listed_number l offset) (range_with_len 0 n)) ≡ n = length-map-range_with_len (listed_number l offset) 0 n in

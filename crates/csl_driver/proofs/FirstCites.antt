@@ -5,7 +5,7 @@ use Rattle.std.specs.Cmp.{IsEquivalence}
 use Rattle.std.specs.List.{cons_option, filter_map}
 use Rattle.std.specs.Option.{option_and_then}
 use Rattle.std.proofs.Math.ListN.{length-map}
-use Rattle.std.proofs.lemmas.List.Elements.{All-append, All-cons, All-nil, filter_map-append}
+use Rattle.std.proofs.lemmas.List.Elements.{All-append, All-cons, All-get_or, All-nil, filter_map-append}
 use Rattle.std.proofs.lemmas.Option.{slice_get-get_or, slice_get-map}
 use Rattle.csl_assembly.specs.BibliographyItems.{cites_at}
 use Rattle.csl_entries.specs.Entries.{is_in, place}
@@ -64,9 +64,13 @@ module _ {E P : Type 0} (eq : E → E → Bool) (entries : List E) (renders : Li
             none q = cc
         by (Some i) h = (i, ap (λ x. unwrap_or x None) h, refl)
 
-  pub as-long : (firsts : List (Option Place)) → AreFirstItems eq entries renders firsts → length firsts ≡ length entries
+  as-long : (firsts : List (Option Place)) → AreFirstItems eq entries renders firsts → length firsts ≡ length entries
   as-long firsts are =
       sym (length-map firsts (option_map (item_at renders))) ∙ ap length are ∙ length-map entries (λ e. option_map Some (first_item eq renders e))
+
+  -- there is one for each member of an order of places of entries
+  pub within-firsts : (firsts : List (Option Place)) → AreFirstItems eq entries renders firsts → (order : List ℕ) (k : ℕ) → All (λ p. p < length entries) order → k < length order → get_or order k 0 < length firsts
+  within-firsts firsts are order k below next = subst (λ n. get_or order k 0 < n) (sym (as-long firsts are)) (All-get_or (λ q. q < length entries) order k 0 next below)
 
   -- the places that were found so far
   pub record Found (order : List ℕ) (k : ℕ) (places : List Place) : Type 0 where

@@ -160,8 +160,7 @@ module _ {E P : Type 0} (eq : E → E → Bool) (laws : IsEquivalence eq) (each_
 
     ordered : AreCitesOf eq (table_of eq asked.requests) asked.requests in_order
     ordered =
-        ordered-stand eq laws answers payload_eq (number eq asked.offset (entries_listed eq asked.wanted asked.requests)) asked.requests (table_of eq asked.requests) refl firsts refl mode
-        told in_order refl refl
+        ordered-stand laws answers payload_eq asked {table = table_of eq asked.requests} refl {begun = firsts} refl mode {told = told} {ordered = in_order} refl refl
 
     same-cited : (e : E) → is_in eq e (cited_finally in_order) ≡ is_in eq e (cited asked.requests)
     same-cited e = ordered.same e ∙ is_in-distinct eq laws e (cited asked.requests)

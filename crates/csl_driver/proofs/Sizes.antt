@@ -13,6 +13,7 @@ use Rattle.csl_base.specs.Style.{CitationValue}
 use Rattle.csl_base.specs.declared.style.Collapse.{Collapse}
 use Rattle.csl_assembly.specs.CitationTree.{has_no_purpose}
 use Rattle.csl_collapse.specs.Collapsed.{collapsed, collapsed_cites}
+use Rattle.csl_driver.specs.Account.{cost, listed_count, rerendered}
 use Rattle.csl_driver.specs.Answer.{Asked, drawn_together, entries_listed, final_number, in_final_order, in_the_end, rendered_first}
 use Rattle.csl_driver.proofs.FirstPlaced.{first-cited}
 use Rattle.csl_entries.specs.Entries.{number}
@@ -25,8 +26,9 @@ use Rattle.csl_passes.specs.Request.{cites_of, entries_of}
 use Rattle.csl_positions.specs.FinalProperties.{items_before, with_final_items}
 use Rattle.csl_writing.proofs.Counting.{counted_times-add, counted_times-all}
 use Rattle.csl_writing.specs.Counted.{counted_times}
-use Rattle.csl_round_laws.specs.Rounds.{request_at}
-use Rattle.csl_round_laws.specs.Tables.{disambiguated, last_states}
+use Rattle.csl_round_laws.specs.Rerenders.{rerenders}
+use Rattle.csl_round_laws.specs.Rounds.{entries_cited, request_at}
+use Rattle.csl_round_laws.specs.Tables.{disambiguated, last_states, round_tables}
 use Rattle.csl_round_laws.specs.declared.mode.RoundMode.{RoundMode}
 
 module _ {X : Type 0} where
@@ -98,13 +100,17 @@ module _ {E P : Type 0} (eq : E → E → Bool) (payload_eq : P → P → Bool) 
       (λ k c. length-map (enumerate_from 0 c.items) _ ∙ length-enumerate_from 0 c.items) 0 (map grouped told)
       ∙ sum-mapped size grouped grouped-size told ∙ told-size ∙ first-size
 
--- three times so many renderings
-pub three-counted : (a b c n old one two three : ℕ) → one ≡ counted_times a old → two ≡ counted_times b one → three ≡ counted_times c two → c ≡ n → three ≡ counted_times (n + (b + a)) old
-three-counted a b c n old one two three e f g same =
-    g ∙ ap (λ k. counted_times k two) same ∙ ap (counted_times n) (f ∙ ap (counted_times b) e ∙ sym (counted_times-add b a old)) ∙ sym (counted_times-add n (b + a) old)
-
--- all renderings, from none
-pub all-counted : (n b a one two : ℕ) → one ≡ counted_times n 0 → two ≡ counted_times (n + (b + a)) one → two ≡ min (2 * n + a + b) (2 ^ 128 - 1)
-all-counted n b a one two first rest =
-    let sum : n + (b + a) + n ≡ 2 * n + a + b = omega arith in
-    rest ∙ ap (counted_times (n + (b + a))) first ∙ sym (counted_times-add (n + (b + a)) n 0) ∙ ap (λ k. counted_times k 0) sum ∙ counted_times-all (2 * n + a + b)
+  -- all renderings, from none: of the first renders, the rounds, the bibliography and the citations
+  pub all-counted : (begun told listed all last : ℕ) → begun ≡ counted_times (length (cites_of asked.requests)) 0
+      → let firsts = rendered_first eq payload_eq answers asked in told ≡ counted_times (rerenders (entries_cited firsts) (round_tables mode eq answers firsts)) begun
+      → listed ≡ counted_times (listed_count eq asked.wanted asked.requests) told → all ≡ counted_times last listed → last ≡ length (cites_of asked.requests)
+      → all ≡ min (cost eq payload_eq answers mode asked) (2 ^ 128 - 1)
+  all-counted begun told listed all last first rounds bibliography citations same =
+      let n = length (cites_of asked.requests) in
+      let a = rerendered eq payload_eq answers mode asked in
+      let b = listed_count eq asked.wanted asked.requests in
+      let firsts = rendered_first eq payload_eq answers asked in
+      let again = ap (λ es. rerenders es (round_tables mode eq answers firsts)) (first-cited eq payload_eq answers (number eq asked.offset (entries_listed eq asked.wanted asked.requests)) [] asked.requests) in
+      let sum : n + (b + (a + n)) ≡ 2 * n + a + b = omega arith in
+      citations ∙ ap (λ k. counted_times k listed) same ∙ ap (counted_times n) (bibliography ∙ ap (counted_times b) (rounds ∙ (λ i. counted_times (again i) (first i)) ∙ sym (counted_times-add a n 0)) ∙ sym (counted_times-add b (a + n) 0))
+      ∙ sym (counted_times-add n (b + (a + n)) 0) ∙ ap (λ k. counted_times k 0) sum ∙ counted_times-all (2 * n + a + b)

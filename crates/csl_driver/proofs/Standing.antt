@@ -7,10 +7,12 @@ use Rattle.std.proofs.lemmas.List.Elements.{All-cons, All-head, All-nil, All-tai
 use Rattle.csl_assembly.specs.CitationTree.{has_no_purpose}
 use Rattle.csl_base.specs.Answers.{Answers}
 use Rattle.csl_collapse.specs.Collapsed.{collapsed}
-use Rattle.csl_driver.specs.Answer.{drawn_together}
+use Rattle.csl_driver.specs.Answer.{Asked, drawn_together, entries_listed, rendered_first}
 use Rattle.csl_driver.specs.AreCitesOf.{AreCitesOf}
-use Rattle.csl_driver.proofs.FirstPlaced.{first-cited, first-placed, first-requests}
-use Rattle.csl_entries.specs.Entries.{distinct, is_in}
+use Rattle.csl_driver.proofs.FirstPlaced.{first-cited, first-placed, first-places, first-requests}
+use Rattle.csl_driver.proofs.Listings.{table-within}
+use Rattle.csl_base.specs.Ring.{HasNoRing}
+use Rattle.csl_entries.specs.Entries.{distinct, is_in, number}
 use Rattle.csl_entries.specs.PlacedItems.{IsPlaced}
 use Rattle.csl_entries.specs.Table.{Table, table_of}
 use Rattle.csl_entries.proofs.Distinct.{is_in-distinct}
@@ -24,6 +26,7 @@ use Rattle.csl_positions.specs.FirstProperties.{first_properties}
 use Rattle.csl_round_laws.specs.FirstRenders.{first_renders}
 use Rattle.csl_round_laws.specs.Rounds.{StateTable, at_table, request_at, with_any}
 use Rattle.csl_round_laws.specs.Tables.{disambiguated, last_states}
+use Rattle.csl_rounds.specs.CitesOfTable.{AreCitesOfTable}
 use Rattle.csl_round_laws.specs.declared.mode.RoundMode.{RoundMode}
 
 module _ {X : Type 0} (h : ℕ → X → X) where
@@ -156,19 +159,32 @@ module _ {E P : Type 0} (eq : E → E → Bool) (laws : IsEquivalence eq) (answe
         settled : ℕ → CiteRender E P → CiteRender E P
         settled k c = record c { items = with_final_items eq payload_eq number_of (items_before renders k) c.items }
 
-module _ {E P : Type 0} (eq : E → E → Bool) (laws : IsEquivalence eq) (answers : E → Answers) (payload_eq : P → P → Bool) (number_of : E → ℕ)
-    (requests : List (Request E P)) (table : Table E) (is : table ≡ table_of eq requests)
-    (begun : List (CiteRender E P)) (first : begun ≡ first_renders answers requests (first_properties eq payload_eq number_of requests)) where
+module _ {E P : Type 0} {eq : E → E → Bool} (laws : IsEquivalence eq) (answers : E → Answers) (payload_eq : P → P → Bool) (asked : Asked E P)
+    {table : Table E} (is : table ≡ table_of eq asked.requests) {begun : List (CiteRender E P)} (first : begun ≡ rendered_first eq payload_eq answers asked) where
   -- the first renders, over the table
-  pub begun-stand : AreCitesOf eq table requests begun
+  begun-stand : AreCitesOf eq table asked.requests begun
   begun-stand =
-      subst (AreCitesOf eq table requests) (sym first)
-      (subst (λ t. AreCitesOf eq t requests (first_renders answers requests (first_properties eq payload_eq number_of requests))) (sym is)
-      (first-stand eq laws answers payload_eq number_of requests))
+      subst (AreCitesOf eq table asked.requests) (sym first)
+      (subst (λ t. AreCitesOf eq t asked.requests (rendered_first eq payload_eq answers asked)) (sym is)
+      (first-stand eq laws answers payload_eq (number eq asked.offset (entries_listed eq asked.wanted asked.requests)) asked.requests))
 
-  -- told apart and in their blocks
-  pub ordered-stand : (mode : RoundMode) (told ordered : List (CiteRender E P)) → told ≡ disambiguated mode eq answers begun → ordered ≡ map grouped told → AreCitesOf eq table requests ordered
-  ordered-stand mode told ordered apart grouping =
-      subst (AreCitesOf eq table requests) (sym grouping)
-      (grouped-stand eq laws answers table requests told
-      (subst (AreCitesOf eq table requests) (sym apart) (disambiguated-stand eq laws answers table requests begun begun-stand mode)))
+  -- they can be told apart
+  pub begun-of-table : All (λ r. HasNoRing r.style.macros) asked.requests → AreCitesOfTable eq table begun
+  begun-of-table no_ring = record {
+    no_ring = of-requests (λ r. HasNoRing r.style.macros) begun asked.requests begun-stand.of no_ring;
+    placed = first-places eq payload_eq answers (number eq asked.offset (entries_listed eq asked.wanted asked.requests)) asked.requests table is begun first;
+    listed = table-within eq laws asked.requests table is;
+  }
+
+  module _ (mode : RoundMode) {told ordered : List (CiteRender E P)} (apart : told ≡ disambiguated mode eq answers begun) (grouping : ordered ≡ map grouped told) where
+    -- told apart and in their blocks
+    pub ordered-stand : AreCitesOf eq table asked.requests ordered
+    ordered-stand =
+        subst (AreCitesOf eq table asked.requests) (sym grouping)
+        (grouped-stand eq laws answers table asked.requests told
+        (subst (AreCitesOf eq table asked.requests) (sym apart) (disambiguated-stand eq laws answers table asked.requests begun begun-stand mode)))
+
+    -- and with their final properties
+    pub settled-stand : (number_of : E → ℕ) {settled : List (CiteRender E P)} → settled ≡ with_final_properties eq payload_eq number_of ordered → AreCitesOf eq table asked.requests settled
+    settled-stand number_of {settled} are =
+        subst (AreCitesOf eq table asked.requests) (sym are) (final-stand eq laws answers table asked.requests ordered ordered-stand payload_eq number_of)

@@ -9,4 +9,4 @@ pub mod Account
 pub mod AnswerLaws
 pub mod Promised
 pub mod AskedView
-pub mod AreSettled
+pub mod DraftView

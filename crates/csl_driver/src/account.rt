@@ -1,11 +1,15 @@
 //! What an answer cost, and how it numbers its entries and tells them apart.
-ghost use Rattle.std.specs.Prelude.{◌≡◌, IfOk, map};
+ghost use Rattle.std.specs.Prelude.{◌≡◌, ◌+◌, IfOk, length, map, take};
+ghost use Rattle.csl_driver.specs.DraftView.{table_in};
 ghost use Rattle.csl_entries.specs.TableView.{table_view};
 ghost use Rattle.csl_round_laws.specs.Rounds.{told_by};
 
+use crate::draft::Draft;
 use csl_base::entry::EntryLike;
 use csl_entries::table::EntryTable;
 use csl_lookup::state::DisambiguateState;
+use csl_rounds::rounds::Rounds;
+use csl_writing::counter::Renders;
 use std::alloc::{AllocError, Global};
 
 /// The account of an answer.
@@ -23,8 +27,38 @@ pub struct Account<'a, T> {
     pub numbers: Vec<usize>,
 }
 
+impl<'d, 'o, 'a, T: EntryLike, P> Draft<'d, 'o, 'a, T, P> {
+    /// The account of an answer, after these rounds and so many renderings. The numbers are those of the
+    /// entries, by their places, and behind them that of the next.
+    pub(crate) fn account(
+        self,
+        alloc: Global,
+        rounds: Rounds,
+        mut numbers: Vec<usize>,
+        counter: &Renders,
+    ) -> Result<Account<'a, T>, AllocError>
+        ensures renders { IfOk result (λ a. a.renders ≡ counter.now) }
+        ensures rounds { IfOk result (λ a. a.rounds ≡ rounds.marked) }
+        ensures entries { IfOk result (λ a. map (λ e. e.now) a.entries.items ≡ (table_in self.entry).entries) }
+        ensures states { IfOk result (λ a. a.states.items ≡ map told_by rounds.states.items) }
+        ensures numbers { IfOk result (λ a. a.numbers.items
+            ≡ take (length (table_in self.entry).entries) numbers.items) }
+    {
+        let table = &self.cited.table;
+        let marked = rounds.marked;
+        numbers.truncate(table.len());
+        Ok(Account {
+            renders: counter.count(),
+            rounds: marked,
+            entries: table_entries(alloc, table)?,
+            states: told_states(alloc, rounds.states)?,
+            numbers,
+        })
+    }
+}
+
 /// The entries of a table, in its order.
-pub(crate) fn table_entries<'a, T: EntryLike>(
+fn table_entries<'a, T: EntryLike>(
     alloc: Global,
     table: &EntryTable<'a, T>,
 ) -> Result<Vec<&'a T>, AllocError>
@@ -38,7 +72,7 @@ pub(crate) fn table_entries<'a, T: EntryLike>(
 }
 
 /// By what entries are told apart.
-pub(crate) fn told_states(
+fn told_states(
     alloc: Global,
     states: Vec<Option<DisambiguateState>>,
 ) -> Result<Vec<DisambiguateState>, AllocError>

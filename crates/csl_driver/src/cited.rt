@@ -1,12 +1,19 @@
 //! The cited entries, their order and their numbers.
-ghost use Rattle.std.specs.Prelude.{◌≡◌, ◌+◌, ◌<◌, ◌^◌, IfOk, length, ℕ};
+ghost use Rattle.std.specs.Prelude.{◌≡◌, ◌+◌, ◌<◌, ◌^◌, IfErr, IfOk, length, ℕ};
+ghost use Rattle.csl_base.specs.StyleView.{style_view};
 ghost use Rattle.csl_entries.specs.ListingView.{listing_view};
 ghost use Rattle.csl_entries.specs.TableView.{table_view};
-ghost use Rattle.csl_driver.specs.Cited.{listed_number, numbers_at};
+ghost use Rattle.csl_passes.specs.RequestView.{order_view, requests_view, wanted_view};
+ghost use Rattle.csl_driver.specs.Answer.{order_in_use};
+ghost use Rattle.csl_driver.specs.Cited.{IsCitedBy, listed_number, numbers_at};
+ghost use Rattle.csl_driver.specs.Rings.{Refuses};
 
+use crate::error::DriverError;
 use csl_base::entry::EntryLike;
 use csl_entries::listing::Listing;
 use csl_entries::table::EntryTable;
+use csl_passes::acyclic::{AcyclicRequests, AcyclicWanted};
+use csl_passes::request::{BibliographyRequest, Order};
 use std::alloc::{AllocError, Global};
 
 /// The entries that are cited, in the order of their first cites and in that of the bibliography.
@@ -18,7 +25,44 @@ pub(crate) struct Cited<'a, T: EntryLike> {
     pub(crate) offset: usize,
 }
 
+/// The order that the bibliography goes by, if its style has one and an order was handed in.
+pub(crate) fn used_order<'o, 'a, T>(
+    wanted: &BibliographyRequest<'o, 'a, T>,
+) -> Option<Order<'o, 'a, T>>
+    ensures { order_view result ≡ order_in_use (wanted_view wanted.now) }
+{
+    match (&wanted.style.bibliography, &wanted.order) {
+        (Some(_), Some(order)) => Some(Order(order.0)),
+        _ => None,
+    }
+}
+
 impl<'a, T: EntryLike> Cited<'a, T> {
+    /// The entries that the requests cite, in the bibliography's order, where their numbers fit.
+    pub(crate) fn by_requests<P>(
+        alloc: Global,
+        requests: AcyclicRequests<'_, 'a, T, P>,
+        wanted: AcyclicWanted<'_, '_, 'a, T>,
+        offset: usize,
+    ) -> Result<Cited<'a, T>, DriverError>
+        ensures known { IfOk result (IsCitedBy T.eq (requests_view requests.entry.requests.now)
+            (order_in_use (wanted_view wanted.entry.wanted.now))) }
+        ensures offset { IfOk result (λ c. c.offset ≡ offset) }
+        ensures refused { IfErr result (Refuses T.eq (requests_view requests.entry.requests.now)
+            (wanted_view wanted.entry.wanted.now).style offset) }
+    {
+        let table = EntryTable::of_requests(alloc, requests.requests)?;
+        if table.len() > usize::MAX - offset {
+            return Err(DriverError::NumberOverflow);
+        }
+        let listing = Listing::of_table(alloc, &table, used_order(wanted.wanted))?;
+        Ok(Cited {
+            table,
+            listing,
+            offset,
+        })
+    }
+
     /// The numbers that a listing gives the entries, by their places in the table, and behind them that
     /// which the next entry would have.
     pub(crate) fn numbers(&self, alloc: Global, listing: &Listing) -> Result<Vec<usize>, AllocError>

@@ -18,7 +18,7 @@ pub struct BibliographyDriver<'a, T, P> {
 
 /// Lets requests go one by one: a list of lists that hold references to a type parameter can't be let
 /// go as a whole.
-pub(crate) fn discard<T, P: Drop>(mut requests: Vec<CitationRequest<'_, T, P>>) {
+fn discard<T, P: Drop>(mut requests: Vec<CitationRequest<'_, T, P>>) {
     while let Some(_request) = requests.pop() {}
     requests.destroy_empty();
 }
@@ -80,18 +80,5 @@ impl<'a, T, P: Drop> BibliographyDriver<'a, T, P> {
         number_items(&mut request.items);
         let _ = self.citations.push(request);
         Ok(())
-    }
-
-    /// The requests, the offset, and the allocator.
-    pub(crate) fn into_parts(self) -> (Vec<CitationRequest<'a, T, P>>, usize, Global)
-        ensures requests { requests_view result.0.items ≡ (driver_view self.entry).requests }
-        ensures offset { result.1 ≡ (driver_view self.entry).offset }
-    {
-        let BibliographyDriver {
-            citations,
-            citation_number_offset,
-            alloc,
-        } = self;
-        (citations, citation_number_offset, alloc)
     }
 }

@@ -17,6 +17,7 @@ pub use csl_writing::{
 pub mod account;
 mod bibliography;
 mod cited;
+mod draft;
 pub mod driver;
 pub mod error;
 mod finish;

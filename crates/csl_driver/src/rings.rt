@@ -1,12 +1,35 @@
 //! Styles whose macros call each other in a ring are refused before anything is rendered.
-ghost use Rattle.std.specs.Prelude.{◌≡◌, IfOk, IfErr, IfSome, OnOk, None};
+ghost use Rattle.std.specs.Prelude.{◌≡◌, IfOk, IfErr, IfSome, None};
 ghost use Rattle.csl_passes.specs.RequestView.{requests_view, wanted_view};
-ghost use Rattle.csl_driver.specs.Rings.{IsFirstRingOf, NoRingAtAll, NoRingIn, RefusesRing};
+ghost use Rattle.csl_driver.specs.Rings.{IsFirstRingOf, NoRingIn, RefusesRing};
 ghost use Rattle.csl_driver.specs.declared.error.RingPlace.{RingPlace};
 
 use crate::error::{DriverError, RingPlace};
+use csl_passes::acyclic::{AcyclicRequests, AcyclicWanted};
 use csl_passes::request::{BibliographyRequest, CitationRequest};
 use std::alloc::{AllocError, Global};
+
+/// The same requests, if no style has a ring. Else the first that has one is refused: those of the requests in
+/// their order, and then that of the bibliography. Prepared styles have none, and aren't looked at.
+pub(crate) fn without_rings<'r, 'w, 'o, 'a, T, P>(
+    alloc: Global,
+    requests: &'r [CitationRequest<'a, T, P>],
+    wanted: &'w BibliographyRequest<'o, 'a, T>,
+) -> Result<(AcyclicRequests<'r, 'a, T, P>, AcyclicWanted<'w, 'o, 'a, T>), DriverError>
+    ensures requests { IfOk result (λ r. r.0.requests.now ≡ requests.now) }
+    ensures wanted { IfOk result (λ r. r.1.wanted.now ≡ wanted.now) }
+    ensures refused { IfErr result (RefusesRing (requests_view requests.now) (wanted_view wanted.now).style) }
+{
+    if let Some((k, macro_idx)) = request_ring(alloc, requests, wanted)? {
+        let place = RingPlace::Request(k);
+        return Err(DriverError::MacroRing { place, macro_idx });
+    }
+    if let Some(macro_idx) = wanted.source().ring(alloc)? {
+        let place = RingPlace::Bibliography;
+        return Err(DriverError::MacroRing { place, macro_idx });
+    }
+    Ok((AcyclicRequests { requests }, AcyclicWanted { wanted }))
+}
 
 /// The place of the first request whose style has a ring, and that of its first macro on one.
 fn request_ring<T, P>(
@@ -25,25 +48,4 @@ fn request_ring<T, P>(
         }
     }
     Ok(None)
-}
-
-/// Refuses the first style that has a ring: those of the requests in their order, and then that of
-/// the bibliography. Prepared styles have none, and aren't looked at.
-pub(crate) fn refuse_rings<T, P>(
-    alloc: Global,
-    requests: &[CitationRequest<'_, T, P>],
-    wanted: &BibliographyRequest<'_, '_, T>,
-) -> Result<(), DriverError>
-    ensures none { OnOk result (NoRingAtAll (requests_view requests.now) (wanted_view wanted.now).style) }
-    ensures refused { IfErr result (RefusesRing (requests_view requests.now) (wanted_view wanted.now).style) }
-{
-    if let Some((k, macro_idx)) = request_ring(alloc, requests, wanted)? {
-        let place = RingPlace::Request(k);
-        return Err(DriverError::MacroRing { place, macro_idx });
-    }
-    if let Some(macro_idx) = wanted.source().ring(alloc)? {
-        let place = RingPlace::Bibliography;
-        return Err(DriverError::MacroRing { place, macro_idx });
-    }
-    Ok(())
 }

@@ -1,16 +1,20 @@
-use Rattle.std.proofs.Common.{◌≡◌, ap, subst, ◌∙◌}
-use Rattle.csl_driver.specs.AskedView.{asked_of}
-use Rattle.csl_driver.specs.Promised.{Finishes, IsAnswer}
-use Rattle.csl_passes.specs.RequestView.{requests_view, wanted_view}
+use Rattle.std.proofs.Common.{rules, sym, ◌∙◌}
 use Rattle.csl_driver.proofs.driver.BibliographyDriver.answered.Goals as goal
 
--- the requests that are answered are those of the driver
+pub returns-in_err-cited : goal.returns-in_err-cited
+returns-in_err-cited g c =
+    let requests = sym (c.in_ok-requests.ensures.requests ∙ c.deref.ensures.value) in
+    let wanted = sym c.in_ok-requests.ensures.wanted in
+    rw (requests, wanted) (search rules)
+
 pub returns : goal.returns
 returns g c =
-    let eq = g.T.PartialEq.eq in
-    let promised = c.checked_answer-result.ensures in
-    let same = ap requests_view c.deref.ensures.value ∙ c.into_parts-citations.ensures.requests in
-    let asked : record { wanted = wanted_view c.args.request; requests = requests_view c.deref.result.now; offset = c.into_parts-citations.result.1 } ≡ asked_of c.args.self c.args.request =
-    (λ i. record { wanted = wanted_view c.args.request; requests = same i; offset = c.into_parts-citations.ensures.offset i }) in
-    subst (λ a. Finishes (IsAnswer eq g.P.PartialEq.eq g.T.EntryLike.answers c.args.mode a) eq a c.checked_answer-result.result) asked
-    (record { answer = promised.answer; no_ring = promised.no_ring; fits = promised.fits; refused = promised.refused })
+    let requests = sym (c.in_ok-requests.ensures.requests ∙ c.deref.ensures.value) in
+    let wanted = sym c.in_ok-requests.ensures.wanted in
+    let offset = sym c.in_ok-cited.ensures.offset in
+    rw (requests, wanted, offset) (record {
+      answer = c.in_ok-finish.ensures;
+      no_ring = (c.in_ok-requests.requests.no_ring, c.in_ok-requests.wanted.no_ring);
+      fits = c.in_ok-cited.ensures.known.fits;
+      refused = tt;
+    })

@@ -1,0 +1,38 @@
+use Rattle.std.proofs.Common.{ap, arith, length, map, subst, sym, ◌∙◌}
+use Rattle.csl_entries.specs.Entries.{distinct}
+use Rattle.csl_driver.specs.DraftView.{asked_in, table_in}
+use Rattle.csl_passes.specs.Request.{cited}
+use Rattle.csl_positions.specs.FirstProperties.{first_properties, numbered_by}
+use Rattle.csl_round_laws.specs.FirstRenders.{HasShapeOf, first_renders}
+use Rattle.csl_driver.proofs.FirstPlaced.{first-shape}
+use Rattle.csl_driver.proofs.Listings.{known-listed, numbers-are, numbers-fit, numbers-long}
+use Rattle.csl_driver.proofs.draft.Draft.first_renders.Goals as goal
+
+pub numbers-requires : goal.numbers-requires
+numbers-requires g c = let known = c.args.self.known in record { fits = numbers-fit known (known-listed known) }
+
+pub first_properties-requires-clause-numbered : goal.first_properties-requires-clause-numbered
+first_properties-requires-clause-numbered g c =
+    let known = c.args.self.known in
+    let long = ap length (c.deref.ensures.value ∙ c.in_ok-numbers.ensures) ∙ numbers-long known (known-listed known) in
+    omega (arith, long)
+
+pub first_renders-requires : goal.first_renders-requires
+first_renders-requires g c =
+    let eq = g.T.PartialEq.eq in
+    let requests = (asked_in c.args.self).requests in
+    let number_of = numbered_by eq c.deref.result.now (table_in c.args.self).entries in
+    record {
+      shape = subst (HasShapeOf requests) (sym (ap (map (λ f. f.items)) c.deref-2.ensures.value ∙ c.in_ok-firsts.ensures))
+          (first-shape eq g.P.PartialEq.eq g.T.EntryLike.answers number_of (distinct eq (cited requests)) requests);
+    }
+
+pub returns-clause-cites : goal.returns-clause-cites
+returns-clause-cites g c =
+    let eq = g.T.PartialEq.eq in
+    let draft = c.args.self in
+    let requests = (asked_in draft).requests in
+    let numbers = ap (λ ns. numbered_by eq ns (table_in draft).entries) (c.deref.ensures.value ∙ c.in_ok-numbers.ensures) ∙ numbers-are draft.known (known-listed draft.known) in
+    c.in_ok-cites.ensures.cites
+    ∙ ap (first_renders g.T.EntryLike.answers requests)
+    (ap (map (λ f. f.items)) c.deref-2.ensures.value ∙ c.in_ok-firsts.ensures ∙ ap (λ n. first_properties eq g.P.PartialEq.eq n requests) numbers)

@@ -1,0 +1,16 @@
+-- For the code: what a draft answers, and where its entries stand.
+use Rattle.csl_base.specs.declared.entry.EntryLike as entry_like
+use Rattle.csl_driver.specs.Answer.{Asked}
+use Rattle.csl_driver.specs.AskedView.{asked_view}
+use Rattle.csl_driver.specs.declared.draft.Draft.{Draft}
+use Rattle.csl_entries.specs.Table.{Table}
+use Rattle.csl_entries.specs.TableView.{table_view}
+use Rattle.std.specs.declared.cmp.PartialEq as partial_eq
+use Rattle.std.specs.declared.hash.Hash as hashed
+
+module _ {T P : Type 0} {entries : entry_like.Ghosts T} {equality : partial_eq.Ghosts T} {hashes : hashed.Ghosts T} where
+  abbrev pub asked_in : Draft T P entries equality hashes → Asked T P
+  asked_in draft = asked_view draft.requests.requests.now draft.cited.now.offset draft.wanted.wanted.now
+
+  abbrev pub table_in : Draft T P entries equality hashes → Table T
+  table_in draft = table_view draft.cited.now.table
