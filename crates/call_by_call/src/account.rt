@@ -15,7 +15,7 @@ fn form_word(form: DisambiguatedNameForm) -> &'static str {
     }
 }
 
-/// Prints by what an entry is told apart.
+/// Prints by what an entry is disambiguated.
 pub(crate) fn print_state(rt: &impl Print, state: &DisambiguateState) {
     match state {
         DisambiguateState::None => {

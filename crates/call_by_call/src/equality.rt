@@ -48,7 +48,7 @@ fn speculative(
     SpeculativeCiteProperties::speculate(locator, citation_number, ibid)
 }
 
-/// A cite that is told apart by the test of `disambiguate`.
+/// A cite that is disambiguated by the test of `disambiguate`.
 fn chosen() -> Speculative {
     SpeculativeCiteProperties {
         disambiguation: DisambiguateState::Choose,

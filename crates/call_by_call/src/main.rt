@@ -1,5 +1,5 @@
 //! Answers a document call by call, for what no document shows: what an answer cost and by what its
-//! entries are told apart, where a ring stands, citations and passes by themselves, writers and readers that
+//! entries are disambiguated, where a ring stands, citations and passes by themselves, writers and readers that
 //! fail, and runs in which one growth of memory is refused.
 //!
 //! The first line of standard input says what is done (a number: `run`, over a writer that fails behind so

@@ -169,7 +169,7 @@ fn is_same(cite: &Cite<'_>, other: &Cite<'_>) -> bool {
     is_written_alike && delimiter && block && verdict && is_asked_alike(cite, other)
 }
 
-/// Whether two cites are equal in what a caller asks of them and in how they may be told apart.
+/// Whether two cites are equal in what a caller asks of them and in how they may be disambiguated.
 fn is_asked_alike(cite: &Cite<'_>, other: &Cite<'_>) -> bool {
     let locator = cite.locator == other.locator;
     let locale = cite.locale == other.locale;

@@ -150,7 +150,7 @@ fn answer_asked<'r>(alloc: Global, asked: &'r Asked<'_>) -> Result<Rendered, Run
     }
 }
 
-/// The answer to what the value asks for, of these styles, entries and locales. The value is let go
+/// The answer to what the value asks for, of these styles, entries and locales. The value is dropped
 /// before anything is rendered.
 fn answer_of<'e>(
     alloc: Global,

@@ -23,7 +23,7 @@ module _ {E P : Type 0} where
   abbrev pub shown_text : Member E P → List ℕ
   shown_text m = plain m.item.rendered
 
-  -- by what means its entry is told apart
+  -- by what means its entry is disambiguated
   abbrev pub state_of : Member E P → DisambiguateState
   state_of m = m.item.properties.speculative.disambiguation
 

@@ -1,4 +1,4 @@
--- Suffix marks: the letters of the year by which the entries of an ambiguous group are told apart.
+-- Suffix marks: the year suffixes by which the entries of an ambiguous group are disambiguated.
 use Rattle.std.specs.Prelude.{Bool, ◌&&◌, ◌||◌, List, [], ◌∷◌, map, is_some, if◌then◌else◌}
 use Rattle.std.specs.List.{flat_map, list_any}
 use Rattle.csl_base.specs.Answers.{Answers}

@@ -1,4 +1,4 @@
-//! Entries that are told apart by letters of the year.
+//! Entries that are disambiguated by year suffixes.
 ghost use Rattle.std.specs.Prelude.{◌≡◌, All, IfOk, map};
 ghost use Rattle.std.specs.List.{enumerate_from, list_any};
 ghost use Rattle.csl_ambiguity.specs.FirstCites.{firsts_view};

@@ -57,7 +57,7 @@ pub enum StyleClass {
     Note,
 }
 
-/// How cites are written, told apart and gathered (CSL 1.0.2, citation).
+/// How cites are written, disambiguated and gathered (CSL 1.0.2, citation).
 #[derive(PartialEq, Eq, Drop)]
 pub struct Citation {
     pub layout: Layout,

@@ -31,7 +31,7 @@ module _ (groups : List (Option ℕ)) where
   follows_stretch k = nat_lt 0 k && list_any (λ a. is_stretch a (k - 1)) (places 0 (k - 1))
 
 module _ {E P : Type 0} where
-  -- its entry is told apart by the suffix of the year, and by another than the first
+  -- its entry is disambiguated by the suffix of the year, and by another than the first
   abbrev pub has_later_suffix : ItemRender E P → Bool
   has_later_suffix c = option_map_or (λ n. nat_lt 0 n)
       (year_suffix c.properties.speculative.disambiguation) false

@@ -60,7 +60,7 @@ fn collapse_year<'a, T, P>(
     }
 }
 
-/// Whether the cite's entry is told apart by a suffix of the year, other than the first.
+/// Whether the cite's entry is disambiguated by a suffix of the year, other than the first.
 fn has_later_suffix<T, P>(cite: &SpeculativeItemRender<'_, T, P>) -> bool
     ensures { result ≡ has_later_suffix (item_view cite.now) }
 {

@@ -1,4 +1,4 @@
--- How the state of an entry goes on from one round to the next.
+-- How the state of an entry advances from one round to the next.
 use Rattle.std.specs.Prelude.{◌≡◌, ◌⊎◌, ℕ, ◌+◌, ◌*◌, ◌<◌, ◌≤◌, List, length, sum_by}
 use Rattle.std.specs.List.{AllZip}
 use Rattle.csl_base.specs.declared.names.DisambiguatedNameForm.{DisambiguatedNameForm}

@@ -15,7 +15,7 @@ pub record LocatorValue (P : Type 0) : Type 0 where
   pub kind : Locator
   pub payload : Payload P
 
--- what may change while cites are told apart and put in order
+-- what may change while cites are disambiguated and put in order
 pub record Speculative (P : Type 0) : Type 0 where
   pub locator : Option (LocatorValue P)
   pub citation_number : ℕ

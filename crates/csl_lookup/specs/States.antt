@@ -1,4 +1,4 @@
--- Which identifiers were written, and how far entries are told apart.
+-- Which identifiers were written, and how far entries are disambiguated.
 use Rattle.std.specs.Prelude.{ℕ, [], Bool, true, false, Option, Some, None, unwrap_or}
 use Rattle.std.specs.Ordering.{nat_cmp, on, then_cmp, ord_max}
 use Rattle.std.specs.declared.cmp.Ordering.{Ordering}
@@ -47,7 +47,7 @@ abbrev pub forms_of : DisambiguateState → NameDisambiguationProperties
 forms_of (DisambiguateState.NameDisambiguation forms) = forms
 forms_of _ = record { forms = [] }
 
--- the suffix of a state, which only one that tells apart by a suffix has
+-- the suffix of a state, which only one that disambiguates by a suffix has
 abbrev pub year_suffix : DisambiguateState → Option ℕ
 year_suffix (DisambiguateState.YearSuffix suffix) = Some suffix
 year_suffix _ = None

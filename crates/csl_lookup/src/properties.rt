@@ -21,17 +21,17 @@ pub struct CertainCiteProperties {
     pub initial_idx: usize,
 }
 
-/// What may change while cites are told apart and put in order.
+/// What may change while cites are disambiguated and put in order.
 #[derive(PartialEq, Eq, Drop)]
 #[derive_where(Clone; P: Drop)]
 pub struct SpeculativeCiteProperties<'a, P> {
-    /// Where in the entry the cite points; none while cites are told apart.
+    /// Where in the entry the cite points; none while cites are disambiguated.
     pub locator: Option<SpecificLocator<'a, P>>,
     /// The number of the entry, from 0; what is printed is one more.
     pub citation_number: usize,
     /// Whether the cite repeats the one before it.
     pub ibid: IbidState,
-    /// By what means the entry is told apart from others.
+    /// By what means the entry is disambiguated from others.
     pub disambiguation: DisambiguateState,
     /// Which identifiers the cite has written.
     pub identifier_usage: IdentifierUsage,

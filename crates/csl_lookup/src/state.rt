@@ -44,7 +44,7 @@ impl IdentifierUsage {
     }
 }
 
-/// By what means an entry is told apart from others whose cites read alike, from the least on
+/// By what means an entry is disambiguated from others whose cites read alike, from the least on
 /// (CSL 1.0.2, disambiguation).
 #[derive(Clone, PartialEq, Eq, Hash, Default, Drop)]
 pub enum DisambiguateState {

@@ -20,7 +20,7 @@ StandApart group = IsDistinct (λ x y. same_place x.place y.place) group
 abbrev pub waits : Option DisambiguationRule → NamedCite → Option ℕ → Bool
 waits rule x own = is_none own && x.may_be_named && same_rule x.rule rule
 
--- the step of a member after its group was told apart by i names, where it is alone then
+-- the step of a member after its group was disambiguated by i names, where it is alone then
 abbrev pub step_after : Option DisambiguationRule → ℕ → NamedCite → Option ℕ → Bool → Option ℕ
 step_after rule i x own is_alone = if is_alone && waits rule x own then Some i else own
 

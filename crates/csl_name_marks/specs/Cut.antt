@@ -1,4 +1,4 @@
--- How much of each person a rule keeps when cites are told apart by their names.
+-- How much of each person a rule keeps when cites are disambiguated by their names.
 use Rattle.std.specs.Prelude.{Bool, true, false, List, [], ◌∷◌, Option, None, Some, map, if◌then◌else◌}
 use Rattle.csl_base.specs.Initials.{given_initials}
 use Rattle.csl_base.specs.declared.entry.Person.{Person}

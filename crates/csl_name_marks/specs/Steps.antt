@@ -1,4 +1,4 @@
--- With how many names a member of a group is told apart from the others.
+-- With how many names a member of a group is disambiguated from the others.
 use Rattle.std.specs.Prelude.{ℕ, Bool, not, ◌&&◌, ◌==◌, List, Option, Some, filter, find, nat_eq, take}
 use Rattle.std.specs.List.{list_all, list_any, range_with_len}
 use Rattle.std.specs.Option.{option_eq}
@@ -28,7 +28,7 @@ module _ (group : List NamedCite) where
   abbrev pub others : NamedCite → List NamedCite
   others x = filter (λ y. not (same_place x.place y.place)) group
 
-  -- by i names the member is told apart from all others
+  -- by i names the member is disambiguated from all others
   abbrev pub known : ℕ → NamedCite → Bool
   known i x = x.may_be_named && list_all (λ y. not (reads_alike i x y)) (others x)
 
@@ -37,6 +37,6 @@ module _ (group : List NamedCite) where
     unfoldable pub step : NamedCite → Option ℕ
     step x = find (λ i. known i x) (range_with_len 1 greatest)
 
-    -- the numbers of names by which some member is told apart first, in order
+    -- the numbers of names by which some member is disambiguated first, in order
     unfoldable pub steps : List ℕ
     steps = filter (λ i. list_any (λ x. is_at i (step x)) group) (range_with_len 1 greatest)

@@ -1,4 +1,4 @@
-//! Cites that read alike are told apart by their names (CSL 1.0.2, disambiguation).
+//! Cites that read alike are disambiguated by their names (CSL 1.0.2, disambiguation).
 #![tactic(auto)]
 
 mod by_name;

@@ -1,4 +1,4 @@
-//! With how many names the members of a group are told apart.
+//! With how many names the members of a group are disambiguated.
 ghost use Rattle.std.specs.Prelude.{◌≡◌, ◌+◌, filter, length, map, zip, IfOk};
 ghost use Rattle.std.specs.List.{list_any, range_with_len};
 ghost use Rattle.std.specs.Option.{option_or};
@@ -49,7 +49,7 @@ fn some_waits(
     false
 }
 
-/// The step of a member after its group was told apart by `i` names.
+/// The step of a member after its group was disambiguated by `i` names.
 fn step_after(
     rule: Option<DisambiguationRule>,
     i: usize,
@@ -66,7 +66,7 @@ fn step_after(
     }
 }
 
-/// The steps of the members after their group was told apart by `i` names, into these classes.
+/// The steps of the members after their group was disambiguated by `i` names, into these classes.
 fn steps_after(
     alloc: Global,
     rule: Option<DisambiguationRule>,

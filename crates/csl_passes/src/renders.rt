@@ -53,7 +53,7 @@ pub type AmbiguousGroup = Vec<(usize, usize)>;
 /// States for the entries of the cites at some places.
 pub type Marks = Vec<((usize, usize), DisambiguateState)>;
 
-/// Lets the cites go one by one: a list that holds references to a type parameter can't be let go as a
+/// Drops the cites one by one: a list that holds references to a type parameter can't be dropped as a
 /// whole.
 fn discard<T, P: Drop>(mut items: Vec<SpeculativeItemRender<'_, T, P>>) {
     while let Some(_item) = items.pop() {}

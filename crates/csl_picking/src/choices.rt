@@ -30,7 +30,7 @@ fn has_variable<T: EntryLike>(input: &Input<T>, variable: Variable) -> bool
     }
 }
 
-// Whether the entry is told apart by what the style writes where `disambiguate` holds.
+// Whether the entry is disambiguated by what the style writes where `disambiguate` holds.
 fn is_choose(state: &DisambiguateState) -> bool
     ensures { result ≡ is_choose state.now }
 {

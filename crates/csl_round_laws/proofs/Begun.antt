@@ -1,4 +1,4 @@
--- The first renders of cites aren't told apart.
+-- The first renders of cites aren't disambiguated.
 use Rattle.std.proofs.Common.{◌≡◌, List, [], ◌∷◌, map, refl}
 use Rattle.std.specs.Prelude.{flat_map, zip}
 use Rattle.std.proofs.lemmas.List.Elements.{All-append, All-map, All-nil}

@@ -1,4 +1,4 @@
--- How far an entry is told apart, as a number that rises with each mark that counts.
+-- How far an entry is disambiguated, as a number that rises with each mark that counts.
 use Rattle.std.proofs.Common.{◌≡◌, ◌⊎◌, inl, inr, ℕ, ◌+◌, ◌*◌, ◌<◌, ◌≤◌, true, false, length, ap, sym, ◌∙◌, arith}
 use Rattle.std.specs.Ordering.{is_lt}
 use Rattle.std.proofs.lemmas.Bool.{false≢true}

@@ -1,4 +1,4 @@
--- The first renders of cites, before any of them is told apart from others.
+-- The first renders of cites, before any of them is disambiguated from others.
 use Rattle.std.specs.Prelude.{◌≡◌, All, List, None, flat_map, length, map, zip}
 use Rattle.csl_base.specs.Answers.{Answers}
 use Rattle.csl_lookup.specs.NoProperties.{speculated}
@@ -58,7 +58,7 @@ module _ {E P : Type 0} (answers : E → Answers) where
   abbrev pub first_renders : List (Request E P) → List (List FirstProperties) → List (CiteRender E P)
   first_renders requests firsts = map (λ r. first_renders_of r.0 r.1) (zip requests firsts)
 
--- no cite is told apart yet
+-- no cite is disambiguated yet
 abbrev pub AreBegun : {E P : Type 0} → List (CiteRender E P) → Type 0
 AreBegun cites = All (λ i. i.properties.speculative.disambiguation
     ≡ DisambiguateState.None) (flat_map (λ c. c.items) cites)

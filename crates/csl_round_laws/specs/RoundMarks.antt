@@ -1,4 +1,4 @@
--- The marks of a round: states by which entries are told apart from now on, at the places of cites.
+-- The marks of a round: states by which entries are disambiguated from now on, at the places of cites.
 use Rattle.std.specs.Prelude.{◌≡◌, Bool, true, false, List, [], ◌∷◌, ◌++◌, Option, Some, None, filter, fold, if◌then◌else◌, map}
 use Rattle.std.specs.List.{flat_map, list_any}
 use Rattle.std.specs.Option.{option_map_or}

@@ -10,14 +10,14 @@ use Rattle.csl_round_laws.specs.RoundMarks.{Mark, cites_entry, greatest_state, r
 use Rattle.csl_round_laws.specs.declared.mode.RoundMode.{RoundMode}
 use Rattle.csl_writing.specs.CiteText.{cite_text}
 
--- by what means entries are told apart; for most there is none
+-- by what means entries are disambiguated; for most there is none
 abbrev pub StateTable : Type 0 → Type 0
 StateTable E = E → Option DisambiguateState
 
 abbrev pub no_states : {E : Type 0} → StateTable E
 no_states e = None
 
--- by what means an entry with this state, or with none, is told apart
+-- by what means an entry with this state, or with none, is disambiguated
 abbrev pub told_by : Option DisambiguateState → DisambiguateState
 told_by state = unwrap_or state DisambiguateState.None
 

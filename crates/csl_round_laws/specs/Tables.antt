@@ -1,4 +1,4 @@
--- The rounds in which cites that read alike are told apart: the tables of states from the first on.
+-- The rounds in which cites that read alike are disambiguated: the tables of states from the first on.
 use Rattle.std.specs.Prelude.{ℕ, zero, suc, ◌+◌, ◌-◌, ◌*◌, Bool, List, [], ◌∷◌, length, map, slice_index_or, take, Option, Some, None, if◌then◌else◌}
 use Rattle.std.specs.List.{flat_map}
 use Rattle.csl_base.specs.Answers.{Answers}

@@ -1,6 +1,6 @@
-//! In how many rounds cites are told apart.
+//! In how many rounds cites are disambiguated.
 
-/// In how many rounds cites that read alike are told apart, and which marks count in them.
+/// In how many rounds cites that read alike are disambiguated, and which marks count in them.
 #[derive(Clone, Copy, PartialEq, Eq)]
 pub enum RoundMode {
     /// In three at most. Each mark counts.

@@ -42,7 +42,7 @@ fn counts<T, P>(
     }
 }
 
-/// By what the entry of the cite at a place is told apart, if a cite stands there.
+/// By what the entry of the cite at a place is disambiguated, if a cite stands there.
 fn state_at<'x, T, P>(
     cites: &'x [SpeculativeCiteRender<'_, '_, T, P>],
     place: (usize, usize),

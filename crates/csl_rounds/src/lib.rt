@@ -1,4 +1,4 @@
-//! The first renders of cites, and the rounds in which cites that read alike are told apart.
+//! The first renders of cites, and the rounds in which cites that read alike are disambiguated.
 #![tactic(auto)]
 
 pub mod contexts;

@@ -1,4 +1,4 @@
-//! Cites rendered again, where their entries are told apart by something new.
+//! Cites rendered again, where their entries are disambiguated by something new.
 ghost use Rattle.std.specs.Prelude.{◌≡◌, OnOk, if◌then◌else◌, is_some, length};
 ghost use Rattle.std.specs.List.{sum_by};
 ghost use Rattle.csl_entries.specs.TableView.{table_view};

@@ -1,4 +1,4 @@
-//! The rounds in which cites that read alike are told apart.
+//! The rounds in which cites that read alike are disambiguated.
 ghost use Rattle.std.specs.Prelude.{◌≡◌, IfOk, OnOk, length};
 ghost use Rattle.csl_entries.specs.TableView.{table_view};
 ghost use Rattle.csl_passes.specs.RendersView.{renders_view};
@@ -45,7 +45,7 @@ pub struct Rounds {
 /// with it, for its purpose and with no verdict. A round without marks is the last. Each rendering is
 /// counted: one in each round that marks for each cite whose entry it marks.
 ///
-/// `cites` are those of the requests of which `table` is made. In mode full none of them may be told apart
+/// `cites` are those of the requests of which `table` is made. In mode full none of them may be disambiguated
 /// already.
 ///
 /// # Errors

@@ -1,4 +1,4 @@
--- In a style without a ring it is never felt how deep macros are followed: what their names mean,
+-- In a style without a ring it never matters how deep macros are followed: what their names mean,
 -- level by level, is settled at the count of macros.
 use Rattle.std.proofs.Common.{◌≡◌, ℕ, zero, suc, ◌+◌, ◌≤◌, List, [], ◌∷◌, ◌++◌, length, Bool, true, false, ◌||◌, Option, Some, None, is_some, sym, ap, ◌∙◌, refl, subst, arith}
 use Rattle.std.specs.Prelude.{bytes_eq}

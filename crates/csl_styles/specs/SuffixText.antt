@@ -39,7 +39,8 @@ abbrev pub suffix_in_body : (Name → Bool) → Option Elements → Bool
 suffix_in_body call None = false
 suffix_in_body call (Some elements) = suffix_in_all call elements
 
--- the same of a macro, where macros are followed at most so deep; that is never felt, as the law below says
+-- the same of a macro, where macros are followed at most so deep; the bound never matters, as the law below
+-- says
 abbrev pub suffix_in_macro : List Macro → ℕ → Name → Bool
 suffix_in_macro macros zero name = false
 suffix_in_macro macros (suc depth) name = suffix_in_body (suffix_in_macro macros depth) (body_of name macros)

@@ -16,7 +16,7 @@ use Rattle.document_styles.specs.Styles.{styles_form, style_named}
 use Rattle.document_reading.specs.Entries.{entry_form, entry_named}
 use Rattle.document_reading.specs.Requests.{request_form, wanted_form}
 
--- in how many rounds cites are told apart
+-- in how many rounds cites are disambiguated
 abbrev pub round_modes : Table RoundMode
 round_modes = (codes "three", RoundMode.Three) ∷ (codes "full", RoundMode.Full) ∷ []
 

@@ -29,7 +29,7 @@ use document_words::words::{name_or, number_or, object_with};
 use serde_json::Value;
 use std::alloc::Global;
 
-/// In how many rounds cites are told apart.
+/// In how many rounds cites are disambiguated.
 const ROUNDS: &[(&str, RoundMode)] = &[("three", RoundMode::Three), ("full", RoundMode::Full)];
 
 /// What the document asks for.

@@ -51,7 +51,7 @@ pub struct AskedLocator {
     pub text: String,
 }
 
-/// A cite of the document. It holds its own texts, so the JSON can be let go before it is written.
+/// A cite of the document. It holds its own texts, so the JSON can be dropped before it is written.
 #[derive(Drop)]
 pub struct AskedCite<'e> {
     pub entry: &'e PlainEntry,

@@ -166,7 +166,7 @@ module _ (f g : Data → Option Element) where
   over_agrees : (d : Data) → AgreeBelow f g (depth d) → element_over f d ≡ element_over g d
   over_agrees d agree = λ i. option_and_then (λ kind. kind_agrees kind d agree i) (required as_str (codes "kind") d)
 
--- ---- no bound is felt
+-- ---- no bound matters
 
 enough : (n k : ℕ) (d : Data) → depth d < n → element_within (n + k) d ≡ element_within n d
 enough zero k d h = absurd (omega (arith, h))

@@ -188,6 +188,6 @@ element_within (suc n) d = element_over (element_within n) d
 unfoldable pub element_form : Data → Option Element
 element_form d = element_within (suc (depth d)) d
 
--- elements are made of elements: no bound on their nesting is felt
+-- elements are made of elements: no bound on their nesting matters
 abbrev pub ElementsNest : Type 0
 ElementsNest = (d : Data) → element_form d ≡ element_over element_form d

@@ -1,5 +1,5 @@
 //! Reading styles. Where a style says nothing, it is of the class in-text, and has what CSL 1.0.2
-//! gives by default: names told apart by cite, notes near within 5, spacings of 1, and whole lists of
+//! gives by default: names disambiguated by cite, notes near within 5, spacings of 1, and whole lists of
 //! names substituted.
 ghost use Rattle.std.specs.Prelude.{◌≡◌, IfOk, codes, pos, option_and_then, option_map};
 ghost use Rattle.serde_json.specs.Data.{array, object as object_of};
