@@ -57,15 +57,15 @@ module _ (limits : Limits) where
       → ChecksEach limits (style_view x.style ∷ []) (Ok tt) → ChecksEach limits (views (drop (i + 1) xs)) r → ChecksEach limits (views (drop i xs)) r
   next-checked xs i x r h e one rest =
       subst (λ ss. ChecksEach limits ss r)
-          (sym (at_drop_more views xs i x h ∙ ap (λ (y : NamedStyle). style_view y.style ∷ views (drop (i + 1) xs)) (sym e)))
-          (checked-on (style_view x.style) (views (drop (i + 1) xs)) r one rest)
+      (sym (at_drop_more views xs i x h ∙ ap (λ (y : NamedStyle). style_view y.style ∷ views (drop (i + 1) xs)) (sym e)))
+      (checked-on (style_view x.style) (views (drop (i + 1) xs)) r one rest)
 
   pub next-refused : (xs : List NamedStyle) (i : ℕ) (x : NamedStyle) (err : LimitError) → i < length xs → x ≡ get_or xs i x
       → ChecksEach limits (style_view x.style ∷ []) (Err err) → ChecksEach limits (views (drop i xs)) (Err err)
   next-refused xs i x err h e one =
       subst (λ ss. ChecksEach limits ss (Err err))
-          (sym (at_drop_more views xs i x h ∙ ap (λ (y : NamedStyle). style_view y.style ∷ views (drop (i + 1) xs)) (sym e)))
-          (refused-on (style_view x.style) (views (drop (i + 1) xs)) err one)
+      (sym (at_drop_more views xs i x h ∙ ap (λ (y : NamedStyle). style_view y.style ∷ views (drop (i + 1) xs)) (sym e)))
+      (refused-on (style_view x.style) (views (drop (i + 1) xs)) err one)
 
   pub end-checked : (xs : List NamedStyle) (i : ℕ) → length xs ≤ i → ChecksEach limits (views (drop i xs)) (Ok tt)
   end-checked xs i h = subst (λ ys. ChecksEach limits (views ys) (Ok tt)) (sym (drop_all i xs h)) none-checked

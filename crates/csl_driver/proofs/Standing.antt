@@ -130,7 +130,7 @@ module _ {E P : Type 0} (eq : E → E → Bool) (laws : IsEquivalence eq) (answe
           (λ c. same-mapped (λ i. with_any answers c.request (table i.entry) i) (λ i. i.entry) (λ i. entry-again table c.request (table i.entry) i) c.items) renders) ∙ h.same e;
     }
 
-    -- told apart
+    -- disambiguated
     pub disambiguated-stand : (mode : RoundMode) → AreCitesOf eq entered requests (disambiguated mode eq answers renders)
     unfolding disambiguated
     disambiguated-stand mode = again-stand (last_states mode eq answers renders)
@@ -168,7 +168,7 @@ module _ {E P : Type 0} {eq : E → E → Bool} (laws : IsEquivalence eq) (answe
       (subst (λ t. AreCitesOf eq t asked.requests (rendered_first eq payload_eq answers asked)) (sym is)
       (first-stand eq laws answers payload_eq (number eq asked.offset (entries_listed eq asked.wanted asked.requests)) asked.requests))
 
-  -- they can be told apart
+  -- they can be disambiguated
   pub begun-of-table : All (λ r. HasNoRing r.style.macros) asked.requests → AreCitesOfTable eq table begun
   begun-of-table no_ring = record {
     no_ring = of-requests (λ r. HasNoRing r.style.macros) begun asked.requests begun-stand.of no_ring;
@@ -177,7 +177,7 @@ module _ {E P : Type 0} {eq : E → E → Bool} (laws : IsEquivalence eq) (answe
   }
 
   module _ (mode : RoundMode) {told ordered : List (CiteRender E P)} (apart : told ≡ disambiguated mode eq answers begun) (grouping : ordered ≡ map grouped told) where
-    -- told apart and in their blocks
+    -- disambiguated and in their blocks
     pub ordered-stand : AreCitesOf eq table asked.requests ordered
     ordered-stand =
         subst (AreCitesOf eq table asked.requests) (sym grouping)

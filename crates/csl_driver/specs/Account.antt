@@ -35,6 +35,6 @@ module _ {E P : Type 0} (eq : E → E → Bool) (payload_eq : P → P → Bool) 
   abbrev pub cost : ℕ
   cost = 2 * length (cites_of asked.requests) + rerendered + listed_count eq asked.wanted asked.requests
 
-  -- by what an entry is told apart in the end
+  -- by what an entry is disambiguated in the end
   abbrev pub final_state : E → DisambiguateState
   final_state e = told_by (last_states mode eq answers (rendered_first eq payload_eq answers asked) e)

@@ -56,7 +56,7 @@ module _ {E P : Type 0} (eq : E → E → Bool) (payload_eq : P → P → Bool) 
       (first_properties eq payload_eq (number eq asked.offset listed) asked.requests)
 
   module _ (mode : RoundMode) (asked : Asked E P) where
-    -- the cites in their final order: told apart, and those of each request in their blocks
+    -- the cites in their final order: disambiguated, and those of each request in their blocks
     abbrev pub in_final_order : List (CiteRender E P)
     in_final_order = map grouped (disambiguated mode eq answers (rendered_first asked))
 

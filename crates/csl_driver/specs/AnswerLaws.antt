@@ -57,7 +57,7 @@ module _ {E P : Type 0} where
     pub read_back : has_no_purpose cites.items ≡ true
         → CanBeReadBack cites.items drawn.items cites.request.style.citation.collapse
 
-  -- how the citations of an answer came from the cites as they were told apart
+  -- how the citations of an answer came from the cites as they were disambiguated
   pub record ComeFrom (answers : E → Answers) (asked : Asked E P)
       (told : List (CiteRender E P)) (citations : List RenderedCitation) : Type 0 where
     -- the cites of each request in a final order, then with final positions and numbers, then collapsed

@@ -8,7 +8,8 @@ use Rattle.csl_entries.specs.TableView.{table_view}
 use Rattle.std.specs.declared.cmp.PartialEq as partial_eq
 use Rattle.std.specs.declared.hash.Hash as hashed
 
-module _ {T P : Type 0} {entries : entry_like.Ghosts T} {equality : partial_eq.Ghosts T} {hashes : hashed.Ghosts T} where
+module _ {T P : Type 0} {entries : entry_like.Ghosts T} {equality : partial_eq.Ghosts T}
+    {hashes : hashed.Ghosts T} where
   abbrev pub asked_in : Draft T P entries equality hashes → Asked T P
   asked_in draft = asked_view draft.requests.requests.now draft.cited.now.offset draft.wanted.wanted.now
 

@@ -21,7 +21,7 @@ pub struct Account<'a, T> {
     pub rounds: u128,
     /// The distinct entries, in the order of their first cites in the requests.
     pub entries: Vec<&'a T>,
-    /// At the same places, by what they are told apart.
+    /// At the same places, by what they are disambiguated.
     pub states: Vec<DisambiguateState>,
     /// At the same places, their final numbers.
     pub numbers: Vec<usize>,
@@ -39,7 +39,8 @@ impl<'d, 'o, 'a, T: EntryLike, P> Draft<'d, 'o, 'a, T, P> {
     ) -> Result<Account<'a, T>, AllocError>
         ensures renders { IfOk result (λ a. a.renders ≡ counter.now) }
         ensures rounds { IfOk result (λ a. a.rounds ≡ rounds.marked) }
-        ensures entries { IfOk result (λ a. map (λ e. e.now) a.entries.items ≡ (table_in self.entry).entries) }
+        ensures entries { IfOk result (λ a. map (λ e. e.now) a.entries.items
+            ≡ (table_in self.entry).entries) }
         ensures states { IfOk result (λ a. a.states.items ≡ map told_by rounds.states.items) }
         ensures numbers { IfOk result (λ a. a.numbers.items
             ≡ take (length (table_in self.entry).entries) numbers.items) }
@@ -71,7 +72,7 @@ fn table_entries<'a, T: EntryLike>(
     Ok(entries)
 }
 
-/// By what entries are told apart.
+/// By what entries are disambiguated.
 fn told_states(
     alloc: Global,
     states: Vec<Option<DisambiguateState>>,

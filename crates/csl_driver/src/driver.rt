@@ -16,8 +16,8 @@ pub struct BibliographyDriver<'a, T, P> {
     pub(crate) alloc: Global,
 }
 
-/// Lets requests go one by one: a list of lists that hold references to a type parameter can't be let
-/// go as a whole.
+/// Drops requests one by one: a list of lists that hold references to a type parameter can't be dropped as
+/// a whole.
 fn discard<T, P: Drop>(mut requests: Vec<CitationRequest<'_, T, P>>) {
     while let Some(_request) = requests.pop() {}
     requests.destroy_empty();

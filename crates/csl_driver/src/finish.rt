@@ -41,7 +41,7 @@ use std::alloc::{AllocError, Global};
 impl<'a, T: EntryLike, P: Eq + Drop> BibliographyDriver<'a, T, P> {
     /// Answers all requests: a citation for each, and the bibliography, where its style has one.
     ///
-    /// Cites that read alike are told apart, cites of one author are grouped, and runs of numbers and years
+    /// Cites that read alike are disambiguated, cites of one author are grouped, and runs of numbers and years
     /// are collapsed, as their styles ask for (CSL 1.0.2, disambiguation, cite grouping, cite collapsing);
     /// positions and numbers are those of the final order. Each cite is written for its purpose, by its
     /// locator; a cite of the year alone is its date text. The entries of the bibliography are those of the
@@ -63,7 +63,7 @@ impl<'a, T: EntryLike, P: Eq + Drop> BibliographyDriver<'a, T, P> {
     }
 
     /// Answers all requests, as `finish` does, and tells what it cost and how its entries are numbered and
-    /// told apart.
+    /// disambiguated.
     ///
     /// The renderings are two for each cite of each request, hidden or not; one in each round that marked
     /// for each cite whose entry it marked; and, where there is a bibliography, one for each of its entries.
@@ -81,7 +81,7 @@ impl<'a, T: EntryLike, P: Eq + Drop> BibliographyDriver<'a, T, P> {
         self.answered(&request, RoundMode::Three)
     }
 
-    /// Answers all requests, as `finish_counted` does, but for the rounds in which cites are told apart:
+    /// Answers all requests, as `finish_counted` does, but for the rounds in which cites are disambiguated:
     /// these go on until none marks. In a round each ambiguous group is tried in all ways, and a mark counts
     /// only where it is greater than the state of its entry; a group waits for the next round where an entry
     /// of it was marked in this one. Each round that marks raises the rank of some entry and lowers none, so
@@ -123,7 +123,7 @@ impl<'a, T: EntryLike, P: Eq + Drop> BibliographyDriver<'a, T, P> {
 }
 
 impl<'d, 'o, 'a, T: EntryLike, P: Eq + Drop> Draft<'d, 'o, 'a, T, P> {
-    /// The answer, and its account. The cites are rendered a first time, told apart and grouped, and their
+    /// The answer, and its account. The cites are rendered a first time, disambiguated and grouped, and their
     /// entries numbered in their final order; then the bibliography is written, and from the collapsed cites
     /// the citations.
     pub(crate) fn finish(

@@ -1,4 +1,4 @@
-//! Laws of what goes in and comes out, of how cites are told apart, and of every answer.
+//! Laws of what goes in and comes out, of how cites are disambiguated, and of every answer.
 ghost use Rattle.csl_assembly.specs.declared.rendered.Rendered.{Rendered};
 ghost use Rattle.csl_driver.specs.Answer.{Asked};
 ghost use Rattle.csl_driver.specs.AnswerLaws.{KeepsLaws};

@@ -7,4 +7,4 @@ use Rattle.gamhilon_c.proofs.gamhilon_limits.Goals as goal
 pub returns-in-Err : goal.returns-in-Err
 returns-in-Err c =
     refused (record { depth = c.args.depth; elements = c.args.elements }) (styles_in c.args.document.now) c.from.result c.in-Err.error
-        c.in-Err.ensures (c.from.ensures ∙ c.status.ensures)
+    c.in-Err.ensures (c.from.ensures ∙ c.status.ensures)
