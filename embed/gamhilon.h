@@ -32,7 +32,7 @@
  * The processor has to be an x86-64 of level v2 (SSE4.2 and POPCNT: those made since 2009) or above.
  *
  * Stack. A call takes more of it the deeper the document's elements nest. Give a thread that calls 256 KiB: of the documents that
- * the tests try the deepest take 145 KiB, and embed/test.py holds all of them to 256. JSON nests no deeper than 127, but macros
+ * the tests try the deepest take 111 KiB, and embed/test.py holds all of them to 256. JSON nests no deeper than 127, but macros
  * that call one another deepen trees further. Running out of stack ends the process, as everywhere in C.
  *
  * Documents from others. Macros make much work of a small document: a chain of them takes more stack the longer it is, and 24
