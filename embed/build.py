@@ -79,7 +79,7 @@ def compile_after_ci(kit_folder):
     words = ['--crate-name', 'gamhilon_c', 'src/lib.rt', '--crate-type', 'staticlib']
     words += ['--extern', f'std={kit_folder}/rlibs/std.rlib', '-L', f'dependency={kit_folder}/rlibs']
     for name in own:
-        words += ['--extern', f'{name}={folders[name]}/{name}.rlib']
+        words += ['--extern', f'{name}={folders.get(name, f"{kit_folder}/rlibs")}/{name}.rlib']
     for folder in folders.values():
         words += ['-L', f'dependency={folder}']
     words += ['--antt-project', f'{kit_folder}/rattle/logic/antt-project.json', '--logic-built', f'{kit_folder}/logic_built']
