@@ -1,4 +1,5 @@
 -- What the driver answers to a document's requests, and what it refuses, is of the document.
+use Rattle.csl_writers.specs.Writing.{layout_writing}
 use Rattle.std.proofs.Common.{◌≡◌, ℕ, ◌+◌, ◌<◌, ◌^◌, Bool, List, length, ap, ◌∙◌, subst}
 use Rattle.std.specs.declared.convert.Infallible.{Infallible}
 use Rattle.csl_base.specs.PlainEntry.{plain_answers}
@@ -22,11 +23,11 @@ module _ (v : Driver PlainEntry Infallible) (w : Wanted PlainEntry) (d : Documen
       subst (λ x. NoRingAtAll x.requests d.style × (x.offset + length (distinct same_entry (cited x.requests)) < 2 ^ 64)) p
       (subst (λ (x : Wanted PlainEntry). NoRingAtAll v.requests x.style) q a, b)
 
-  pub is_answer : (mode : RoundMode) (r : Rendered) → mode ≡ d.rounds → r ≡ rendered same_entry same_payload plain_answers mode (record { wanted = w; requests = v.requests; offset = v.offset }) → r ≡ answer d
+  pub is_answer : (mode : RoundMode) (r : Rendered) → mode ≡ d.rounds → r ≡ rendered same_entry same_payload (layout_writing plain_answers) mode (record { wanted = w; requests = v.requests; offset = v.offset }) → r ≡ answer d
   is_answer mode r m e =
-      e ∙ ap (λ x. rendered same_entry same_payload plain_answers x (record { wanted = w; requests = v.requests; offset = v.offset })) m
-      ∙ ap (λ x. rendered same_entry same_payload plain_answers d.rounds (record { wanted = x; requests = v.requests; offset = v.offset })) q
-      ∙ ap (λ x. rendered same_entry same_payload plain_answers d.rounds (record { wanted = wanted_of d; requests = x.requests; offset = x.offset })) p
+      e ∙ ap (λ x. rendered same_entry same_payload (layout_writing plain_answers) x (record { wanted = w; requests = v.requests; offset = v.offset })) m
+      ∙ ap (λ x. rendered same_entry same_payload (layout_writing plain_answers) d.rounds (record { wanted = x; requests = v.requests; offset = v.offset })) q
+      ∙ ap (λ x. rendered same_entry same_payload (layout_writing plain_answers) d.rounds (record { wanted = wanted_of d; requests = x.requests; offset = x.offset })) p
 
   pub first_ring : (place : RingPlace) (i : ℕ) → IsFirstRingOf v.requests w.style place i → HasFirstRing place i d
   first_ring place i h =

@@ -8,6 +8,7 @@ use Rattle.csl_base.specs.contracts.entry.PlainEntryPartialEq.TheImpl as plain_e
 use Rattle.std.specs.contracts.prelude.InfalliblePartialEq.TheImpl as infallible_eq
 use Rattle.csl_driver.specs.Answer.{Asked, rendered}
 use Rattle.csl_entries.specs.Entries.{distinct}
+use Rattle.csl_writers.specs.Writing.{layout_writing}
 use Rattle.csl_passes.specs.Request.{Request, Wanted, cited, with_places}
 use Rattle.csl_driver.specs.Rings.{NoRingAtAll, IsFirstRingOf, Overflows}
 use Rattle.csl_driver.specs.declared.error.RingPlace.{RingPlace}
@@ -38,7 +39,7 @@ asked_by d = record { wanted = wanted_of d; requests = accepted d.requests; offs
 
 -- the whole answer to a document: that of as many rounds as it says
 abbrev pub answer : Document → Rendered
-answer d = rendered same_entry same_payload plain_answers d.rounds (asked_by d)
+answer d = rendered same_entry same_payload (layout_writing plain_answers) d.rounds (asked_by d)
 
 -- the first ring of a document's styles: the style's place, and that of its first macro on a ring
 abbrev pub HasFirstRing : RingPlace → ℕ → Document → Type 0

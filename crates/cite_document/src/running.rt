@@ -4,6 +4,7 @@ ghost use Rattle.std.specs.Io.KnownBytes.{Appends, Keeps};
 ghost use Rattle.serde_json.specs.View.{view};
 ghost use Rattle.csl_base.specs.PlainEntry.{plain_answers};
 ghost use Rattle.csl_base.specs.StyleView.{locale_view};
+ghost use Rattle.csl_writers.specs.Writing.{layout_writing};
 ghost use Rattle.csl_driver.specs.Answer.{rendered};
 ghost use Rattle.csl_driver.specs.AskedView.{asked_of};
 ghost use Rattle.csl_driver.specs.DriverView.{driver_view};
@@ -121,7 +122,7 @@ fn answer_in<'e>(
     rounds: RoundMode,
 ) -> Result<Rendered, DriverError>
     ensures { Finishes
-        (λ r. r ≡ rendered same_entry same_payload plain_answers rounds (asked_of driver.entry request.entry))
+        (λ r. r ≡ rendered same_entry same_payload (layout_writing plain_answers) rounds (asked_of driver.entry request.entry))
         same_entry (asked_of driver.entry request.entry) result }
 {
     match rounds {

@@ -1,7 +1,7 @@
 -- The items of a bibliography, from the first cites of its entries.
 use Rattle.std.specs.Prelude.{Bool, List, [], map, Option, None, if◌then◌else◌, is_some, option_map, unwrap_or}
 use Rattle.std.specs.List.{filter_map, find, remove, position_or_len}
-use Rattle.csl_base.specs.Answers.{Answers}
+use Rattle.csl_writers.specs.Writing.{Writing}
 use Rattle.csl_base.specs.Child.{Child}
 use Rattle.csl_base.specs.Metas.{child_has_any_meta}
 use Rattle.csl_base.specs.Simplify.{simplified}
@@ -11,7 +11,6 @@ use Rattle.csl_lookup.specs.Properties.{Properties}
 use Rattle.csl_passes.specs.Places.{cite_at}
 use Rattle.csl_passes.specs.Renders.{CiteRender, ItemRender, Place}
 use Rattle.csl_substitution.specs.Substitution.{Item, substituted}
-use Rattle.csl_writing.specs.CiteText.{bibliography_text}
 use Rattle.csl_assembly.specs.ChildOf.{child_of}
 use Rattle.csl_assembly.specs.declared.rendered.BibliographyItem.{BibliographyItem}
 use Rattle.csl_assembly.specs.declared.rendered.RenderedBibliography.{RenderedBibliography}
@@ -35,12 +34,12 @@ cites_at renders places = filter_map (λ p. option_map (λ c. c.1) (cite_at rend
 abbrev pub unlocated : {E P : Type 0} → ItemRender E P → Properties P
 unlocated i = record i.properties { speculative = record i.properties.speculative { locator = None } }
 
-module _ {E P : Type 0} (answers : E → Answers) (source : Source) where
+module _ {E P : Type 0} (writing : Writing E P) (source : Source) where
   -- the entry of a cite as the bibliography writes it by what holds of the cite, and its key
   abbrev pub written_item : ItemRender E P → Item
   written_item i = (
-    simplified (unwrap_or (bibliography_text source (answers i.entry) (unlocated i)) []),
-    (answers i.entry).key,
+    simplified (unwrap_or (writing.item source i.entry (unlocated i)) []),
+    (writing.answers i.entry).key,
   )
 
   -- the bibliography, where these are the first cites of its entries, in its order

@@ -2,7 +2,7 @@
 use Rattle.std.specs.Prelude.{ℕ, Bool, not, List, [], ◌∷◌, map, filter, Option, Some, None, is_none}
 use Rattle.std.specs.List.{list_all}
 use Rattle.std.specs.Option.{option_or}
-use Rattle.csl_base.specs.Answers.{Answers}
+use Rattle.csl_writers.specs.Writing.{Writing}
 use Rattle.csl_base.specs.Child.{Child, elem, kids_of}
 use Rattle.csl_base.specs.Style.{LayoutValue}
 use Rattle.csl_base.specs.declared.elem.ElemMeta.TheVariants.{Entry}
@@ -28,11 +28,11 @@ module _ {E P : Type 0} where
   abbrev pub marked_cite : ItemRender E P → List Child → List Child
   marked_cite i tree = elem (kids_of tree) None (Some (Entry i.properties.certain.initial_idx)) ∷ []
 
-  module _ (answers : E → Answers) where
+  module _ (writing : Writing E P) where
     -- a cite as it is put into its citation
     abbrev pub shown_cite : Source → LayoutValue → ItemRender E P → Shown
     shown_cite source layout i =
-        record { delimiter = delimiter_before layout i; tree = marked_cite i (last_tree answers source i) }
+        record { delimiter = delimiter_before layout i; tree = marked_cite i (last_tree writing source i) }
 
     -- the citation; the layout encloses it where no cite has a purpose
     abbrev pub citation_tree : CiteRender E P → List Child

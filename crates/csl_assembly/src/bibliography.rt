@@ -12,6 +12,7 @@ ghost use Rattle.csl_writing.specs.Counted.{counted, counted_times};
 ghost use Rattle.std.specs.List.{find, position_or_len, remove};
 ghost use Rattle.csl_assembly.specs.ChildOf.{child_of};
 ghost use Rattle.csl_assembly.specs.BibliographyItems.{bibliography_of, cites_at, unlocated, with_first_field, written_item};
+ghost use Rattle.csl_writers.specs.Writing.{layout_writing};
 
 use crate::rendered::{BibliographyItem, RenderedBibliography};
 use csl_base::elem::{ElemChild, ElemChildren};
@@ -51,7 +52,7 @@ fn written_item<T: EntryLike, P: Drop>(
     counter: &mut Renders,
 ) -> Result<(ElemChildren, String), AllocError>
     ensures item { IfOk result (λ item. (item.0, string_bytes item.1)
-        ≡ written_item T.answers (wanted_source (wanted_view wanted.entry.wanted.now))
+        ≡ written_item (layout_writing T.answers) (wanted_source (wanted_view wanted.entry.wanted.now))
         (item_view first.now)) }
     ensures counted { OnOk result (counter.new ≡ counted counter.old) }
 {
@@ -86,7 +87,7 @@ fn written_items<T: EntryLike, P: Drop>(
 ) -> Result<Vec<(ElemChildren, String)>, AllocError>
     requires exist { All (IsPlace (renders_view cites.now)) firsts.now }
     ensures items { IfOk result (λ made. items_view made.items
-        ≡ map (written_item T.answers (wanted_source (wanted_view wanted.entry.wanted.now)))
+        ≡ map (written_item (layout_writing T.answers) (wanted_source (wanted_view wanted.entry.wanted.now)))
         (cites_at (renders_view cites.now) firsts.now)) }
     ensures counted { OnOk result (counter.new ≡ counted_times (length firsts.now) counter.old) }
 {
@@ -158,7 +159,7 @@ pub fn bibliography_of<T: EntryLike, P: Drop>(
 ) -> Result<RenderedBibliography, AllocError>
     requires exist { All (IsPlace (renders_view cites.now)) firsts.now }
     ensures bibliography { IfOk result (λ r. r
-        ≡ bibliography_of T.answers (wanted_source (wanted_view wanted.entry.wanted.now))
+        ≡ bibliography_of (layout_writing T.answers) (wanted_source (wanted_view wanted.entry.wanted.now))
         (bibliography_view bibliography.now) (cites_at (renders_view cites.now) firsts.now)) }
     ensures counted { OnOk result (counter.new ≡ counted_times (length firsts.now) counter.old) }
 {

@@ -8,6 +8,7 @@ ghost use Rattle.csl_assembly.specs.CitationTree.{citation_tree, delimiter_befor
 ghost use Rattle.csl_assembly.specs.LastTree.{last_tree};
 ghost use Rattle.csl_assembly.specs.ShownView.{shown_views};
 ghost use Rattle.csl_writing.specs.Counted.{counted, counted_times};
+ghost use Rattle.csl_writers.specs.Writing.{layout_writing};
 
 use crate::assemble::{ShownCite, assembled};
 use crate::last_tree::last_tree;
@@ -51,7 +52,7 @@ fn marked_cite<T: EntryLike, P: Drop>(
 ) -> Result<ElemChildren, AllocError>
     ensures tree { IfOk result (λ tree. tree
         ≡ marked_cite (item_view item.now)
-        (last_tree T.answers (source_of (request_view request.entry.request.now)) (item_view item.now))) }
+        (last_tree (layout_writing T.answers) (source_of (request_view request.entry.request.now)) (item_view item.now))) }
     ensures counted { OnOk result (counter.new ≡ counted counter.old) }
 {
     let cite = Elem {
@@ -72,7 +73,7 @@ fn shown_cites<'a, T: EntryLike, P: Drop>(
     counter: &mut Renders,
 ) -> Result<Vec<ShownCite<'a>>, AllocError>
     ensures cites { IfOk result (λ cites. shown_views cites.items
-        ≡ map (shown_cite T.answers (source_of (request_view request.entry.request.now))
+        ≡ map (shown_cite (layout_writing T.answers) (source_of (request_view request.entry.request.now))
         (request_view request.entry.request.now).style.citation.layout) (shown (items_view items.now))) }
     ensures counted { OnOk result (counter.new ≡ counted_times (length items.now) counter.old) }
 {
@@ -102,7 +103,7 @@ pub fn citation_tree<'a, T: EntryLike, P: Drop>(
     counter: &mut Renders,
 ) -> Result<ElemChildren, AllocError>
     ensures tree { IfOk result (λ tree. tree
-        ≡ citation_tree T.answers
+        ≡ citation_tree (layout_writing T.answers)
         (record { items = items_view items.now; request = request_view request.entry.request.now })) }
     ensures counted { OnOk result (counter.new ≡ counted_times (length items.now) counter.old) }
 {

@@ -6,6 +6,7 @@ ghost use Rattle.csl_passes.specs.Request.{source_of};
 ghost use Rattle.csl_passes.specs.RequestView.{request_view};
 ghost use Rattle.csl_assembly.specs.LastTree.{last_properties, last_tree, tree_for_purpose};
 ghost use Rattle.csl_writing.specs.Counted.{counted};
+ghost use Rattle.csl_writers.specs.Writing.{layout_writing};
 
 use csl_base::elem::ElemChildren;
 use csl_base::entry::EntryLike;
@@ -55,8 +56,8 @@ pub fn tree_for_purpose<T: EntryLike, P>(
     counter: &mut Renders,
 ) -> Result<ElemChildren, AllocError>
     ensures tree { IfOk result (λ tree. tree
-        ≡ tree_for_purpose (source_of (request_view request.entry.request.now)) (T.answers entry.now)
-        (properties_view properties.now) purpose verdict) }
+        ≡ tree_for_purpose (layout_writing T.answers) (source_of (request_view request.entry.request.now))
+        entry.now (properties_view properties.now) purpose verdict) }
     ensures counted { OnOk result (counter.new ≡ counted counter.old) }
 {
     let context = StyleContext::of_locales(request.source());
@@ -90,7 +91,7 @@ pub fn last_tree<T: EntryLike, P: Drop>(
     counter: &mut Renders,
 ) -> Result<ElemChildren, AllocError>
     ensures tree { IfOk result (λ tree. tree
-        ≡ last_tree T.answers (source_of (request_view request.entry.request.now)) (item_view item.now)) }
+        ≡ last_tree (layout_writing T.answers) (source_of (request_view request.entry.request.now)) (item_view item.now)) }
     ensures counted { OnOk result (counter.new ≡ counted counter.old) }
 {
     let properties = last_properties(item)?;

@@ -9,7 +9,7 @@ use Rattle.std.proofs.lemmas.List.Sorted.{length_permutation}
 use Rattle.std.proofs.Math.ListN.{length-map}
 use Rattle.csl_assembly.specs.CitationTree.{has_no_purpose}
 use Rattle.csl_assembly.specs.declared.rendered.Rendered.{Rendered}
-use Rattle.csl_base.specs.Answers.{Answers}
+use Rattle.csl_writers.specs.Writing.{Writing}
 use Rattle.csl_collapse.specs.Collapsed.{collapsed}
 use Rattle.csl_collapse.specs.NumberLaws.{CanBeReadBack}
 use Rattle.csl_driver.specs.Answer.{Asked, citation_of, drawn_together, entries_listed, final_number, in_final_order, in_the_end, numbered_finally, order_in_use, rendered_first}
@@ -65,13 +65,13 @@ ended RoundMode.Three marked h = few marked h
 ended RoundMode.Full marked h = h
 
 -- the first table is empty
-begins : {E P : Type 0} (mode : RoundMode) (eq : E → E → Bool) (answers : E → Answers) (firsts : List (CiteRender E P)) (n : ℕ) (t : StateTable E)
-    → slice_get (tables_from mode eq answers firsts n t) 0 ≡ Some t
+begins : {E P : Type 0} (mode : RoundMode) (eq : E → E → Bool) (writing : Writing E P) (firsts : List (CiteRender E P)) (n : ℕ) (t : StateTable E)
+    → slice_get (tables_from mode eq writing firsts n t) 0 ≡ Some t
 unfolding tables_from
-begins mode eq answers firsts zero t = refl
-begins mode eq answers firsts (suc n) t = by (has_any (marks_at mode eq answers firsts t))
+begins mode eq writing firsts zero t = refl
+begins mode eq writing firsts (suc n) t = by (has_any (marks_at mode eq writing firsts t))
   where
-    by : (b : Bool) → slice_get (if b then t ∷ tables_from mode eq answers firsts n (with_marks (marked_at mode eq answers firsts t) t) else t ∷ []) 0 ≡ Some t
+    by : (b : Bool) → slice_get (if b then t ∷ tables_from mode eq writing firsts n (with_marks (marked_at mode eq writing firsts t) t) else t ∷ []) 0 ≡ Some t
     by true = refl
     by false = refl
 
@@ -139,28 +139,28 @@ module _ {E P : Type 0} (eq : E → E → Bool) (laws : IsEquivalence eq) (each_
       in-order order none =
           subst (λ o. AreInOrder eq offset entries (map (number eq offset (numbered_finally eq o requests cites)) entries) finally) (sym none) by-final-order
 
-  module _ (answers : E → Answers) (payload_eq : P → P → Bool) (mode : RoundMode) (asked : Asked E P) (r : Rendered × Account E) (is : IsExactly eq payload_eq answers mode asked r) where
+  module _ (writing : Writing E P) (payload_eq : P → P → Bool) (mode : RoundMode) (asked : Asked E P) (r : Rendered × Account E) (is : IsExactly eq payload_eq writing mode asked r) where
     abbrev firsts : List (CiteRender E P)
-    firsts = rendered_first eq payload_eq answers asked
+    firsts = rendered_first eq payload_eq writing asked
 
     abbrev all_tables : List (StateTable E)
-    all_tables = tables mode eq answers firsts
+    all_tables = tables mode eq writing firsts
 
     abbrev told : List (CiteRender E P)
-    told = disambiguated mode eq answers firsts
+    told = disambiguated mode eq writing firsts
 
     abbrev in_order : List (CiteRender E P)
-    in_order = in_final_order eq payload_eq answers mode asked
+    in_order = in_final_order eq payload_eq writing mode asked
 
     abbrev number_of : E → ℕ
-    number_of = final_number eq payload_eq answers mode asked
+    number_of = final_number eq payload_eq writing mode asked
 
     abbrev in_end : List (CiteRender E P)
-    in_end = in_the_end eq payload_eq answers mode asked
+    in_end = in_the_end eq payload_eq writing mode asked
 
     ordered : AreCitesOf eq (table_of eq asked.requests) asked.requests in_order
     ordered =
-        ordered-stand laws answers payload_eq asked {table = table_of eq asked.requests} refl {begun = firsts} refl mode {told = told} {ordered = in_order} refl refl
+        ordered-stand laws writing payload_eq asked {table = table_of eq asked.requests} refl {begun = firsts} refl mode {told = told} {ordered = in_order} refl refl
 
     same-cited : (e : E) → is_in eq e (cited_finally in_order) ≡ is_in eq e (cited asked.requests)
     same-cited e = ordered.same e ∙ is_in-distinct eq laws e (cited asked.requests)
@@ -179,7 +179,7 @@ module _ {E P : Type 0} (eq : E → E → Bool) (laws : IsEquivalence eq) (each_
 
     module _ (brought : (c : CiteRender E P) → HasFinalOrder (is_grouped c.request.style.citation) c.items (grouped c).items)
         (drawn : (c : CiteRender E P) → CanBeReadBack c.items (collapsed c).items c.request.style.citation.collapse) where
-      abbrev citations-come : ComeFrom answers asked told r.0.citations
+      abbrev citations-come : ComeFrom writing asked told r.0.citations
       citations-come = record {
         ordered = in_order;
         settled = in_end;
@@ -187,13 +187,13 @@ module _ {E P : Type 0} (eq : E → E → Bool) (laws : IsEquivalence eq) (each_
         final_orders = zip-mapped IsBroughtTogether grouped (λ c. record { same_request = grouped-request c; final_order = brought c }) told;
         settles = settled-cites;
         runs = zip-mapped IsReadBack drawn_together (read-back drawn) in_end;
-        asked_for = drawn-requests in_end ∙ (final-stand eq laws answers (table_of eq asked.requests) asked.requests in_order ordered payload_eq number_of).of;
-        made = ap (λ (a : Rendered). a.citations) is.ok ∙ sym (map-map (citation_of answers) drawn_together in_end);
+        asked_for = drawn-requests in_end ∙ (final-stand eq laws writing (table_of eq asked.requests) asked.requests in_order ordered payload_eq number_of).of;
+        made = ap (λ (a : Rendered). a.citations) is.ok ∙ sym (map-map (citation_of writing) drawn_together in_end);
       }
 
-      laws-of-rounds : IsLawful mode eq answers firsts all_tables (rounds mode eq answers firsts) → IsLawful mode eq answers firsts all_tables r.1.rounds
+      laws-of-rounds : IsLawful mode eq writing firsts all_tables (rounds mode eq writing firsts) → IsLawful mode eq writing firsts all_tables r.1.rounds
       laws-of-rounds h =
-          let back : Ended mode r.1.rounds → Ended mode (rounds mode eq answers firsts) = λ e. ended mode (rounds mode eq answers firsts) (subst (Ended mode) is.rounds e) in
+          let back : Ended mode r.1.rounds → Ended mode (rounds mode eq writing firsts) = λ e. ended mode (rounds mode eq writing firsts) (subst (Ended mode) is.rounds e) in
           record {
             go_on = h.go_on;
             stay = h.stay;
@@ -206,12 +206,12 @@ module _ {E P : Type 0} (eq : E → E → Bool) (laws : IsEquivalence eq) (each_
           }
 
       pub keeps-laws : ((m : RoundMode) (requests : List (Request E P)) (properties : List (List FirstProperties))
-          → let fs = first_renders answers requests properties in IsLawful m eq answers fs (tables m eq answers fs) (rounds m eq answers fs))
-          → KeepsLaws eq payload_eq answers mode asked r
+          → let fs = first_renders writing requests properties in IsLawful m eq writing fs (tables m eq writing fs) (rounds m eq writing fs))
+          → KeepsLaws eq payload_eq writing mode asked r
       unfolding disambiguated
       keeps-laws lawful = record {
         tables = all_tables;
-        first_is_empty = begins mode eq answers firsts (most_rounds mode eq firsts) no_states;
+        first_is_empty = begins mode eq writing firsts (most_rounds mode eq firsts) no_states;
         one_for_each_round = is.rounds;
         last_is_told = is.states ∙ ap (map (λ e. told_by (last_table all_tables e))) (sym is.entries) ∙ map-map (λ e. told_by (last_table all_tables e)) (λ e. e.now) r.1.entries.items;
         rounds = laws-of-rounds (lawful mode asked.requests (first_properties eq payload_eq (number eq asked.offset (entries_listed eq asked.wanted asked.requests)) asked.requests));
@@ -223,7 +223,7 @@ module _ {E P : Type 0} (eq : E → E → Bool) (laws : IsEquivalence eq) (each_
       }
 
 -- what is exactly the answer keeps the laws, and so is all that is promised
-pub is-answer : {E P : Type 0} (eq : E → E → Bool) (payload_eq : P → P → Bool) (answers : E → Answers) (mode : RoundMode) (asked : Asked E P) (r : Rendered × Account E)
-    → ((r : Rendered × Account E) → IsExactly eq payload_eq answers mode asked r → KeepsLaws eq payload_eq answers mode asked r)
-    → IsExactly eq payload_eq answers mode asked r → IsAnswer eq payload_eq answers mode asked r
-is-answer eq payload_eq answers mode asked r keeps exact = record { exact = exact; laws = keeps r exact }
+pub is-answer : {E P : Type 0} (eq : E → E → Bool) (payload_eq : P → P → Bool) (writing : Writing E P) (mode : RoundMode) (asked : Asked E P) (r : Rendered × Account E)
+    → ((r : Rendered × Account E) → IsExactly eq payload_eq writing mode asked r → KeepsLaws eq payload_eq writing mode asked r)
+    → IsExactly eq payload_eq writing mode asked r → IsAnswer eq payload_eq writing mode asked r
+is-answer eq payload_eq writing mode asked r keeps exact = record { exact = exact; laws = keeps r exact }

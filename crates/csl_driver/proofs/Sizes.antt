@@ -8,7 +8,7 @@ use Rattle.std.proofs.lemmas.List.Concat.{length-flat_map}
 use Rattle.std.proofs.lemmas.List.FromFn.{length-range_with_len}
 use Rattle.std.proofs.lemmas.List.Sorted.{length_permutation}
 use Rattle.std.proofs.lemmas.List.Sums.{sum_by-cons}
-use Rattle.csl_base.specs.Answers.{Answers}
+use Rattle.csl_writers.specs.Writing.{Writing}
 use Rattle.csl_base.specs.Style.{CitationValue}
 use Rattle.csl_base.specs.declared.style.Collapse.{Collapse}
 use Rattle.csl_assembly.specs.CitationTree.{has_no_purpose}
@@ -72,45 +72,45 @@ module _ {E P : Type 0} where
       by true = collapsed-length c.request.style.citation.collapse c.request.style.citation c.items
       by false = refl
 
-module _ {E P : Type 0} (eq : E → E → Bool) (payload_eq : P → P → Bool) (answers : E → Answers) (mode : RoundMode) (asked : Asked E P) where
-  first-size : sum_by size (rendered_first eq payload_eq answers asked) ≡ length (cites_of asked.requests)
+module _ {E P : Type 0} (eq : E → E → Bool) (payload_eq : P → P → Bool) (writing : Writing E P) (mode : RoundMode) (asked : Asked E P) where
+  first-size : sum_by size (rendered_first eq payload_eq writing asked) ≡ length (cites_of asked.requests)
   first-size =
-      let firsts = rendered_first eq payload_eq answers asked in
+      let firsts = rendered_first eq payload_eq writing asked in
       let requests = asked.requests in
       sum-same size (λ c. length (map (λ i. i.entry) c.items)) (λ c. sym (length-map c.items (λ i. i.entry))) firsts
       ∙ sym (length-flat_map (λ c. map (λ i. i.entry) c.items) firsts)
-      ∙ ap length (first-cited eq payload_eq answers (number eq asked.offset (entries_listed eq asked.wanted requests)) [] requests)
+      ∙ ap length (first-cited eq payload_eq writing (number eq asked.offset (entries_listed eq asked.wanted requests)) [] requests)
       ∙ length-flat_map (λ r. entries_of r.cites) requests
       ∙ sum-same (λ r. length (entries_of r.cites)) (λ r. length r.cites) (λ r. length-map r.cites (λ c. c.entry)) requests
       ∙ sym (length-flat_map (λ r. r.cites) requests)
 
-  told-size : sum_by size (disambiguated mode eq answers (rendered_first eq payload_eq answers asked)) ≡ sum_by size (rendered_first eq payload_eq answers asked)
+  told-size : sum_by size (disambiguated mode eq writing (rendered_first eq payload_eq writing asked)) ≡ sum_by size (rendered_first eq payload_eq writing asked)
   unfolding disambiguated
   told-size =
-      let firsts = rendered_first eq payload_eq answers asked in
-      sum-mapped size (request_at answers (last_states mode eq answers firsts)) (λ c. length-map c.items _) firsts
+      let firsts = rendered_first eq payload_eq writing asked in
+      sum-mapped size (request_at writing (last_states mode eq writing firsts)) (λ c. length-map c.items _) firsts
 
   -- as many as the requests have
-  pub last-size : sum_by size (map drawn_together (in_the_end eq payload_eq answers mode asked)) ≡ length (cites_of asked.requests)
+  pub last-size : sum_by size (map drawn_together (in_the_end eq payload_eq writing mode asked)) ≡ length (cites_of asked.requests)
   last-size =
-      let told = disambiguated mode eq answers (rendered_first eq payload_eq answers asked) in
-      let number_of = final_number eq payload_eq answers mode asked in
-      sum-mapped size drawn_together drawn-size (in_the_end eq payload_eq answers mode asked)
-      ∙ sum-changed size (λ k c. record c { items = with_final_items eq payload_eq number_of (items_before (in_final_order eq payload_eq answers mode asked) k) c.items })
+      let told = disambiguated mode eq writing (rendered_first eq payload_eq writing asked) in
+      let number_of = final_number eq payload_eq writing mode asked in
+      sum-mapped size drawn_together drawn-size (in_the_end eq payload_eq writing mode asked)
+      ∙ sum-changed size (λ k c. record c { items = with_final_items eq payload_eq number_of (items_before (in_final_order eq payload_eq writing mode asked) k) c.items })
       (λ k c. length-map (enumerate_from 0 c.items) _ ∙ length-enumerate_from 0 c.items) 0 (map grouped told)
       ∙ sum-mapped size grouped grouped-size told ∙ told-size ∙ first-size
 
   -- all renderings, from none: of the first renders, the rounds, the bibliography and the citations
   pub all-counted : (begun told listed all last : ℕ) → begun ≡ counted_times (length (cites_of asked.requests)) 0
-      → let firsts = rendered_first eq payload_eq answers asked in told ≡ counted_times (rerenders (entries_cited firsts) (round_tables mode eq answers firsts)) begun
+      → let firsts = rendered_first eq payload_eq writing asked in told ≡ counted_times (rerenders (entries_cited firsts) (round_tables mode eq writing firsts)) begun
       → listed ≡ counted_times (listed_count eq asked.wanted asked.requests) told → all ≡ counted_times last listed → last ≡ length (cites_of asked.requests)
-      → all ≡ min (cost eq payload_eq answers mode asked) (2 ^ 128 - 1)
+      → all ≡ min (cost eq payload_eq writing mode asked) (2 ^ 128 - 1)
   all-counted begun told listed all last first rounds bibliography citations same =
       let n = length (cites_of asked.requests) in
-      let a = rerendered eq payload_eq answers mode asked in
+      let a = rerendered eq payload_eq writing mode asked in
       let b = listed_count eq asked.wanted asked.requests in
-      let firsts = rendered_first eq payload_eq answers asked in
-      let again = ap (λ es. rerenders es (round_tables mode eq answers firsts)) (first-cited eq payload_eq answers (number eq asked.offset (entries_listed eq asked.wanted asked.requests)) [] asked.requests) in
+      let firsts = rendered_first eq payload_eq writing asked in
+      let again = ap (λ es. rerenders es (round_tables mode eq writing firsts)) (first-cited eq payload_eq writing (number eq asked.offset (entries_listed eq asked.wanted asked.requests)) [] asked.requests) in
       let sum : n + (b + (a + n)) ≡ 2 * n + a + b = omega arith in
       citations ∙ ap (λ k. counted_times k listed) same ∙ ap (counted_times n) (bibliography ∙ ap (counted_times b) (rounds ∙ (λ i. counted_times (again i) (first i)) ∙ sym (counted_times-add a n 0)) ∙ sym (counted_times-add b (a + n) 0))
       ∙ sym (counted_times-add n (b + (a + n)) 0) ∙ ap (λ k. counted_times k 0) sum ∙ counted_times-all (2 * n + a + b)

@@ -5,7 +5,7 @@ use Rattle.std.specs.Cmp.{IsEquivalence}
 use Rattle.std.specs.List.{AllZip, enumerate_from}
 use Rattle.std.proofs.lemmas.List.Elements.{All-cons, All-head, All-nil, All-tail}
 use Rattle.csl_assembly.specs.CitationTree.{has_no_purpose}
-use Rattle.csl_base.specs.Answers.{Answers}
+use Rattle.csl_writers.specs.Writing.{Writing}
 use Rattle.csl_collapse.specs.Collapsed.{collapsed}
 use Rattle.csl_driver.specs.Answer.{Asked, drawn_together, entries_listed, rendered_first}
 use Rattle.csl_driver.specs.AreCitesOf.{AreCitesOf}
@@ -99,41 +99,41 @@ of-requests {E} {P} Q renders requests same all = from renders (subst (All Q) (s
     from [] a = All-nil (λ c. Q c.request)
     from (c ∷ cs) a = All-cons (λ d. Q d.request) c cs (All-head Q c.request (map (λ d. d.request) cs) a) (from cs (All-tail Q c.request (map (λ d. d.request) cs) a))
 
-module _ {E P : Type 0} (eq : E → E → Bool) (laws : IsEquivalence eq) (answers : E → Answers) where
+module _ {E P : Type 0} (eq : E → E → Bool) (laws : IsEquivalence eq) (writing : Writing E P) where
   -- the first renders
   pub first-stand : (payload_eq : P → P → Bool) (number_of : E → ℕ) (requests : List (Request E P))
-      → AreCitesOf eq (table_of eq requests) requests (first_renders answers requests (first_properties eq payload_eq number_of requests))
+      → AreCitesOf eq (table_of eq requests) requests (first_renders writing requests (first_properties eq payload_eq number_of requests))
   first-stand payload_eq number_of requests = record {
-    of = first-requests eq payload_eq answers number_of (distinct eq (cited requests)) requests;
-    placed = first-placed eq payload_eq answers number_of (distinct eq (cited requests)) requests;
-    same = λ e. ap (is_in eq e) (first-cited eq payload_eq answers number_of (distinct eq (cited requests)) requests) ∙ sym (is_in-distinct eq laws e (cited requests));
+    of = first-requests eq payload_eq writing number_of (distinct eq (cited requests)) requests;
+    placed = first-placed eq payload_eq writing number_of (distinct eq (cited requests)) requests;
+    same = λ e. ap (is_in eq e) (first-cited eq payload_eq writing number_of (distinct eq (cited requests)) requests) ∙ sym (is_in-distinct eq laws e (cited requests));
   }
 
   module _ (entered : Table E) (requests : List (Request E P)) (renders : List (CiteRender E P)) (h : AreCitesOf eq entered requests renders) where
-    entry-again : (table : StateTable E) (r : Request E P) (s : Option DisambiguateState) (i : ItemRender E P) → (with_any answers r s i).entry ≡ i.entry
+    entry-again : (table : StateTable E) (r : Request E P) (s : Option DisambiguateState) (i : ItemRender E P) → (with_any writing r s i).entry ≡ i.entry
     entry-again table r None i = refl
     entry-again table r (Some s) i = refl
 
     placed-again : (entries : List E) (places : List ℕ) (r : Request E P) (s : Option DisambiguateState) (i : ItemRender E P)
-        → IsPlaced eq entries places i → IsPlaced eq entries places (with_any answers r s i)
+        → IsPlaced eq entries places i → IsPlaced eq entries places (with_any writing r s i)
     placed-again entries places r None i a = a
     placed-again entries places r (Some s) i a = a
 
     -- rendered again
-    pub again-stand : (table : StateTable E) → AreCitesOf eq entered requests (at_table answers table renders)
+    pub again-stand : (table : StateTable E) → AreCitesOf eq entered requests (at_table writing table renders)
     again-stand table = record {
-      of = same-mapped (request_at answers table) (λ c. c.request) (λ c. refl) renders ∙ h.of;
-      placed = zip-mapped (request_at answers table) (λ places c. All (IsPlaced eq entered.entries places) c.items)
-          (λ places c a. all-mapped (λ i. with_any answers c.request (table i.entry) i) (IsPlaced eq entered.entries places)
+      of = same-mapped (request_at writing table) (λ c. c.request) (λ c. refl) renders ∙ h.of;
+      placed = zip-mapped (request_at writing table) (λ places c. All (IsPlaced eq entered.entries places) c.items)
+          (λ places c a. all-mapped (λ i. with_any writing c.request (table i.entry) i) (IsPlaced eq entered.entries places)
           (λ i b. placed-again entered.entries places c.request (table i.entry) i b) c.items a) entered.places renders h.placed;
-      same = λ e. ap (is_in eq e) (flat-mapped (request_at answers table) (λ c. map (λ i. i.entry) c.items)
-          (λ c. same-mapped (λ i. with_any answers c.request (table i.entry) i) (λ i. i.entry) (λ i. entry-again table c.request (table i.entry) i) c.items) renders) ∙ h.same e;
+      same = λ e. ap (is_in eq e) (flat-mapped (request_at writing table) (λ c. map (λ i. i.entry) c.items)
+          (λ c. same-mapped (λ i. with_any writing c.request (table i.entry) i) (λ i. i.entry) (λ i. entry-again table c.request (table i.entry) i) c.items) renders) ∙ h.same e;
     }
 
     -- disambiguated
-    pub disambiguated-stand : (mode : RoundMode) → AreCitesOf eq entered requests (disambiguated mode eq answers renders)
+    pub disambiguated-stand : (mode : RoundMode) → AreCitesOf eq entered requests (disambiguated mode eq writing renders)
     unfolding disambiguated
-    disambiguated-stand mode = again-stand (last_states mode eq answers renders)
+    disambiguated-stand mode = again-stand (last_states mode eq writing renders)
 
     -- in their blocks
     pub grouped-stand : AreCitesOf eq entered requests (map grouped renders)
@@ -159,32 +159,32 @@ module _ {E P : Type 0} (eq : E → E → Bool) (laws : IsEquivalence eq) (answe
         settled : ℕ → CiteRender E P → CiteRender E P
         settled k c = record c { items = with_final_items eq payload_eq number_of (items_before renders k) c.items }
 
-module _ {E P : Type 0} {eq : E → E → Bool} (laws : IsEquivalence eq) (answers : E → Answers) (payload_eq : P → P → Bool) (asked : Asked E P)
-    {table : Table E} (is : table ≡ table_of eq asked.requests) {begun : List (CiteRender E P)} (first : begun ≡ rendered_first eq payload_eq answers asked) where
+module _ {E P : Type 0} {eq : E → E → Bool} (laws : IsEquivalence eq) (writing : Writing E P) (payload_eq : P → P → Bool) (asked : Asked E P)
+    {table : Table E} (is : table ≡ table_of eq asked.requests) {begun : List (CiteRender E P)} (first : begun ≡ rendered_first eq payload_eq writing asked) where
   -- the first renders, over the table
   begun-stand : AreCitesOf eq table asked.requests begun
   begun-stand =
       subst (AreCitesOf eq table asked.requests) (sym first)
-      (subst (λ t. AreCitesOf eq t asked.requests (rendered_first eq payload_eq answers asked)) (sym is)
-      (first-stand eq laws answers payload_eq (number eq asked.offset (entries_listed eq asked.wanted asked.requests)) asked.requests))
+      (subst (λ t. AreCitesOf eq t asked.requests (rendered_first eq payload_eq writing asked)) (sym is)
+      (first-stand eq laws writing payload_eq (number eq asked.offset (entries_listed eq asked.wanted asked.requests)) asked.requests))
 
   -- they can be disambiguated
   pub begun-of-table : All (λ r. HasNoRing r.style.macros) asked.requests → AreCitesOfTable eq table begun
   begun-of-table no_ring = record {
     no_ring = of-requests (λ r. HasNoRing r.style.macros) begun asked.requests begun-stand.of no_ring;
-    placed = first-places eq payload_eq answers (number eq asked.offset (entries_listed eq asked.wanted asked.requests)) asked.requests table is begun first;
+    placed = first-places eq payload_eq writing (number eq asked.offset (entries_listed eq asked.wanted asked.requests)) asked.requests table is begun first;
     listed = table-within eq laws asked.requests table is;
   }
 
-  module _ (mode : RoundMode) {told ordered : List (CiteRender E P)} (apart : told ≡ disambiguated mode eq answers begun) (grouping : ordered ≡ map grouped told) where
+  module _ (mode : RoundMode) {told ordered : List (CiteRender E P)} (apart : told ≡ disambiguated mode eq writing begun) (grouping : ordered ≡ map grouped told) where
     -- disambiguated and in their blocks
     pub ordered-stand : AreCitesOf eq table asked.requests ordered
     ordered-stand =
         subst (AreCitesOf eq table asked.requests) (sym grouping)
-        (grouped-stand eq laws answers table asked.requests told
-        (subst (AreCitesOf eq table asked.requests) (sym apart) (disambiguated-stand eq laws answers table asked.requests begun begun-stand mode)))
+        (grouped-stand eq laws writing table asked.requests told
+        (subst (AreCitesOf eq table asked.requests) (sym apart) (disambiguated-stand eq laws writing table asked.requests begun begun-stand mode)))
 
     -- and with their final properties
     pub settled-stand : (number_of : E → ℕ) {settled : List (CiteRender E P)} → settled ≡ with_final_properties eq payload_eq number_of ordered → AreCitesOf eq table asked.requests settled
     settled-stand number_of {settled} are =
-        subst (AreCitesOf eq table asked.requests) (sym are) (final-stand eq laws answers table asked.requests ordered ordered-stand payload_eq number_of)
+        subst (AreCitesOf eq table asked.requests) (sym are) (final-stand eq laws writing table asked.requests ordered ordered-stand payload_eq number_of)

@@ -6,7 +6,7 @@ use Rattle.csl_assembly.specs.BibliographyItems.{bibliography_of}
 use Rattle.csl_assembly.specs.declared.rendered.Rendered.{Rendered}
 use Rattle.csl_assembly.specs.declared.rendered.RenderedBibliography.{RenderedBibliography}
 use Rattle.csl_assembly.specs.declared.rendered.RenderedCitation.{RenderedCitation}
-use Rattle.csl_base.specs.Answers.{Answers}
+use Rattle.csl_writers.specs.Writing.{Writing}
 use Rattle.csl_driver.specs.Answer.{Asked, citation_of, drawn_together, entries_listed, in_the_end, rendered}
 use Rattle.csl_passes.specs.Renders.{CiteRender}
 use Rattle.csl_passes.specs.Request.{wanted_source}
@@ -14,20 +14,20 @@ use Rattle.csl_positions.specs.FinalProperties.{first_item}
 use Rattle.csl_positions.proofs.Tables.{map-map}
 use Rattle.csl_round_laws.specs.declared.mode.RoundMode.{RoundMode}
 
-module _ {E P : Type 0} (eq : E → E → Bool) (payload_eq : P → P → Bool) (answers : E → Answers) (mode : RoundMode) (asked : Asked E P)
-    (settled drawn : List (CiteRender E P)) (in_end : settled ≡ in_the_end eq payload_eq answers mode asked) (together : drawn ≡ map drawn_together settled) where
-  pub whole : {citations : List RenderedCitation} {bibliography : Option RenderedBibliography} → citations ≡ map (citation_of answers) drawn
-      → bibliography ≡ option_map (λ b. bibliography_of answers (wanted_source asked.wanted) b (filter_map (first_item eq settled) (entries_listed eq asked.wanted asked.requests))) asked.wanted.style.bibliography
-      → let r : Rendered = record { bibliography = bibliography; citations = citations } in r ≡ rendered eq payload_eq answers mode asked
+module _ {E P : Type 0} (eq : E → E → Bool) (payload_eq : P → P → Bool) (writing : Writing E P) (mode : RoundMode) (asked : Asked E P)
+    (settled drawn : List (CiteRender E P)) (in_end : settled ≡ in_the_end eq payload_eq writing mode asked) (together : drawn ≡ map drawn_together settled) where
+  pub whole : {citations : List RenderedCitation} {bibliography : Option RenderedBibliography} → citations ≡ map (citation_of writing) drawn
+      → bibliography ≡ option_map (λ b. bibliography_of writing (wanted_source asked.wanted) b (filter_map (first_item eq settled) (entries_listed eq asked.wanted asked.requests))) asked.wanted.style.bibliography
+      → let r : Rendered = record { bibliography = bibliography; citations = citations } in r ≡ rendered eq payload_eq writing mode asked
   whole {citations} {bibliography} cites items = λ i. record { bibliography = all_items i; citations = all_cites i }
     where
       last : List (CiteRender E P)
-      last = in_the_end eq payload_eq answers mode asked
+      last = in_the_end eq payload_eq writing mode asked
 
-      all_cites : citations ≡ map (λ c. citation_of answers (drawn_together c)) last
-      all_cites = cites ∙ ap (map (citation_of answers)) (together ∙ ap (map drawn_together) in_end) ∙ map-map (citation_of answers) drawn_together last
+      all_cites : citations ≡ map (λ c. citation_of writing (drawn_together c)) last
+      all_cites = cites ∙ ap (map (citation_of writing)) (together ∙ ap (map drawn_together) in_end) ∙ map-map (citation_of writing) drawn_together last
 
-      all_items : bibliography ≡ option_map (λ b. bibliography_of answers (wanted_source asked.wanted) b (filter_map (first_item eq last) (entries_listed eq asked.wanted asked.requests))) asked.wanted.style.bibliography
+      all_items : bibliography ≡ option_map (λ b. bibliography_of writing (wanted_source asked.wanted) b (filter_map (first_item eq last) (entries_listed eq asked.wanted asked.requests))) asked.wanted.style.bibliography
       all_items =
           items
-          ∙ ap (λ cs. option_map (λ b. bibliography_of answers (wanted_source asked.wanted) b (filter_map (first_item eq cs) (entries_listed eq asked.wanted asked.requests))) asked.wanted.style.bibliography) in_end
+          ∙ ap (λ cs. option_map (λ b. bibliography_of writing (wanted_source asked.wanted) b (filter_map (first_item eq cs) (entries_listed eq asked.wanted asked.requests))) asked.wanted.style.bibliography) in_end

@@ -5,7 +5,7 @@ use Rattle.csl_assembly.specs.BibliographyItems.{bibliography_of}
 use Rattle.csl_assembly.specs.CitationTree.{citation_tree, has_no_purpose}
 use Rattle.csl_assembly.specs.declared.rendered.Rendered.{Rendered}
 use Rattle.csl_assembly.specs.declared.rendered.RenderedCitation.{RenderedCitation}
-use Rattle.csl_base.specs.Answers.{Answers}
+use Rattle.csl_writers.specs.Writing.{Writing}
 use Rattle.csl_collapse.specs.Collapsed.{collapsed}
 use Rattle.csl_entries.specs.Entries.{used_order, bibliography_order, distinct, number}
 use Rattle.csl_grouping.specs.Blocks.{grouped}
@@ -43,22 +43,22 @@ abbrev pub drawn_together : {E P : Type 0} → CiteRender E P → CiteRender E P
 drawn_together c = if has_no_purpose c.items then collapsed c else c
 
 -- the answer to one request, from its cites as they stand in the end
-abbrev pub citation_of : {E P : Type 0} → (E → Answers) → CiteRender E P → RenderedCitation
-citation_of answers c = record { note_number = c.request.note_number; citation = citation_tree answers c }
+abbrev pub citation_of : {E P : Type 0} → Writing E P → CiteRender E P → RenderedCitation
+citation_of writing c = record { note_number = c.request.note_number; citation = citation_tree writing c }
 
-module _ {E P : Type 0} (eq : E → E → Bool) (payload_eq : P → P → Bool) (answers : E → Answers) where
+module _ {E P : Type 0} (eq : E → E → Bool) (payload_eq : P → P → Bool) (writing : Writing E P) where
   -- the cites of all requests, rendered by their first properties; their numbers are those of the
   -- bibliography
   abbrev pub rendered_first : Asked E P → List (CiteRender E P)
   rendered_first asked =
       let listed = entries_listed eq asked.wanted asked.requests in
-      first_renders answers asked.requests
+      first_renders writing asked.requests
       (first_properties eq payload_eq (number eq asked.offset listed) asked.requests)
 
   module _ (mode : RoundMode) (asked : Asked E P) where
     -- the cites in their final order: disambiguated, and those of each request in their blocks
     abbrev pub in_final_order : List (CiteRender E P)
-    in_final_order = map grouped (disambiguated mode eq answers (rendered_first asked))
+    in_final_order = map grouped (disambiguated mode eq writing (rendered_first asked))
 
     -- the number of an entry in the end
     abbrev pub final_number : E → ℕ
@@ -77,7 +77,7 @@ module _ {E P : Type 0} (eq : E → E → Bool) (payload_eq : P → P → Bool) 
     -- for has one
     abbrev pub rendered : Rendered
     rendered = record {
-      bibliography = option_map (λ b. bibliography_of answers (wanted_source asked.wanted) b first_cites)
+      bibliography = option_map (λ b. bibliography_of writing (wanted_source asked.wanted) b first_cites)
           asked.wanted.style.bibliography;
-      citations = map (λ c. citation_of answers (drawn_together c)) in_the_end;
+      citations = map (λ c. citation_of writing (drawn_together c)) in_the_end;
     }

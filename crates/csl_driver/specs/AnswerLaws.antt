@@ -5,7 +5,7 @@ use Rattle.std.specs.List.Sorted.{IsPermutation}
 use Rattle.csl_assembly.specs.CitationTree.{has_no_purpose}
 use Rattle.csl_assembly.specs.declared.rendered.Rendered.{Rendered}
 use Rattle.csl_assembly.specs.declared.rendered.RenderedCitation.{RenderedCitation}
-use Rattle.csl_base.specs.Answers.{Answers}
+use Rattle.csl_writers.specs.Writing.{Writing}
 use Rattle.csl_collapse.specs.NumberLaws.{CanBeReadBack}
 use Rattle.csl_driver.specs.Answer.{Asked, citation_of, order_in_use, rendered_first}
 use Rattle.csl_driver.specs.declared.account.Account.{Account}
@@ -58,7 +58,7 @@ module _ {E P : Type 0} where
         → CanBeReadBack cites.items drawn.items cites.request.style.citation.collapse
 
   -- how the citations of an answer came from the cites as they were disambiguated
-  pub record ComeFrom (answers : E → Answers) (asked : Asked E P)
+  pub record ComeFrom (writing : Writing E P) (asked : Asked E P)
       (told : List (CiteRender E P)) (citations : List RenderedCitation) : Type 0 where
     -- the cites of each request in a final order, then with final positions and numbers, then collapsed
     pub ordered : List (CiteRender E P)
@@ -69,10 +69,10 @@ module _ {E P : Type 0} where
     pub runs : AllZip IsReadBack settled drawn
     -- they are those of the requests that were asked, one citation for each
     pub asked_for : map (λ c. c.request) drawn ≡ asked.requests
-    pub made : citations ≡ map (citation_of answers) drawn
+    pub made : citations ≡ map (citation_of writing) drawn
 
 -- what holds of every answer and its account
-pub record KeepsLaws {E P : Type 0} (eq : E → E → Bool) (payload_eq : P → P → Bool) (answers : E → Answers)
+pub record KeepsLaws {E P : Type 0} (eq : E → E → Bool) (payload_eq : P → P → Bool) (writing : Writing E P)
     (mode : RoundMode) (asked : Asked E P) (r : Rendered × Account E) : Type 0 where
   -- the tables of states: the empty one, one more for each round that marked, and last the account's states
   pub tables : List (StateTable E)
@@ -80,11 +80,11 @@ pub record KeepsLaws {E P : Type 0} (eq : E → E → Bool) (payload_eq : P → 
   pub one_for_each_round : r.1.rounds ≡ min (length tables - 1) (2 ^ 128 - 1)
   pub last_is_told : r.1.states.items ≡ map (λ e. told_by (last_table tables e.now)) r.1.entries.items
   -- states go on from table to table, suffixes stay, nothing is left, and ranks rise
-  pub rounds : IsLawful mode eq answers (rendered_first eq payload_eq answers asked) tables r.1.rounds
+  pub rounds : IsLawful mode eq writing (rendered_first eq payload_eq writing asked) tables r.1.rounds
   pub numbers : HaveNumbersOnce eq asked.offset (map (λ e. e.now) r.1.entries.items) r.1.numbers.items
   -- each citation comes from cites in a final order, whose runs can be read back
-  pub citations : ComeFrom answers asked
-      (last_shown mode eq answers (rendered_first eq payload_eq answers asked) tables) r.0.citations
+  pub citations : ComeFrom writing asked
+      (last_shown mode eq writing (rendered_first eq payload_eq writing asked) tables) r.0.citations
   -- where no order is used, numbers go by the entries' first cites in these orders
   pub numbers_in_order : order_in_use asked.wanted ≡ None
       → AreInOrder eq asked.offset (map (λ e. e.now) r.1.entries.items) r.1.numbers.items

@@ -1,7 +1,7 @@
 -- What is promised of an answer, of its account, and of a refusal.
 use Rattle.std.specs.Prelude.{◌≡◌, ◌+◌, ◌-◌, ◌<◌, ◌^◌, Bool, IfErr, IfOk, OnOk, Result, length, map, min}
 use Rattle.csl_assembly.specs.declared.rendered.Rendered.{Rendered}
-use Rattle.csl_base.specs.Answers.{Answers}
+use Rattle.csl_writers.specs.Writing.{Writing}
 use Rattle.csl_driver.specs.Account.{cost, final_state, marking}
 use Rattle.csl_driver.specs.Answer.{Asked, final_number, rendered}
 use Rattle.csl_driver.specs.AnswerLaws.{KeepsLaws}
@@ -12,26 +12,26 @@ use Rattle.csl_entries.specs.Entries.{distinct}
 use Rattle.csl_passes.specs.Request.{cited}
 use Rattle.csl_round_laws.specs.declared.mode.RoundMode.{RoundMode}
 
-module _ {E P : Type 0} (eq : E → E → Bool) (payload_eq : P → P → Bool) (answers : E → Answers)
+module _ {E P : Type 0} (eq : E → E → Bool) (payload_eq : P → P → Bool) (writing : Writing E P)
     (mode : RoundMode) (asked : Asked E P) (r : Rendered × Account E) where
   -- the answer to what is asked, with its account
   pub record IsExactly : Type 0 where
-    pub ok : r.0 ≡ rendered eq payload_eq answers mode asked
+    pub ok : r.0 ≡ rendered eq payload_eq writing mode asked
     -- the renderings and the rounds that marked; counts stand still at the greatest number of 128 bits
-    pub renders : r.1.renders ≡ min (cost eq payload_eq answers mode asked) (2 ^ 128 - 1)
-    pub rounds : r.1.rounds ≡ min (marking eq payload_eq answers mode asked) (2 ^ 128 - 1)
+    pub renders : r.1.renders ≡ min (cost eq payload_eq writing mode asked) (2 ^ 128 - 1)
+    pub rounds : r.1.rounds ≡ min (marking eq payload_eq writing mode asked) (2 ^ 128 - 1)
     -- the distinct entries, in the order of their first cites; and at the same places their states and
     -- numbers
     pub entries : map (λ e. e.now) r.1.entries.items ≡ distinct eq (cited asked.requests)
     pub states : r.1.states.items
-        ≡ map (final_state eq payload_eq answers mode asked) (distinct eq (cited asked.requests))
+        ≡ map (final_state eq payload_eq writing mode asked) (distinct eq (cited asked.requests))
     pub numbers : r.1.numbers.items
-        ≡ map (final_number eq payload_eq answers mode asked) (distinct eq (cited asked.requests))
+        ≡ map (final_number eq payload_eq writing mode asked) (distinct eq (cited asked.requests))
 
   -- it is that, and the laws hold of it
   pub record IsAnswer : Type 0 where
     pub exact : IsExactly
-    pub laws : KeepsLaws eq payload_eq answers mode asked r
+    pub laws : KeepsLaws eq payload_eq writing mode asked r
 
 -- how a driver finishes: what is to hold of its answer holds; it answers only where no style has a ring and
 -- the numbers fit; and each refusal has its reason

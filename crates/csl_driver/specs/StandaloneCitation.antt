@@ -1,7 +1,7 @@
 -- A citation that stands for itself.
 use Rattle.std.specs.Prelude.{ℕ, true, not, List, map, filter, Option, None, Some, unwrap_or, codes}
 use Rattle.csl_base.specs.Style.{LayoutValue}
-use Rattle.csl_base.specs.Answers.{Answers}
+use Rattle.csl_writers.specs.Writing.{Writing}
 use Rattle.csl_base.specs.Child.{Child}
 use Rattle.csl_base.specs.Tree.{has_content}
 use Rattle.csl_lookup.specs.Lookup.{Source}
@@ -27,10 +27,10 @@ lone_properties locator = record {
   speculative = speculated locator 0 IbidState.Different;
 }
 
-module _ {E P : Type 0} (answers : E → Answers) where
+module _ {E P : Type 0} (writing : Writing E P) where
   -- the tree of a cite that has no number and no place of its own
   abbrev pub lone_tree : Source → RequestedCite E P → List Child
-  lone_tree source c = tree_for_purpose source (answers c.entry) (lone_properties c.locator) c.purpose None
+  lone_tree source c = tree_for_purpose writing source c.entry (lone_properties c.locator) c.purpose None
 
   -- the trees of the cites that aren't hidden and have content
   abbrev pub lone_trees : Source → List (RequestedCite E P) → List (List Child)

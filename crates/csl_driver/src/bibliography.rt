@@ -11,6 +11,7 @@ ghost use Rattle.csl_passes.specs.RendersView.{renders_view};
 ghost use Rattle.csl_passes.specs.Request.{wanted_source};
 ghost use Rattle.csl_positions.specs.FinalProperties.{first_item};
 ghost use Rattle.csl_writing.specs.Counted.{counted_times};
+ghost use Rattle.csl_writers.specs.Writing.{layout_writing};
 
 use crate::draft::Draft;
 use csl_assembly::bibliography::bibliography_of;
@@ -32,7 +33,7 @@ impl<'d, 'o, 'a, T: EntryLike, P: Drop> Draft<'d, 'o, 'a, T, P> {
         requires cites { AreCitesOf T.eq (table_in self) (asked_in self).requests (renders_view cites.now) }
         ensures bibliography { let asked = asked_in self.entry in
             IfOk result (λ r. r
-            ≡ option_map (λ b. bibliography_of T.answers (wanted_source asked.wanted) b
+            ≡ option_map (λ b. bibliography_of (layout_writing T.answers) (wanted_source asked.wanted) b
             (filter_map (first_item T.eq (renders_view cites.now))
             (entries_listed T.eq asked.wanted asked.requests)))
             asked.wanted.style.bibliography) }

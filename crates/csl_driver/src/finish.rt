@@ -13,6 +13,7 @@ ghost use Rattle.csl_passes.specs.Request.{cites_of};
 ghost use Rattle.csl_positions.specs.FirstProperties.{numbered_by};
 ghost use Rattle.csl_round_laws.specs.declared.mode.RoundMode.{RoundMode};
 ghost use Rattle.csl_writing.specs.Counted.{counted_times};
+ghost use Rattle.csl_writers.specs.Writing.{layout_writing};
 
 use crate::account::Account;
 use crate::cited::{Cited, used_order};
@@ -55,7 +56,7 @@ impl<'a, T: EntryLike, P: Eq + Drop> BibliographyDriver<'a, T, P> {
     /// `usize::MAX`; `OutOfMemory` where memory runs out, at any point.
     pub fn finish(self, request: BibliographyRequest<'_, 'a, T>) -> Result<Rendered, DriverError>
         ensures { Finishes
-            (λ r. r ≡ rendered T.eq P.eq T.answers RoundMode.Three (asked_of self.entry request.entry))
+            (λ r. r ≡ rendered T.eq P.eq (layout_writing T.answers) RoundMode.Three (asked_of self.entry request.entry))
             T.eq (asked_of self.entry request.entry) result }
     {
         let (rendered, _account) = self.finish_counted(request)?;
@@ -75,7 +76,7 @@ impl<'a, T: EntryLike, P: Eq + Drop> BibliographyDriver<'a, T, P> {
         request: BibliographyRequest<'_, 'a, T>,
     ) -> Result<(Rendered, Account<'a, T>), DriverError>
         ensures { Finishes
-            (IsAnswer T.eq P.eq T.answers RoundMode.Three (asked_of self.entry request.entry))
+            (IsAnswer T.eq P.eq (layout_writing T.answers) RoundMode.Three (asked_of self.entry request.entry))
             T.eq (asked_of self.entry request.entry) result }
     {
         self.answered(&request, RoundMode::Three)
@@ -94,7 +95,7 @@ impl<'a, T: EntryLike, P: Eq + Drop> BibliographyDriver<'a, T, P> {
         request: BibliographyRequest<'_, 'a, T>,
     ) -> Result<(Rendered, Account<'a, T>), DriverError>
         ensures { Finishes
-            (IsAnswer T.eq P.eq T.answers RoundMode.Full (asked_of self.entry request.entry))
+            (IsAnswer T.eq P.eq (layout_writing T.answers) RoundMode.Full (asked_of self.entry request.entry))
             T.eq (asked_of self.entry request.entry) result }
     {
         self.answered(&request, RoundMode::Full)
@@ -107,7 +108,7 @@ impl<'a, T: EntryLike, P: Eq + Drop> BibliographyDriver<'a, T, P> {
         request: &BibliographyRequest<'_, 'a, T>,
         mode: RoundMode,
     ) -> Result<(Rendered, Account<'a, T>), DriverError>
-        ensures { Finishes (IsAnswer T.eq P.eq T.answers mode (asked_of self.now request.now))
+        ensures { Finishes (IsAnswer T.eq P.eq (layout_writing T.answers) mode (asked_of self.now request.now))
             T.eq (asked_of self.now request.now) result }
     {
         let alloc = self.alloc;
@@ -131,7 +132,7 @@ impl<'d, 'o, 'a, T: EntryLike, P: Eq + Drop> Draft<'d, 'o, 'a, T, P> {
         alloc: Global,
         mode: RoundMode,
     ) -> Result<(Rendered, Account<'a, T>), AllocError>
-        ensures { IfOk result (IsAnswer T.eq P.eq T.answers mode (asked_in self.entry)) }
+        ensures { IfOk result (IsAnswer T.eq P.eq (layout_writing T.answers) mode (asked_in self.entry)) }
     {
         let table = &self.cited.table;
         let mut counter = Renders::new();
@@ -161,7 +162,7 @@ impl<'d, 'o, 'a, T: EntryLike, P: Eq + Drop> Draft<'d, 'o, 'a, T, P> {
         counter: &mut Renders,
     ) -> Result<Cites<'d, 'a, T, P>, AllocError>
         ensures cites { IfOk result (λ c. renders_view c.by_request.items
-            ≡ rendered_first T.eq P.eq T.answers (asked_in self.entry)) }
+            ≡ rendered_first T.eq P.eq (layout_writing T.answers) (asked_in self.entry)) }
         ensures counted { OnOk result (counter.new
             ≡ counted_times (length (cites_of (asked_in self.entry).requests)) counter.old) }
     {
@@ -205,7 +206,7 @@ impl<'d, 'o, 'a, T: EntryLike, P: Eq + Drop> Draft<'d, 'o, 'a, T, P> {
     ) -> Result<Vec<RenderedCitation>, AllocError>
         requires cites { map (λ c. c.request) (renders_view cites.now) ≡ (asked_in self).requests }
         ensures citations { IfOk result (λ v. v.items
-            ≡ map (citation_of T.answers) (renders_view cites.now)) }
+            ≡ map (citation_of (layout_writing T.answers)) (renders_view cites.now)) }
         ensures counted { OnOk result (counter.new
             ≡ counted_times (sum_by (λ c. length c.items) (renders_view cites.now)) counter.old) }
     {

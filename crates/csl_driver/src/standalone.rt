@@ -7,6 +7,7 @@ ghost use Rattle.csl_passes.specs.RequestView.{cite_view, request_view};
 ghost use Rattle.csl_driver.specs.Rings.{RefusesAlone};
 ghost use Rattle.csl_assembly.specs.ShownView.{shown_views};
 ghost use Rattle.csl_driver.specs.StandaloneCitation.{behind, lone_delimiter, lone_tree, lone_trees, standalone};
+ghost use Rattle.csl_writers.specs.Writing.{layout_writing};
 
 use crate::error::{DriverError, RingPlace};
 use csl_assembly::assemble::{ShownCite, assembled};
@@ -29,7 +30,7 @@ fn lone_cite<T: EntryLike, P: Drop>(
     counter: &mut Renders,
 ) -> Result<ElemChildren, AllocError>
     ensures { IfOk result (λ tree. tree
-        ≡ lone_tree T.answers (source_of (request_view request.entry.request.now)) (cite_view item.now)) }
+        ≡ lone_tree (layout_writing T.answers) (source_of (request_view request.entry.request.now)) (cite_view item.now)) }
 {
     let properties = CiteProperties::for_sorting(item.locator.clone()?, 0);
     tree_for_purpose(
@@ -52,7 +53,7 @@ fn lone_cites<'r, T: EntryLike, P: Drop>(
     ensures { let request = request_view acyclic.entry.request.now in
         IfOk result (λ cites. shown_views cites.items
         ≡ map (behind (lone_delimiter request.style.citation.layout))
-        (lone_trees T.answers (source_of request) request.cites)) }
+        (lone_trees (layout_writing T.answers) (source_of request) request.cites)) }
 {
     let request = acyclic.request;
     let delimiter = delimiter_of(&request.style().citation.layout);
@@ -96,7 +97,7 @@ pub fn standalone_citation<T: EntryLike, P: Drop>(
     alloc: Global,
     request: CitationRequest<'_, T, P>,
 ) -> Result<ElemChildren, DriverError>
-    ensures ok { IfOk result (λ tree. tree ≡ standalone T.answers (request_view request.entry)) }
+    ensures ok { IfOk result (λ tree. tree ≡ standalone (layout_writing T.answers) (request_view request.entry)) }
     ensures no_ring { OnOk result (HasNoRing (request_view request.entry).style.macros) }
     ensures refused { IfErr result (RefusesAlone (request_view request.entry).style) }
 {

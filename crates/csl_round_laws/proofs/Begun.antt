@@ -2,22 +2,22 @@
 use Rattle.std.proofs.Common.{◌≡◌, List, [], ◌∷◌, map, refl}
 use Rattle.std.specs.Prelude.{flat_map, zip}
 use Rattle.std.proofs.lemmas.List.Elements.{All-append, All-map, All-nil}
-use Rattle.csl_base.specs.Answers.{Answers}
+use Rattle.csl_writers.specs.Writing.{Writing}
 use Rattle.csl_lookup.specs.declared.state.DisambiguateState.{DisambiguateState}
 use Rattle.csl_passes.specs.Renders.{ItemRender}
 use Rattle.csl_passes.specs.Request.{Request}
 use Rattle.csl_passes.specs.declared.first.FirstProperties.{FirstProperties}
 use Rattle.csl_round_laws.specs.FirstRenders.{AreBegun, first_render, first_renders, first_renders_of}
 
-module _ {E P : Type 0} (answers : E → Answers) where
+module _ {E P : Type 0} (writing : Writing E P) where
   abbrev IsUntold : ItemRender E P → Type 0
   IsUntold i = i.properties.speculative.disambiguation ≡ DisambiguateState.None
 
-  rows-begun : (ps : List (Request E P × List FirstProperties)) → AreBegun (map (λ r. first_renders_of answers r.0 r.1) ps)
+  rows-begun : (ps : List (Request E P × List FirstProperties)) → AreBegun (map (λ r. first_renders_of writing r.0 r.1) ps)
   rows-begun [] = All-nil IsUntold
   rows-begun (p ∷ ps) =
-      All-append IsUntold (first_renders_of answers p.0 p.1).items (flat_map (λ c. c.items) (map (λ r. first_renders_of answers r.0 r.1) ps))
-      (All-map IsUntold (λ c. first_render answers p.0 c.0 c.1) (zip p.0.cites p.1) (λ k d w. refl)) (rows-begun ps)
+      All-append IsUntold (first_renders_of writing p.0 p.1).items (flat_map (λ c. c.items) (map (λ r. first_renders_of writing r.0 r.1) ps))
+      (All-map IsUntold (λ c. first_render writing p.0 c.0 c.1) (zip p.0.cites p.1) (λ k d w. refl)) (rows-begun ps)
 
-  pub first-begun : (requests : List (Request E P)) (firsts : List (List FirstProperties)) → AreBegun (first_renders answers requests firsts)
+  pub first-begun : (requests : List (Request E P)) (firsts : List (List FirstProperties)) → AreBegun (first_renders writing requests firsts)
   first-begun requests firsts = rows-begun (zip requests firsts)

@@ -9,7 +9,7 @@ use Rattle.csl_ambiguity.specs.Ambiguity.{ambiguous_groups}
 use Rattle.csl_ambiguity.specs.MarkLaws.{ChooseMarksGoOn, GroupsHaveNoSuffix, HaveNoSuffix, IsMarkOf, SuffixMarksGoOn}
 use Rattle.csl_ambiguity.specs.Members.{Member, entry_of, member_at, members, state_of}
 use Rattle.csl_ambiguity.specs.SuffixMarks.{shows_dates}
-use Rattle.csl_base.specs.Answers.{Answers}
+use Rattle.csl_writers.specs.Writing.{Writing}
 use Rattle.csl_base.specs.Ordered.{IsValueOrder}
 use Rattle.csl_lookup.specs.GoingOn.{GoesOn, GoesOnTo}
 use Rattle.csl_lookup.specs.States.{greater, state_cmp}
@@ -103,13 +103,13 @@ module _ {E P : Type 0} (eq : E → E → Bool) (laws : AreMarkLaws E P eq) (cit
   counting-goes way h g i = All-filter (counts cites) GoesFrom (way g) (h g i)
 
   -- so does each mark of a round
-  pub marks-go : (mode : RoundMode) (answers : E → Answers) → All GoesFrom (round_marks mode eq answers cites)
+  pub marks-go : (mode : RoundMode) (writing : Writing E P) → All GoesFrom (round_marks mode eq writing cites)
   unfolding round_marks
-  marks-go RoundMode.Three answers =
-      let dated = shows_dates answers cites in
+  marks-go RoundMode.Three writing =
+      let dated = shows_dates writing.answers cites in
       three-kept IsGroup GoesFrom (name_marks cites) (by_choice eq cites) (by_suffix eq cites dated) names-go choice-goes (suffixes-go dated) (ambiguous_groups eq cites) are-groups
-  marks-go RoundMode.Full answers =
-      let dated = shows_dates answers cites in
+  marks-go RoundMode.Full writing =
+      let dated = shows_dates writing.answers cites in
       full-kept IsGroup GoesFrom (counting cites (name_marks cites)) (counting cites (by_choice eq cites)) (counting cites (by_suffix eq cites dated))
       (counting-goes (name_marks cites) names-go) (counting-goes (by_choice eq cites) choice-goes) (counting-goes (by_suffix eq cites dated) (suffixes-go dated))
       (waits eq cites) [] (ambiguous_groups eq cites) are-groups
@@ -118,13 +118,13 @@ module _ {E P : Type 0} (eq : E → E → Bool) (laws : AreMarkLaws E P eq) (cit
   cites-is e p c found = ap (λ o. option_map_or (λ m. eq e (entry_of m)) o false) found
 
   -- the marks of an entry
-  pub own-marks : (mode : RoundMode) (answers : E → Answers) (e : E)
-      → All (λ m. (f : GoesFrom m) × (eq e (entry_of f.cite) ≡ true)) (filter (λ m. cites_entry eq cites e m.0) (round_marks mode eq answers cites))
-  own-marks mode answers e =
+  pub own-marks : (mode : RoundMode) (writing : Writing E P) (e : E)
+      → All (λ m. (f : GoesFrom m) × (eq e (entry_of f.cite) ≡ true)) (filter (λ m. cites_entry eq cites e m.0) (round_marks mode eq writing cites))
+  own-marks mode writing e =
       All-weaker (λ m. GoesFrom m × (cites_entry eq cites e m.0 ≡ true)) (λ m. (f : GoesFrom m) × (eq e (entry_of f.cite) ≡ true))
       (λ m h. (h.0, sym (cites-is e m.0 h.0.cite h.0.stands_there) ∙ h.1))
-      (filter (λ m. cites_entry eq cites e m.0) (round_marks mode eq answers cites))
-      (all-passed GoesFrom (λ m. cites_entry eq cites e m.0) (round_marks mode eq answers cites) (marks-go mode answers))
+      (filter (λ m. cites_entry eq cites e m.0) (round_marks mode eq writing cites))
+      (all-passed GoesFrom (λ m. cites_entry eq cites e m.0) (round_marks mode eq writing cites) (marks-go mode writing))
 
   -- equal entries have the same ones
   cites-alike : (d e : E) → eq d e ≡ true → (p : Place) → cites_entry eq cites d p ≡ cites_entry eq cites e p
@@ -138,78 +138,78 @@ module _ {E P : Type 0} (eq : E → E → Bool) (laws : AreMarkLaws E P eq) (cit
   mark-alike marks d e h = ap (λ ms. greatest_state (map (λ m. m.1) ms)) (filter_agree (λ m. cites_entry eq cites d m.0) (λ m. cites_entry eq cites e m.0) (λ m. cites-alike d e h m.0) marks)
 
 -- the tables, as steps from one to the next
-module _ {E P : Type 0} (mode : RoundMode) (eq : E → E → Bool) (answers : E → Answers) (firsts : List (CiteRender E P)) where
+module _ {E P : Type 0} (mode : RoundMode) (eq : E → E → Bool) (writing : Writing E P) (firsts : List (CiteRender E P)) where
   abbrev pub goes_on : StateTable E → Bool
-  goes_on t = has_any (marks_at mode eq answers firsts t)
+  goes_on t = has_any (marks_at mode eq writing firsts t)
 
   abbrev pub next : StateTable E → StateTable E
-  next t = with_marks (marked_at mode eq answers firsts t) t
+  next t = with_marks (marked_at mode eq writing firsts t) t
 
-  pub tables-are : (n : ℕ) (t : StateTable E) → tables_from mode eq answers firsts n t ≡ run goes_on next n t
+  pub tables-are : (n : ℕ) (t : StateTable E) → tables_from mode eq writing firsts n t ≡ run goes_on next n t
   unfolding tables_from
   tables-are n t = by n t
     where
-      by : (n : ℕ) (t : StateTable E) → tables_from mode eq answers firsts n t ≡ run goes_on next n t
+      by : (n : ℕ) (t : StateTable E) → tables_from mode eq writing firsts n t ≡ run goes_on next n t
       by zero t = refl
       by (suc n) t = ap (λ ts. cond (goes_on t) (t ∷ ts) (t ∷ [])) (by n (next t))
 
   abbrev pub steps : List (StateTable E)
   steps = run goes_on next (most_rounds mode eq firsts) no_states
 
-  pub are-steps : steps ≡ tables mode eq answers firsts
+  pub are-steps : steps ≡ tables mode eq writing firsts
   are-steps = sym (tables-are (most_rounds mode eq firsts) no_states)
 
   abbrev pub Alike : StateTable E → Type 0
   Alike t = (d e : E) → eq d e ≡ true → t d ≡ t e
 
   module _ (laws : AreMarkLaws E P eq) (begun : AreBegun firsts) where
-    pub member-told : (t : StateTable E) (p : Place) (c : Member E P) → member_at (at_table answers t firsts) p ≡ Some c → state_of c ≡ told_by (t (entry_of c))
-    member-told t p c found = item-known (at_table answers t firsts) (IsTold t) p c (rows-told answers t firsts begun) found
+    pub member-told : (t : StateTable E) (p : Place) (c : Member E P) → member_at (at_table writing t firsts) p ≡ Some c → state_of c ≡ told_by (t (entry_of c))
+    member-told t p c found = item-known (at_table writing t firsts) (IsTold t) p c (rows-told writing t firsts begun) found
 
     -- to each mark of an entry its state goes on
     pub marks-of : (t : StateTable E) → Alike t → (e : E)
-        → All (λ m. GoesOnTo (told_by (t e)) m.1) (filter (λ m. cites_entry eq (at_table answers t firsts) e m.0) (marks_at mode eq answers firsts t))
+        → All (λ m. GoesOnTo (told_by (t e)) m.1) (filter (λ m. cites_entry eq (at_table writing t firsts) e m.0) (marks_at mode eq writing firsts t))
     marks-of t alike e =
-        let cites = at_table answers t firsts in
+        let cites = at_table writing t firsts in
         All-weaker (λ m. (f : GoesFrom eq laws cites m) × (eq e (entry_of f.cite) ≡ true)) (λ m. GoesOnTo (told_by (t e)) m.1)
         (λ m h. subst (λ s. GoesOnTo s m.1)
         (member-told t m.0 h.0.cite h.0.stands_there ∙ ap (λ o. unwrap_or o DisambiguateState.None) (sym (alike e (entry_of h.0.cite) h.1))) h.0.goes_on)
-        (filter (λ m. cites_entry eq cites e m.0) (marks_at mode eq answers firsts t)) (own-marks eq laws cites mode answers e)
+        (filter (λ m. cites_entry eq cites e m.0) (marks_at mode eq writing firsts t)) (own-marks eq laws cites mode writing e)
 
-    pub state-goes : (t : StateTable E) → Alike t → (e : E) (s : DisambiguateState) → marked_at mode eq answers firsts t e ≡ Some s → GoesOnTo (told_by (t e)) s
+    pub state-goes : (t : StateTable E) → Alike t → (e : E) (s : DisambiguateState) → marked_at mode eq writing firsts t e ≡ Some s → GoesOnTo (told_by (t e)) s
     state-goes t alike e s h =
-        let own = filter (λ m. cites_entry eq (at_table answers t firsts) e m.0) (marks_at mode eq answers firsts t) in
+        let own = filter (λ m. cites_entry eq (at_table writing t firsts) e m.0) (marks_at mode eq writing firsts t) in
         greatest-kept (GoesOnTo (told_by (t e))) (map (λ m. m.1) own) (All-map (GoesOnTo (told_by (t e))) (λ m. m.1) own (marks-of t alike e)) s h
 
     pub goes-next : (t : StateTable E) → Alike t → (e : E) → GoesOnTo (told_by (t e)) (told_by (next t e))
-    goes-next t alike e = by (marked_at mode eq answers firsts t e) refl
+    goes-next t alike e = by (marked_at mode eq writing firsts t e) refl
       where
-        by : (o : Option DisambiguateState) → marked_at mode eq answers firsts t e ≡ o → GoesOnTo (told_by (t e)) (unwrap_or (option_or o (t e)) DisambiguateState.None)
+        by : (o : Option DisambiguateState) → marked_at mode eq writing firsts t e ≡ o → GoesOnTo (told_by (t e)) (unwrap_or (option_or o (t e)) DisambiguateState.None)
         by None h = laws.goes.0 (told_by (t e))
         by (Some s) h = state-goes t alike e s h
 
     pub alike-next : (t : StateTable E) → Alike t → Alike (next t)
     alike-next t alike d e h =
-        ap (λ o. option_or o (t d)) (mark-alike eq laws (at_table answers t firsts) (marks_at mode eq answers firsts t) d e h)
-        ∙ ap (option_or (marked_at mode eq answers firsts t e)) (alike d e h)
+        ap (λ o. option_or o (t d)) (mark-alike eq laws (at_table writing t firsts) (marks_at mode eq writing firsts t) d e h)
+        ∙ ap (option_or (marked_at mode eq writing firsts t e)) (alike d e h)
 
-    pub all-alike : All Alike (tables mode eq answers firsts)
+    pub all-alike : All Alike (tables mode eq writing firsts)
     all-alike = subst (All Alike) are-steps (run-all goes_on next Alike (λ t alike h. alike-next t alike) (most_rounds mode eq firsts) no_states (λ d e h. refl))
 
     -- no mark is greater than the state that the round leaves
     LosesNone : StateTable E → StateTable E → Type 0
-    LosesNone t later = (e : E) → All (λ m. raises (told_by (later e)) m.1 ≡ false) (marks_of_entry mode eq answers firsts t e)
+    LosesNone t later = (e : E) → All (λ m. raises (told_by (later e)) m.1 ≡ false) (marks_of_entry mode eq writing firsts t e)
 
     loses-none : (t : StateTable E) → LosesNone t (next t)
     unfolding LosesNone
     loses-none t e =
-        none-greater laws.order.total laws.never_below (t e) (marks_of_entry mode eq answers firsts t e)
+        none-greater laws.order.total laws.never_below (t e) (marks_of_entry mode eq writing firsts t e)
 
-    pub states-go-on : StatesGoOn mode eq answers firsts (tables mode eq answers firsts)
+    pub states-go-on : StatesGoOn mode eq writing firsts (tables mode eq writing firsts)
     unfolding LosesNone
     states-go-on = record {
       alike = all-alike;
-      rendered = λ k d w. rows-told answers _ firsts begun;
+      rendered = λ k d w. rows-told writing _ firsts begun;
       on = subst (λ ts. AllAdjacentBelow (λ t later. (e : E) → GoesOnTo (told_by (t e)) (told_by (later e))) ts (length ts)) are-steps
           (run-neighbours goes_on next Alike (λ t alike h. alike-next t alike) (λ t later. (e : E) → GoesOnTo (told_by (t e)) (told_by (later e)))
           (λ t alike h. goes-next t alike) (most_rounds mode eq firsts) no_states (λ d e h. refl));

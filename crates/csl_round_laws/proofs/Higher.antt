@@ -11,7 +11,7 @@ use Rattle.csl_ambiguity.specs.Members.{Member, member_at, members, one_or_none,
 use Rattle.csl_ambiguity.specs.SuffixMarks.{adds_suffix, first_cites, shows_dates, suffix_among}
 use Rattle.csl_ambiguity.proofs.GroupLaws.{choose-go-on, no-suffix, suffixes-go-on}
 use Rattle.csl_ambiguity.proofs.Sifted.{StandsThere}
-use Rattle.csl_base.specs.Answers.{Answers}
+use Rattle.csl_writers.specs.Writing.{Writing}
 use Rattle.csl_lookup.specs.GoingOn.{GoesOnTo, rank}
 use Rattle.csl_lookup.specs.declared.state.DisambiguateState.TheVariants.{Choose}
 use Rattle.csl_lookup.proofs.GoingOn.{go-on}
@@ -99,9 +99,9 @@ module _ {E P : Type 0} (f : ℕ) (cites : List (CiteRender E P)) where
           (all-chosen (λ m. IsShort f m.1) (dated && adds_suffix ms) (map (λ m. (m.place, suffix_among eq ms m)) (first_cites eq ms)) []
           (All-map (λ m. IsShort f m.1) (λ m. (m.place, suffix_among eq ms m)) (first_cites eq ms) (λ k d w. omega arith)) (All-nil (λ m. IsShort f m.1)))
 
-    pub marks-are-higher : (eq : E → E → Bool) (answers : E → Answers) → All IsHigher (round_marks RoundMode.Full eq answers cites)
+    pub marks-are-higher : (eq : E → E → Bool) (writing : Writing E P) → All IsHigher (round_marks RoundMode.Full eq writing cites)
     unfolding round_marks
-    marks-are-higher eq answers =
-        let dated = shows_dates answers cites in
+    marks-are-higher eq writing =
+        let dated = shows_dates writing.answers cites in
         full-kept (λ g. HaveNoSuffix (members cites g)) IsHigher (counting cites (name_marks cites)) (counting cites (by_choice eq cites)) (counting cites (by_suffix eq cites dated))
         (λ g h. names-are-higher g) (λ g h. choice-is-higher eq g h) (λ g h. suffixes-are-higher eq g h dated) (waits eq cites) [] (ambiguous_groups eq cites) (no-suffix eq cites)

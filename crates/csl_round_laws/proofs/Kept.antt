@@ -8,7 +8,7 @@ use Rattle.csl_ambiguity.specs.Ambiguity.{ambiguous_groups}
 use Rattle.csl_ambiguity.specs.ChooseMarks.{asks, chosen, may_be_chosen}
 use Rattle.csl_ambiguity.specs.Members.{Member, entry_of, member_at, members, one_or_none}
 use Rattle.csl_ambiguity.specs.SuffixMarks.{adds_suffix, first_cites, shows_dates, suffix_among}
-use Rattle.csl_base.specs.Answers.{Answers}
+use Rattle.csl_writers.specs.Writing.{Writing}
 use Rattle.csl_base.specs.Ring.{HasNoRing}
 use Rattle.csl_entries.specs.Entries.{distinct, place}
 use Rattle.csl_base.specs.declared.names.NameDisambiguationProperties.{NameDisambiguationProperties}
@@ -170,32 +170,32 @@ module _ {E P : Type 0} (cites : List (CiteRender E P)) where
       (λ g h. counting-stand (by_suffix eq cites dated) (suffixes-stand eq dated) g) g tt
 
   -- the marks of a round stand at cites
-  pub marks-stand : (mode : RoundMode) (eq : E → E → Bool) (answers : E → Answers) → All (λ m. IsPlace cites m.0) (round_marks mode eq answers cites)
+  pub marks-stand : (mode : RoundMode) (eq : E → E → Bool) (writing : Writing E P) → All (λ m. IsPlace cites m.0) (round_marks mode eq writing cites)
   unfolding round_marks
-  marks-stand RoundMode.Three eq answers =
-      let dated = shows_dates answers cites in
+  marks-stand RoundMode.Three eq writing =
+      let dated = shows_dates writing.answers cites in
       three-kept AnyGroup (λ m. IsPlace cites m.0) (name_marks cites) (by_choice eq cites) (by_suffix eq cites dated)
       (λ g h. names-stand g) (λ g h. choice-stands eq g) (λ g h. suffixes-stand eq dated g) (ambiguous_groups eq cites) (any-groups (ambiguous_groups eq cites))
-  marks-stand RoundMode.Full eq answers =
-      let dated = shows_dates answers cites in
+  marks-stand RoundMode.Full eq writing =
+      let dated = shows_dates writing.answers cites in
       full-kept AnyGroup (λ m. IsPlace cites m.0) (counting cites (name_marks cites)) (counting cites (by_choice eq cites)) (counting cites (by_suffix eq cites dated))
       (λ g h. counting-stand (name_marks cites) names-stand g) (λ g h. counting-stand (by_choice eq cites) (choice-stands eq) g)
       (λ g h. counting-stand (by_suffix eq cites dated) (suffixes-stand eq dated) g) (waits eq cites) [] (ambiguous_groups eq cites) (any-groups (ambiguous_groups eq cites))
 
 -- what is known of the cites holds after a round
-module _ {E P : Type 0} (answers : E → Answers) (t : StateTable E) where
-  pub rings-kept : (rs : List (CiteRender E P)) → All (λ c. HasNoRing c.request.style.macros) rs → All (λ c. HasNoRing c.request.style.macros) (at_table answers t rs)
-  rings-kept rs h = All-map (λ c. HasNoRing c.request.style.macros) (request_at answers t) rs h
+module _ {E P : Type 0} (writing : Writing E P) (t : StateTable E) where
+  pub rings-kept : (rs : List (CiteRender E P)) → All (λ c. HasNoRing c.request.style.macros) rs → All (λ c. HasNoRing c.request.style.macros) (at_table writing t rs)
+  rings-kept rs h = All-map (λ c. HasNoRing c.request.style.macros) (request_at writing t) rs h
 
   module _ (eq : E → E → Bool) (es : List E) where
-    row-kept : (request : Request E P) (xs : List (ItemRender E P)) → map (λ i. place eq i.entry es) (map (λ i. with_any answers request (t i.entry) i) xs) ≡ map (λ i. place eq i.entry es) xs
+    row-kept : (request : Request E P) (xs : List (ItemRender E P)) → map (λ i. place eq i.entry es) (map (λ i. with_any writing request (t i.entry) i) xs) ≡ map (λ i. place eq i.entry es) xs
     row-kept request [] = refl
     row-kept request (i ∷ xs) =
-        ap (λ e. place eq e es ∷ map (λ i. place eq i.entry es) (map (λ i. with_any answers request (t i.entry) i) xs)) (same-entry answers request (t i.entry) i)
+        ap (λ e. place eq e es ∷ map (λ i. place eq i.entry es) (map (λ i. with_any writing request (t i.entry) i) xs)) (same-entry writing request (t i.entry) i)
         ∙ ap (λ ys. place eq i.entry es ∷ ys) (row-kept request xs)
 
-    pub places-kept : (rs : List (CiteRender E P)) → map (λ c. map (λ i. place eq i.entry es) c.items) (at_table answers t rs) ≡ map (λ c. map (λ i. place eq i.entry es) c.items) rs
+    pub places-kept : (rs : List (CiteRender E P)) → map (λ c. map (λ i. place eq i.entry es) c.items) (at_table writing t rs) ≡ map (λ c. map (λ i. place eq i.entry es) c.items) rs
     places-kept [] = refl
     places-kept (c ∷ cs) =
-        ap (λ r. r ∷ map (λ c. map (λ i. place eq i.entry es) c.items) (at_table answers t cs)) (row-kept c.request c.items)
+        ap (λ r. r ∷ map (λ c. map (λ i. place eq i.entry es) c.items) (at_table writing t cs)) (row-kept c.request c.items)
         ∙ ap (λ rows. map (λ i. place eq i.entry es) c.items ∷ rows) (places-kept cs)

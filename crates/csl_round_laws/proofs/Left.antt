@@ -9,7 +9,7 @@ use Rattle.csl_ambiguity.specs.Ambiguity.{ambiguous_groups}
 use Rattle.csl_ambiguity.specs.MarkLaws.{AmbiguousStandTogether, AreAmbiguous, HaveNoSuffix, StandInOneGroup}
 use Rattle.csl_ambiguity.specs.Members.{Member, document, entry_of, members, state_of}
 use Rattle.csl_ambiguity.specs.SuffixMarks.{adds_suffix, first_cites, shows_dates, suffix_among, suffix_marks, year_suffix_marks}
-use Rattle.csl_base.specs.Answers.{Answers}
+use Rattle.csl_writers.specs.Writing.{Writing}
 use Rattle.csl_lookup.specs.States.{may_get_suffix}
 use Rattle.csl_lookup.specs.declared.state.DisambiguateState.{DisambiguateState}
 use Rattle.csl_lookup.specs.declared.state.DisambiguateState.TheVariants.{YearSuffix}
@@ -39,8 +39,8 @@ module _ {E P : Type 0} (eq : E → E → Bool) (laws : AreMarkLaws E P eq) (cit
       (All-contains (λ g. All (λ c. eq e (entry_of c) ≡ false) (members cites g)) (ambiguous_groups eq cites) own.0.group apart own.0.is_group) own.0.among in
       absurd (true≢false (sym own.1 ∙ none))
 
-  pub unmarked : (mode : RoundMode) (answers : E → Answers) → mark_of eq cites (round_marks mode eq answers cites) e ≡ None
-  unmarked mode answers = no-mark _ (own-marks eq laws cites mode answers e)
+  pub unmarked : (mode : RoundMode) (writing : Writing E P) → mark_of eq cites (round_marks mode eq writing cites) e ≡ None
+  unmarked mode writing = no-mark _ (own-marks eq laws cites mode writing e)
 
 -- where groups get no mark, there is none in any way
 both-empty : {X : Type 0} (xs ys : List X) → or_others xs ys ≡ [] → (xs ≡ []) × (ys ≡ [])
@@ -78,7 +78,7 @@ module _ (n c s : List Place → List Mark) where
       by [] e h more = All-cons IsDone g gs e (more h)
       by (m ∷ ms) e h more = absurd (true≢false h)
 
-module _ {E P : Type 0} (eq : E → E → Bool) (answers : E → Answers) (cites : List (CiteRender E P)) where
+module _ {E P : Type 0} (eq : E → E → Bool) (writing : Writing E P) (cites : List (CiteRender E P)) where
   nothing-waits : (g : List Place) → waits eq cites [] g ≡ false
   nothing-waits g = by (members cites g)
     where
@@ -87,18 +87,18 @@ module _ {E P : Type 0} (eq : E → E → Bool) (answers : E → Answers) (cites
       by (m ∷ ms) = by ms
 
   abbrev their_ways : RoundMode → Ways
-  their_ways mode = ways eq cites (shows_dates answers cites) mode
+  their_ways mode = ways eq cites (shows_dates writing.answers cites) mode
 
-  none-in-any-way : (mode : RoundMode) → has_any (round_marks mode eq answers cites) ≡ false
+  none-in-any-way : (mode : RoundMode) → has_any (round_marks mode eq writing cites) ≡ false
       → let w = their_ways mode in All (λ g. all_ways w.by_names w.by_choice w.by_suffix g ≡ []) (ambiguous_groups eq cites)
   unfolding round_marks
   none-in-any-way RoundMode.Three h =
-      three-empty (name_marks cites) (by_choice eq cites) (by_suffix eq cites (shows_dates answers cites)) (ambiguous_groups eq cites) h
+      three-empty (name_marks cites) (by_choice eq cites) (by_suffix eq cites (shows_dates writing.answers cites)) (ambiguous_groups eq cites) h
   none-in-any-way RoundMode.Full h =
-      full-empty (counting cites (name_marks cites)) (counting cites (by_choice eq cites)) (counting cites (by_suffix eq cites (shows_dates answers cites)))
+      full-empty (counting cites (name_marks cites)) (counting cites (by_choice eq cites)) (counting cites (by_suffix eq cites (shows_dates writing.answers cites)))
       (waits eq cites) nothing-waits (ambiguous_groups eq cites) h
 
-  pub all-done : (mode : RoundMode) → has_any (round_marks mode eq answers cites) ≡ false → All (CannotBeMarked (their_ways mode)) (ambiguous_groups eq cites)
+  pub all-done : (mode : RoundMode) → has_any (round_marks mode eq writing cites) ≡ false → All (CannotBeMarked (their_ways mode)) (ambiguous_groups eq cites)
   all-done mode h =
       let w = their_ways mode in
       All-weaker (λ g. all_ways w.by_names w.by_choice w.by_suffix g ≡ []) (CannotBeMarked w) (in-no-way w) (ambiguous_groups eq cites) (none-in-any-way mode h)
@@ -118,7 +118,7 @@ none-passes q (x ∷ xs) h e = absurd (by (q x) (All-head (λ x. q x ≡ true) x
     by true h e = cc
     by false h e = cc
 
-module _ {E P : Type 0} (eq : E → E → Bool) (answers : E → Answers) (cites : List (CiteRender E P)) where
+module _ {E P : Type 0} (eq : E → E → Bool) (writing : Writing E P) (cites : List (CiteRender E P)) where
   abbrev IsBare : Member E P → Type 0
   IsBare m = IsThere cites m × (may_get_suffix (state_of m) ≡ true)
 
@@ -139,12 +139,12 @@ module _ {E P : Type 0} (eq : E → E → Bool) (answers : E → Answers) (cites
       by false = All-nil (λ m. counts cites m ≡ true)
 
   abbrev HasNone : RoundMode → List Place → Type 0
-  HasNone mode = CannotBeMarked (ways eq cites (shows_dates answers cites) mode)
+  HasNone mode = CannotBeMarked (ways eq cites (shows_dates writing.answers cites) mode)
 
-  no-suffix : (mode : RoundMode) (g : List Place) → HaveNoSuffix (members cites g) → HasNone mode g → by_suffix eq cites (shows_dates answers cites) g ≡ []
+  no-suffix : (mode : RoundMode) (g : List Place) → HaveNoSuffix (members cites g) → HasNone mode g → by_suffix eq cites (shows_dates writing.answers cites) g ≡ []
   no-suffix RoundMode.Three g bare h = h.not_by_suffix
   no-suffix RoundMode.Full g bare h =
-      none-passes (counts cites) (by_suffix eq cites (shows_dates answers cites) g) (suffixes-count (shows_dates answers cites) g bare) h.not_by_suffix
+      none-passes (counts cites) (by_suffix eq cites (shows_dates writing.answers cites) g) (suffixes-count (shows_dates writing.answers cites) g bare) h.not_by_suffix
 
   -- a group that could get suffixes has no style that adds them
   adds-none : (ms : List (Member E P)) (a : Member E P) → Contains ms a → year_suffix_marks eq true ms ≡ [] → adds_suffix ms ≡ false
@@ -168,7 +168,7 @@ module _ {E P : Type 0} (eq : E → E → Bool) (answers : E → Answers) (cites
   cited-there = All-from_recursion (IsThere cites) (document cites) (document-stands cites [] cites refl)
 
   pub add-none : (mode : RoundMode) → AreMarkLaws E P eq → AmbiguousStandTogether eq cites → All (HasNone mode) (ambiguous_groups eq cites)
-      → shows_dates answers cites ≡ true → (a b : Member E P) → AreAmbiguous eq cites a b → adds_suffix (a ∷ b ∷ []) ≡ false
+      → shows_dates writing.answers cites ≡ true → (a b : Member E P) → AreAmbiguous eq cites a b → adds_suffix (a ∷ b ∷ []) ≡ false
   add-none mode laws together none dated a b h =
       let t : StandInOneGroup (ambiguous_groups eq cites) a.place b.place = together a b h in
       let one = in-members cites t.group a.place a t.one_inside (All-contains (IsThere cites) (document cites) a cited-there h.one_cited) in
@@ -183,36 +183,36 @@ module _ {E P : Type 0} (eq : E → E → Bool) (answers : E → Answers) (cites
       All-contains (λ (m : Member E P). m.style.citation.disambiguate_add_year_suffix ≡ false) (members cites t.group) m styles i in
       ap (λ d. d || adds_suffix (b ∷ [])) (no a one) ∙ ap (λ d. d || false) (no b other)
 
-module _ {E P : Type 0} (mode : RoundMode) (eq : E → E → Bool) (answers : E → Answers) (firsts : List (CiteRender E P)) (laws : AreMarkLaws E P eq) where
+module _ {E P : Type 0} (mode : RoundMode) (eq : E → E → Bool) (writing : Writing E P) (firsts : List (CiteRender E P)) (laws : AreMarkLaws E P eq) where
   abbrev at : StateTable E → List (CiteRender E P)
-  at t = at_table answers t firsts
+  at t = at_table writing t firsts
 
-  only-ambiguous : (e : E) → All (λ t. IsInNoGroup eq (at t) e) (done (tables mode eq answers firsts)) → last_states mode eq answers firsts e ≡ None
+  only-ambiguous : (e : E) → All (λ t. IsInNoGroup eq (at t) e) (done (tables mode eq writing firsts)) → last_states mode eq writing firsts e ≡ None
   only-ambiguous e =
-      subst (λ ts. All (λ t. IsInNoGroup eq (at t) e) (done ts) → final ts no_states e ≡ None) (are-steps mode eq answers firsts)
-      (run-last (goes_on mode eq answers firsts) (next mode eq answers firsts) (λ t. IsInNoGroup eq (at t) e) (λ t. t e ≡ None)
-      (λ t none apart go. ap (λ o. option_or o (t e)) (unmarked eq laws (at t) e apart mode answers) ∙ none) no_states (most_rounds mode eq firsts) no_states refl)
+      subst (λ ts. All (λ t. IsInNoGroup eq (at t) e) (done ts) → final ts no_states e ≡ None) (are-steps mode eq writing firsts)
+      (run-last (goes_on mode eq writing firsts) (next mode eq writing firsts) (λ t. IsInNoGroup eq (at t) e) (λ t. t e ≡ None)
+      (λ t none apart go. ap (λ o. option_or o (t e)) (unmarked eq laws (at t) e apart mode writing) ∙ none) no_states (most_rounds mode eq firsts) no_states refl)
 
   abbrev last : List (CiteRender E P)
-  last = at (last_states mode eq answers firsts)
+  last = at (last_states mode eq writing firsts)
 
   abbrev HaveEnded : Type 0
-  HaveEnded = Ended mode (rounds mode eq answers firsts)
+  HaveEnded = Ended mode (rounds mode eq writing firsts)
 
-  module _ (together : AmbiguousStandTogether eq last) (ends : HaveEnded → has_any (marks_at mode eq answers firsts (last_states mode eq answers firsts)) ≡ false) where
-    none-left : HaveEnded → All (CannotBeMarked (ways eq last (shows_dates answers last) mode)) (ambiguous_groups eq last)
-    none-left ended = all-done eq answers last mode (ends ended)
+  module _ (together : AmbiguousStandTogether eq last) (ends : HaveEnded → has_any (marks_at mode eq writing firsts (last_states mode eq writing firsts)) ≡ false) where
+    none-left : HaveEnded → All (CannotBeMarked (ways eq last (shows_dates writing.answers last) mode)) (ambiguous_groups eq last)
+    none-left ended = all-done eq writing last mode (ends ended)
 
-    pub nothing-left : NothingLeft mode eq answers firsts (tables mode eq answers firsts) (rounds mode eq answers firsts)
+    pub nothing-left : NothingLeft mode eq writing firsts (tables mode eq writing firsts) (rounds mode eq writing firsts)
     nothing-left = record {
       only_ambiguous = only-ambiguous;
       none_left = none-left;
-      told_apart = λ ended. add-none eq answers last mode laws together (none-left ended);
+      told_apart = λ ended. add-none eq writing last mode laws together (none-left ended);
     }
 
 -- in mode three they ended where fewer than three marked
-pub three-ends : {E P : Type 0} (eq : E → E → Bool) (answers : E → Answers) (firsts : List (CiteRender E P)) → Ended RoundMode.Three (rounds RoundMode.Three eq answers firsts)
-    → has_any (marks_at RoundMode.Three eq answers firsts (last_states RoundMode.Three eq answers firsts)) ≡ false
-three-ends eq answers firsts h =
-    subst (λ ts. length ts - 1 < 3 → goes_on RoundMode.Three eq answers firsts (final ts no_states) ≡ false) (are-steps RoundMode.Three eq answers firsts)
-    (run-ends (goes_on RoundMode.Three eq answers firsts) (next RoundMode.Three eq answers firsts) no_states 3 no_states) h
+pub three-ends : {E P : Type 0} (eq : E → E → Bool) (writing : Writing E P) (firsts : List (CiteRender E P)) → Ended RoundMode.Three (rounds RoundMode.Three eq writing firsts)
+    → has_any (marks_at RoundMode.Three eq writing firsts (last_states RoundMode.Three eq writing firsts)) ≡ false
+three-ends eq writing firsts h =
+    subst (λ ts. length ts - 1 < 3 → goes_on RoundMode.Three eq writing firsts (final ts no_states) ≡ false) (are-steps RoundMode.Three eq writing firsts)
+    (run-ends (goes_on RoundMode.Three eq writing firsts) (next RoundMode.Three eq writing firsts) no_states 3 no_states) h

@@ -9,7 +9,7 @@ use Rattle.std.proofs.lemmas.List.Elements.{All-append, All-cons, All-head, All-
 use Rattle.std.proofs.lemmas.List.Folds.{list_any-append}
 use Rattle.std.proofs.lemmas.List.Sums.{sum_by-append, sum_by-cons, sum_by-le}
 use Rattle.csl_ambiguity.specs.Members.{Member, entry_of, member_at, state_of}
-use Rattle.csl_base.specs.Answers.{Answers}
+use Rattle.csl_writers.specs.Writing.{Writing}
 use Rattle.csl_entries.specs.Entries.{distinct}
 use Rattle.csl_entries.proofs.Distinct.{is_in-distinct}
 use Rattle.csl_lookup.specs.GoingOn.{rank}
@@ -67,7 +67,7 @@ all-below f n (x ∷ xs) h =
     let others : greatest_number (map f xs) ≤ max (f x) (greatest_number (map f xs)) = le-max_right (f x) (greatest_number (map f xs)) in
     All-cons (λ x. f x ≤ n) x xs (omega (arith, h, first)) (all-below f n xs (omega (arith, h, others)))
 
-module _ {E P : Type 0} (answers : E → Answers) (firsts : List (CiteRender E P)) (begun : AreBegun firsts) where
+module _ {E P : Type 0} (writing : Writing E P) (firsts : List (CiteRender E P)) (begun : AreBegun firsts) where
   abbrev forms_most : ℕ
   forms_most = most_forms firsts
 
@@ -78,11 +78,11 @@ module _ {E P : Type 0} (answers : E → Answers) (firsts : List (CiteRender E P
     abbrev item_state : ItemRender E P → DisambiguateState
     item_state i = i.properties.speculative.disambiguation
 
-    again-state : (r : Request E P) (s : Option DisambiguateState) (i : ItemRender E P) → item_state i ≡ DisambiguateState.None → item_state (with_any answers r s i) ≡ told_by s
+    again-state : (r : Request E P) (s : Option DisambiguateState) (i : ItemRender E P) → item_state i ≡ DisambiguateState.None → item_state (with_any writing r s i) ≡ told_by s
     again-state r None i none = none
     again-state r (Some s) i none = refl
 
-    again-forms : (r : Request E P) (s : Option DisambiguateState) (i : ItemRender E P) → (with_any answers r s i).first_name ≡ i.first_name
+    again-forms : (r : Request E P) (s : Option DisambiguateState) (i : ItemRender E P) → (with_any writing r s i).first_name ≡ i.first_name
     again-forms r None i = refl
     again-forms r (Some s) i = refl
 
@@ -90,14 +90,14 @@ module _ {E P : Type 0} (answers : E → Answers) (firsts : List (CiteRender E P
     HasFewForms i = form_count i.first_name ≤ forms_most
 
     -- its state is that of its entry
-    shown : (p : Place) (c : Member E P) → member_at (at_table answers t firsts) p ≡ Some c → state_of c ≡ told_by (t (entry_of c))
-    shown p c found = item-known (at_table answers t firsts) (IsTold t) p c (rows-told answers t firsts begun) found
+    shown : (p : Place) (c : Member E P) → member_at (at_table writing t firsts) p ≡ Some c → state_of c ≡ told_by (t (entry_of c))
+    shown p c found = item-known (at_table writing t firsts) (IsTold t) p c (rows-told writing t firsts begun) found
 
-    has-few : ((e : E) → IsShort forms_most (told_by (t e))) → HasFew forms_most (at_table answers t firsts)
+    has-few : ((e : E) → IsShort forms_most (told_by (t e))) → HasFew forms_most (at_table writing t firsts)
     has-few short p c found = (
       subst (IsShort forms_most) (sym (shown p c found)) (short (entry_of c)),
-      item-known (at_table answers t firsts) HasFewForms p c
-          (rows-known answers t HasFewForms HasFewForms (λ r i few. subst (λ o. form_count o ≤ forms_most) (sym (again-forms r (t i.entry) i)) few) firsts few-forms) found,
+      item-known (at_table writing t firsts) HasFewForms p c
+          (rows-known writing t HasFewForms HasFewForms (λ r i few. subst (λ o. form_count o ≤ forms_most) (sym (again-forms r (t i.entry) i)) few) firsts few-forms) found,
     )
 
   -- the sum of ranks of entries
@@ -115,16 +115,16 @@ module _ {E P : Type 0} (answers : E → Answers) (firsts : List (CiteRender E P
 
     module _ (t : StateTable E) (sound : IsSound t) where
       abbrev now : List (CiteRender E P)
-      now = at_table answers t firsts
+      now = at_table writing t firsts
 
       abbrev marks : List Mark
-      marks = marks_at RoundMode.Full eq answers firsts t
+      marks = marks_at RoundMode.Full eq writing firsts t
 
       abbrev marked : StateTable E
-      marked = marked_at RoundMode.Full eq answers firsts t
+      marked = marked_at RoundMode.Full eq writing firsts t
 
       higher : All (IsHigher forms_most now) marks
-      higher = marks-are-higher forms_most now (has-few t sound.short) eq answers
+      higher = marks-are-higher forms_most now (has-few t sound.short) eq writing
 
       -- what a mark of an entry raises
       abbrev Raises : E → DisambiguateState → Type 0
@@ -196,7 +196,7 @@ module _ {E P : Type 0} (answers : E → Answers) (firsts : List (CiteRender E P
       cited-there : (p : Place) (c : Member E P) → member_at now p ≡ Some c → list_any (eq (entry_of c)) (entries_cited firsts) ≡ true
       cited-there p c found =
           item-known now Listed p c
-          (rows-known answers t Listed Listed (λ r i h e. h (ap (eq (entry_of c)) (sym (same-entry answers r (t i.entry) i)) ∙ e)) firsts (each-from (entry_of c) firsts))
+          (rows-known writing t Listed Listed (λ r i h e. h (ap (eq (entry_of c)) (sym (same-entry writing r (t i.entry) i)) ∙ e)) firsts (each-from (entry_of c) firsts))
           found (laws.refl (entry_of c))
         where
           Listed : ItemRender E P → Type 0
@@ -222,7 +222,7 @@ module _ {E P : Type 0} (answers : E → Answers) (firsts : List (CiteRender E P
 
       -- in any list that has an entry equal to each that is cited, one gets a mark
       pub one-marked : (es : List E) → ((e : E) → list_any (eq e) (entries_cited firsts) ≡ true → list_any (eq e) es ≡ true) → has_any marks ≡ true → list_any (λ e. is_some (marked e)) es ≡ true
-      one-marked es inside any = by marks refl any (marks-stand now RoundMode.Full eq answers)
+      one-marked es inside any = by marks refl any (marks-stand now RoundMode.Full eq writing)
         where
           by : (ms : List Mark) → marks ≡ ms → has_any ms ≡ true → All (λ m. IsPlace now m.0) ms → list_any (λ e. is_some (marked e)) es ≡ true
           by [] e h all = cc
@@ -262,9 +262,9 @@ module _ {E P : Type 0} (answers : E → Answers) (firsts : List (CiteRender E P
     pub risen-begun : HaveRisen 0 no_states
     risen-begun = record { sound = sound-begun; least = omega arith }
 
-    module _ (k : ℕ) (t : StateTable E) (so : HaveRisen k t) (any : has_any (marks_at RoundMode.Full eq answers firsts t) ≡ true) where
+    module _ (k : ℕ) (t : StateTable E) (so : HaveRisen k t) (any : has_any (marks_at RoundMode.Full eq writing firsts t) ≡ true) where
       abbrev next : StateTable E
-      next = with_marks (marked_at RoundMode.Full eq answers firsts t) t
+      next = with_marks (marked_at RoundMode.Full eq writing firsts t) t
 
       rises : ranks (distinct eq (entries_cited firsts)) t < ranks (distinct eq (entries_cited firsts)) next
       rises = ranks-rise t so.sound (distinct eq (entries_cited firsts)) in-distinct any
@@ -291,25 +291,25 @@ module _ {E P : Type 0} (answers : E → Answers) (firsts : List (CiteRender E P
   cite_ranks rs = sum_by (λ i. rank forms_most i.properties.speculative.disambiguation) (flat_map (λ c. c.items) rs)
 
   row-ranks : (t : StateTable E) (r : Request E P) (items : List (ItemRender E P)) → All (λ i. i.properties.speculative.disambiguation ≡ DisambiguateState.None) items
-      → sum_by (λ i. rank forms_most i.properties.speculative.disambiguation) (map (λ i. with_any answers r (t i.entry) i) items) ≡ ranks (map (λ i. i.entry) items) t
+      → sum_by (λ i. rank forms_most i.properties.speculative.disambiguation) (map (λ i. with_any writing r (t i.entry) i) items) ≡ ranks (map (λ i. i.entry) items) t
   row-ranks t r [] h = refl
   row-ranks t r (i ∷ items) h =
       let state = λ (i : ItemRender E P). rank forms_most i.properties.speculative.disambiguation in
-      let own : state (with_any answers r (t i.entry) i) ≡ rank forms_most (told_by (t i.entry)) =
+      let own : state (with_any writing r (t i.entry) i) ≡ rank forms_most (told_by (t i.entry)) =
       ap (rank forms_most) (again-state t r (t i.entry) i (All-head (λ i. i.properties.speculative.disambiguation ≡ DisambiguateState.None) i items h)) in
-      sum_by-cons state (with_any answers r (t i.entry) i) (map (λ i. with_any answers r (t i.entry) i) items)
+      sum_by-cons state (with_any writing r (t i.entry) i) (map (λ i. with_any writing r (t i.entry) i) items)
       ∙ (λ j. own j + row-ranks t r items (All-tail (λ i. i.properties.speculative.disambiguation ≡ DisambiguateState.None) i items h) j)
       ∙ sym (sum_by-cons (λ e. rank forms_most (told_by (t e))) i.entry (map (λ i. i.entry) items))
 
-  rows-ranks : (t : StateTable E) (rs : List (CiteRender E P)) → AreBegun rs → cite_ranks (at_table answers t rs) ≡ ranks (entries_cited rs) t
+  rows-ranks : (t : StateTable E) (rs : List (CiteRender E P)) → AreBegun rs → cite_ranks (at_table writing t rs) ≡ ranks (entries_cited rs) t
   rows-ranks t [] h = refl
   rows-ranks t (r ∷ rs) h =
       let state = λ (i : ItemRender E P). rank forms_most i.properties.speculative.disambiguation in
       let none = λ (i : ItemRender E P). i.properties.speculative.disambiguation ≡ DisambiguateState.None in
-      sum_by-append state (map (λ i. with_any answers r.request (t i.entry) i) r.items) (flat_map (λ c. c.items) (at_table answers t rs))
+      sum_by-append state (map (λ i. with_any writing r.request (t i.entry) i) r.items) (flat_map (λ c. c.items) (at_table writing t rs))
       ∙ (λ j. row-ranks t r.request r.items (all-left none r.items (flat_map (λ c. c.items) rs) h) j
       + rows-ranks t rs (all-right none r.items (flat_map (λ c. c.items) rs) h) j)
       ∙ sym (sum_by-append (λ e. rank forms_most (told_by (t e))) (map (λ i. i.entry) r.items) (entries_cited rs))
 
-  pub cite-ranks : (t : StateTable E) → cite_ranks (at_table answers t firsts) ≡ ranks (entries_cited firsts) t
+  pub cite-ranks : (t : StateTable E) → cite_ranks (at_table writing t firsts) ≡ ranks (entries_cited firsts) t
   cite-ranks t = rows-ranks t firsts begun

@@ -2,7 +2,7 @@
 use Rattle.std.proofs.Common.{◌≡◌, Bool, false, List, subst, arith}
 use Rattle.std.specs.Cmp.{IsEquivalence}
 use Rattle.csl_ambiguity.specs.MarkLaws.{AmbiguousStandTogether}
-use Rattle.csl_base.specs.Answers.{Answers}
+use Rattle.csl_writers.specs.Writing.{Writing}
 use Rattle.csl_entries.specs.Entries.{distinct}
 use Rattle.csl_passes.specs.Renders.{CiteRender}
 use Rattle.csl_round_laws.specs.FirstRenders.{AreBegun}
@@ -17,19 +17,19 @@ use Rattle.csl_round_laws.proofs.RankSums.{IsSound, in-distinct, ranks, ranks-mo
 use Rattle.csl_round_laws.proofs.Runs.{final, run-bounded}
 
 -- at the last table of mode full nothing marks
-full-ends : {E P : Type 0} (eq : E → E → Bool) (answers : E → Answers) (firsts : List (CiteRender E P)) → IsEquivalence eq → AreBegun firsts
-    → has_any (marks_at RoundMode.Full eq answers firsts (last_states RoundMode.Full eq answers firsts)) ≡ false
-full-ends eq answers firsts laws begun =
+full-ends : {E P : Type 0} (eq : E → E → Bool) (writing : Writing E P) (firsts : List (CiteRender E P)) → IsEquivalence eq → AreBegun firsts
+    → has_any (marks_at RoundMode.Full eq writing firsts (last_states RoundMode.Full eq writing firsts)) ≡ false
+full-ends eq writing firsts laws begun =
     let es = distinct eq (entries_cited firsts) in
-    subst (λ ts. goes_on RoundMode.Full eq answers firsts (final ts no_states) ≡ false) (are-steps RoundMode.Full eq answers firsts)
-    (run-bounded (goes_on RoundMode.Full eq answers firsts) (next RoundMode.Full eq answers firsts) (IsSound answers firsts begun eq laws)
-    (λ t sound go. sound-after answers firsts begun eq laws t sound) (ranks answers firsts begun es) (most_rounds RoundMode.Full eq firsts)
-    (λ t sound go. ranks-rise answers firsts begun eq laws t sound es (in-distinct answers firsts begun eq laws) go) (λ t sound. ranks-most answers firsts begun eq laws t sound es)
-    no_states (most_rounds RoundMode.Full eq firsts) no_states (sound-begun answers firsts begun eq laws) (omega arith))
+    subst (λ ts. goes_on RoundMode.Full eq writing firsts (final ts no_states) ≡ false) (are-steps RoundMode.Full eq writing firsts)
+    (run-bounded (goes_on RoundMode.Full eq writing firsts) (next RoundMode.Full eq writing firsts) (IsSound writing firsts begun eq laws)
+    (λ t sound go. sound-after writing firsts begun eq laws t sound) (ranks writing firsts begun es) (most_rounds RoundMode.Full eq firsts)
+    (λ t sound go. ranks-rise writing firsts begun eq laws t sound es (in-distinct writing firsts begun eq laws) go) (λ t sound. ranks-most writing firsts begun eq laws t sound es)
+    no_states (most_rounds RoundMode.Full eq firsts) no_states (sound-begun writing firsts begun eq laws) (omega arith))
 
 -- in both modes nothing is left
-pub nothing-is-left : {E P : Type 0} (mode : RoundMode) (eq : E → E → Bool) (answers : E → Answers) (firsts : List (CiteRender E P)) → AreMarkLaws E P eq
+pub nothing-is-left : {E P : Type 0} (mode : RoundMode) (eq : E → E → Bool) (writing : Writing E P) (firsts : List (CiteRender E P)) → AreMarkLaws E P eq
     → ((cites : List (CiteRender E P)) → AmbiguousStandTogether eq cites) → AreBegun firsts
-    → NothingLeft mode eq answers firsts (tables mode eq answers firsts) (rounds mode eq answers firsts)
-nothing-is-left RoundMode.Three eq answers firsts laws together begun = nothing-left RoundMode.Three eq answers firsts laws (together _) (three-ends eq answers firsts)
-nothing-is-left RoundMode.Full eq answers firsts laws together begun = nothing-left RoundMode.Full eq answers firsts laws (together _) (λ ended. full-ends eq answers firsts laws.equal begun)
+    → NothingLeft mode eq writing firsts (tables mode eq writing firsts) (rounds mode eq writing firsts)
+nothing-is-left RoundMode.Three eq writing firsts laws together begun = nothing-left RoundMode.Three eq writing firsts laws (together _) (three-ends eq writing firsts)
+nothing-is-left RoundMode.Full eq writing firsts laws together begun = nothing-left RoundMode.Full eq writing firsts laws (together _) (λ ended. full-ends eq writing firsts laws.equal begun)

@@ -6,7 +6,7 @@ use Rattle.csl_ambiguity.specs.Ambiguity.{ambiguous_groups}
 use Rattle.csl_ambiguity.specs.MarkLaws.{GroupsHaveNoSuffix, HaveNoSuffix}
 use Rattle.csl_ambiguity.specs.Members.{members}
 use Rattle.csl_ambiguity.specs.SuffixMarks.{adds_suffix, shows_dates, suffix_marks}
-use Rattle.csl_base.specs.Answers.{Answers}
+use Rattle.csl_writers.specs.Writing.{Writing}
 use Rattle.csl_lookup.specs.States.{kind_of}
 use Rattle.csl_name_marks.specs.NameMarks.{name_marks}
 use Rattle.csl_passes.specs.Renders.{CiteRender, Place}
@@ -81,9 +81,9 @@ module _ (n c s : List Place → List Mark) where
       by (inr (inl e)) = absurd (not-low (n g) names e)
       by (inr (inr e)) = in_names (has_any (n g)) e
 
-module _ {E P : Type 0} (eq : E → E → Bool) (cites : List (CiteRender E P)) (answers : E → Answers) (bare : GroupsHaveNoSuffix eq cites) where
+module _ {E P : Type 0} (eq : E → E → Bool) (cites : List (CiteRender E P)) (writing : Writing E P) (bare : GroupsHaveNoSuffix eq cites) where
   abbrev dated : Bool
-  dated = shows_dates answers cites
+  dated = shows_dates writing.answers cites
 
   names-low : (g : List Place) → All IsLow (name_marks cites g)
   names-low g = All-weaker (Named cites) IsLow (λ m h. omega (arith, h)) (name_marks cites g) (names-named cites g)
@@ -105,7 +105,7 @@ module _ {E P : Type 0} (eq : E → E → Bool) (cites : List (CiteRender E P)) 
   abbrev IsOne : List Place → Type 0
   IsOne g = Contains (ambiguous_groups eq cites) g
 
-  pub own-suffixes : (mode : RoundMode) (group : List Place) (own : List Mark) → Contains (marks_by_group mode eq answers cites) (group, own) → (one : Mark) → Contains own one → kind_of one.1 ≡ 3
+  pub own-suffixes : (mode : RoundMode) (group : List Place) (own : List Mark) → Contains (marks_by_group mode eq writing cites) (group, own) → (one : Mark) → Contains own one → kind_of one.1 ≡ 3
       → own ≡ suffix_marks eq (members cites group)
   own-suffixes RoundMode.Three group own given one is_own high =
       let n = name_marks cites in
@@ -123,5 +123,5 @@ module _ {E P : Type 0} (eq : E → E → Bool) (cites : List (CiteRender E P)) 
       let same : own ≡ s group =
       by-suffix-alone n c s group (counting-low (name_marks cites group) (names-low group)) (counting-low (by_choice eq cites group) (choice-low group)) own marked.1 one is_own high in
       let all : s group ≡ by_suffix eq cites dated group =
-      all-pass (counts cites) (by_suffix eq cites dated group) (suffixes-count eq answers cites dated group (All-contains (λ g. HaveNoSuffix (members cites g)) (ambiguous_groups eq cites) group bare marked.0)) in
+      all-pass (counts cites) (by_suffix eq cites dated group) (suffixes-count eq writing cites dated group (All-contains (λ g. HaveNoSuffix (members cites g)) (ambiguous_groups eq cites) group bare marked.0)) in
       same ∙ all ∙ all-suffixes group one (subst (λ l. Contains l one) (same ∙ all) is_own)

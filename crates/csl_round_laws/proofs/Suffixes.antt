@@ -8,7 +8,7 @@ use Rattle.csl_ambiguity.specs.Ambiguity.{ambiguous_groups}
 use Rattle.csl_ambiguity.specs.MarkLaws.{HaveNoSuffix, SuffixesCountEntries}
 use Rattle.csl_ambiguity.specs.Members.{Member, entry_of, members, state_of}
 use Rattle.csl_ambiguity.specs.SuffixMarks.{first_cites, shows_dates, suffix_among, suffix_marks}
-use Rattle.csl_base.specs.Answers.{Answers}
+use Rattle.csl_writers.specs.Writing.{Writing}
 use Rattle.csl_entries.specs.Entries.{distinct, is_in}
 use Rattle.csl_entries.specs.Laws.{NoTwoEqual}
 use Rattle.csl_lookup.specs.GoingOn.{GoesOnTo}
@@ -95,7 +95,7 @@ module _ {E P : Type 0} (eq : E → E → Bool) (laws : AreMarkLaws E P eq) (mor
           All-cons (λ m. cites_entry eq cites (entry_of p.1) m.0 ≡ true → m.1 ≡ YearSuffix p.0) first rest
           (λ g. absurd (true≢false (sym g ∙ cites-there (entry_of p.1) c (there 0 c (omega arith)) ∙ laws.equal.symm (entry_of p.1) (entry_of c) ∙ o.0))) h
 
-  module _ (answers : E → Answers) (group : List Place) where
+  module _ (writing : Writing E P) (group : List Place) where
     abbrev ms : List (Member E P)
     ms = members cites group
 
@@ -136,22 +136,22 @@ module _ {E P : Type 0} (eq : E → E → Bool) (laws : AreMarkLaws E P eq) (mor
     abbrev given : List Place × List Mark
     given = (group, own)
 
-    known : (mode : RoundMode) (one : Mark) → Contains own one → kind_of one.1 ≡ 3 → Contains (marks_by_group mode eq answers cites) given → AreKnown (round_marks mode eq answers cites)
+    known : (mode : RoundMode) (one : Mark) → Contains own one → kind_of one.1 ≡ 3 → Contains (marks_by_group mode eq writing cites) given → AreKnown (round_marks mode eq writing cites)
     unfolding round_marks
     known RoundMode.Three one is_own high h =
-        let walked = three-walked (name_marks cites) (by_choice eq cites) (by_suffix eq cites (shows_dates answers cites))
+        let walked = three-walked (name_marks cites) (by_choice eq cites) (by_suffix eq cites (shows_dates writing.answers cites))
         (λ g. All-weaker (Named cites) (λ m. kind_of m.1 ≤ 2) (λ m k. omega (arith, k)) (name_marks cites g) (names-named cites g)) group own one is_own high (ambiguous_groups eq cites) h in
-        (λ x i. all-passed IsKnown (λ m. cites_entry eq cites (entry_of x) m.0) (round_marks RoundMode.Three eq answers cites) walked.0, walked.1)
+        (λ x i. all-passed IsKnown (λ m. cites_entry eq cites (entry_of x) m.0) (round_marks RoundMode.Three eq writing cites) walked.0, walked.1)
     known RoundMode.Full one is_own high h =
-        let dated = shows_dates answers cites in
+        let dated = shows_dates writing.answers cites in
         let walked = full-walked eq laws cites (counting cites (name_marks cites)) (counting cites (by_choice eq cites)) (counting cites (by_suffix eq cites dated))
         (λ g i. all-in-ways (counting cites (name_marks cites)) (counting cites (by_choice eq cites)) (counting cites (by_suffix eq cites dated)) g
         (counted (name_marks cites) g (names-in eq laws cites g i)) (counted (by_choice eq cites) g (choice-in eq laws cites g i))
         (counted (by_suffix eq cites dated) g (suffixes-in eq laws cites dated g i)))
         group own one is_own covers [] (ambiguous_groups eq cites) (are-groups eq laws cites) h in (
           λ x i. All-weaker (λ m. ((y : Member E P) → Contains ms y → cites_entry eq cites (entry_of y) m.0 ≡ true → Contains own m) × (cites_entry eq cites (entry_of x) m.0 ≡ true))
-              (λ m. IsKnown m × (cites_entry eq cites (entry_of x) m.0 ≡ true)) (λ m k. (inr (k.0 x i k.1), k.1)) (filter (λ m. cites_entry eq cites (entry_of x) m.0) (round_marks RoundMode.Full eq answers cites))
-              (all-passed (λ m. (y : Member E P) → Contains ms y → cites_entry eq cites (entry_of y) m.0 ≡ true → Contains own m) (λ m. cites_entry eq cites (entry_of x) m.0) (round_marks RoundMode.Full eq answers cites) walked.1),
+              (λ m. IsKnown m × (cites_entry eq cites (entry_of x) m.0 ≡ true)) (λ m k. (inr (k.0 x i k.1), k.1)) (filter (λ m. cites_entry eq cites (entry_of x) m.0) (round_marks RoundMode.Full eq writing cites))
+              (all-passed (λ m. (y : Member E P) → Contains ms y → cites_entry eq cites (entry_of y) m.0 ≡ true → Contains own m) (λ m. cites_entry eq cites (entry_of x) m.0) (round_marks RoundMode.Full eq writing cites) walked.1),
           walked.2,
         )
 
@@ -188,38 +188,38 @@ module _ {E P : Type 0} (eq : E → E → Bool) (laws : AreMarkLaws E P eq) (mor
           subst (All (λ p. mark_of eq cites marks p.1 ≡ Some (YearSuffix p.0))) (numbered-map entry_of 0 ones ∙ ap (enumerate_from 0) (more.count ms).one_each)
           (All-map (λ p. mark_of eq cites marks p.1 ≡ Some (YearSuffix p.0)) (λ p. (p.0, entry_of p.1)) (enumerate_from 0 ones) ones-marked)
 
-    pub suffixes-in-order : (mode : RoundMode) → Contains (marks_by_group mode eq answers cites) given
-        → All (λ p. mark_of eq cites (round_marks mode eq answers cites) p.1 ≡ Some (YearSuffix p.0)) (enumerate_from 0 (distinct eq (map entry_of ms)))
+    pub suffixes-in-order : (mode : RoundMode) → Contains (marks_by_group mode eq writing cites) given
+        → All (λ p. mark_of eq cites (round_marks mode eq writing cites) p.1 ≡ Some (YearSuffix p.0)) (enumerate_from 0 (distinct eq (map entry_of ms)))
     suffixes-in-order mode h = by ms refl
       where
-        by : (l : List (Member E P)) → ms ≡ l → All (λ p. mark_of eq cites (round_marks mode eq answers cites) p.1 ≡ Some (YearSuffix p.0)) (enumerate_from 0 (distinct eq (map entry_of ms)))
+        by : (l : List (Member E P)) → ms ≡ l → All (λ p. mark_of eq cites (round_marks mode eq writing cites) p.1 ≡ Some (YearSuffix p.0)) (enumerate_from 0 (distinct eq (map entry_of ms)))
         by [] e =
-            subst (λ l. All (λ p. mark_of eq cites (round_marks mode eq answers cites) p.1 ≡ Some (YearSuffix p.0)) (enumerate_from 0 (distinct eq (map entry_of l)))) (sym e)
-            (All-nil (λ p. mark_of eq cites (round_marks mode eq answers cites) p.1 ≡ Some (YearSuffix p.0)))
+            subst (λ l. All (λ p. mark_of eq cites (round_marks mode eq writing cites) p.1 ≡ Some (YearSuffix p.0)) (enumerate_from 0 (distinct eq (map entry_of l)))) (sym e)
+            (All-nil (λ p. mark_of eq cites (round_marks mode eq writing cites) p.1 ≡ Some (YearSuffix p.0)))
         by (x ∷ xs) e =
             let d = first-of x (subst (λ l. Contains l x) (sym e) (0, omega arith, refl)) in
-            entries-marked (round_marks mode eq answers cites)
+            entries-marked (round_marks mode eq writing cites)
             (known mode (d.0.place, suffix_among eq ms d.0) (in-map (λ m. (m.place, suffix_among eq ms m)) ones d.0 d.1) refl h)
 
-module _ {E P : Type 0} (mode : RoundMode) (eq : E → E → Bool) (answers : E → Answers) (firsts : List (CiteRender E P)) (laws : AreMarkLaws E P eq) (more : AreSuffixLaws E P eq) (begun : AreBegun firsts) where
+module _ {E P : Type 0} (mode : RoundMode) (eq : E → E → Bool) (writing : Writing E P) (firsts : List (CiteRender E P)) (laws : AreMarkLaws E P eq) (more : AreSuffixLaws E P eq) (begun : AreBegun firsts) where
   abbrev at : StateTable E → List (CiteRender E P)
-  at t = at_table answers t firsts
+  at t = at_table writing t firsts
 
   abbrev after : StateTable E → StateTable E
-  after t = next mode eq answers firsts t
+  after t = next mode eq writing firsts t
 
   abbrev KeepsSuffixes : StateTable E → StateTable E → Type 0
   KeepsSuffixes t later = (e : E) (n : ℕ) → t e ≡ Some (YearSuffix n) → later e ≡ Some (YearSuffix n)
 
-  stay-next : (t : StateTable E) → Alike mode eq answers firsts t → KeepsSuffixes t (after t)
-  stay-next t alike e n h = by (marked_at mode eq answers firsts t e) refl
+  stay-next : (t : StateTable E) → Alike mode eq writing firsts t → KeepsSuffixes t (after t)
+  stay-next t alike e n h = by (marked_at mode eq writing firsts t e) refl
     where
-      by : (o : Option DisambiguateState) → marked_at mode eq answers firsts t e ≡ o → option_or o (t e) ≡ Some (YearSuffix n)
+      by : (o : Option DisambiguateState) → marked_at mode eq writing firsts t e ≡ o → option_or o (t e) ≡ Some (YearSuffix n)
       by None f = h
       by (Some s) f =
-          ap Some (suffix-on n s (subst (λ o. GoesOnTo (unwrap_or o DisambiguateState.None) s) h (state-goes mode eq answers firsts laws begun t alike e s f)))
+          ap Some (suffix-on n s (subst (λ o. GoesOnTo (unwrap_or o DisambiguateState.None) s) h (state-goes mode eq writing firsts laws begun t alike e s f)))
 
-  suffixed-apart : (t : StateTable E) → Alike mode eq answers firsts t → (e : E) (n : ℕ) → t e ≡ Some (YearSuffix n) → IsInNoGroup eq (at t) e
+  suffixed-apart : (t : StateTable E) → Alike mode eq writing firsts t → (e : E) (n : ℕ) → t e ≡ Some (YearSuffix n) → IsInNoGroup eq (at t) e
   suffixed-apart t alike e n h =
       All-weaker (λ g. HaveNoSuffix (members (at t) g)) (λ g. All (λ m. eq e (entry_of m) ≡ false) (members (at t) g))
       (λ g bare k d w. one _ (members-there (at t) g k d w) (bare k d w)) (ambiguous_groups eq (at t)) (laws.without_suffix (at t))
@@ -230,30 +230,30 @@ module _ {E P : Type 0} (mode : RoundMode) (eq : E → E → Bool) (answers : E 
           by : (b : Bool) → eq e (entry_of m) ≡ b → b ≡ false
           by true same =
               let state : state_of m ≡ YearSuffix n =
-              member-told mode eq answers firsts laws begun t m.place m there ∙ ap (λ o. unwrap_or o DisambiguateState.None) (sym (alike e (entry_of m) same) ∙ h) in
+              member-told mode eq writing firsts laws begun t m.place m there ∙ ap (λ o. unwrap_or o DisambiguateState.None) (sym (alike e (entry_of m) same) ∙ h) in
               absurd (true≢false (sym bare ∙ ap may_get_suffix state))
           by false same = refl
 
   abbrev InOrder : StateTable E → StateTable E → Type 0
   InOrder t later =
-      (group : List Place) → GetsSuffixes mode eq answers firsts t group → All (λ p. later p.1 ≡ Some (YearSuffix p.0)) (enumerate_from 0 (distinct eq (map entry_of (members (at t) group))))
+      (group : List Place) → GetsSuffixes mode eq writing firsts t group → All (λ p. later p.1 ≡ Some (YearSuffix p.0)) (enumerate_from 0 (distinct eq (map entry_of (members (at t) group))))
 
   in-order : (t : StateTable E) → InOrder t (after t)
   in-order t group gets =
       let same : gets.own ≡ suffix_marks eq (members (at t) group) =
-      own-suffixes eq (at t) answers (laws.without_suffix (at t)) mode group gets.own gets.are_own gets.mark gets.one_of_them (ap kind_of gets.is_suffix) in
-      All-weaker (λ p. marked_at mode eq answers firsts t p.1 ≡ Some (YearSuffix p.0)) (λ p. after t p.1 ≡ Some (YearSuffix p.0)) (λ p e. ap (λ o. option_or o (t p.1)) e)
+      own-suffixes eq (at t) writing (laws.without_suffix (at t)) mode group gets.own gets.are_own gets.mark gets.one_of_them (ap kind_of gets.is_suffix) in
+      All-weaker (λ p. marked_at mode eq writing firsts t p.1 ≡ Some (YearSuffix p.0)) (λ p. after t p.1 ≡ Some (YearSuffix p.0)) (λ p e. ap (λ o. option_or o (t p.1)) e)
       (enumerate_from 0 (distinct eq (map entry_of (members (at t) group))))
-      (suffixes-in-order eq laws more (at t) answers group mode (subst (λ own. Contains (marks_by_group mode eq answers (at t)) (group, own)) same gets.are_own))
+      (suffixes-in-order eq laws more (at t) writing group mode (subst (λ own. Contains (marks_by_group mode eq writing (at t)) (group, own)) same gets.are_own))
 
-  pub suffixes-stay : SuffixesStay mode eq answers firsts (tables mode eq answers firsts)
+  pub suffixes-stay : SuffixesStay mode eq writing firsts (tables mode eq writing firsts)
   suffixes-stay = record {
-    stay = subst (AllPairs KeepsSuffixes) (are-steps mode eq answers firsts)
-        (run-pairs (goes_on mode eq answers firsts) after (Alike mode eq answers firsts) (λ t alike go. alike-next mode eq answers firsts laws begun t alike) KeepsSuffixes (λ t e n h. h)
+    stay = subst (AllPairs KeepsSuffixes) (are-steps mode eq writing firsts)
+        (run-pairs (goes_on mode eq writing firsts) after (Alike mode eq writing firsts) (λ t alike go. alike-next mode eq writing firsts laws begun t alike) KeepsSuffixes (λ t e n h. h)
         (λ t later alike go rest e n h. rest e n (stay-next t alike e n h)) (most_rounds mode eq firsts) no_states (λ d e h. refl));
-    apart = All-weaker (Alike mode eq answers firsts) (λ t. (e : E) (n : ℕ) → t e ≡ Some (YearSuffix n) → IsInNoGroup eq (at t) e) suffixed-apart (tables mode eq answers firsts)
-        (all-alike mode eq answers firsts laws begun);
-    in_order = subst (λ ts. AllAdjacentBelow InOrder ts (length ts)) (are-steps mode eq answers firsts)
-        (run-neighbours (goes_on mode eq answers firsts) after (Alike mode eq answers firsts) (λ t alike go. alike-next mode eq answers firsts laws begun t alike) InOrder
+    apart = All-weaker (Alike mode eq writing firsts) (λ t. (e : E) (n : ℕ) → t e ≡ Some (YearSuffix n) → IsInNoGroup eq (at t) e) suffixed-apart (tables mode eq writing firsts)
+        (all-alike mode eq writing firsts laws begun);
+    in_order = subst (λ ts. AllAdjacentBelow InOrder ts (length ts)) (are-steps mode eq writing firsts)
+        (run-neighbours (goes_on mode eq writing firsts) after (Alike mode eq writing firsts) (λ t alike go. alike-next mode eq writing firsts laws begun t alike) InOrder
         (λ t alike go. in-order t) (most_rounds mode eq firsts) no_states (λ d e h. refl));
   }

@@ -5,7 +5,7 @@ use Rattle.std.specs.Option.{option_and_then}
 use Rattle.std.proofs.lemmas.List.Elements.{All-append, All-cons, All-map, All-nil, All-weaker, Contains-append_left, Contains-append_right}
 use Rattle.std.proofs.lemmas.Option.{same_Some}
 use Rattle.csl_ambiguity.specs.Members.{Member, member_at, members, one_or_none}
-use Rattle.csl_base.specs.Answers.{Answers}
+use Rattle.csl_writers.specs.Writing.{Writing}
 use Rattle.csl_lookup.specs.declared.state.DisambiguateState.{DisambiguateState}
 use Rattle.csl_passes.specs.Places.{cite_at}
 use Rattle.csl_passes.specs.Renders.{CiteRender, ItemRender, Place}
@@ -21,25 +21,25 @@ module _ {E P : Type 0} where
   abbrev pub IsTold : StateTable E → ItemRender E P → Type 0
   IsTold t i = i.properties.speculative.disambiguation ≡ told_by (t i.entry)
 
-  module _ (answers : E → Answers) (t : StateTable E) where
-    again : (r : Request E P) (i : ItemRender E P) → IsUntold i → IsTold t (with_any answers r (t i.entry) i)
+  module _ (writing : Writing E P) (t : StateTable E) where
+    again : (r : Request E P) (i : ItemRender E P) → IsUntold i → IsTold t (with_any writing r (t i.entry) i)
     again r i none = by (t i.entry) refl
       where
-        by : (o : Option DisambiguateState) → t i.entry ≡ o → IsTold t (with_any answers r o i)
+        by : (o : Option DisambiguateState) → t i.entry ≡ o → IsTold t (with_any writing r o i)
         by None e = none ∙ ap (λ o. unwrap_or o DisambiguateState.None) (sym e)
         by (Some s) e = ap (λ o. unwrap_or o DisambiguateState.None) (sym e)
 
     -- what is known of cites is known of them at a table, where rendering again keeps it
-    pub rows-known : (Q R : ItemRender E P → Type 0) → ((r : Request E P) (i : ItemRender E P) → Q i → R (with_any answers r (t i.entry) i))
-        → (rs : List (CiteRender E P)) → All Q (flat_map (λ c. c.items) rs) → All R (flat_map (λ c. c.items) (at_table answers t rs))
+    pub rows-known : (Q R : ItemRender E P → Type 0) → ((r : Request E P) (i : ItemRender E P) → Q i → R (with_any writing r (t i.entry) i))
+        → (rs : List (CiteRender E P)) → All Q (flat_map (λ c. c.items) rs) → All R (flat_map (λ c. c.items) (at_table writing t rs))
     rows-known Q R keep [] h = All-nil R
     rows-known Q R keep (c ∷ cs) h =
-        All-append R (map (λ i. with_any answers c.request (t i.entry) i) c.items) (flat_map (λ c. c.items) (at_table answers t cs))
-        (All-map R (λ i. with_any answers c.request (t i.entry) i) c.items
-        (All-weaker Q (λ i. R (with_any answers c.request (t i.entry) i)) (λ i q. keep c.request i q) c.items (all-left Q c.items (flat_map (λ c. c.items) cs) h)))
+        All-append R (map (λ i. with_any writing c.request (t i.entry) i) c.items) (flat_map (λ c. c.items) (at_table writing t cs))
+        (All-map R (λ i. with_any writing c.request (t i.entry) i) c.items
+        (All-weaker Q (λ i. R (with_any writing c.request (t i.entry) i)) (λ i q. keep c.request i q) c.items (all-left Q c.items (flat_map (λ c. c.items) cs) h)))
         (rows-known Q R keep cs (all-right Q c.items (flat_map (λ c. c.items) cs) h))
 
-    pub rows-told : (rs : List (CiteRender E P)) → AreBegun rs → All (IsTold t) (flat_map (λ c. c.items) (at_table answers t rs))
+    pub rows-told : (rs : List (CiteRender E P)) → AreBegun rs → All (IsTold t) (flat_map (λ c. c.items) (at_table writing t rs))
     rows-told rs h = rows-known IsUntold (IsTold t) again rs h
 
   module _ (cites : List (CiteRender E P)) where

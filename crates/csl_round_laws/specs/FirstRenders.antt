@@ -1,6 +1,6 @@
 -- The first renders of cites, before any of them is disambiguated from others.
 use Rattle.std.specs.Prelude.{◌≡◌, All, List, None, flat_map, length, map, zip}
-use Rattle.csl_base.specs.Answers.{Answers}
+use Rattle.csl_writers.specs.Writing.{Writing}
 use Rattle.csl_lookup.specs.NoProperties.{speculated}
 use Rattle.csl_lookup.specs.Properties.{Properties}
 use Rattle.csl_lookup.specs.declared.state.DisambiguateState.{DisambiguateState}
@@ -8,7 +8,6 @@ use Rattle.csl_lookup.specs.declared.state.IdentifierUsage.{IdentifierUsage}
 use Rattle.csl_passes.specs.Renders.{CiteRender, ItemRender}
 use Rattle.csl_passes.specs.Request.{RequestedCite, Request, source_of}
 use Rattle.csl_passes.specs.declared.first.FirstProperties.{FirstProperties}
-use Rattle.csl_writing.specs.CiteText.{cite}
 
 -- each cite of each request has its properties
 abbrev pub HasShapeOf : {E P : Type 0} → List (Request E P) → List (List FirstProperties) → Type 0
@@ -26,12 +25,12 @@ abbrev pub noted : {P : Type 0} → Properties P → IdentifierUsage → Propert
 noted properties usage =
     record properties { speculative = record properties.speculative { identifier_usage = usage } }
 
-module _ {E P : Type 0} (answers : E → Answers) where
+module _ {E P : Type 0} (writing : Writing E P) where
   -- a cite as it is rendered first, for its purpose; which identifiers it wrote is noted
   abbrev pub first_render : Request E P → RequestedCite E P → FirstProperties → ItemRender E P
   first_render request c first =
       let properties : Properties P = first_written_by first in
-      let made = cite (source_of request) (answers c.entry) properties c.purpose None in
+      let made = writing.cite (source_of request) c.entry properties c.purpose None in
       record {
         rendered = made.children;
         entry = c.entry;

@@ -1,14 +1,13 @@
 -- The states of entries, and cites that are rendered again with them.
 use Rattle.std.specs.Prelude.{Bool, List, map, filter, flat_map, Option, Some, None, unwrap_or}
 use Rattle.std.specs.Option.{option_or}
-use Rattle.csl_base.specs.Answers.{Answers}
+use Rattle.csl_writers.specs.Writing.{Writing}
 use Rattle.csl_lookup.specs.Properties.{Properties}
 use Rattle.csl_lookup.specs.declared.state.DisambiguateState.{DisambiguateState}
 use Rattle.csl_passes.specs.Renders.{CiteRender, ItemRender}
 use Rattle.csl_passes.specs.Request.{Request, source_of}
 use Rattle.csl_round_laws.specs.RoundMarks.{Mark, cites_entry, greatest_state, round_marks}
 use Rattle.csl_round_laws.specs.declared.mode.RoundMode.{RoundMode}
-use Rattle.csl_writing.specs.CiteText.{cite_text}
 
 -- by what means entries are disambiguated; for most there is none
 abbrev pub StateTable : Type 0 → Type 0
@@ -39,15 +38,15 @@ module _ {E P : Type 0} where
       greatest_state (map (λ m. m.1) (filter (λ m. cites_entry eq cites e m.0) marks))
 
   -- what a round marks that begins with these cites
-  abbrev pub marked_by : RoundMode → (E → E → Bool) → (E → Answers) → List (CiteRender E P) → StateTable E
-  marked_by mode eq answers cites = mark_of eq cites (round_marks mode eq answers cites)
+  abbrev pub marked_by : RoundMode → (E → E → Bool) → Writing E P → List (CiteRender E P) → StateTable E
+  marked_by mode eq writing cites = mark_of eq cites (round_marks mode eq writing cites)
 
-  module _ (answers : E → Answers) where
+  module _ (writing : Writing E P) where
     -- the cite rendered again with this state of its entry, for its purpose; what else is known of it stays
     abbrev pub rendered_again : Request E P → DisambiguateState → ItemRender E P → ItemRender E P
     rendered_again request s i = record i {
       properties = with_state s i.properties;
-      rendered = cite_text (source_of request) (answers i.entry) (with_state s i.properties) i.purpose None;
+      rendered = (writing.cite (source_of request) i.entry (with_state s i.properties) i.purpose None).children;
     }
 
     -- rendered again where there is a state

@@ -5,7 +5,7 @@ use Rattle.csl_ambiguity.specs.Ambiguity.{ambiguous_groups}
 use Rattle.csl_ambiguity.specs.MarkLaws.{AreAmbiguous}
 use Rattle.csl_ambiguity.specs.Members.{Member, entry_of, members}
 use Rattle.csl_ambiguity.specs.SuffixMarks.{adds_suffix, shows_dates}
-use Rattle.csl_base.specs.Answers.{Answers}
+use Rattle.csl_writers.specs.Writing.{Writing}
 use Rattle.csl_entries.specs.Entries.{distinct}
 use Rattle.csl_lookup.specs.GoingOn.{GoesOnTo, rank}
 use Rattle.csl_lookup.specs.declared.state.DisambiguateState.TheVariants.{YearSuffix}
@@ -26,11 +26,11 @@ abbrev pub IsInNoGroup : {E P : Type 0} → (E → E → Bool) → List (CiteRen
 IsInNoGroup eq cites e =
     All (λ group. All (λ m. eq e (entry_of m) ≡ false) (members cites group)) (ambiguous_groups eq cites)
 
-module _ {E P : Type 0} (mode : RoundMode) (eq : E → E → Bool) (answers : E → Answers)
+module _ {E P : Type 0} (mode : RoundMode) (eq : E → E → Bool) (writing : Writing E P)
     (firsts : List (CiteRender E P)) where
   -- the cites as they stand at a table
   abbrev pub shown_at : StateTable E → List (CiteRender E P)
-  shown_at table = at_table answers table firsts
+  shown_at table = at_table writing table firsts
 
   -- the rank of an entry at a table
   abbrev pub rank_at : StateTable E → E → ℕ
@@ -39,12 +39,12 @@ module _ {E P : Type 0} (mode : RoundMode) (eq : E → E → Bool) (answers : E 
   -- the marks that an entry gets in the round that begins with a table
   abbrev pub marks_of_entry : StateTable E → E → List Mark
   marks_of_entry table e =
-      filter (λ m. cites_entry eq (shown_at table) e m.0) (marks_at mode eq answers firsts table)
+      filter (λ m. cites_entry eq (shown_at table) e m.0) (marks_at mode eq writing firsts table)
 
   -- in that round the group gets marks of which one is a suffix
   pub record GetsSuffixes (table : StateTable E) (group : List Place) : Type 0 where
     pub own : List Mark
-    pub are_own : Contains (marks_by_group mode eq answers (shown_at table)) (group, own)
+    pub are_own : Contains (marks_by_group mode eq writing (shown_at table)) (group, own)
     pub mark : Mark
     pub suffix : ℕ
     pub one_of_them : Contains own mark
@@ -98,10 +98,10 @@ module _ {E P : Type 0} (mode : RoundMode) (eq : E → E → Bool) (answers : E 
           → last_table tables e ≡ None
       -- where the rounds came to an end, no ambiguous group can be marked
       pub none_left : Ended mode marked
-          → All (CannotBeMarked (ways eq last_shown (shows_dates answers last_shown) mode))
+          → All (CannotBeMarked (ways eq last_shown (shows_dates writing.answers last_shown) mode))
           (ambiguous_groups eq last_shown)
       -- and where dates are shown, two ambiguous cites are of styles that add no suffixes
-      pub told_apart : Ended mode marked → shows_dates answers last_shown ≡ true
+      pub told_apart : Ended mode marked → shows_dates writing.answers last_shown ≡ true
           → (a b : Member E P) → AreAmbiguous eq last_shown a b → adds_suffix (a ∷ b ∷ []) ≡ false
 
     -- ranks rise, and so the rounds that mark have a bound

@@ -1,7 +1,7 @@
 -- The rounds in which cites that read alike are disambiguated: the tables of states from the first on.
 use Rattle.std.specs.Prelude.{ℕ, zero, suc, ◌+◌, ◌-◌, ◌*◌, Bool, List, [], ◌∷◌, length, map, slice_index_or, take, Option, Some, None, if◌then◌else◌}
 use Rattle.std.specs.List.{flat_map}
-use Rattle.csl_base.specs.Answers.{Answers}
+use Rattle.csl_writers.specs.Writing.{Writing}
 use Rattle.csl_base.specs.declared.names.NameDisambiguationProperties.{NameDisambiguationProperties}
 use Rattle.csl_entries.specs.Entries.{distinct}
 use Rattle.csl_name_marks.specs.NamedCites.{greatest}
@@ -19,15 +19,14 @@ form_count (Some names) = length names.forms
 abbrev pub most_forms : {E P : Type 0} → List (CiteRender E P) → ℕ
 most_forms cites = greatest (map (λ i. form_count i.first_name) (flat_map (λ c. c.items) cites))
 
-module _ {E P : Type 0} (mode : RoundMode) (eq : E → E → Bool) (answers : E
-    → Answers) (firsts : List (CiteRender E P)) where
+module _ {E P : Type 0} (mode : RoundMode) (eq : E → E → Bool) (writing : Writing E P) (firsts : List (CiteRender E P)) where
   -- the marks of the round that begins with this table
   abbrev pub marks_at : StateTable E → List Mark
-  marks_at table = round_marks mode eq answers (at_table answers table firsts)
+  marks_at table = round_marks mode eq writing (at_table writing table firsts)
 
   -- what it marks
   abbrev pub marked_at : StateTable E → StateTable E
-  marked_at table = mark_of eq (at_table answers table firsts) (marks_at table)
+  marked_at table = mark_of eq (at_table writing table firsts) (marks_at table)
 
   -- the tables from this one on: one more behind each round that marks, in so many rounds at most
   unfoldable pub tables_from : ℕ → StateTable E → List (StateTable E)
@@ -46,11 +45,10 @@ most_rounds RoundMode.Full eq firsts =
 abbrev pub last_table : {E : Type 0} → List (StateTable E) → StateTable E
 last_table tables = slice_index_or tables (length tables - 1) no_states
 
-module _ {E P : Type 0} (mode : RoundMode) (eq : E → E → Bool) (answers : E
-    → Answers) (firsts : List (CiteRender E P)) where
+module _ {E P : Type 0} (mode : RoundMode) (eq : E → E → Bool) (writing : Writing E P) (firsts : List (CiteRender E P)) where
   -- the tables, from the empty one to the last
   abbrev pub tables : List (StateTable E)
-  tables = tables_from mode eq answers firsts (most_rounds mode eq firsts) no_states
+  tables = tables_from mode eq writing firsts (most_rounds mode eq firsts) no_states
 
   -- how many rounds marked
   abbrev pub rounds : ℕ
@@ -58,13 +56,13 @@ module _ {E P : Type 0} (mode : RoundMode) (eq : E → E → Bool) (answers : E
 
   -- what they marked
   abbrev pub round_tables : List (StateTable E)
-  round_tables = map (marked_at mode eq answers firsts) (take rounds tables)
+  round_tables = map (marked_at mode eq writing firsts) (take rounds tables)
 
   -- the states that the entries have after them
   abbrev pub last_states : StateTable E
   last_states = last_table tables
 
 -- the first renders, rendered again with the states that tell their entries apart after all rounds
-unfoldable pub disambiguated : {E P : Type 0} → RoundMode → (E → E → Bool) → (E → Answers)
+unfoldable pub disambiguated : {E P : Type 0} → RoundMode → (E → E → Bool) → Writing E P
     → List (CiteRender E P) → List (CiteRender E P)
-disambiguated mode eq answers firsts = at_table answers (last_states mode eq answers firsts) firsts
+disambiguated mode eq writing firsts = at_table writing (last_states mode eq writing firsts) firsts

@@ -7,15 +7,16 @@ ghost use Rattle.csl_round_laws.specs.FirstRenders.{AreBegun, first_renders};
 ghost use Rattle.csl_round_laws.specs.RunLaws.{IsLawful, NothingLeft, RanksRise, StatesGoOn, SuffixesStay};
 ghost use Rattle.csl_round_laws.specs.Tables.{rounds, tables};
 ghost use Rattle.csl_round_laws.specs.declared.mode.RoundMode.{RoundMode};
+ghost use Rattle.csl_writers.specs.Writing.{Writing};
 
 use csl_base::entry::EntryLike;
 
 /// All of these laws hold of each run that begins with first renders.
 pub fn runs_are_lawful<T: EntryLike, P>()
-    ensures { (mode : RoundMode) (requests : List (Request T P)) (properties : List (List FirstProperties))
-        → let firsts = first_renders T.answers requests properties in
-        IsLawful mode T.eq T.answers firsts (tables mode T.eq T.answers firsts)
-        (rounds mode T.eq T.answers firsts) }
+    ensures { (writing : Writing T P) (mode : RoundMode) (requests : List (Request T P)) (properties : List (List FirstProperties))
+        → let firsts = first_renders writing requests properties in
+        IsLawful mode T.eq writing firsts (tables mode T.eq writing firsts)
+        (rounds mode T.eq writing firsts) }
 {
     states_go_on::<T, P>();
     suffixes_stay::<T, P>();
@@ -27,8 +28,8 @@ pub fn runs_are_lawful<T: EntryLike, P>()
 /// its entry; from each table to the next the state of each entry goes on, also where an entry stands in
 /// several groups; and no mark of a round is greater than the state that the round leaves.
 pub fn states_go_on<T: EntryLike, P>()
-    ensures { (mode : RoundMode) (firsts : List (CiteRender T P)) → AreBegun firsts
-        → StatesGoOn mode T.eq T.answers firsts (tables mode T.eq T.answers firsts) }
+    ensures { (writing : Writing T P) (mode : RoundMode) (firsts : List (CiteRender T P)) → AreBegun firsts
+        → StatesGoOn mode T.eq writing firsts (tables mode T.eq writing firsts) }
 {
     csl_lookup::laws::states_have_a_greatest();
     csl_lookup::laws::states_go_on();
@@ -41,8 +42,8 @@ pub fn states_go_on<T: EntryLike, P>()
 /// in a group that was given suffixes the distinct entries have 0, 1, 2 and on in the next table, in the
 /// order of their first cites there.
 pub fn suffixes_stay<T: EntryLike, P>()
-    ensures { (mode : RoundMode) (firsts : List (CiteRender T P)) → AreBegun firsts
-        → SuffixesStay mode T.eq T.answers firsts (tables mode T.eq T.answers firsts) }
+    ensures { (writing : Writing T P) (mode : RoundMode) (firsts : List (CiteRender T P)) → AreBegun firsts
+        → SuffixesStay mode T.eq writing firsts (tables mode T.eq writing firsts) }
 {
     csl_lookup::laws::states_have_a_greatest();
     csl_lookup::laws::states_go_on();
@@ -58,9 +59,9 @@ pub fn suffixes_stay<T: EntryLike, P>()
 /// mode full, no group of the last table can be marked (in mode full by no mark that counts), so two
 /// ambiguous cites of a document that shows dates are of styles that add no suffixes.
 pub fn nothing_is_left<T: EntryLike, P>()
-    ensures { (mode : RoundMode) (firsts : List (CiteRender T P)) → AreBegun firsts
-        → NothingLeft mode T.eq T.answers firsts (tables mode T.eq T.answers firsts)
-        (rounds mode T.eq T.answers firsts) }
+    ensures { (writing : Writing T P) (mode : RoundMode) (firsts : List (CiteRender T P)) → AreBegun firsts
+        → NothingLeft mode T.eq writing firsts (tables mode T.eq writing firsts)
+        (rounds mode T.eq writing firsts) }
 {
     csl_lookup::laws::states_have_a_greatest();
     csl_lookup::laws::states_go_on();
@@ -72,6 +73,6 @@ pub fn nothing_is_left<T: EntryLike, P>()
 /// A law of mode full: from each table to the next no entry's rank falls and that of some cited entry rises;
 /// so of n distinct entries, where no first name has more than F forms, at most n times 3F + 3 rounds mark.
 pub fn ranks_rise<T: EntryLike, P>()
-    ensures { (firsts : List (CiteRender T P)) → AreBegun firsts
-        → RanksRise RoundMode.Full T.eq T.answers firsts (tables RoundMode.Full T.eq T.answers firsts) }
+    ensures { (writing : Writing T P) (firsts : List (CiteRender T P)) → AreBegun firsts
+        → RanksRise RoundMode.Full T.eq writing firsts (tables RoundMode.Full T.eq writing firsts) }
 {}

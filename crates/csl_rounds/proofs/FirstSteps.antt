@@ -4,7 +4,7 @@ use Rattle.std.specs.Prelude.{zip}
 use Rattle.std.proofs.Math.ListN.{get_or-map, length-map}
 use Rattle.std.proofs.lemmas.List.{get_or_default, take_all, take_more}
 use Rattle.std.proofs.lemmas.Grind.{flat_map-append}
-use Rattle.csl_base.specs.Answers.{Answers}
+use Rattle.csl_writers.specs.Writing.{Writing}
 use Rattle.csl_passes.specs.Renders.{CiteRender, ItemRender}
 use Rattle.csl_passes.specs.Request.{RequestedCite, Request, cites_of}
 use Rattle.csl_passes.specs.declared.first.FirstProperties.{FirstProperties}
@@ -56,10 +56,10 @@ module _ {E P : Type 0} (requests : List (Request E P)) (k : ℕ) (request : Req
       ∙ sym (counted_times-add (length request.cites) (length (cites_of (take k requests))) old)
       ∙ ap (λ (n : ℕ). counted_times n old) (sym counted_cites-more)
 
-module _ {E P : Type 0} (answers : E → Answers) where
+module _ {E P : Type 0} (writing : Writing E P) where
   -- the first k renders of a request's cites are made and counted
   pub record ItemsMade (request : Request E P) (firsts : List FirstProperties) (k old : ℕ) (made : CiteRender E P) (count : ℕ) : Type 0 where
-    pub items : made.items ≡ map (λ c. first_render answers request c.0 c.1) (take k (zip request.cites firsts))
+    pub items : made.items ≡ map (λ c. first_render writing request c.0 c.1) (take k (zip request.cites firsts))
     pub same : made.request ≡ request
     pub count_is : count ≡ counted_times k old
 
@@ -71,28 +71,28 @@ module _ {E P : Type 0} (answers : E → Answers) where
     pub items-more : (k : ℕ) (c : RequestedCite E P) (first : FirstProperties) (c_within : k < length request.cites) (first_within : k < length firsts)
         (c_here : c ≡ get_or request.cites k c) (first_here : first ≡ get_or firsts k first)
         (made more : CiteRender E P) (i : ItemRender E P) (before now : ℕ) → ItemsMade request firsts k old made before
-        → more.items ≡ made.items ++ i ∷ [] → i ≡ first_render answers request c first → more.request ≡ made.request → now ≡ counted before
+        → more.items ≡ made.items ++ i ∷ [] → i ≡ first_render writing request c first → more.request ≡ made.request → now ≡ counted before
         → ItemsMade request firsts (k + 1) old more now
     items-more k c first c_within first_within c_here first_here made more i before now so_far push one same counting = record {
-      items = mapped_zip-more request.cites firsts k c first c_within first_within c_here first_here (λ c. first_render answers request c.0 c.1) so_far.items push one;
+      items = mapped_zip-more request.cites firsts k c first c_within first_within c_here first_here (λ c. first_render writing request c.0 c.1) so_far.items push one;
       same = same ∙ so_far.same;
       count_is = counting ∙ ap counted so_far.count_is ∙ sym (counted_times-more k old);
     }
 
     -- all are made
     pub items-done : (k : ℕ) (made : CiteRender E P) (count : ℕ) → ItemsMade request firsts k old made count → k ≡ length request.cites
-        → (made ≡ first_renders_of answers request firsts) × (count ≡ counted_times (length request.cites) old)
+        → (made ≡ first_renders_of writing request firsts) × (count ≡ counted_times (length request.cites) old)
     items-done k made count so_far end =
         let past : length request.cites ≤ k = omega arith in
-        let items : made.items ≡ (first_renders_of answers request firsts).items =
-        so_far.items ∙ mapped_zip-all (λ c. first_render answers request c.0 c.1) request.cites firsts k past in (
-          ap (λ (l : List (ItemRender E P)). record { items = l; request = made.request }) items ∙ ap (λ (r : Request E P). record { items = (first_renders_of answers request firsts).items; request = r }) so_far.same,
+        let items : made.items ≡ (first_renders_of writing request firsts).items =
+        so_far.items ∙ mapped_zip-all (λ c. first_render writing request c.0 c.1) request.cites firsts k past in (
+          ap (λ (l : List (ItemRender E P)). record { items = l; request = made.request }) items ∙ ap (λ (r : Request E P). record { items = (first_renders_of writing request firsts).items; request = r }) so_far.same,
           so_far.count_is ∙ ap (λ (n : ℕ). counted_times n old) end,
         )
 
   -- the first renders of the first k requests' cites are made and counted
   pub record RendersMade (requests : List (Request E P)) (firsts : List (List FirstProperties)) (k old : ℕ) (made : List (CiteRender E P)) (count : ℕ) : Type 0 where
-    pub cites : made ≡ map (λ r. first_renders_of answers r.0 r.1) (take k (zip requests firsts))
+    pub cites : made ≡ map (λ r. first_renders_of writing r.0 r.1) (take k (zip requests firsts))
     pub count_is : count ≡ counted_times (length (cites_of (take k requests))) old
 
   module _ (requests : List (Request E P)) (firsts : List (List FirstProperties)) (old : ℕ) where
@@ -103,17 +103,17 @@ module _ {E P : Type 0} (answers : E → Answers) where
     pub cites-more : (k : ℕ) (request : Request E P) (row : List FirstProperties) (within : k < length requests) (row_within : k < length firsts)
         (here : request ≡ get_or requests k request) (row_here : row ≡ get_or firsts k row)
         (made more : List (CiteRender E P)) (r : CiteRender E P) (before now : ℕ) → RendersMade requests firsts k old made before
-        → more ≡ made ++ r ∷ [] → r ≡ first_renders_of answers request row → now ≡ counted_times (length request.cites) before
+        → more ≡ made ++ r ∷ [] → r ≡ first_renders_of writing request row → now ≡ counted_times (length request.cites) before
         → RendersMade requests firsts (k + 1) old more now
     cites-more k request row within row_within here row_here made more r before now so_far push one counting = record {
-      cites = mapped_zip-more requests firsts k request row within row_within here row_here (λ r. first_renders_of answers r.0 r.1) so_far.cites push one;
+      cites = mapped_zip-more requests firsts k request row within row_within here row_here (λ r. first_renders_of writing r.0 r.1) so_far.cites push one;
       count_is = counted-more requests k request within here old before now so_far.count_is counting;
     }
 
     -- all are made
     pub cites-done : (k : ℕ) (made : List (CiteRender E P)) (count : ℕ) → RendersMade requests firsts k old made count → length requests ≤ k
-        → (made ≡ first_renders answers requests firsts) × (count ≡ counted_times (length (cites_of requests)) old)
+        → (made ≡ first_renders writing requests firsts) × (count ≡ counted_times (length (cites_of requests)) old)
     cites-done k made count so_far past = (
-      so_far.cites ∙ mapped_zip-all (λ r. first_renders_of answers r.0 r.1) requests firsts k past,
+      so_far.cites ∙ mapped_zip-all (λ r. first_renders_of writing r.0 r.1) requests firsts k past,
       so_far.count_is ∙ ap (λ (l : List (Request E P)). counted_times (length (cites_of l)) old) (take_all k requests past),
     )

@@ -3,7 +3,7 @@ use Rattle.std.proofs.Common.{◌≡◌, ℕ, ◌+◌, ◌-◌, ◌*◌, ◌^◌
 use Rattle.std.specs.Prelude.{min}
 use Rattle.std.specs.Cmp.{IsEquivalence}
 use Rattle.std.specs.List.{flat_map, sum_by}
-use Rattle.csl_base.specs.Answers.{Answers}
+use Rattle.csl_writers.specs.Writing.{Writing}
 use Rattle.csl_lookup.specs.GoingOn.{rank}
 use Rattle.csl_lookup.specs.declared.state.DisambiguateState.{DisambiguateState}
 use Rattle.csl_passes.specs.Renders.{CiteRender}
@@ -28,39 +28,39 @@ falls most before after now new e f h g = omega (arith, e, f, h, g)
 abbrev full : RoundMode
 full = RoundMode.Full
 
-module _ {E P : Type 0} (eq : E → E → Bool) (answers : E → Answers) (firsts : List (CiteRender E P)) (es : List E) (old : ℕ) where
+module _ {E P : Type 0} (eq : E → E → Bool) (writing : Writing E P) (firsts : List (CiteRender E P)) (es : List E) (old : ℕ) where
   -- so many rounds have marked
   pub record InFull (laws : IsEquivalence eq) (untold : AreBegun firsts) (now : List (CiteRender E P)) (states : List (Option DisambiguateState)) (marked count : ℕ) : Type 0 where
     pub k : ℕ
-    pub so : InRounds full eq answers firsts es old k now states marked count
-    pub risen : HaveRisen answers firsts untold eq laws k so.table
+    pub so : InRounds full eq writing firsts es old k now states marked count
+    pub risen : HaveRisen writing firsts untold eq laws k so.table
 
   module _ (laws : IsEquivalence eq) (untold : AreBegun firsts) where
     pub begun-full : (states : List (Option DisambiguateState)) (n : ℕ) → states ≡ replicate n None → n ≡ length es → InFull laws untold firsts states 0 old
     unfolding begun
     begun-full states n none same = record {
       k = 0;
-      so = begun full eq answers firsts es old states n none same;
-      risen = risen-begun answers firsts untold eq laws;
+      so = begun full eq writing firsts es old states n none same;
+      risen = risen-begun writing firsts untold eq laws;
     }
 
     module _ (now : List (CiteRender E P)) (states : List (Option DisambiguateState)) (marked count : ℕ) (in_full : InFull laws untold now states marked count)
         (new : List (CiteRender E P)) (given : List (Option DisambiguateState)) (total : ℕ)
-        (again : new ≡ at_table answers (marked_by full eq answers now) now) (are : AreStatesOf eq es (with_marks (marked_by full eq answers now) in_full.so.table) given)
-        (more : total ≡ counted_times (marked_among (entries_cited now) (marked_by full eq answers now)) count) where
-      module _ (any : has_any (round_marks full eq answers now) ≡ true) where
-        yes : has_any (round_marks full eq answers (at_table answers in_full.so.table firsts)) ≡ true
-        yes = subst (λ rs. has_any (round_marks full eq answers rs) ≡ true) in_full.so.cites any
+        (again : new ≡ at_table writing (marked_by full eq writing now) now) (are : AreStatesOf eq es (with_marks (marked_by full eq writing now) in_full.so.table) given)
+        (more : total ≡ counted_times (marked_among (entries_cited now) (marked_by full eq writing now)) count) where
+      module _ (any : has_any (round_marks full eq writing now) ≡ true) where
+        yes : has_any (round_marks full eq writing (at_table writing in_full.so.table firsts)) ≡ true
+        yes = subst (λ rs. has_any (round_marks full eq writing rs) ≡ true) in_full.so.cites any
 
         within : in_full.k < most_rounds full eq firsts
-        within = risen-within answers firsts untold eq laws in_full.k in_full.so.table in_full.risen yes
+        within = risen-within writing firsts untold eq laws in_full.k in_full.so.table in_full.risen yes
 
         pub one-full : (next : ℕ) → next ≡ min (marked + 1) (2 ^ 128 - 1) → InFull laws untold new given next total
         unfolding one-round
         one-full next one = record {
           k = in_full.k + 1;
-          so = one-round full eq answers firsts es old in_full.k now states marked count in_full.so new given total again are more within next any one;
-          risen = risen-more answers firsts untold eq laws in_full.k in_full.so.table in_full.risen yes;
+          so = one-round full eq writing firsts es old in_full.k now states marked count in_full.so new given total again are more within next any one;
+          risen = risen-more writing firsts untold eq laws in_full.k in_full.so.table in_full.risen yes;
         }
 
         -- and the measure falls
@@ -68,13 +68,13 @@ module _ {E P : Type 0} (eq : E → E → Bool) (answers : E → Answers) (first
             < length (entries_cited firsts) * (3 * most_forms firsts + 3) - ranks_of (most_forms firsts) now
         measure-falls =
             let table = in_full.so.table in
-            let next = with_marks (marked_at full eq answers firsts table) table in
-            let before_is = ap (ranks_of (most_forms firsts)) in_full.so.cites ∙ cite-ranks answers firsts untold table in
-            let after_is = ap (ranks_of (most_forms firsts)) (cites-after full eq answers firsts now new table in_full.so.cites again) ∙ cite-ranks answers firsts untold next in
-            let up = cites-rise answers firsts untold eq laws in_full.k table in_full.risen yes in
-            let top = cites-most answers firsts untold eq laws in_full.k table in_full.risen yes in
-            falls (length (entries_cited firsts) * (3 * most_forms firsts + 3)) (ranks answers firsts untold (entries_cited firsts) table) (ranks answers firsts untold (entries_cited firsts) next)
+            let next = with_marks (marked_at full eq writing firsts table) table in
+            let before_is = ap (ranks_of (most_forms firsts)) in_full.so.cites ∙ cite-ranks writing firsts untold table in
+            let after_is = ap (ranks_of (most_forms firsts)) (cites-after full eq writing firsts now new table in_full.so.cites again) ∙ cite-ranks writing firsts untold next in
+            let up = cites-rise writing firsts untold eq laws in_full.k table in_full.risen yes in
+            let top = cites-most writing firsts untold eq laws in_full.k table in_full.risen yes in
+            falls (length (entries_cited firsts) * (3 * most_forms firsts + 3)) (ranks writing firsts untold (entries_cited firsts) table) (ranks writing firsts untold (entries_cited firsts) next)
             (ranks_of (most_forms firsts) now) (ranks_of (most_forms firsts) new) before_is after_is up top
 
-      pub last-full : has_any (round_marks full eq answers now) ≡ false → AreAfterRounds full eq answers firsts es old new given marked total
-      last-full none = last-round full eq answers firsts es old in_full.k now new states given marked count total in_full.so again are more none
+      pub last-full : has_any (round_marks full eq writing now) ≡ false → AreAfterRounds full eq writing firsts es old new given marked total
+      last-full none = last-round full eq writing firsts es old in_full.k now new states given marked count total in_full.so again are more none

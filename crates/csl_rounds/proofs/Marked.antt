@@ -2,7 +2,7 @@
 use Rattle.std.proofs.Common.{◌≡◌, ℕ, ◌<◌, Bool, true, false, not, ◌==◌, Option, None, List, [], ◌∷◌, get_or, length, refl, ap, sym, subst, ◌∙◌, arith}
 use Rattle.std.specs.Prelude.{All}
 use Rattle.std.proofs.lemmas.Bool.{eqb-true, eqb-false}
-use Rattle.csl_base.specs.Answers.{Answers}
+use Rattle.csl_writers.specs.Writing.{Writing}
 use Rattle.csl_passes.specs.Renders.{CiteRender}
 use Rattle.csl_entries.specs.Entries.{place}
 use Rattle.csl_entries.specs.Table.{Table}
@@ -43,8 +43,8 @@ module _ {X : Type 0} where
   nothing-marked (x ∷ xs) h = cc
 
 -- a round without marks changes nothing
-pub empty-round : {E P : Type 0} (answers : E → Answers) (eq : E → E → Bool) (rs : List (CiteRender E P)) (marks : List Mark) → marks ≡ [] → rs ≡ at_table answers (mark_of eq rs marks) rs
-empty-round answers eq rs marks e = sym (ap (λ ms. at_table answers (mark_of eq rs ms) rs) e ∙ nothing-new answers rs)
+pub empty-round : {E P : Type 0} (writing : Writing E P) (eq : E → E → Bool) (rs : List (CiteRender E P)) (marks : List Mark) → marks ≡ [] → rs ≡ at_table writing (mark_of eq rs marks) rs
+empty-round writing eq rs marks e = sym (ap (λ ms. at_table writing (mark_of eq rs ms) rs) e ∙ nothing-new writing rs)
 
 module _ {E P : Type 0} (eq : E → E → Bool) (es : List E) (rs : List (CiteRender E P)) (marks : List Mark) (none : marks ≡ []) where
   -- nor does it give states
@@ -56,18 +56,18 @@ module _ {E P : Type 0} (eq : E → E → Bool) (es : List E) (rs : List (CiteRe
   empty-counted cited count = sym (ap (λ ms. counted_times (marked_among cited (mark_of eq rs ms)) count) none ∙ ap (λ k. counted_times k count) (none-marked cited))
 
 -- the parts of a round fit
-module _ {E P : Type 0} (mode : RoundMode) (eq : E → E → Bool) (answers : E → Answers) (table : Table E) (rs : List (CiteRender E P)) (are : AreCitesOfTable eq table rs) where
-  pub round-placed : (places : List (List ℕ)) (count : ℕ) (marks : List Mark) → places ≡ table.places → count ≡ length table.entries → marks ≡ round_marks mode eq answers rs
+module _ {E P : Type 0} (mode : RoundMode) (eq : E → E → Bool) (writing : Writing E P) (table : Table E) (rs : List (CiteRender E P)) (are : AreCitesOfTable eq table rs) where
+  pub round-placed : (places : List (List ℕ)) (count : ℕ) (marks : List Mark) → places ≡ table.places → count ≡ length table.entries → marks ≡ round_marks mode eq writing rs
       → All (λ m. IsPlaced places count m.0) marks
   round-placed places count marks e f m =
       subst (λ ps. All (λ m. IsPlaced ps count m.0) marks) (sym e)
       (subst (λ n. All (λ m. IsPlaced table.places n m.0) marks) (sym f)
-      (are-placed eq table.entries table.places rs are.placed are.listed marks (subst (λ ms. All (λ m. IsPlace rs m.0) ms) (sym m) (marks-stand rs mode eq answers))))
+      (are-placed eq table.entries table.places rs are.placed are.listed marks (subst (λ ms. All (λ m. IsPlace rs m.0) ms) (sym m) (marks-stand rs mode eq writing))))
 
   module _ (laws : IsEquivalence eq) (places : List (List ℕ)) (count : ℕ) (marks : List Mark) (states now : List (Option DisambiguateState)) (e : places ≡ table.places)
-      (n : count ≡ length table.entries) (m : marks ≡ round_marks mode eq answers rs) (s : now ≡ states) (great : AreGreatest places marks count states) where
+      (n : count ≡ length table.entries) (m : marks ≡ round_marks mode eq writing rs) (s : now ≡ states) (great : AreGreatest places marks count states) where
     abbrev all : List Mark
-    all = round_marks mode eq answers rs
+    all = round_marks mode eq writing rs
 
     greatest-now : AreGreatest table.places all (length table.entries) now
     greatest-now =
@@ -76,30 +76,30 @@ module _ {E P : Type 0} (mode : RoundMode) (eq : E → E → Bool) (answers : E 
         let three : AreGreatest table.places all (length table.entries) states = subst (λ k. AreGreatest table.places all k states) n two in
         subst (λ ss. AreGreatest table.places all (length table.entries) ss) (sym s) three
 
-    pub round-done : document_again answers now table.places rs ≡ at_table answers (marked_by mode eq answers rs) rs
-    round-done = document-alike eq table.entries table.places rs are.placed are.listed laws answers all (marks-stand rs mode eq answers) now greatest-now
+    pub round-done : document_again writing now table.places rs ≡ at_table writing (marked_by mode eq writing rs) rs
+    round-done = document-alike eq table.entries table.places rs are.placed are.listed laws writing all (marks-stand rs mode eq writing) now greatest-now
 
     -- the states that it gives, by the places of the entries
-    state-of : (x : E) → place eq x table.entries < length table.entries → get_or now (place eq x table.entries) None ≡ marked_by mode eq answers rs x
-    state-of = state-at eq table.entries table.places rs are.placed are.listed laws answers all (marks-stand rs mode eq answers) now greatest-now
+    state-of : (x : E) → place eq x table.entries < length table.entries → get_or now (place eq x table.entries) None ≡ marked_by mode eq writing rs x
+    state-of = state-at eq table.entries table.places rs are.placed are.listed laws writing all (marks-stand rs mode eq writing) now greatest-now
 
     pub round-states : (known : StateTable E) (old new : List (Option DisambiguateState)) → new ≡ put_before now old → AreStatesOf eq table.entries known old
-        → AreStatesOf eq table.entries (with_marks (marked_by mode eq answers rs) known) new
-    round-states known old new put = states-more eq table.entries (marked_by mode eq answers rs) now state-of known old new put
+        → AreStatesOf eq table.entries (with_marks (marked_by mode eq writing rs) known) new
+    round-states known old new put = states-more eq table.entries (marked_by mode eq writing rs) now state-of known old new put
 
     -- and how many cites it renders again
-    pub round-counted : (before after : ℕ) → after ≡ counted_times (sum_by (with_states now) table.places) before → after ≡ counted_times (marked_among (entries_cited rs) (marked_by mode eq answers rs)) before
+    pub round-counted : (before after : ℕ) → after ≡ counted_times (sum_by (with_states now) table.places) before → after ≡ counted_times (marked_among (entries_cited rs) (marked_by mode eq writing rs)) before
     round-counted before after more =
-        more ∙ ap (λ k. counted_times k before) (cites-marked eq table.entries (marked_by mode eq answers rs) now state-of table.places rs are.placed are.listed)
+        more ∙ ap (λ k. counted_times k before) (cites-marked eq table.entries (marked_by mode eq writing rs) now state-of table.places rs are.placed are.listed)
 
 -- what is known of the cites is known of them after a round
-pub still-of-table : {E P : Type 0} (mode : RoundMode) (eq : E → E → Bool) (answers : E → Answers) (now new : List (CiteRender E P)) → new ≡ at_table answers (marked_by mode eq answers now) now
+pub still-of-table : {E P : Type 0} (mode : RoundMode) (eq : E → E → Bool) (writing : Writing E P) (now new : List (CiteRender E P)) → new ≡ at_table writing (marked_by mode eq writing now) now
     → (table : Table E) → AreCitesOfTable eq table now → AreCitesOfTable eq table new
-still-of-table mode eq answers now new marked table are =
-    let marks = marked_by mode eq answers now in
+still-of-table mode eq writing now new marked table are =
+    let marks = marked_by mode eq writing now in
     subst (AreCitesOfTable eq table) (sym marked)
     (record {
-      no_ring = rings-kept answers marks now are.no_ring;
-      placed = are.placed ∙ sym (places-kept answers marks eq table.entries now);
+      no_ring = rings-kept writing marks now are.no_ring;
+      placed = are.placed ∙ sym (places-kept writing marks eq table.entries now);
       listed = are.listed;
     })

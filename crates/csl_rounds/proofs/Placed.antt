@@ -10,7 +10,7 @@ use Rattle.std.proofs.lemmas.Option.{slice_get_within}
 use Rattle.std.proofs.lemmas.List.Elements.{All-head, All-tail, All-get_or, All-nil, All-cons}
 use Rattle.std.proofs.Math.ListN.{length-map}
 use Rattle.csl_ambiguity.specs.Members.{Member, entry_of, member_at}
-use Rattle.csl_base.specs.Answers.{Answers}
+use Rattle.csl_writers.specs.Writing.{Writing}
 use Rattle.csl_entries.specs.Entries.{place}
 use Rattle.csl_lookup.specs.declared.state.DisambiguateState.{DisambiguateState}
 use Rattle.csl_passes.specs.Places.{IsPlace}
@@ -179,25 +179,25 @@ module _ {E P : Type 0} (eq : E → E → Bool) (es : List E) (places : List (Li
             let s : Stands at = stands at (All-head (IsPlace cites) at group h) in
             rw (member-of at s) (λ i. flag-at at s i || waits-alike group (All-tail (IsPlace cites) at group h) i)
 
-      module _ (answers : E → Answers) (marks : List Mark) (there : All (λ m. IsPlace cites m.0) marks) (states : List (Option DisambiguateState)) (great : AreGreatest places marks (length es) states) where
+      module _ (writing : Writing E P) (marks : List Mark) (there : All (λ m. IsPlace cites m.0) marks) (states : List (Option DisambiguateState)) (great : AreGreatest places marks (length es) states) where
         abbrev table : E → Option DisambiguateState
         table = mark_of eq cites marks
 
         item-alike : (r : ℕ) (c : CiteRender E P) → slice_get cites r ≡ Some c → (k : ℕ) (i : ItemRender E P) → slice_get c.items k ≡ Some i
-            → cite_again answers states c.request (get_or places r []) k i ≡ with_any answers c.request (table i.entry) i
+            → cite_again writing states c.request (get_or places r []) k i ≡ with_any writing c.request (table i.entry) i
         item-alike r c e k i f =
             let s : Stands (r, k) = record { cite = c; item = i; request = e; here = f } in
             let below : place eq i.entry es < length es = subst (λ n. n < length es) (entry-at (r, k) s) (is-placed (r, k) s).below in
-            ap (λ s. with_any answers c.request s i)
+            ap (λ s. with_any writing c.request s i)
             (ap (λ p. get_or states p None) (entry-at (r, k) s) ∙ great.at (place eq i.entry es) below ∙ marks-at marks there i.entry)
 
-        request-alike : (r : ℕ) (c : CiteRender E P) → slice_get cites r ≡ Some c → request_again answers states (get_or places r []) c ≡ request_at answers table c
+        request-alike : (r : ℕ) (c : CiteRender E P) → slice_get cites r ≡ Some c → request_again writing states (get_or places r []) c ≡ request_at writing table c
         request-alike r c e =
             ap (λ xs. record c { items = xs })
-            (alike (cite_again answers states c.request (get_or places r [])) (λ i. with_any answers c.request (table i.entry) i) c.items (item-alike r c e))
+            (alike (cite_again writing states c.request (get_or places r [])) (λ i. with_any writing c.request (table i.entry) i) c.items (item-alike r c e))
 
-        pub document-alike : document_again answers states places cites ≡ at_table answers table cites
-        document-alike = alike (λ r. request_again answers states (get_or places r [])) (request_at answers table) cites request-alike
+        pub document-alike : document_again writing states places cites ≡ at_table writing table cites
+        document-alike = alike (λ r. request_again writing states (get_or places r [])) (request_at writing table) cites request-alike
 
         -- by its place an entry has its state
         pub state-at : (e : E) → place eq e es < length es → get_or states (place eq e es) None ≡ table e

@@ -1,6 +1,6 @@
 -- What holds after the rounds.
 use Rattle.std.specs.Prelude.{◌≡◌, ℕ, ◌-◌, ◌^◌, Bool, false, List, Option, min}
-use Rattle.csl_base.specs.Answers.{Answers}
+use Rattle.csl_writers.specs.Writing.{Writing}
 use Rattle.csl_lookup.specs.declared.state.DisambiguateState.{DisambiguateState}
 use Rattle.csl_passes.specs.Renders.{CiteRender}
 use Rattle.csl_round_laws.specs.Rerenders.{AreStatesOf, rerenders}
@@ -12,14 +12,13 @@ use Rattle.csl_writing.specs.Counted.{counted_times}
 
 -- so many rounds marked these first renders, and the entries have these states now; of the counter the old
 -- value and the new one
-pub record AreAfterRounds {E P : Type 0} (mode : RoundMode) (eq : E → E → Bool) (answers : E
-    → Answers) (firsts : List (CiteRender E P)) (entries : List E) (old : ℕ)
+pub record AreAfterRounds {E P : Type 0} (mode : RoundMode) (eq : E → E → Bool) (writing : Writing E P) (firsts : List (CiteRender E P)) (entries : List E) (old : ℕ)
     (now : List (CiteRender E P)) (states : List (Option DisambiguateState)) (marked count : ℕ) : Type 0 where
-  pub cites : now ≡ disambiguated mode eq answers firsts
-  pub states_are : AreStatesOf eq entries (last_states mode eq answers firsts) states
-  pub marked_is : marked ≡ min (rounds mode eq answers firsts) (2 ^ 128 - 1)
+  pub cites : now ≡ disambiguated mode eq writing firsts
+  pub states_are : AreStatesOf eq entries (last_states mode eq writing firsts) states
+  pub marked_is : marked ≡ min (rounds mode eq writing firsts) (2 ^ 128 - 1)
   pub counted : count ≡ counted_times
-      (rerenders (entries_cited firsts) (round_tables mode eq answers firsts)) old
+      (rerenders (entries_cited firsts) (round_tables mode eq writing firsts)) old
   -- in mode full they came to an end: at the last table nothing marks
   pub ended : mode ≡ RoundMode.Full
-      → has_any (marks_at mode eq answers firsts (last_states mode eq answers firsts)) ≡ false
+      → has_any (marks_at mode eq writing firsts (last_states mode eq writing firsts)) ≡ false

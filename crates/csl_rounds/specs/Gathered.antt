@@ -2,7 +2,7 @@
 use Rattle.std.specs.Prelude.{◌≡◌, ◌<◌, ◌||◌, ℕ, Bool, false, List, [], ◌++◌, Option, Some, None, filter, is_some, length, map, nat_eq, slice_index, slice_index_or, if◌then◌else◌}
 use Rattle.std.specs.List.{enumerate_from, list_any}
 use Rattle.std.specs.Option.{option_or}
-use Rattle.csl_base.specs.Answers.{Answers}
+use Rattle.csl_writers.specs.Writing.{Writing}
 use Rattle.csl_lookup.specs.States.{greater}
 use Rattle.csl_lookup.specs.declared.state.DisambiguateState.{DisambiguateState}
 use Rattle.csl_name_marks.specs.NameMarks.{name_marks}
@@ -74,10 +74,10 @@ abbrev pub put_before : List (Option DisambiguateState) → List (Option Disambi
     → List (Option DisambiguateState)
 put_before states = by_places (λ p. option_or (slice_index_or states p None))
 
-module _ {E P : Type 0} (answers : E → Answers) (states : List (Option DisambiguateState)) where
+module _ {E P : Type 0} (writing : Writing E P) (states : List (Option DisambiguateState)) where
   -- the k-th cite of a request, rendered again where its entry has a state
   abbrev pub cite_again : Request E P → List ℕ → ℕ → ItemRender E P → ItemRender E P
-  cite_again request places k = with_any answers request (slice_index_or states (slice_index places k) None)
+  cite_again request places k = with_any writing request (slice_index_or states (slice_index places k) None)
 
   abbrev pub request_again : List ℕ → CiteRender E P → CiteRender E P
   request_again places c = record c { items = by_places (cite_again c.request places) c.items }

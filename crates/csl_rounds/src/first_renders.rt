@@ -6,6 +6,7 @@ ghost use Rattle.csl_passes.specs.Request.{cites_of};
 ghost use Rattle.csl_passes.specs.RequestView.{cite_view, request_view, requests_view};
 ghost use Rattle.csl_round_laws.specs.FirstRenders.{HasShapeOf, first_render, first_renders, first_renders_of, first_written_by, noted};
 ghost use Rattle.csl_writing.specs.Counted.{counted, counted_times};
+ghost use Rattle.csl_writers.specs.Writing.{layout_writing};
 
 use crate::contexts::request_context;
 use csl_base::entry::EntryLike;
@@ -32,7 +33,7 @@ pub fn first_renders<'r, 'a, T: EntryLike, P: Drop>(
 ) -> Result<Cites<'r, 'a, T, P>, AllocError>
     requires shape { HasShapeOf (requests_view requests.requests.now) (map (λ f. f.items) firsts.now) }
     ensures cites { IfOk result (λ c. renders_view c.by_request.items
-        ≡ first_renders T.answers (requests_view requests.entry.requests.now)
+        ≡ first_renders (layout_writing T.answers) (requests_view requests.entry.requests.now)
         (map (λ f. f.items) firsts.now)) }
     ensures counted { OnOk result (counter.new
         ≡ counted_times (length (cites_of (requests_view requests.entry.requests.now))) counter.old) }
@@ -54,7 +55,7 @@ fn first_renders_of<'r, 'a, T: EntryLike, P: Drop>(
 ) -> Result<SpeculativeCiteRender<'r, 'a, T, P>, AllocError>
     requires shape { length firsts.now ≡ length (request_view request.request.now).cites }
     ensures cites { IfOk result (λ c. render_view c
-        ≡ first_renders_of T.answers (request_view request.entry.request.now) firsts.now) }
+        ≡ first_renders_of (layout_writing T.answers) (request_view request.entry.request.now) firsts.now) }
     ensures counted { OnOk result (counter.new
         ≡ counted_times (length (request_view request.entry.request.now).cites) counter.old) }
 {
@@ -79,7 +80,7 @@ fn first_render<'a, T: EntryLike, P: Drop>(
     counter: &mut Renders,
 ) -> Result<SpeculativeItemRender<'a, T, P>, AllocError>
     ensures cite { IfOk result (λ i. item_view i
-        ≡ first_render T.answers (request_view request.entry.request.now) (cite_view item.now) first) }
+        ≡ first_render (layout_writing T.answers) (request_view request.entry.request.now) (cite_view item.now) first) }
     ensures counted { OnOk result (counter.new ≡ counted counter.old) }
 {
     let locator = item.locator.clone()?;

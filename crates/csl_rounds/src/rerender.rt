@@ -8,6 +8,7 @@ ghost use Rattle.csl_rounds.specs.CitesOfTable.{AreCitesOfTable, ArePlacesOf};
 ghost use Rattle.csl_rounds.specs.Gathered.{by_places, cite_again, document_again, with_states};
 ghost use Rattle.csl_round_laws.specs.Rounds.{rendered_again, with_any};
 ghost use Rattle.csl_writing.specs.Counted.{counted, counted_times};
+ghost use Rattle.csl_writers.specs.Writing.{layout_writing};
 
 use crate::contexts::request_context;
 use csl_base::entry::EntryLike;
@@ -29,7 +30,7 @@ pub(crate) fn render_marked<'a, T: EntryLike, P>(
     requires cites { AreCitesOfTable T.eq (table_view table.now) (renders_view cites.old) }
     requires long { length states.now ≡ length (table_view table.now).entries }
     ensures again { OnOk result (renders_view cites.new
-        ≡ document_again T.answers states.now (table_view table.now).places (renders_view cites.old)) }
+        ≡ document_again (layout_writing T.answers) states.now (table_view table.now).places (renders_view cites.old)) }
     ensures counted { OnOk result (counter.new
         ≡ counted_times (sum_by (with_states states.now) (table_view table.now).places) counter.old) }
 {
@@ -55,7 +56,7 @@ fn render_items<T: EntryLike, P>(
 ) -> Result<(), AllocError>
     requires placed { ArePlacesOf (length items.old) (length states.now) places.now }
     ensures again { OnOk result (items_view items.new
-        ≡ by_places (cite_again T.answers states.now (request_view request.entry.request.now) places.now)
+        ≡ by_places (cite_again (layout_writing T.answers) states.now (request_view request.entry.request.now) places.now)
         (items_view items.old)) }
     ensures counted { OnOk result (counter.new
         ≡ counted_times (with_states states.now places.now) counter.old) }
@@ -76,7 +77,7 @@ fn render_with<T: EntryLike, P>(
     counter: &mut Renders,
 ) -> Result<(), AllocError>
     ensures again { OnOk result (item_view item.new
-        ≡ with_any T.answers (request_view request.entry.request.now) state.now (item_view item.old)) }
+        ≡ with_any (layout_writing T.answers) (request_view request.entry.request.now) state.now (item_view item.old)) }
     ensures counted { OnOk result (counter.new
         ≡ (if is_some state.now then counted counter.old else counter.old)) }
 {
@@ -95,7 +96,7 @@ fn render_again<T: EntryLike, P>(
     counter: &mut Renders,
 ) -> Result<(), AllocError>
     ensures again { OnOk result (item_view item.new
-        ≡ rendered_again T.answers (request_view request.entry.request.now) state (item_view item.old)) }
+        ≡ rendered_again (layout_writing T.answers) (request_view request.entry.request.now) state (item_view item.old)) }
     ensures counted { OnOk result (counter.new ≡ counted counter.old) }
 {
     item.cite_props.speculative.disambiguation = state;

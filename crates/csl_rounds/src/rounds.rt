@@ -10,6 +10,7 @@ ghost use Rattle.csl_round_laws.specs.RoundMarks.{has_any, round_marks};
 ghost use Rattle.csl_round_laws.specs.Rounds.{StateTable, at_table, entries_cited, marked_by, with_marks};
 ghost use Rattle.csl_round_laws.specs.declared.mode.RoundMode.{RoundMode};
 ghost use Rattle.csl_writing.specs.Counted.{counted_times};
+ghost use Rattle.csl_writers.specs.Writing.{layout_writing};
 
 use crate::marks::round_marks;
 use crate::rerender::render_marked;
@@ -60,7 +61,7 @@ pub fn disambiguate<'a, T: EntryLike, P>(
 ) -> Result<Rounds, AllocError>
     requires cites { AreCitesOfTable T.eq (table_view table.now) (renders_view cites.old) }
     requires begun { mode ≡ RoundMode.Full → AreBegun (renders_view cites.old) }
-    ensures { IfOk result (λ r. AreAfterRounds mode T.eq T.answers (renders_view cites.old)
+    ensures { IfOk result (λ r. AreAfterRounds mode T.eq (layout_writing T.answers) (renders_view cites.old)
         (table_view table.now).entries counter.old
         (renders_view cites.new) r.states.items r.marked counter.new) }
 {
@@ -78,7 +79,7 @@ fn three_rounds<'a, T: EntryLike, P>(
     counter: &mut Renders,
 ) -> Result<Rounds, AllocError>
     requires cites { AreCitesOfTable T.eq (table_view table.now) (renders_view cites.old) }
-    ensures { IfOk result (λ r. AreAfterRounds RoundMode.Three T.eq T.answers (renders_view cites.old)
+    ensures { IfOk result (λ r. AreAfterRounds RoundMode.Three T.eq (layout_writing T.answers) (renders_view cites.old)
         (table_view table.now).entries counter.old
         (renders_view cites.new) r.states.items r.marked counter.new) }
 {
@@ -111,7 +112,7 @@ fn all_rounds<'a, T: EntryLike, P>(
 ) -> Result<Rounds, AllocError>
     requires cites { AreCitesOfTable T.eq (table_view table.now) (renders_view cites.old) }
     requires begun { AreBegun (renders_view cites.old) }
-    ensures { IfOk result (λ r. AreAfterRounds RoundMode.Full T.eq T.answers (renders_view cites.old)
+    ensures { IfOk result (λ r. AreAfterRounds RoundMode.Full T.eq (layout_writing T.answers) (renders_view cites.old)
         (table_view table.now).entries counter.old
         (renders_view cites.new) r.states.items r.marked counter.new) }
 {
@@ -145,17 +146,17 @@ fn run_round<'a, T: EntryLike, P>(
     requires cites { AreCitesOfTable T.eq (table_view table.now) (renders_view cites.old) }
     requires long { length states.old ≡ length (table_view table.now).entries }
     ensures again { IfOk result (λ again. again
-        ≡ has_any (round_marks mode T.eq T.answers (renders_view cites.old))) }
+        ≡ has_any (round_marks mode T.eq (layout_writing T.answers) (renders_view cites.old))) }
     ensures marked { OnOk result (renders_view cites.new
-        ≡ at_table T.answers (marked_by mode T.eq T.answers (renders_view cites.old))
+        ≡ at_table (layout_writing T.answers) (marked_by mode T.eq (layout_writing T.answers) (renders_view cites.old))
         (renders_view cites.old)) }
     ensures states { OnOk result ((known : StateTable T)
         → AreStatesOf T.eq (table_view table.now).entries known states.old
         → AreStatesOf T.eq (table_view table.now).entries
-        (with_marks (marked_by mode T.eq T.answers (renders_view cites.old)) known) states.new) }
+        (with_marks (marked_by mode T.eq (layout_writing T.answers) (renders_view cites.old)) known) states.new) }
     ensures counted { OnOk result (counter.new
         ≡ counted_times (marked_among (entries_cited (renders_view cites.old))
-        (marked_by mode T.eq T.answers (renders_view cites.old))) counter.old) }
+        (marked_by mode T.eq (layout_writing T.answers) (renders_view cites.old))) counter.old) }
 {
     let marks = round_marks(alloc, cites, table, mode)?;
     if marks.is_empty() {

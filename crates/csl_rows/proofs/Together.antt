@@ -5,7 +5,7 @@ use Rattle.std.specs.List.{enumerate_from}
 use Rattle.std.proofs.lemmas.List.Elements.{All-head, All-tail}
 use Rattle.std.proofs.lemmas.Option.{slice_get-map}
 use Rattle.csl_assembly.specs.declared.rendered.Rendered.{Rendered}
-use Rattle.csl_base.specs.Answers.{Answers}
+use Rattle.csl_writers.specs.Writing.{Writing}
 use Rattle.csl_driver.specs.Answer.{Asked, rendered_first}
 use Rattle.csl_driver.specs.AnswerLaws.{KeepsLaws}
 use Rattle.csl_driver.specs.declared.account.Account.{Account}
@@ -45,8 +45,8 @@ at-last R xs d pairs self k within = elim (split k (length xs - 1) (omega (arith
   | inr l ↦ pairs k (length xs - 1) d l (omega (arith, within))
 ]
 
-module _ {E P : Type 0} (eq : E → E → Bool) (payload_eq : P → P → Bool) (answers : E → Answers) (mode : RoundMode) (asked : Asked E P) (r : Rendered × Account E)
-    (laws : KeepsLaws eq payload_eq answers mode asked r) (first second : ℕ) (g : GotSuffixesTogether eq payload_eq answers mode asked r laws first second) where
+module _ {E P : Type 0} (eq : E → E → Bool) (payload_eq : P → P → Bool) (writing : Writing E P) (mode : RoundMode) (asked : Asked E P) (r : Rendered × Account E)
+    (laws : KeepsLaws eq payload_eq writing mode asked r) (first second : ℕ) (g : GotSuffixesTogether eq payload_eq writing mode asked r laws first second) where
   abbrev now : StateTable E
   now = slice_index_or laws.tables g.round no_states
 
@@ -54,13 +54,13 @@ module _ {E P : Type 0} (eq : E → E → Bool) (payload_eq : P → P → Bool) 
   next = slice_index_or laws.tables (g.round + 1) no_states
 
   abbrev Suffixed : ℕ → E → Type 0
-  Suffixed k e = slice_get (entries_of_group eq payload_eq answers mode asked r laws now g.group) k ≡ Some e
+  Suffixed k e = slice_get (entries_of_group eq payload_eq writing mode asked r laws now g.group) k ≡ Some e
 
   -- the k-th entry of the group has the suffix k in the end
   in-the-end : (k : ℕ) (e : E) → Suffixed k e → last_table laws.tables e ≡ Some (YearSuffix k)
   in-the-end k e h =
       let given : next e ≡ Some (YearSuffix (0 + k)) =
-      at-its-number (λ p. next p.1 ≡ Some (YearSuffix p.0)) 0 (entries_of_group eq payload_eq answers mode asked r laws now g.group) k e
+      at-its-number (λ p. next p.1 ≡ Some (YearSuffix p.0)) 0 (entries_of_group eq payload_eq writing mode asked r laws now g.group) k e
       (laws.rounds.stay.in_order g.round no_states g.marks g.group g.given) h in
       let same : 0 + k ≡ k = omega arith in
       at-last (λ t later. (e : E) (n : ℕ) → t e ≡ Some (YearSuffix n) → later e ≡ Some (YearSuffix n)) laws.tables no_states laws.rounds.stay.stay (λ t e n h. h) (g.round + 1) g.marks e k

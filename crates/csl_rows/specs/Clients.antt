@@ -2,7 +2,7 @@
 use Rattle.std.specs.Prelude.{◌≡◌, ◌≢◌, ℕ, ◌+◌, ◌<◌, Bool, List, Option, Some, length, map, slice_get, slice_index, slice_index_or, slice_range}
 use Rattle.csl_ambiguity.specs.Members.{entry_of, members}
 use Rattle.csl_assembly.specs.declared.rendered.Rendered.{Rendered}
-use Rattle.csl_base.specs.Answers.{Answers}
+use Rattle.csl_writers.specs.Writing.{Writing}
 use Rattle.csl_base.specs.declared.style.Collapse.{Collapse}
 use Rattle.csl_collapse.specs.NumberLaws.{AreNextShown, CanBeReadBack, WasHid, numbers_of}
 use Rattle.csl_driver.specs.Answer.{Asked, rendered_first}
@@ -29,12 +29,12 @@ AreHiddenBetween E P first last numbers =
     → slice_index (numbers_of drawn) p ≡ first → slice_index (numbers_of drawn) q ≡ last
     → slice_range (numbers_of drawn) (p + 1) q ≡ numbers
 
-module _ {E P : Type 0} (eq : E → E → Bool) (payload_eq : P → P → Bool) (answers : E → Answers)
+module _ {E P : Type 0} (eq : E → E → Bool) (payload_eq : P → P → Bool) (writing : Writing E P)
     (mode : RoundMode) (asked : Asked E P) (r : Rendered × Account E)
-    (laws : KeepsLaws eq payload_eq answers mode asked r) where
+    (laws : KeepsLaws eq payload_eq writing mode asked r) where
   -- the first renders of what was asked, and the table at which a round begins
   abbrev pub firsts : List (CiteRender E P)
-  firsts = rendered_first eq payload_eq answers asked
+  firsts = rendered_first eq payload_eq writing asked
 
   abbrev pub table_of_round : ℕ → StateTable E
   table_of_round round = slice_index_or laws.tables round no_states
@@ -42,14 +42,14 @@ module _ {E P : Type 0} (eq : E → E → Bool) (payload_eq : P → P → Bool) 
   -- the distinct entries that a group cites at a table
   abbrev pub entries_of_group : StateTable E → List Place → List E
   entries_of_group table group =
-      distinct eq (map entry_of (members (shown_at mode eq answers firsts table) group))
+      distinct eq (map entry_of (members (shown_at mode eq writing firsts table) group))
 
   -- the entries at two places of the account are two of one group that was given suffixes in some round
   pub record GotSuffixesTogether (first second : ℕ) : Type 0 where
     pub round : ℕ
     pub marks : round + 1 < length laws.tables
     pub group : List Place
-    pub given : GetsSuffixes mode eq answers firsts (table_of_round round) group
+    pub given : GetsSuffixes mode eq writing firsts (table_of_round round) group
     pub one : ℕ
     pub other : ℕ
     pub apart : one ≢ other

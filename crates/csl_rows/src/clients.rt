@@ -8,6 +8,7 @@ ghost use Rattle.csl_lookup.specs.States.{year_suffix};
 ghost use Rattle.csl_lookup.specs.SuffixLetters.{suffix_letters};
 ghost use Rattle.csl_round_laws.specs.declared.mode.RoundMode.{RoundMode};
 ghost use Rattle.csl_rows.specs.Clients.{AreHiddenBetween, GotSuffixesTogether, StandAtOnePlace};
+ghost use Rattle.csl_writers.specs.Writing.{layout_writing};
 
 use csl_base::entry::EntryLike;
 use csl_driver::account::Account;
@@ -91,8 +92,8 @@ pub fn letters_of_two<'a, T: EntryLike, P: Eq>(
 ) -> Result<Option<(String, String)>, AllocError>
     ensures differ { IfOk result (λ o. IfSome o (λ letters.
         (mode : RoundMode) (asked : Asked T P) (rendered : Rendered)
-        (laws : KeepsLaws T.eq P.eq T.answers mode asked (rendered, account.now))
-        → GotSuffixesTogether T.eq P.eq T.answers mode asked (rendered, account.now) laws first second
+        (laws : KeepsLaws T.eq P.eq (layout_writing T.answers) mode asked (rendered, account.now))
+        → GotSuffixesTogether T.eq P.eq (layout_writing T.answers) mode asked (rendered, account.now) laws first second
         → string_bytes letters.0 ≢ string_bytes letters.1)) }
 {
     suffixes_differ();

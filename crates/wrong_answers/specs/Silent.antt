@@ -1,6 +1,7 @@
 -- What samples answer, and when they are equal.
 use Rattle.std.specs.Prelude.{◌≡◌, Bool, true, [], None, refl}
 use Rattle.csl_base.specs.Answers.{Answers}
+use Rattle.csl_writers.specs.Writing.{Writing}
 use Rattle.wrong_answers.specs.contracts.sample.SamplePartialEq.TheImpl as sample_eq
 use Rattle.wrong_answers.specs.declared.sample.Sample.{Sample}
 

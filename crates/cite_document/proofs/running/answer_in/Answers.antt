@@ -1,3 +1,4 @@
+use Rattle.csl_writers.specs.Writing.{layout_writing}
 use Rattle.std.proofs.Common.{◌≡◌, subst, sym, ◌∙◌}
 use Rattle.csl_base.specs.PlainEntry.{plain_answers}
 use Rattle.csl_driver.specs.Answer.{rendered}
@@ -12,12 +13,12 @@ use Rattle.cite_document.proofs.running.answer_in.Goals as goal
 pub returns-in-Three : goal.returns-in-Three
 returns-in-Three c =
     let asked = asked_of c.args.driver c.args.request in
-    subst (λ rounds. Finishes (λ r. r ≡ rendered same_entry same_payload plain_answers rounds asked) same_entry asked c.finish.result) (sym c.in-Three.is) c.finish.ensures
+    subst (λ rounds. Finishes (λ r. r ≡ rendered same_entry same_payload (layout_writing plain_answers) rounds asked) same_entry asked c.finish.result) (sym c.in-Three.is) c.finish.ensures
 
 -- and in as many as mark what `finish_full` does, without its account
 pub returns-in_ok-rendered-in-Full : goal.returns-in_ok-rendered-in-Full
 returns-in_ok-rendered-in-Full c =
     let asked = asked_of c.args.driver c.args.request in
-    answered-too same_entry asked (IsAnswer same_entry same_payload plain_answers RoundMode.Full asked) (λ r. r ≡ rendered same_entry same_payload plain_answers c.args.rounds asked)
+    answered-too same_entry asked (IsAnswer same_entry same_payload (layout_writing plain_answers) RoundMode.Full asked) (λ r. r ≡ rendered same_entry same_payload (layout_writing plain_answers) c.args.rounds asked)
     _ c.in_ok-rendered-in-Full.rendered
-    (λ h. h.exact.ok ∙ (λ i. rendered same_entry same_payload plain_answers (sym c.in-Full.is i) asked)) c.in_ok-rendered-in-Full.ensures
+    (λ h. h.exact.ok ∙ (λ i. rendered same_entry same_payload (layout_writing plain_answers) (sym c.in-Full.is i) asked)) c.in_ok-rendered-in-Full.ensures

@@ -1,3 +1,4 @@
+use Rattle.csl_writers.specs.Writing.{layout_writing}
 use Rattle.std.proofs.Common.{◌≡◌, ◌++◌, drop, map}
 use Rattle.csl_assembly.specs.ShownView.{shown_views}
 use Rattle.csl_passes.specs.Request.{source_of}
@@ -9,5 +10,5 @@ abbrev pub invariant-loop-item : goal.invariant-loop-item
 invariant-loop-item g l =
     let request = request_view l.acyclic.request.now in
     let one = behind (lone_delimiter request.style.citation.layout) in
-    let trees = lone_trees g.T.EntryLike.answers (source_of request) in
+    let trees = lone_trees (layout_writing g.T.EntryLike.answers) (source_of request) in
     shown_views l.cites.items ++ map one (trees (cites_view (drop l.item-index l.item-items))) ≡ map one (trees (cites_view l.item-items))

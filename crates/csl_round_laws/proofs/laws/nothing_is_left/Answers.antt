@@ -1,8 +1,9 @@
+use Rattle.csl_writers.specs.Writing.{layout_writing}
 use Rattle.csl_round_laws.proofs.Ranked.{nothing-is-left}
 use Rattle.csl_round_laws.proofs.laws.nothing_is_left.Goals as goal
 
 pub returns : goal.returns
-returns g c = λ mode firsts begun. nothing-is-left mode g.T.PartialEq.eq g.T.EntryLike.answers firsts
+returns g c = λ mode firsts begun. nothing-is-left mode g.T.PartialEq.eq (layout_writing g.T.EntryLike.answers) firsts
     (record {
       equal = g.met.T.Eq.laws;
       goes = c.states_go_on.ensures.on_and_on;

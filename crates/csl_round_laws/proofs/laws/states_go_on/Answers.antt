@@ -1,8 +1,9 @@
+use Rattle.csl_writers.specs.Writing.{layout_writing}
 use Rattle.csl_round_laws.proofs.GoneOn.{states-go-on}
 use Rattle.csl_round_laws.proofs.laws.states_go_on.Goals as goal
 
 pub returns : goal.returns
-returns g c = λ mode firsts begun. states-go-on mode g.T.PartialEq.eq g.T.EntryLike.answers firsts
+returns g c = λ mode firsts begun. states-go-on mode g.T.PartialEq.eq (layout_writing g.T.EntryLike.answers) firsts
     (record {
       equal = g.met.T.Eq.laws;
       goes = c.states_go_on.ensures.on_and_on;

@@ -1,3 +1,4 @@
+use Rattle.csl_writers.specs.Writing.{layout_writing}
 use Rattle.std.proofs.Common.{◌≤◌, ap, length, map, refl, subst, sym, ◌∙◌}
 use Rattle.std.proofs.lemmas.Option.{get_or_from_slice_get, slice_get_within}
 use Rattle.csl_passes.specs.RendersView.{render_view}
@@ -24,20 +25,20 @@ first_renders_of-requires g c =
 
 pub loop-k-init : goal.loop-k-init
 loop-k-init g c =
-    cites-begun g.T.EntryLike.answers (requests_view c.args.requests.requests.now) (map row_of c.args.firsts.now) c.args.counter.now _ c.in_ok-cites.ensures
+    cites-begun (layout_writing g.T.EntryLike.answers) (requests_view c.args.requests.requests.now) (map row_of c.args.firsts.now) c.args.counter.now _ c.in_ok-cites.ensures
 
 pub loop-k-preserved : goal.loop-k-preserved
 loop-k-preserved g c =
     let k = c.loop-k.k in
-    let answers = g.T.EntryLike.answers in
+    let writing = (layout_writing g.T.EntryLike.answers) in
     let requests = requests_view c.args.requests.requests.now in
     let request = request_view c.at.result.request.now in
     let row_within = within_view row_of {xs = c.args.firsts.now} k refl c.loop-k-test.true in
     let row_here = at_view row_of {xs = c.args.firsts.now} k refl c.index-firsts-k.result c.index-firsts-k.is in
-    cites-more answers requests (map row_of c.args.firsts.now) c.args.counter.now k request (row_of c.index-firsts-k.result)
+    cites-more writing requests (map row_of c.args.firsts.now) c.args.counter.now k request (row_of c.index-firsts-k.result)
     (slice_get_within requests k request c.at.ensures) row_within (sym (get_or_from_slice_get requests k request request c.at.ensures)) row_here
     _ _ (render_view c.in_ok-rendered.rendered) _ _ c.loop-k.invariant
-    c.in_ok-push.ensures (c.in_ok-rendered.ensures.cites ∙ ap (first_renders_of answers request) c.deref.ensures.value)
+    c.in_ok-push.ensures (c.in_ok-rendered.ensures.cites ∙ ap (first_renders_of writing request) c.deref.ensures.value)
     c.in_ok-rendered.ensures.counted
 
 pub returns : goal.returns
@@ -45,5 +46,5 @@ returns g c =
     let requests = requests_view c.args.requests.requests.now in
     let rows = map row_of c.args.firsts.now in
     let past = subst (λ n. n ≤ c.loop-k.k) (lists-length requests rows c.requires.shape) (past_view row_of {xs = c.args.firsts.now} c.loop-k.k refl c.loop-k-test.false) in
-    let done = cites-done g.T.EntryLike.answers requests rows c.args.counter.now c.loop-k.k _ _ c.loop-k.invariant past in
+    let done = cites-done (layout_writing g.T.EntryLike.answers) requests rows c.args.counter.now c.loop-k.k _ _ c.loop-k.invariant past in
     record { cites = done.0; counted = done.1 }

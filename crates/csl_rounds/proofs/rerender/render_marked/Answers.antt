@@ -1,3 +1,4 @@
+use Rattle.csl_writers.specs.Writing.{layout_writing}
 use Rattle.std.proofs.Common.{◌<◌, [], ap, arith, get_or, length, subst, sym, ◌∙◌}
 use Rattle.std.specs.Prelude.{All}
 use Rattle.std.proofs.Math.ListN.{get_or-map, length-map}
@@ -14,7 +15,7 @@ use Rattle.csl_rounds.proofs.rerender.render_marked.Goals as goal
 
 pub invariant_of-request : goal.invariant_of-request
 invariant_of-request g c =
-    let again = λ (r : _). request_again g.T.EntryLike.answers c.args.states.now (get_or (table_view c.args.table.now).places r []) in
+    let again = λ (r : _). request_again (layout_writing g.T.EntryLike.answers) c.args.states.now (get_or (table_view c.args.table.now).places r []) in
     record {
       no_ring = known_next render_view again c.args.cites.now c.loop-r.cites c.loop-r.r c.loop-r.invariant.again (λ x. HasNoRing x.request.style.macros) c.requires.cites.no_ring c.loop-r-test.true c.index-cites-r.result;
     }
@@ -23,7 +24,7 @@ pub render_items-requires : goal.render_items-requires
 render_items-requires g c =
     let eq = g.T.PartialEq.eq in
     let table = table_view c.args.table.now in
-    let again = λ (r : _). request_again g.T.EntryLike.answers c.args.states.now (get_or table.places r []) in
+    let again = λ (r : _). request_again (layout_writing g.T.EntryLike.answers) c.args.states.now (get_or table.places r []) in
     let olds = c.args.cites.now in
     let r = c.loop-r.r in
     let found = c.index-cites-r-in-loop-r.result in
@@ -41,11 +42,11 @@ render_items-requires g c =
 
 pub loop-r-preserved : goal.loop-r-preserved
 loop-r-preserved g c =
-    let answers = g.T.EntryLike.answers in
+    let writing = (layout_writing g.T.EntryLike.answers) in
     let eq = g.T.PartialEq.eq in
     let table = table_view c.args.table.now in
     let states = c.args.states.now in
-    let again = λ (r : _). request_again answers states (get_or table.places r []) in
+    let again = λ (r : _). request_again writing states (get_or table.places r []) in
     let olds = c.args.cites.now in
     let now = c.loop-r.cites in
     let r = c.loop-r.r in
@@ -61,9 +62,9 @@ loop-r-preserved g c =
       again = step render_view again olds now r c.loop-r.invariant.again found _ c.loop-r-test.true
           (ap (λ xs. record old { items = xs })
           (ap items_view written ∙ c.in_ok-render_items.ensures.again
-          ∙ ap (λ q. by_places (cite_again answers states q c.deref.result.now) (items_view c.deref_mut.result.now)) one
-          ∙ ap (λ ps. by_places (cite_again answers states old.request ps) (items_view c.deref_mut.result.now)) row
-          ∙ ap (λ xs. by_places (cite_again answers states old.request own) (items_view xs)) c.deref_mut.ensures.value));
+          ∙ ap (λ q. by_places (cite_again writing states q c.deref.result.now) (items_view c.deref_mut.result.now)) one
+          ∙ ap (λ ps. by_places (cite_again writing states old.request ps) (items_view c.deref_mut.result.now)) row
+          ∙ ap (λ xs. by_places (cite_again writing states old.request own) (items_view xs)) c.deref_mut.ensures.value));
       counted = counted_sum-more table.places r own (row-within eq table (renders_view olds) c.requires.cites r within)
           (get_or_default table.places r [] own (row-within eq table (renders_view olds) c.requires.cites r within)) c.args.counter.now c.loop-r.counter c.render_items.new.counter
           (with_states states) c.loop-r.invariant.counted

@@ -1,3 +1,4 @@
+use Rattle.csl_writers.specs.Writing.{layout_writing}
 use Rattle.std.proofs.Common.{◌+◌, ◌-◌, ◌*◌, length}
 use Rattle.csl_entries.specs.TableView.{table_view}
 use Rattle.csl_passes.specs.RendersView.{renders_view}
@@ -11,7 +12,7 @@ use Rattle.csl_rounds.proofs.rounds.all_rounds.Given as goal
 abbrev pub invariant-loop-rounds : goal.invariant-loop-rounds
 invariant-loop-rounds g l = record {
   cites : AreCitesOfTable g.T.PartialEq.eq (table_view l.table) (renders_view l.cites);
-  rounds : (untold : AreBegun (renders_view l.initial.cites)) → InFull g.T.PartialEq.eq g.T.EntryLike.answers (renders_view l.initial.cites) (table_view l.table).entries l.fn.counter
+  rounds : (untold : AreBegun (renders_view l.initial.cites)) → InFull g.T.PartialEq.eq (layout_writing g.T.EntryLike.answers) (renders_view l.initial.cites) (table_view l.table).entries l.fn.counter
       g.met.T.Eq.laws untold (renders_view l.cites) l.rounds.states.items l.rounds.marked
       l.counter;
 }

@@ -1,3 +1,4 @@
+use Rattle.csl_writers.specs.Writing.{layout_writing}
 use Rattle.csl_entries.specs.TableView.{table_view}
 use Rattle.csl_passes.specs.RendersView.{renders_view}
 use Rattle.csl_rounds.specs.CitesOfTable.{AreCitesOfTable}
@@ -8,5 +9,5 @@ use Rattle.csl_rounds.proofs.rounds.three_rounds.Given as goal
 abbrev pub invariant-loop-round : goal.invariant-loop-round
 invariant-loop-round g l = record {
   cites : AreCitesOfTable g.T.PartialEq.eq (table_view l.table) (renders_view l.cites);
-  rounds : InRounds RoundMode.Three g.T.PartialEq.eq g.T.EntryLike.answers (renders_view l.initial.cites) (table_view l.table).entries l.fn.counter l._round (renders_view l.cites) l.rounds.states.items l.rounds.marked l.counter;
+  rounds : InRounds RoundMode.Three g.T.PartialEq.eq (layout_writing g.T.EntryLike.answers) (renders_view l.initial.cites) (table_view l.table).entries l.fn.counter l._round (renders_view l.cites) l.rounds.states.items l.rounds.marked l.counter;
 }

@@ -1,3 +1,4 @@
+use Rattle.csl_writers.specs.Writing.{layout_writing}
 use Rattle.std.proofs.Common.{◌≡◌, List, ap, sym, ◌∙◌}
 use Rattle.std.specs.Prelude.{option_and_then, slice_get}
 use Rattle.csl_lookup.specs.States.{year_suffix}
@@ -8,7 +9,7 @@ use Rattle.csl_rows.proofs.clients.letters_of_two.Goals as goal
 pub returns-in_ok-letters_of_suffix-in-Some-Some-2 : goal.returns-in_ok-letters_of_suffix-in-Some-Some-2
 returns-in_ok-letters_of_suffix-in-Some-Some-2 g c = record {
   differ = λ mode asked rendered laws together same.
-      suffixes-differ g.T.PartialEq.eq g.P.PartialEq.eq g.T.EntryLike.answers mode asked (rendered, c.args.account.now) laws c.args.first c.args.second together
+      suffixes-differ g.T.PartialEq.eq g.P.PartialEq.eq (layout_writing g.T.EntryLike.answers) mode asked (rendered, c.args.account.now) laws c.args.first c.args.second together
       c.in-Some-Some.one c.in-Some-Some.other
       (ap (λ (l : List DisambiguateState). option_and_then year_suffix (slice_get l c.args.first)) (sym c.deref.ensures.value) ∙ sym c.suffix_at.ensures ∙ c.in-Some-Some.is-0)
       (ap (λ (l : List DisambiguateState). option_and_then year_suffix (slice_get l c.args.second)) (sym c.deref-2.ensures.value) ∙ sym c.suffix_at-2.ensures ∙ c.in-Some-Some.is-1)

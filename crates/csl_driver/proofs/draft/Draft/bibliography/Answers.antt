@@ -1,3 +1,4 @@
+use Rattle.csl_writers.specs.Writing.{layout_writing}
 use Rattle.std.proofs.Common.{Some, ap, length, subst, sym, ◌∙◌}
 use Rattle.std.specs.List.{filter_map}
 use Rattle.std.specs.Prelude.{All, option_map}
@@ -18,7 +19,7 @@ pub returns-in_ok-made-in-Some-clause-bibliography : goal.returns-in_ok-made-in-
 returns-in_ok-made-in-Some-clause-bibliography g c =
     let asked = asked_in c.args.self in
     let cites = renders_view c.args.cites.now in
-    let written = bibliography_of g.T.EntryLike.answers (wanted_source asked.wanted) in
+    let written = bibliography_of (layout_writing g.T.EntryLike.answers) (wanted_source asked.wanted) in
     ap Some (c.in_ok-made-in-Some.ensures.bibliography ∙ ap (written (bibliography_view c.in-Some.style)) (ap (cites_at cites) c.deref.ensures.value ∙ c.in_ok-firsts-in-Some.ensures.firsts))
     ∙ sym (ap (λ o. option_map (λ b. written b (filter_map (first_item g.T.PartialEq.eq cites) (entries_listed g.T.PartialEq.eq asked.wanted asked.requests))) (option_map bibliography_view o)) c.in-Some.is)
 

@@ -1,3 +1,4 @@
+use Rattle.csl_writers.specs.Writing.{layout_writing}
 use Rattle.std.proofs.Common.{◌≡◌, length, map, take}
 use Rattle.std.specs.List.{sum_by}
 use Rattle.csl_driver.specs.Answer.{citation_of}
@@ -7,6 +8,6 @@ use Rattle.csl_driver.proofs.draft.Draft.citations.Given as goal
 
 abbrev pub invariant-loop-cite : goal.invariant-loop-cite
 invariant-loop-cite g l = record {
-  citations : l.citations.items ≡ map (citation_of g.T.EntryLike.answers) (renders_view (take l.cite-index l.cites));
+  citations : l.citations.items ≡ map (citation_of (layout_writing g.T.EntryLike.answers)) (renders_view (take l.cite-index l.cites));
   counted : l.counter ≡ counted_times (sum_by (λ c. length c.items) (take l.cite-index (renders_view l.cites))) l.fn.counter;
 }

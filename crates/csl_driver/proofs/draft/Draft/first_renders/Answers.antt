@@ -1,3 +1,4 @@
+use Rattle.csl_writers.specs.Writing.{layout_writing}
 use Rattle.std.proofs.Common.{ap, arith, length, map, subst, sym, ◌∙◌}
 use Rattle.csl_entries.specs.Entries.{distinct}
 use Rattle.csl_driver.specs.DraftView.{asked_in, table_in}
@@ -24,7 +25,7 @@ first_renders-requires g c =
     let number_of = numbered_by eq c.deref.result.now (table_in c.args.self).entries in
     record {
       shape = subst (HasShapeOf requests) (sym (ap (map (λ f. f.items)) c.deref-2.ensures.value ∙ c.in_ok-firsts.ensures))
-          (first-shape eq g.P.PartialEq.eq g.T.EntryLike.answers number_of (distinct eq (cited requests)) requests);
+          (first-shape eq g.P.PartialEq.eq (layout_writing g.T.EntryLike.answers) number_of (distinct eq (cited requests)) requests);
     }
 
 pub returns-clause-cites : goal.returns-clause-cites
@@ -34,5 +35,5 @@ returns-clause-cites g c =
     let requests = (asked_in draft).requests in
     let numbers = ap (λ ns. numbered_by eq ns (table_in draft).entries) (c.deref.ensures.value ∙ c.in_ok-numbers.ensures) ∙ numbers-are draft.known (known-listed draft.known) in
     c.in_ok-cites.ensures.cites
-    ∙ ap (first_renders g.T.EntryLike.answers requests)
+    ∙ ap (first_renders (layout_writing g.T.EntryLike.answers) requests)
     (ap (map (λ f. f.items)) c.deref-2.ensures.value ∙ c.in_ok-firsts.ensures ∙ ap (λ n. first_properties eq g.P.PartialEq.eq n requests) numbers)

@@ -1,3 +1,4 @@
+use Rattle.csl_writers.specs.Writing.{layout_writing}
 use Rattle.std.proofs.Common.{◌≡◌}
 use Rattle.csl_driver.specs.Answer.{rendered}
 use Rattle.csl_driver.specs.AskedView.{asked_of}
@@ -10,6 +11,6 @@ pub returns : goal.returns
 returns g c =
     let eq = g.T.PartialEq.eq in
     let peq = g.P.PartialEq.eq in
-    let answers = g.T.EntryLike.answers in
+    let writing = (layout_writing g.T.EntryLike.answers) in
     let asked = asked_of c.args.self c.args.request in
-    answered-too eq asked (IsAnswer eq peq answers RoundMode.Three asked) (λ r. r ≡ rendered eq peq answers RoundMode.Three asked) _ _ (λ h. h.exact.ok) c.in_ok-rendered.ensures
+    answered-too eq asked (IsAnswer eq peq writing RoundMode.Three asked) (λ r. r ≡ rendered eq peq writing RoundMode.Three asked) _ _ (λ h. h.exact.ok) c.in_ok-rendered.ensures

@@ -1,0 +1,2 @@
+//! What a writer writes of cites, items and dates.
+#![tactic(auto)]
