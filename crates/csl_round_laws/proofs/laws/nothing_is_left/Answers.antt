@@ -1,9 +1,8 @@
-use Rattle.csl_writers.specs.Writing.{layout_writing}
 use Rattle.csl_round_laws.proofs.Ranked.{nothing-is-left}
 use Rattle.csl_round_laws.proofs.laws.nothing_is_left.Goals as goal
 
 pub returns : goal.returns
-returns g c = λ mode firsts begun. nothing-is-left mode g.T.PartialEq.eq (layout_writing g.T.EntryLike.answers) firsts
+returns g c = λ writing mode firsts begun. nothing-is-left mode g.T.PartialEq.eq writing firsts
     (record {
       equal = g.met.T.Eq.laws;
       goes = c.states_go_on.ensures.on_and_on;

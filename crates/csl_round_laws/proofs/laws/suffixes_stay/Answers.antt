@@ -1,10 +1,9 @@
-use Rattle.csl_writers.specs.Writing.{layout_writing}
 use Rattle.std.proofs.Common.{None}
 use Rattle.csl_round_laws.proofs.Suffixes.{suffixes-stay}
 use Rattle.csl_round_laws.proofs.laws.suffixes_stay.Goals as goal
 
 pub returns : goal.returns
-returns g c = λ mode firsts begun. suffixes-stay mode g.T.PartialEq.eq (layout_writing g.T.EntryLike.answers) firsts
+returns g c = λ writing mode firsts begun. suffixes-stay mode g.T.PartialEq.eq writing firsts
     (record {
       equal = g.met.T.Eq.laws;
       goes = c.states_go_on.ensures.on_and_on;
