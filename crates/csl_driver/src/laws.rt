@@ -5,7 +5,7 @@ ghost use Rattle.csl_driver.specs.AnswerLaws.{KeepsLaws};
 ghost use Rattle.csl_driver.specs.Promised.{IsExactly};
 ghost use Rattle.csl_driver.specs.declared.account.Account.{Account};
 ghost use Rattle.csl_round_laws.specs.declared.mode.RoundMode.{RoundMode};
-ghost use Rattle.csl_writers.specs.Writing.{layout_writing};
+ghost use Rattle.csl_writers.specs.Writing.{Writing};
 
 pub use csl_ambiguity::laws::{
     ambiguous_stand_together, choose_and_suffix_go_on, suffixes_count_entries,
@@ -27,8 +27,8 @@ pub use csl_round_laws::laws::runs_are_lawful;
 /// the entries of the account have the numbers from the offset on, each once; and each citation comes from
 /// the cites of its request in a final order, whose collapsed runs can be read back.
 pub fn answers_keep_laws<T: EntryLike, P: Eq>()
-    ensures { (mode : RoundMode) (asked : Asked T P) (r : Rendered × Account T)
-        → IsExactly T.eq P.eq (layout_writing T.answers) mode asked r → KeepsLaws T.eq P.eq (layout_writing T.answers) mode asked r }
+    ensures { (writing : Writing T P) (mode : RoundMode) (asked : Asked T P) (r : Rendered × Account T)
+        → IsExactly T.eq P.eq writing mode asked r → KeepsLaws T.eq P.eq writing mode asked r }
 {
     runs_are_lawful::<T, P>();
     bibliography_holds_each_once::<T>();

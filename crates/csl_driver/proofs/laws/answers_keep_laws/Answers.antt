@@ -1,8 +1,7 @@
-use Rattle.csl_writers.specs.Writing.{layout_writing}
 use Rattle.csl_driver.proofs.KeptLaws.{keeps-laws}
 use Rattle.csl_driver.proofs.laws.answers_keep_laws.Goals as goal
 
 pub returns : goal.returns
-returns g c = λ mode asked r exact.
-    keeps-laws g.T.PartialEq.eq g.met.T.Eq.laws c.bibliography_holds_each_once.ensures c.numbers_have_no_gaps.ensures (layout_writing g.T.EntryLike.answers) g.P.PartialEq.eq mode asked r exact
-    c.grouped_in_final_order.ensures c.collapsed_can_be_read_back.ensures c.runs_are_lawful.ensures
+returns g c = λ writing mode asked r exact.
+    keeps-laws g.T.PartialEq.eq g.met.T.Eq.laws c.bibliography_holds_each_once.ensures c.numbers_have_no_gaps.ensures writing g.P.PartialEq.eq mode asked r exact
+    c.grouped_in_final_order.ensures c.collapsed_can_be_read_back.ensures (c.runs_are_lawful.ensures writing)

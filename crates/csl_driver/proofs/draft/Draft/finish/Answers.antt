@@ -90,7 +90,7 @@ returns g c =
     let account = c.in_ok-account.ensures in
     let last = last_states mode eq writing firsts in
     let sizes = ap (sum_by (λ r. length r.items)) (c.collapse_all.ensures ∙ ap (map drawn_together) settled) ∙ last-size eq peq writing mode asked in
-    is-answer eq peq writing mode asked _ (c.answers_keep_laws.ensures mode asked) (record {
+    is-answer eq peq writing mode asked _ (c.answers_keep_laws.ensures writing mode asked) (record {
       ok = whole eq peq writing mode asked (renders_view c.set_final_properties.new.renders) (renders_view c.collapse_all.new.cites) settled c.collapse_all.ensures
           (c.new.ensures ∙ c.in_ok-citations.ensures.citations) c.in_ok-bibliography.ensures.bibliography;
       renders = account.renders
