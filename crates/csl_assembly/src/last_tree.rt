@@ -45,6 +45,7 @@ fn last_properties<'a, T, P: Drop>(
 ///
 /// # Errors
 /// Where memory is refused.
+#[tactic(auto, unfolding(csl_writing::specs::CiteText::cite_text))]
 pub fn tree_for_purpose<T: EntryLike, P>(
     alloc: Global,
     request: AcyclicRequest<'_, '_, T, P>,

@@ -88,6 +88,7 @@ fn render_with<T: EntryLike, P>(
 }
 
 /// Renders a cite again, with this state of its entry.
+#[tactic(auto, unfolding(csl_writing::specs::CiteText::cite_text))]
 fn render_again<T: EntryLike, P>(
     alloc: Global,
     request: AcyclicRequest<'_, '_, T, P>,
