@@ -11,8 +11,8 @@ use Rattle.csl_round_laws.specs.declared.mode.RoundMode.{RoundMode}
 use Rattle.csl_writing.specs.CiteText.{cite}
 use Rattle.csl_writing.specs.PartsWritten.{parts_written}
 use Rattle.wrong_answers.specs.Counts.{asked}
-use Rattle.wrong_answers.specs.Silent.{same_sample, silent}
+use Rattle.wrong_answers.specs.Silent.{same_sample, writing}
 
-pub four : cost same_sample nat_eq silent RoundMode.Three asked ≡ 4
+pub four : cost same_sample nat_eq writing RoundMode.Three asked ≡ 4
 unfolding cite parts_written formatted unformatted flushed saved name_marks steps step round_marks tables_from
 four = refl

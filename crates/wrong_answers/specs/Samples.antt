@@ -1,6 +1,5 @@
 -- Small requests and cites, on which answers are tried.
 use Rattle.std.specs.Prelude.{ℕ, Bool, true, false, List, [], ◌∷◌, Option, None, Some, codes}
-use Rattle.csl_writers.specs.Writing.{Writing}
 use Rattle.csl_base.specs.Child.{Child, elem, kid, no_kids, text}
 use Rattle.csl_base.specs.Element.{NameOptions, no_elements}
 use Rattle.csl_base.specs.Formatting.{normal}

@@ -1,7 +1,7 @@
 -- What samples answer, and when they are equal.
 use Rattle.std.specs.Prelude.{◌≡◌, Bool, true, [], None, refl}
 use Rattle.csl_base.specs.Answers.{Answers}
-use Rattle.csl_writers.specs.Writing.{Writing}
+use Rattle.csl_writers.specs.Writing.{Writing, layout_writing}
 use Rattle.wrong_answers.specs.contracts.sample.SamplePartialEq.TheImpl as sample_eq
 use Rattle.wrong_answers.specs.declared.sample.Sample.{Sample}
 
@@ -20,3 +20,7 @@ same_sample = (sample_eq.ghosts).eq
 
 pub equal_samples_answer_equally : (a b : Sample) → same_sample a b ≡ true → silent a ≡ silent b
 equal_samples_answer_equally a b e = refl
+
+-- what is written of them
+abbrev pub writing : {P : Type 0} → Writing Sample P
+writing = layout_writing silent

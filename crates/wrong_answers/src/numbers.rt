@@ -5,7 +5,7 @@ ghost use Rattle.csl_driver.specs.AnswerLaws.{AreInOrder, HaveNumbersOnce};
 ghost use Rattle.csl_round_laws.specs.declared.mode.RoundMode.{RoundMode};
 ghost use Rattle.wrong_answers.specs.Counts.{asked};
 ghost use Rattle.wrong_answers.specs.Numbers.{after_grouping, entries, numbers_before, numbers_of_cites, right_numbers};
-ghost use Rattle.wrong_answers.specs.Silent.{same_sample, silent};
+ghost use Rattle.wrong_answers.specs.Silent.{same_sample, writing};
 
 /// Numbers count cites: where the first of three entries is cited twice, they are 0, 2 and 3.
 pub fn numbers_count_cites()
@@ -23,6 +23,6 @@ pub fn numbers_before_grouping()
 /// All items are rendered once more in a round that marks nothing: two requests of one cite each take 6
 /// renderings, where they are to take 4.
 pub fn extra_renders()
-    ensures refuted { ¬ (6 ≡ min (cost same_sample nat_eq silent RoundMode.Three asked) (2 ^ 128 - 1)) }
-    ensures right { 4 ≡ min (cost same_sample nat_eq silent RoundMode.Three asked) (2 ^ 128 - 1) }
+    ensures refuted { ¬ (6 ≡ min (cost same_sample nat_eq writing RoundMode.Three asked) (2 ^ 128 - 1)) }
+    ensures right { 4 ≡ min (cost same_sample nat_eq writing RoundMode.Three asked) (2 ^ 128 - 1) }
 {}

@@ -1,3 +1,4 @@
+use Rattle.wrong_answers.specs.Silent.{writing}
 use Rattle.csl_round_laws.specs.declared.mode.RoundMode.{RoundMode}
 use Rattle.wrong_answers.proofs.Told.{at-once, chosen-next, two-groups-begun}
 use Rattle.wrong_answers.specs.Rounds.{in_two_groups}
@@ -7,7 +8,7 @@ pub returns-clause-refuted : goal.returns-clause-refuted
 returns-clause-refuted c = at-once
 
 pub returns-clause-right : goal.returns-clause-right
-returns-clause-right c = c.states_go_on.ensures RoundMode.Three in_two_groups two-groups-begun
+returns-clause-right c = c.states_go_on.ensures writing RoundMode.Three in_two_groups two-groups-begun
 
 pub returns-clause-right_state : goal.returns-clause-right_state
 returns-clause-right_state c = chosen-next

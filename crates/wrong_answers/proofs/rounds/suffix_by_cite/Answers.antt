@@ -1,3 +1,4 @@
+use Rattle.wrong_answers.specs.Silent.{writing}
 use Rattle.wrong_answers.proofs.Told.{alike-begun, alike-next, by-cite}
 use Rattle.wrong_answers.specs.Rounds.{alike}
 use Rattle.csl_round_laws.specs.declared.mode.RoundMode.{RoundMode}
@@ -7,7 +8,7 @@ pub returns-clause-refuted : goal.returns-clause-refuted
 returns-clause-refuted c = by-cite
 
 pub returns-clause-right : goal.returns-clause-right
-returns-clause-right c = c.suffixes_stay.ensures RoundMode.Three alike alike-begun
+returns-clause-right c = c.suffixes_stay.ensures writing RoundMode.Three alike alike-begun
 
 pub returns-clause-right_states : goal.returns-clause-right_states
 returns-clause-right_states c = alike-next
