@@ -1,7 +1,6 @@
 -- The items of a bibliography, from the first cites of its entries.
 use Rattle.std.specs.Prelude.{Bool, List, [], map, Option, None, if◌then◌else◌, is_some, option_map, unwrap_or}
 use Rattle.std.specs.List.{filter_map, find, remove, position_or_len}
-use Rattle.csl_writers.specs.Writing.{Writing}
 use Rattle.csl_base.specs.Child.{Child}
 use Rattle.csl_base.specs.Metas.{child_has_any_meta}
 use Rattle.csl_base.specs.Simplify.{simplified}
@@ -11,6 +10,8 @@ use Rattle.csl_lookup.specs.Properties.{Properties}
 use Rattle.csl_passes.specs.Places.{cite_at}
 use Rattle.csl_passes.specs.Renders.{CiteRender, ItemRender, Place}
 use Rattle.csl_substitution.specs.Substitution.{Item, substituted}
+use Rattle.csl_writers.specs.Tasks.{ItemTaskValue, TaskValue, item_task}
+use Rattle.csl_writers.specs.Writing.{Writing}
 use Rattle.csl_assembly.specs.ChildOf.{child_of}
 use Rattle.csl_assembly.specs.declared.rendered.BibliographyItem.{BibliographyItem}
 use Rattle.csl_assembly.specs.declared.rendered.RenderedBibliography.{RenderedBibliography}
@@ -34,13 +35,18 @@ cites_at renders places = filter_map (λ p. option_map (λ c. c.1) (cite_at rend
 abbrev pub unlocated : {E P : Type 0} → ItemRender E P → Properties P
 unlocated i = record i.properties { speculative = record i.properties.speculative { locator = None } }
 
+-- what is asked for where the entry of a cite is written for the bibliography
+abbrev pub item_of : {E P : Type 0} → Source → ItemRender E P → ItemTaskValue E P
+item_of source i = record { source = source; entry = i.entry; properties = unlocated i }
+
+abbrev pub bibliography_tasks : {E P : Type 0} → Source → List (ItemRender E P) → List (TaskValue E P)
+bibliography_tasks source firsts = map (λ i. item_task (item_of source i)) firsts
+
 module _ {E P : Type 0} (writing : Writing E P) (source : Source) where
   -- the entry of a cite as the bibliography writes it by what holds of the cite, and its key
   abbrev pub written_item : ItemRender E P → Item
-  written_item i = (
-    simplified (unwrap_or (writing.item source i.entry (unlocated i)) []),
-    (writing.answers i.entry).key,
-  )
+  written_item i =
+      (simplified (unwrap_or (writing.item (item_of source i)) []), (writing.answers i.entry).key)
 
   -- the bibliography, where these are the first cites of its entries, in its order
   abbrev pub bibliography_of : BibliographyValue → List (ItemRender E P) → RenderedBibliography

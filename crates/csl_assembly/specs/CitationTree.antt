@@ -2,7 +2,6 @@
 use Rattle.std.specs.Prelude.{ℕ, Bool, not, List, [], ◌∷◌, map, filter, Option, Some, None, is_none}
 use Rattle.std.specs.List.{list_all}
 use Rattle.std.specs.Option.{option_or}
-use Rattle.csl_writers.specs.Writing.{Writing}
 use Rattle.csl_base.specs.Child.{Child, elem, kids_of}
 use Rattle.csl_base.specs.Style.{LayoutValue}
 use Rattle.csl_base.specs.declared.elem.ElemMeta.TheVariants.{Entry}
@@ -10,7 +9,9 @@ use Rattle.csl_lookup.specs.Lookup.{Source}
 use Rattle.csl_passes.specs.Renders.{ItemRender, CiteRender}
 use Rattle.csl_passes.specs.Request.{source_of}
 use Rattle.csl_assembly.specs.Assembly.{Shown, assembled}
-use Rattle.csl_assembly.specs.LastTree.{last_tree}
+use Rattle.csl_assembly.specs.LastTree.{last_task, task_by_purpose, tree_by_purpose}
+use Rattle.csl_writers.specs.Tasks.{LastPlace, TaskValue}
+use Rattle.csl_writers.specs.Writing.{Writing}
 
 module _ {E P : Type 0} where
   abbrev pub shown : List (ItemRender E P) → List (ItemRender E P)
@@ -28,13 +29,24 @@ module _ {E P : Type 0} where
   abbrev pub marked_cite : ItemRender E P → List Child → List Child
   marked_cite i tree = elem (kids_of tree) None (Some (Entry i.properties.certain.initial_idx)) ∷ []
 
-  module _ (writing : Writing E P) where
-    -- a cite as it is put into its citation
-    abbrev pub shown_cite : Source → LayoutValue → ItemRender E P → Shown
-    shown_cite source layout i =
-        record { delimiter = delimiter_before layout i; tree = marked_cite i (last_tree writing source i) }
+  -- where a cite stands: the index of its request, and its own in the items of the request
+  abbrev pub place_of : ℕ → ItemRender E P → LastPlace
+  place_of r i = Some (r, i.properties.certain.initial_idx)
 
-    -- the citation; the layout encloses it where no cite has a purpose
+  -- what is asked for where the r-th citation is written: each cite, also those that aren't shown
+  abbrev pub citation_tasks : ℕ → CiteRender E P → List (TaskValue E P)
+  citation_tasks r c =
+      map (λ i. task_by_purpose (last_task (source_of c.request) (place_of r i) i)) c.items
+
+  module _ (writing : Writing E P) (r : ℕ) where
+    -- a cite of the r-th request as it is put into its citation
+    abbrev pub shown_cite : Source → LayoutValue → ItemRender E P → Shown
+    shown_cite source layout i = record {
+      delimiter = delimiter_before layout i;
+      tree = marked_cite i (tree_by_purpose writing (last_task source (place_of r i) i));
+    }
+
+    -- the r-th citation; the layout encloses it where no cite has a purpose
     abbrev pub citation_tree : CiteRender E P → List Child
     citation_tree c =
         let layout = c.request.style.citation.layout in

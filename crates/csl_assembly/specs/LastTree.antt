@@ -1,29 +1,42 @@
 -- The tree of a cite once nothing of it changes any more.
 use Rattle.std.specs.Prelude.{Bool, true, false, List, Option, Some, if◌then◌else◌}
-use Rattle.csl_writers.specs.Writing.{Writing}
 use Rattle.csl_base.specs.Child.{Child}
 use Rattle.csl_lookup.specs.Lookup.{Source}
 use Rattle.csl_lookup.specs.Properties.{Properties}
 use Rattle.csl_lookup.specs.declared.purpose.CitePurpose.{CitePurpose}
-use Rattle.csl_lookup.specs.declared.state.CollapseVerdict.{CollapseVerdict}
 use Rattle.csl_passes.specs.Renders.{ItemRender}
+use Rattle.csl_writers.specs.Tasks.{CiteTaskValue, DateTaskValue, LastPlace, TaskValue, cite_task, date_task}
+use Rattle.csl_writers.specs.Writing.{Writing}
 
 abbrev pub is_for_year : Option CitePurpose → Bool
 is_for_year (Some CitePurpose.Year) = true
 is_for_year _ = false
 
--- a cite is written at last by its properties, with its own locator
-abbrev pub last_properties : {E P : Type 0} → ItemRender E P → Properties P
-last_properties i =
-    record i.properties { speculative = record i.properties.speculative { locator = i.locator } }
+module _ {E P : Type 0} where
+  -- the date, in place of a cite
+  abbrev pub date_of : CiteTaskValue E P → DateTaskValue E
+  date_of t = record { source = t.source; entry = t.entry; place = t.place }
 
--- the date text where a cite is written for the year alone, else the cite text for its purpose and its
--- verdict
-abbrev pub tree_for_purpose : {E P : Type 0} → Writing E P → Source → E → Properties P → Option CitePurpose
-    → Option CollapseVerdict → List Child
-tree_for_purpose writing source entry properties purpose verdict =
-    if is_for_year purpose then writing.date source entry
-    else (writing.cite source entry properties purpose verdict).children
+  -- what is asked for where a cite is written: the date where it is for the year alone
+  abbrev pub task_by_purpose : CiteTaskValue E P → TaskValue E P
+  task_by_purpose t = if is_for_year t.purpose then date_task (date_of t) else cite_task t
 
-abbrev pub last_tree : {E P : Type 0} → Writing E P → Source → ItemRender E P → List Child
-last_tree writing source i = tree_for_purpose writing source i.entry (last_properties i) i.purpose i.verdict
+  abbrev pub tree_by_purpose : Writing E P → CiteTaskValue E P → List Child
+  tree_by_purpose writing t =
+      if is_for_year t.purpose then writing.date (date_of t) else (writing.cite t).children
+
+  -- a cite is written at last by its properties, with its own locator
+  abbrev pub last_properties : ItemRender E P → Properties P
+  last_properties i =
+      record i.properties { speculative = record i.properties.speculative { locator = i.locator } }
+
+  -- a cite that is written at last, at its place, for its purpose and as its verdict cuts it
+  abbrev pub last_task : Source → LastPlace → ItemRender E P → CiteTaskValue E P
+  last_task source place i = record {
+    source = source;
+    entry = i.entry;
+    properties = last_properties i;
+    purpose = i.purpose;
+    verdict = i.verdict;
+    place = place;
+  }

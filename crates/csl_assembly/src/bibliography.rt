@@ -1,5 +1,5 @@
 //! The bibliography of an answer.
-ghost use Rattle.std.specs.Prelude.{◌≡◌, All, IfOk, OnOk, length, map, option_map, Some, string_bytes};
+ghost use Rattle.std.specs.Prelude.{◌≡◌, ◌∷◌, [], All, IfOk, OnOk, map, option_map, Some, string_bytes};
 ghost use Rattle.csl_base.specs.Metas.{child_has_any_meta};
 ghost use Rattle.csl_base.specs.StyleView.{bibliography_view};
 ghost use Rattle.csl_lookup.specs.PropertiesView.{properties_view};
@@ -8,11 +8,12 @@ ghost use Rattle.csl_passes.specs.RendersView.{item_view, renders_view};
 ghost use Rattle.csl_passes.specs.Request.{wanted_source};
 ghost use Rattle.csl_passes.specs.RequestView.{wanted_view};
 ghost use Rattle.csl_substitution.specs.ItemView.{items_view};
-ghost use Rattle.csl_writing.specs.Counted.{counted, counted_times};
+ghost use Rattle.csl_writers.specs.Desk.{after, desk};
+ghost use Rattle.csl_writers.specs.Tasks.{item_task};
 ghost use Rattle.std.specs.List.{find, position_or_len, remove};
 ghost use Rattle.csl_assembly.specs.ChildOf.{child_of};
-ghost use Rattle.csl_assembly.specs.BibliographyItems.{bibliography_of, cites_at, unlocated, with_first_field, written_item};
-ghost use Rattle.csl_writers.specs.Writing.{layout_writing};
+ghost use Rattle.csl_assembly.specs.BibliographyItems.{bibliography_of, bibliography_tasks, cites_at, item_of, unlocated, with_first_field, written_item};
+ghost use Rattle.csl_writers.specs.Writing.{writing_of};
 
 use crate::rendered::{BibliographyItem, RenderedBibliography};
 use csl_base::elem::{ElemChild, ElemChildren};
@@ -20,12 +21,15 @@ use csl_base::entry::EntryLike;
 use csl_base::seq::Seq;
 use csl_base::style::Bibliography;
 use csl_base::text::Text;
+use csl_lookup::properties::CiteProperties;
 use csl_passes::acyclic::AcyclicWanted;
 use csl_passes::renders::{SpeculativeCiteRender, SpeculativeItemRender};
 use csl_substitution::substitution::substitute_subsequent_authors;
-use csl_writing::counter::Renders;
-use csl_writing::lookup::StyleContext;
-use csl_writing::properties::CiteProperties;
+use csl_writers::asking;
+use csl_writers::counter::Renders;
+use csl_writers::pushed::push;
+use csl_writers::task::ItemTask;
+use csl_writers::writer::CiteWriter;
 use std::alloc::{AllocError, Global};
 
 /// What holds of a cite, without its locator.
@@ -45,21 +49,27 @@ fn unlocated<'a, T, P: Drop>(
 }
 
 /// The entry of a cite as the bibliography writes it, and its key.
-fn written_item<T: EntryLike, P: Drop>(
+fn written_item<T: EntryLike, P: Drop, W: CiteWriter<T, P>>(
     alloc: Global,
     wanted: AcyclicWanted<'_, '_, '_, T>,
     first: &SpeculativeItemRender<'_, T, P>,
+    writer: &mut W,
     counter: &mut Renders,
-) -> Result<(ElemChildren, String), AllocError>
+) -> Result<(ElemChildren, String), W::Error>
     ensures item { IfOk result (λ item. (item.0, string_bytes item.1)
-        ≡ written_item (layout_writing T.answers) (wanted_source (wanted_view wanted.entry.wanted.now))
-        (item_view first.now)) }
-    ensures counted { OnOk result (counter.new ≡ counted counter.old) }
+        ≡ written_item (writing_of T.answers (W.state writer.old))
+        (wanted_source (wanted_view wanted.entry.wanted.now)) (item_view first.now)) }
+    ensures asked { OnOk result (desk (W.state writer.new) counter.new
+        ≡ after (item_task (item_of (wanted_source (wanted_view wanted.entry.wanted.now)) (item_view first.now)) ∷ [])
+        (desk (W.state writer.old) counter.old)) }
 {
-    let context = StyleContext::of_locales(wanted.source());
-    let locale = wanted.wanted.locale.as_ref();
     let properties = unlocated(first)?;
-    let text = context.bibliography(alloc, first.entry, &properties, None, locale, counter)?;
+    let task = ItemTask {
+        source: wanted.source(),
+        entry: first.entry,
+        properties: &properties,
+    };
+    let text = asking::written_item(alloc, task, writer, counter)?;
     let mut content = text.unwrap_or(ElemChildren::new(alloc));
     content.simplify_children()?;
     Ok((content, String::from_str(alloc, first.entry.key())?))
@@ -78,23 +88,27 @@ fn cite_at<'c, 'a, T, P>(
 }
 
 /// The entries of the cites at these places, as the bibliography writes them.
-fn written_items<T: EntryLike, P: Drop>(
+fn written_items<T: EntryLike, P: Drop, W: CiteWriter<T, P>>(
     alloc: Global,
     wanted: AcyclicWanted<'_, '_, '_, T>,
     cites: &[SpeculativeCiteRender<'_, '_, T, P>],
     firsts: &[(usize, usize)],
+    writer: &mut W,
     counter: &mut Renders,
-) -> Result<Vec<(ElemChildren, String)>, AllocError>
+) -> Result<Vec<(ElemChildren, String)>, W::Error>
     requires exist { All (IsPlace (renders_view cites.now)) firsts.now }
     ensures items { IfOk result (λ made. items_view made.items
-        ≡ map (written_item (layout_writing T.answers) (wanted_source (wanted_view wanted.entry.wanted.now)))
-        (cites_at (renders_view cites.now) firsts.now)) }
-    ensures counted { OnOk result (counter.new ≡ counted_times (length firsts.now) counter.old) }
+        ≡ map (written_item (writing_of T.answers (W.state writer.old))
+        (wanted_source (wanted_view wanted.entry.wanted.now))) (cites_at (renders_view cites.now) firsts.now)) }
+    ensures asked { OnOk result (desk (W.state writer.new) counter.new
+        ≡ after (bibliography_tasks (wanted_source (wanted_view wanted.entry.wanted.now))
+        (cites_at (renders_view cites.now) firsts.now)) (desk (W.state writer.old) counter.old)) }
 {
     let mut items = Vec::with_capacity(alloc, firsts.len())?;
     for place in firsts {
         let first = cite_at(cites, *place);
-        items.push(written_item(alloc, wanted, first, counter)?)?;
+        let item = written_item(alloc, wanted, first, writer, counter)?;
+        push(&mut items, item)?;
     }
     Ok(items)
 }
@@ -148,22 +162,26 @@ fn with_first_fields(
 /// the first child of its tree that stands for something, is taken out. Each rendering is counted.
 ///
 /// # Errors
-/// Where memory is refused.
-pub fn bibliography_of<T: EntryLike, P: Drop>(
+/// The writer's; a want of memory among others.
+pub fn bibliography_of<T: EntryLike, P: Drop, W: CiteWriter<T, P>>(
     alloc: Global,
     wanted: AcyclicWanted<'_, '_, '_, T>,
     bibliography: &Bibliography,
     cites: &[SpeculativeCiteRender<'_, '_, T, P>],
     firsts: &[(usize, usize)],
+    writer: &mut W,
     counter: &mut Renders,
-) -> Result<RenderedBibliography, AllocError>
+) -> Result<RenderedBibliography, W::Error>
     requires exist { All (IsPlace (renders_view cites.now)) firsts.now }
     ensures bibliography { IfOk result (λ r. r
-        ≡ bibliography_of (layout_writing T.answers) (wanted_source (wanted_view wanted.entry.wanted.now))
-        (bibliography_view bibliography.now) (cites_at (renders_view cites.now) firsts.now)) }
-    ensures counted { OnOk result (counter.new ≡ counted_times (length firsts.now) counter.old) }
+        ≡ bibliography_of (writing_of T.answers (W.state writer.old))
+        (wanted_source (wanted_view wanted.entry.wanted.now)) (bibliography_view bibliography.now)
+        (cites_at (renders_view cites.now) firsts.now)) }
+    ensures asked { OnOk result (desk (W.state writer.new) counter.new
+        ≡ after (bibliography_tasks (wanted_source (wanted_view wanted.entry.wanted.now))
+        (cites_at (renders_view cites.now) firsts.now)) (desk (W.state writer.old) counter.old)) }
 {
-    let mut items = written_items(alloc, wanted, cites, firsts, counter)?;
+    let mut items = written_items(alloc, wanted, cites, firsts, writer, counter)?;
     let substitute = bibliography.subsequent_author_substitute.as_deref();
     let rule = bibliography.subsequent_author_substitute_rule;
     substitute_subsequent_authors(alloc, substitute, rule, &mut items)?;

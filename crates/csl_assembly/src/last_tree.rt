@@ -1,24 +1,88 @@
 //! The tree of a cite once nothing of it changes any more.
-ghost use Rattle.std.specs.Prelude.{◌≡◌, IfOk, OnOk};
+ghost use Rattle.std.specs.Prelude.{◌≡◌, ◌∷◌, [], IfOk, OnOk};
 ghost use Rattle.csl_lookup.specs.PropertiesView.{properties_view};
 ghost use Rattle.csl_passes.specs.RendersView.{item_view};
 ghost use Rattle.csl_passes.specs.Request.{source_of};
 ghost use Rattle.csl_passes.specs.RequestView.{request_view};
-ghost use Rattle.csl_assembly.specs.LastTree.{last_properties, last_tree, tree_for_purpose};
-ghost use Rattle.csl_writing.specs.Counted.{counted};
-ghost use Rattle.csl_writers.specs.Writing.{layout_writing};
+ghost use Rattle.csl_assembly.specs.LastTree.{last_properties, last_task, task_by_purpose, tree_by_purpose};
+ghost use Rattle.csl_writers.specs.Desk.{after, desk};
+ghost use Rattle.csl_writers.specs.TaskView.{cite_task_view};
+ghost use Rattle.csl_writers.specs.Writing.{writing_of};
 
 use csl_base::elem::ElemChildren;
 use csl_base::entry::EntryLike;
-use csl_base::locale::LocaleCode;
 use csl_lookup::properties::{CiteProperties, SpeculativeCiteProperties};
 use csl_lookup::purpose::CitePurpose;
-use csl_lookup::state::CollapseVerdict;
 use csl_passes::acyclic::AcyclicRequest;
 use csl_passes::renders::SpeculativeItemRender;
-use csl_writing::counter::Renders;
-use csl_writing::lookup::StyleContext;
+use csl_writers::asking::{written_cite, written_date};
+use csl_writers::counter::Renders;
+use csl_writers::task::{CiteTask, DateTask};
+use csl_writers::writer::CiteWriter;
 use std::alloc::{AllocError, Global};
+
+/// The tree of a cite as the writer writes it for its purpose: the date where it is for the year alone.
+///
+/// # Errors
+/// The writer's.
+pub fn tree_by_purpose<T: EntryLike, P, W: CiteWriter<T, P>>(
+    alloc: Global,
+    task: CiteTask<'_, '_, T, P>,
+    writer: &mut W,
+    counter: &mut Renders,
+) -> Result<ElemChildren, W::Error>
+    ensures tree { IfOk result (λ tree. tree
+        ≡ tree_by_purpose (writing_of T.answers (W.state writer.old)) (cite_task_view task.entry)) }
+    ensures asked { OnOk result (desk (W.state writer.new) counter.new
+        ≡ after (task_by_purpose (cite_task_view task.entry) ∷ []) (desk (W.state writer.old) counter.old)) }
+{
+    match task.purpose {
+        Some(CitePurpose::Year) => {
+            let date = DateTask {
+                source: task.source,
+                entry: task.entry,
+                place: task.place,
+            };
+            written_date(alloc, date, writer, counter)
+        }
+        _ => {
+            let cite = written_cite(alloc, task, writer, counter)?;
+            Ok(cite.children)
+        }
+    }
+}
+
+/// The tree of a cite of the request at this place, for its purpose and as its verdict cuts it, by its
+/// properties with its own locator.
+///
+/// # Errors
+/// The writer's; a want of memory among others.
+pub fn last_tree<T: EntryLike, P: Drop, W: CiteWriter<T, P>>(
+    alloc: Global,
+    request: AcyclicRequest<'_, '_, T, P>,
+    place: (usize, usize),
+    item: &SpeculativeItemRender<'_, T, P>,
+    writer: &mut W,
+    counter: &mut Renders,
+) -> Result<ElemChildren, W::Error>
+    ensures tree { IfOk result (λ tree. tree
+        ≡ tree_by_purpose (writing_of T.answers (W.state writer.old))
+        (last_task (source_of (request_view request.entry.request.now)) (Some place) (item_view item.now))) }
+    ensures asked { OnOk result (desk (W.state writer.new) counter.new
+        ≡ after (task_by_purpose (last_task (source_of (request_view request.entry.request.now)) (Some place)
+        (item_view item.now)) ∷ []) (desk (W.state writer.old) counter.old)) }
+{
+    let properties = last_properties(item)?;
+    let task = CiteTask {
+        source: request.source(),
+        entry: item.entry,
+        properties: &properties,
+        purpose: item.purpose,
+        verdict: item.collapse_verdict,
+        place: Some(place),
+    };
+    tree_by_purpose(alloc, task, writer, counter)
+}
 
 /// What a cite is written by at last: its properties, with its own locator.
 fn last_properties<'a, T, P: Drop>(
@@ -37,73 +101,4 @@ fn last_properties<'a, T, P: Drop>(
             identifier_usage: speculative.identifier_usage,
         },
     })
-}
-
-/// The tree of a cite of this entry in the style of the request: the date text where it is written for the
-/// year alone, else the cite for its purpose and its verdict. Counts a rendering. The item's locale is looked
-/// at by nothing; that of the request counts.
-///
-/// # Errors
-/// Where memory is refused.
-#[tactic(auto, unfolding(csl_writing::specs::CiteText::cite_text))]
-pub fn tree_for_purpose<T: EntryLike, P>(
-    alloc: Global,
-    request: AcyclicRequest<'_, '_, T, P>,
-    entry: &T,
-    properties: &CiteProperties<'_, P>,
-    item_locale: Option<&LocaleCode>,
-    purpose: Option<CitePurpose>,
-    verdict: Option<CollapseVerdict>,
-    counter: &mut Renders,
-) -> Result<ElemChildren, AllocError>
-    ensures tree { IfOk result (λ tree. tree
-        ≡ tree_for_purpose (layout_writing T.answers) (source_of (request_view request.entry.request.now))
-        entry.now (properties_view properties.now) purpose verdict) }
-    ensures counted { OnOk result (counter.new ≡ counted counter.old) }
-{
-    let context = StyleContext::of_locales(request.source());
-    let locale = request.request.locale.as_ref();
-    match purpose {
-        Some(CitePurpose::Year) => {
-            context.date_replacement(alloc, entry, properties, item_locale, locale, counter)
-        }
-        purpose => context.citation(
-            alloc,
-            entry,
-            properties,
-            item_locale,
-            locale,
-            purpose,
-            verdict,
-            counter,
-        ),
-    }
-}
-
-/// The tree of a cite in the style of its request, for its purpose, by its properties with its own locator.
-/// Counts a rendering.
-///
-/// # Errors
-/// Where memory is refused.
-pub fn last_tree<T: EntryLike, P: Drop>(
-    alloc: Global,
-    request: AcyclicRequest<'_, '_, T, P>,
-    item: &SpeculativeItemRender<'_, T, P>,
-    counter: &mut Renders,
-) -> Result<ElemChildren, AllocError>
-    ensures tree { IfOk result (λ tree. tree
-        ≡ last_tree (layout_writing T.answers) (source_of (request_view request.entry.request.now)) (item_view item.now)) }
-    ensures counted { OnOk result (counter.new ≡ counted counter.old) }
-{
-    let properties = last_properties(item)?;
-    tree_for_purpose(
-        alloc,
-        request,
-        item.entry,
-        &properties,
-        item.locale.as_ref(),
-        item.purpose,
-        item.collapse_verdict,
-        counter,
-    )
 }

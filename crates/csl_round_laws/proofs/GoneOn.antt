@@ -103,7 +103,7 @@ module _ {E P : Type 0} (eq : E → E → Bool) (laws : AreMarkLaws E P eq) (cit
   counting-goes way h g i = All-filter (counts cites) GoesFrom (way g) (h g i)
 
   -- so does each mark of a round
-  pub marks-go : (mode : RoundMode) (writing : Writing E P) → All GoesFrom (round_marks mode eq writing cites)
+  pub marks-go : (mode : RoundMode) (writing : Writing E P) → All GoesFrom (round_marks mode eq writing.answers cites)
   unfolding round_marks
   marks-go RoundMode.Three writing =
       let dated = shows_dates writing.answers cites in
@@ -119,12 +119,12 @@ module _ {E P : Type 0} (eq : E → E → Bool) (laws : AreMarkLaws E P eq) (cit
 
   -- the marks of an entry
   pub own-marks : (mode : RoundMode) (writing : Writing E P) (e : E)
-      → All (λ m. (f : GoesFrom m) × (eq e (entry_of f.cite) ≡ true)) (filter (λ m. cites_entry eq cites e m.0) (round_marks mode eq writing cites))
+      → All (λ m. (f : GoesFrom m) × (eq e (entry_of f.cite) ≡ true)) (filter (λ m. cites_entry eq cites e m.0) (round_marks mode eq writing.answers cites))
   own-marks mode writing e =
       All-weaker (λ m. GoesFrom m × (cites_entry eq cites e m.0 ≡ true)) (λ m. (f : GoesFrom m) × (eq e (entry_of f.cite) ≡ true))
       (λ m h. (h.0, sym (cites-is e m.0 h.0.cite h.0.stands_there) ∙ h.1))
-      (filter (λ m. cites_entry eq cites e m.0) (round_marks mode eq writing cites))
-      (all-passed GoesFrom (λ m. cites_entry eq cites e m.0) (round_marks mode eq writing cites) (marks-go mode writing))
+      (filter (λ m. cites_entry eq cites e m.0) (round_marks mode eq writing.answers cites))
+      (all-passed GoesFrom (λ m. cites_entry eq cites e m.0) (round_marks mode eq writing.answers cites) (marks-go mode writing))
 
   -- equal entries have the same ones
   cites-alike : (d e : E) → eq d e ≡ true → (p : Place) → cites_entry eq cites d p ≡ cites_entry eq cites e p

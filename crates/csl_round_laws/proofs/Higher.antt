@@ -99,7 +99,7 @@ module _ {E P : Type 0} (f : ℕ) (cites : List (CiteRender E P)) where
           (all-chosen (λ m. IsShort f m.1) (dated && adds_suffix ms) (map (λ m. (m.place, suffix_among eq ms m)) (first_cites eq ms)) []
           (All-map (λ m. IsShort f m.1) (λ m. (m.place, suffix_among eq ms m)) (first_cites eq ms) (λ k d w. omega arith)) (All-nil (λ m. IsShort f m.1)))
 
-    pub marks-are-higher : (eq : E → E → Bool) (writing : Writing E P) → All IsHigher (round_marks RoundMode.Full eq writing cites)
+    pub marks-are-higher : (eq : E → E → Bool) (writing : Writing E P) → All IsHigher (round_marks RoundMode.Full eq writing.answers cites)
     unfolding round_marks
     marks-are-higher eq writing =
         let dated = shows_dates writing.answers cites in

@@ -170,7 +170,7 @@ module _ {E P : Type 0} (cites : List (CiteRender E P)) where
       (λ g h. counting-stand (by_suffix eq cites dated) (suffixes-stand eq dated) g) g tt
 
   -- the marks of a round stand at cites
-  pub marks-stand : (mode : RoundMode) (eq : E → E → Bool) (writing : Writing E P) → All (λ m. IsPlace cites m.0) (round_marks mode eq writing cites)
+  pub marks-stand : (mode : RoundMode) (eq : E → E → Bool) (writing : Writing E P) → All (λ m. IsPlace cites m.0) (round_marks mode eq writing.answers cites)
   unfolding round_marks
   marks-stand RoundMode.Three eq writing =
       let dated = shows_dates writing.answers cites in

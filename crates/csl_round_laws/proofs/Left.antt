@@ -39,7 +39,7 @@ module _ {E P : Type 0} (eq : E → E → Bool) (laws : AreMarkLaws E P eq) (cit
       (All-contains (λ g. All (λ c. eq e (entry_of c) ≡ false) (members cites g)) (ambiguous_groups eq cites) own.0.group apart own.0.is_group) own.0.among in
       absurd (true≢false (sym own.1 ∙ none))
 
-  pub unmarked : (mode : RoundMode) (writing : Writing E P) → mark_of eq cites (round_marks mode eq writing cites) e ≡ None
+  pub unmarked : (mode : RoundMode) (writing : Writing E P) → mark_of eq cites (round_marks mode eq writing.answers cites) e ≡ None
   unmarked mode writing = no-mark _ (own-marks eq laws cites mode writing e)
 
 -- where groups get no mark, there is none in any way
@@ -89,7 +89,7 @@ module _ {E P : Type 0} (eq : E → E → Bool) (writing : Writing E P) (cites :
   abbrev their_ways : RoundMode → Ways
   their_ways mode = ways eq cites (shows_dates writing.answers cites) mode
 
-  none-in-any-way : (mode : RoundMode) → has_any (round_marks mode eq writing cites) ≡ false
+  none-in-any-way : (mode : RoundMode) → has_any (round_marks mode eq writing.answers cites) ≡ false
       → let w = their_ways mode in All (λ g. all_ways w.by_names w.by_choice w.by_suffix g ≡ []) (ambiguous_groups eq cites)
   unfolding round_marks
   none-in-any-way RoundMode.Three h =
@@ -98,7 +98,7 @@ module _ {E P : Type 0} (eq : E → E → Bool) (writing : Writing E P) (cites :
       full-empty (counting cites (name_marks cites)) (counting cites (by_choice eq cites)) (counting cites (by_suffix eq cites (shows_dates writing.answers cites)))
       (waits eq cites) nothing-waits (ambiguous_groups eq cites) h
 
-  pub all-done : (mode : RoundMode) → has_any (round_marks mode eq writing cites) ≡ false → All (CannotBeMarked (their_ways mode)) (ambiguous_groups eq cites)
+  pub all-done : (mode : RoundMode) → has_any (round_marks mode eq writing.answers cites) ≡ false → All (CannotBeMarked (their_ways mode)) (ambiguous_groups eq cites)
   all-done mode h =
       let w = their_ways mode in
       All-weaker (λ g. all_ways w.by_names w.by_choice w.by_suffix g ≡ []) (CannotBeMarked w) (in-no-way w) (ambiguous_groups eq cites) (none-in-any-way mode h)

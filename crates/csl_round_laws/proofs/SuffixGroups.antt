@@ -105,7 +105,7 @@ module _ {E P : Type 0} (eq : E → E → Bool) (cites : List (CiteRender E P)) 
   abbrev IsOne : List Place → Type 0
   IsOne g = Contains (ambiguous_groups eq cites) g
 
-  pub own-suffixes : (mode : RoundMode) (group : List Place) (own : List Mark) → Contains (marks_by_group mode eq writing cites) (group, own) → (one : Mark) → Contains own one → kind_of one.1 ≡ 3
+  pub own-suffixes : (mode : RoundMode) (group : List Place) (own : List Mark) → Contains (marks_by_group mode eq writing.answers cites) (group, own) → (one : Mark) → Contains own one → kind_of one.1 ≡ 3
       → own ≡ suffix_marks eq (members cites group)
   own-suffixes RoundMode.Three group own given one is_own high =
       let n = name_marks cites in

@@ -136,12 +136,12 @@ module _ {E P : Type 0} (eq : E → E → Bool) (laws : AreMarkLaws E P eq) (mor
     abbrev given : List Place × List Mark
     given = (group, own)
 
-    known : (mode : RoundMode) (one : Mark) → Contains own one → kind_of one.1 ≡ 3 → Contains (marks_by_group mode eq writing cites) given → AreKnown (round_marks mode eq writing cites)
+    known : (mode : RoundMode) (one : Mark) → Contains own one → kind_of one.1 ≡ 3 → Contains (marks_by_group mode eq writing.answers cites) given → AreKnown (round_marks mode eq writing.answers cites)
     unfolding round_marks
     known RoundMode.Three one is_own high h =
         let walked = three-walked (name_marks cites) (by_choice eq cites) (by_suffix eq cites (shows_dates writing.answers cites))
         (λ g. All-weaker (Named cites) (λ m. kind_of m.1 ≤ 2) (λ m k. omega (arith, k)) (name_marks cites g) (names-named cites g)) group own one is_own high (ambiguous_groups eq cites) h in
-        (λ x i. all-passed IsKnown (λ m. cites_entry eq cites (entry_of x) m.0) (round_marks RoundMode.Three eq writing cites) walked.0, walked.1)
+        (λ x i. all-passed IsKnown (λ m. cites_entry eq cites (entry_of x) m.0) (round_marks RoundMode.Three eq writing.answers cites) walked.0, walked.1)
     known RoundMode.Full one is_own high h =
         let dated = shows_dates writing.answers cites in
         let walked = full-walked eq laws cites (counting cites (name_marks cites)) (counting cites (by_choice eq cites)) (counting cites (by_suffix eq cites dated))
@@ -150,8 +150,8 @@ module _ {E P : Type 0} (eq : E → E → Bool) (laws : AreMarkLaws E P eq) (mor
         (counted (by_suffix eq cites dated) g (suffixes-in eq laws cites dated g i)))
         group own one is_own covers [] (ambiguous_groups eq cites) (are-groups eq laws cites) h in (
           λ x i. All-weaker (λ m. ((y : Member E P) → Contains ms y → cites_entry eq cites (entry_of y) m.0 ≡ true → Contains own m) × (cites_entry eq cites (entry_of x) m.0 ≡ true))
-              (λ m. IsKnown m × (cites_entry eq cites (entry_of x) m.0 ≡ true)) (λ m k. (inr (k.0 x i k.1), k.1)) (filter (λ m. cites_entry eq cites (entry_of x) m.0) (round_marks RoundMode.Full eq writing cites))
-              (all-passed (λ m. (y : Member E P) → Contains ms y → cites_entry eq cites (entry_of y) m.0 ≡ true → Contains own m) (λ m. cites_entry eq cites (entry_of x) m.0) (round_marks RoundMode.Full eq writing cites) walked.1),
+              (λ m. IsKnown m × (cites_entry eq cites (entry_of x) m.0 ≡ true)) (λ m k. (inr (k.0 x i k.1), k.1)) (filter (λ m. cites_entry eq cites (entry_of x) m.0) (round_marks RoundMode.Full eq writing.answers cites))
+              (all-passed (λ m. (y : Member E P) → Contains ms y → cites_entry eq cites (entry_of y) m.0 ≡ true → Contains own m) (λ m. cites_entry eq cites (entry_of x) m.0) (round_marks RoundMode.Full eq writing.answers cites) walked.1),
           walked.2,
         )
 
@@ -188,17 +188,17 @@ module _ {E P : Type 0} (eq : E → E → Bool) (laws : AreMarkLaws E P eq) (mor
           subst (All (λ p. mark_of eq cites marks p.1 ≡ Some (YearSuffix p.0))) (numbered-map entry_of 0 ones ∙ ap (enumerate_from 0) (more.count ms).one_each)
           (All-map (λ p. mark_of eq cites marks p.1 ≡ Some (YearSuffix p.0)) (λ p. (p.0, entry_of p.1)) (enumerate_from 0 ones) ones-marked)
 
-    pub suffixes-in-order : (mode : RoundMode) → Contains (marks_by_group mode eq writing cites) given
-        → All (λ p. mark_of eq cites (round_marks mode eq writing cites) p.1 ≡ Some (YearSuffix p.0)) (enumerate_from 0 (distinct eq (map entry_of ms)))
+    pub suffixes-in-order : (mode : RoundMode) → Contains (marks_by_group mode eq writing.answers cites) given
+        → All (λ p. mark_of eq cites (round_marks mode eq writing.answers cites) p.1 ≡ Some (YearSuffix p.0)) (enumerate_from 0 (distinct eq (map entry_of ms)))
     suffixes-in-order mode h = by ms refl
       where
-        by : (l : List (Member E P)) → ms ≡ l → All (λ p. mark_of eq cites (round_marks mode eq writing cites) p.1 ≡ Some (YearSuffix p.0)) (enumerate_from 0 (distinct eq (map entry_of ms)))
+        by : (l : List (Member E P)) → ms ≡ l → All (λ p. mark_of eq cites (round_marks mode eq writing.answers cites) p.1 ≡ Some (YearSuffix p.0)) (enumerate_from 0 (distinct eq (map entry_of ms)))
         by [] e =
-            subst (λ l. All (λ p. mark_of eq cites (round_marks mode eq writing cites) p.1 ≡ Some (YearSuffix p.0)) (enumerate_from 0 (distinct eq (map entry_of l)))) (sym e)
-            (All-nil (λ p. mark_of eq cites (round_marks mode eq writing cites) p.1 ≡ Some (YearSuffix p.0)))
+            subst (λ l. All (λ p. mark_of eq cites (round_marks mode eq writing.answers cites) p.1 ≡ Some (YearSuffix p.0)) (enumerate_from 0 (distinct eq (map entry_of l)))) (sym e)
+            (All-nil (λ p. mark_of eq cites (round_marks mode eq writing.answers cites) p.1 ≡ Some (YearSuffix p.0)))
         by (x ∷ xs) e =
             let d = first-of x (subst (λ l. Contains l x) (sym e) (0, omega arith, refl)) in
-            entries-marked (round_marks mode eq writing cites)
+            entries-marked (round_marks mode eq writing.answers cites)
             (known mode (d.0.place, suffix_among eq ms d.0) (in-map (λ m. (m.place, suffix_among eq ms m)) ones d.0 d.1) refl h)
 
 module _ {E P : Type 0} (mode : RoundMode) (eq : E → E → Bool) (writing : Writing E P) (firsts : List (CiteRender E P)) (laws : AreMarkLaws E P eq) (more : AreSuffixLaws E P eq) (begun : AreBegun firsts) where
@@ -244,7 +244,7 @@ module _ {E P : Type 0} (mode : RoundMode) (eq : E → E → Bool) (writing : Wr
       own-suffixes eq (at t) writing (laws.without_suffix (at t)) mode group gets.own gets.are_own gets.mark gets.one_of_them (ap kind_of gets.is_suffix) in
       All-weaker (λ p. marked_at mode eq writing firsts t p.1 ≡ Some (YearSuffix p.0)) (λ p. after t p.1 ≡ Some (YearSuffix p.0)) (λ p e. ap (λ o. option_or o (t p.1)) e)
       (enumerate_from 0 (distinct eq (map entry_of (members (at t) group))))
-      (suffixes-in-order eq laws more (at t) writing group mode (subst (λ own. Contains (marks_by_group mode eq writing (at t)) (group, own)) same gets.are_own))
+      (suffixes-in-order eq laws more (at t) writing group mode (subst (λ own. Contains (marks_by_group mode eq writing.answers (at t)) (group, own)) same gets.are_own))
 
   pub suffixes-stay : SuffixesStay mode eq writing firsts (tables mode eq writing firsts)
   suffixes-stay = record {

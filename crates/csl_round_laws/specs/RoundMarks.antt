@@ -7,7 +7,7 @@ use Rattle.csl_ambiguity.specs.Ambiguity.{ambiguous_groups}
 use Rattle.csl_ambiguity.specs.ChooseMarks.{choose_marks}
 use Rattle.csl_ambiguity.specs.Members.{entry_of, member_at, members, state_of}
 use Rattle.csl_ambiguity.specs.SuffixMarks.{shows_dates, year_suffix_marks}
-use Rattle.csl_writers.specs.Writing.{Writing}
+use Rattle.csl_base.specs.Answers.{Answers}
 use Rattle.csl_lookup.specs.States.{greater, state_cmp}
 use Rattle.csl_lookup.specs.declared.state.DisambiguateState.{DisambiguateState}
 use Rattle.csl_name_marks.specs.NameMarks.{name_marks}
@@ -124,13 +124,12 @@ module _ {E P : Type 0} (eq : E → E → Bool) (cites : List (CiteRender E P)) 
       let w = ways RoundMode.Full in
       by_full w.by_names w.by_choice w.by_suffix (waits eq cites) [] groups
 
--- the ambiguous groups with their marks
-abbrev pub marks_by_group : {E P : Type 0} → RoundMode → (E → E → Bool) → Writing E P
-    → List (CiteRender E P) → MarkedGroups
-marks_by_group mode eq writing cites =
-    marked_groups eq cites (shows_dates writing.answers cites) mode (ambiguous_groups eq cites)
+module _ {E P : Type 0} (mode : RoundMode) (eq : E → E → Bool) (answers : E → Answers) where
+  -- the ambiguous groups with their marks
+  abbrev pub marks_by_group : List (CiteRender E P) → MarkedGroups
+  marks_by_group cites =
+      marked_groups eq cites (shows_dates answers cites) mode (ambiguous_groups eq cites)
 
--- the marks of a round
-unfoldable pub round_marks : {E P : Type 0} → RoundMode → (E → E → Bool) → Writing E P
-    → List (CiteRender E P) → List Mark
-round_marks mode eq writing cites = marks_of (marks_by_group mode eq writing cites)
+  -- the marks of a round
+  unfoldable pub round_marks : List (CiteRender E P) → List Mark
+  round_marks cites = marks_of (marks_by_group cites)

@@ -1,11 +1,12 @@
 -- The states of entries, and cites that are rendered again with them.
-use Rattle.std.specs.Prelude.{Bool, List, map, filter, flat_map, Option, Some, None, unwrap_or}
+use Rattle.std.specs.Prelude.{Bool, List, [], ◌∷◌, map, filter, flat_map, Option, Some, None, unwrap_or}
 use Rattle.std.specs.Option.{option_or}
-use Rattle.csl_writers.specs.Writing.{Writing}
 use Rattle.csl_lookup.specs.Properties.{Properties}
 use Rattle.csl_lookup.specs.declared.state.DisambiguateState.{DisambiguateState}
 use Rattle.csl_passes.specs.Renders.{CiteRender, ItemRender}
 use Rattle.csl_passes.specs.Request.{Request, source_of}
+use Rattle.csl_writers.specs.Tasks.{CiteTaskValue, TaskValue, cite_task}
+use Rattle.csl_writers.specs.Writing.{Writing}
 use Rattle.csl_round_laws.specs.RoundMarks.{Mark, cites_entry, greatest_state, round_marks}
 use Rattle.csl_round_laws.specs.declared.mode.RoundMode.{RoundMode}
 
@@ -39,14 +40,38 @@ module _ {E P : Type 0} where
 
   -- what a round marks that begins with these cites
   abbrev pub marked_by : RoundMode → (E → E → Bool) → Writing E P → List (CiteRender E P) → StateTable E
-  marked_by mode eq writing cites = mark_of eq cites (round_marks mode eq writing cites)
+  marked_by mode eq writing cites = mark_of eq cites (round_marks mode eq writing.answers cites)
+
+  -- what is asked for where a cite is rendered again with this state of its entry; what else is known of it
+  -- stays
+  abbrev pub again_task : Request E P → DisambiguateState → ItemRender E P → CiteTaskValue E P
+  again_task request s i = record {
+    source = source_of request;
+    entry = i.entry;
+    properties = with_state s i.properties;
+    purpose = i.purpose;
+    verdict = None;
+    place = None;
+  }
+
+  -- where there is a state
+  abbrev pub tasks_with : Request E P → Option DisambiguateState → ItemRender E P → List (TaskValue E P)
+  tasks_with request None i = []
+  tasks_with request (Some s) i = cite_task (again_task request s i) ∷ []
+
+  -- for the cites whose entries the table has states for
+  abbrev pub again_tasks_of : StateTable E → CiteRender E P → List (TaskValue E P)
+  again_tasks_of table c = flat_map (λ i. tasks_with c.request (table i.entry) i) c.items
+
+  abbrev pub again_tasks : StateTable E → List (CiteRender E P) → List (TaskValue E P)
+  again_tasks table cites = flat_map (again_tasks_of table) cites
 
   module _ (writing : Writing E P) where
-    -- the cite rendered again with this state of its entry, for its purpose; what else is known of it stays
+    -- the cite rendered again
     abbrev pub rendered_again : Request E P → DisambiguateState → ItemRender E P → ItemRender E P
     rendered_again request s i = record i {
       properties = with_state s i.properties;
-      rendered = (writing.cite (source_of request) i.entry (with_state s i.properties) i.purpose None).children;
+      rendered = (writing.cite (again_task request s i)).children;
     }
 
     -- rendered again where there is a state

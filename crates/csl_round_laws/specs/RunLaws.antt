@@ -44,7 +44,7 @@ module _ {E P : Type 0} (mode : RoundMode) (eq : E → E → Bool) (writing : Wr
   -- in that round the group gets marks of which one is a suffix
   pub record GetsSuffixes (table : StateTable E) (group : List Place) : Type 0 where
     pub own : List Mark
-    pub are_own : Contains (marks_by_group mode eq writing (shown_at table)) (group, own)
+    pub are_own : Contains (marks_by_group mode eq writing.answers (shown_at table)) (group, own)
     pub mark : Mark
     pub suffix : ℕ
     pub one_of_them : Contains own mark

@@ -1,14 +1,15 @@
 -- The rounds in which cites that read alike are disambiguated: the tables of states from the first on.
 use Rattle.std.specs.Prelude.{ℕ, zero, suc, ◌+◌, ◌-◌, ◌*◌, Bool, List, [], ◌∷◌, length, map, slice_index_or, take, Option, Some, None, if◌then◌else◌}
 use Rattle.std.specs.List.{flat_map}
-use Rattle.csl_writers.specs.Writing.{Writing}
 use Rattle.csl_base.specs.declared.names.NameDisambiguationProperties.{NameDisambiguationProperties}
 use Rattle.csl_entries.specs.Entries.{distinct}
 use Rattle.csl_name_marks.specs.NamedCites.{greatest}
 use Rattle.csl_passes.specs.Renders.{CiteRender}
 use Rattle.csl_round_laws.specs.RoundMarks.{Mark, has_any, round_marks}
-use Rattle.csl_round_laws.specs.Rounds.{StateTable, at_table, entries_cited, mark_of, no_states, with_marks}
+use Rattle.csl_round_laws.specs.Rounds.{StateTable, again_tasks, at_table, entries_cited, mark_of, no_states, with_marks}
 use Rattle.csl_round_laws.specs.declared.mode.RoundMode.{RoundMode}
+use Rattle.csl_writers.specs.Tasks.{TaskValue}
+use Rattle.csl_writers.specs.Writing.{Writing}
 
 -- how many forms there are
 abbrev pub form_count : Option NameDisambiguationProperties → ℕ
@@ -22,7 +23,7 @@ most_forms cites = greatest (map (λ i. form_count i.first_name) (flat_map (λ c
 module _ {E P : Type 0} (mode : RoundMode) (eq : E → E → Bool) (writing : Writing E P) (firsts : List (CiteRender E P)) where
   -- the marks of the round that begins with this table
   abbrev pub marks_at : StateTable E → List Mark
-  marks_at table = round_marks mode eq writing (at_table writing table firsts)
+  marks_at table = round_marks mode eq writing.answers (at_table writing table firsts)
 
   -- what it marks
   abbrev pub marked_at : StateTable E → StateTable E
@@ -57,6 +58,10 @@ module _ {E P : Type 0} (mode : RoundMode) (eq : E → E → Bool) (writing : Wr
   -- what they marked
   abbrev pub round_tables : List (StateTable E)
   round_tables = map (marked_at mode eq writing firsts) (take rounds tables)
+
+  -- what they ask for: in each that marks, the cites whose entries it marks, with the new states
+  abbrev pub round_tasks : List (TaskValue E P)
+  round_tasks = flat_map (λ t. again_tasks (marked_at mode eq writing firsts t) (at_table writing t firsts)) (take rounds tables)
 
   -- the states that the entries have after them
   abbrev pub last_states : StateTable E

@@ -48,9 +48,9 @@ module _ {E P : Type 0} (eq : E → E → Bool) (writing : Writing E P) (firsts 
         (new : List (CiteRender E P)) (given : List (Option DisambiguateState)) (total : ℕ)
         (again : new ≡ at_table writing (marked_by full eq writing now) now) (are : AreStatesOf eq es (with_marks (marked_by full eq writing now) in_full.so.table) given)
         (more : total ≡ counted_times (marked_among (entries_cited now) (marked_by full eq writing now)) count) where
-      module _ (any : has_any (round_marks full eq writing now) ≡ true) where
-        yes : has_any (round_marks full eq writing (at_table writing in_full.so.table firsts)) ≡ true
-        yes = subst (λ rs. has_any (round_marks full eq writing rs) ≡ true) in_full.so.cites any
+      module _ (any : has_any (round_marks full eq writing.answers now) ≡ true) where
+        yes : has_any (round_marks full eq writing.answers (at_table writing in_full.so.table firsts)) ≡ true
+        yes = subst (λ rs. has_any (round_marks full eq writing.answers rs) ≡ true) in_full.so.cites any
 
         within : in_full.k < most_rounds full eq firsts
         within = risen-within writing firsts untold eq laws in_full.k in_full.so.table in_full.risen yes
@@ -76,5 +76,5 @@ module _ {E P : Type 0} (eq : E → E → Bool) (writing : Writing E P) (firsts 
             falls (length (entries_cited firsts) * (3 * most_forms firsts + 3)) (ranks writing firsts untold (entries_cited firsts) table) (ranks writing firsts untold (entries_cited firsts) next)
             (ranks_of (most_forms firsts) now) (ranks_of (most_forms firsts) new) before_is after_is up top
 
-      pub last-full : has_any (round_marks full eq writing now) ≡ false → AreAfterRounds full eq writing firsts es old new given marked total
+      pub last-full : has_any (round_marks full eq writing.answers now) ≡ false → AreAfterRounds full eq writing firsts es old new given marked total
       last-full none = last-round full eq writing firsts es old in_full.k now new states given marked count total in_full.so again are more none

@@ -125,11 +125,11 @@ module _ {E P : Type 0} (mode : RoundMode) (eq : E → E → Bool) (writing : Wr
         start = at_table writing so.table firsts
 
         -- a round that marks
-        unfoldable pub one-round : k < most_rounds mode eq firsts → (next : ℕ) → has_any (round_marks mode eq writing now) ≡ true → next ≡ min (marked + 1) (2 ^ 128 - 1)
+        unfoldable pub one-round : k < most_rounds mode eq firsts → (next : ℕ) → has_any (round_marks mode eq writing.answers now) ≡ true → next ≡ min (marked + 1) (2 ^ 128 - 1)
             → InRounds (k + 1) new given next total
         one-round within next any one =
             let left : most_rounds mode eq firsts - k ≡ suc (most_rounds mode eq firsts - (k + 1)) = omega (arith, within) in
-            let yes : has_any (round_marks mode eq writing start) ≡ true = subst (λ rs. has_any (round_marks mode eq writing rs) ≡ true) so.cites any in
+            let yes : has_any (round_marks mode eq writing.answers start) ≡ true = subst (λ rs. has_any (round_marks mode eq writing.answers rs) ≡ true) so.cites any in
             let table : StateTable E = marked_by mode eq writing start in
             record {
               table = with_marks table so.table;
@@ -161,19 +161,19 @@ pub last-round : {E P : Type 0} (mode : RoundMode) (eq : E → E → Bool) (writ
     (states given : List (Option DisambiguateState)) (marked count total : ℕ) (so : InRounds mode eq writing firsts es old k now states marked count)
     → new ≡ at_table writing (marked_by mode eq writing now) now → AreStatesOf eq es (with_marks (marked_by mode eq writing now) so.table) given
     → total ≡ counted_times (marked_among (entries_cited now) (marked_by mode eq writing now)) count
-    → has_any (round_marks mode eq writing now) ≡ false → AreAfterRounds mode eq writing firsts es old new given marked total
+    → has_any (round_marks mode eq writing.answers now) ≡ false → AreAfterRounds mode eq writing firsts es old new given marked total
 last-round mode eq writing firsts es old k now new states given marked count total so again are more none =
-    let marks : round_marks mode eq writing now ≡ [] = nothing-marked (round_marks mode eq writing now) none in
-    let no : has_any (marks_at mode eq writing firsts so.table) ≡ false = subst (λ rs. has_any (round_marks mode eq writing rs) ≡ false) so.cites none in
+    let marks : round_marks mode eq writing.answers now ≡ [] = nothing-marked (round_marks mode eq writing.answers now) none in
+    let no : has_any (marks_at mode eq writing firsts so.table) ≡ false = subst (λ rs. has_any (round_marks mode eq writing.answers rs) ≡ false) so.cites none in
     let same : InRounds mode eq writing firsts es old k new given marked total = record {
       table = so.table;
       done = so.done;
-      cites = again ∙ sym (empty-round writing eq now (round_marks mode eq writing now) marks) ∙ so.cites;
+      cites = again ∙ sym (empty-round writing eq now (round_marks mode eq writing.answers now) marks) ∙ so.cites;
       all = so.all;
       states_are = subst (λ ms. AreStatesOf eq es (with_marks (mark_of eq now ms) so.table) given) marks are;
       each = so.each;
       marked_is = so.marked_is;
-      counted = more ∙ sym (empty-counted eq es now (round_marks mode eq writing now) marks (entries_cited now) count) ∙ so.counted;
+      counted = more ∙ sym (empty-counted eq es now (round_marks mode eq writing.answers now) marks (entries_cited now) count) ∙ so.counted;
     } in
     done-with mode eq writing firsts es old k new given marked total same (from-no mode eq writing firsts (most_rounds mode eq firsts - k) so.table no) (λ full. no)
 

@@ -57,7 +57,7 @@ module _ {E P : Type 0} (eq : E → E → Bool) (es : List E) (rs : List (CiteRe
 
 -- the parts of a round fit
 module _ {E P : Type 0} (mode : RoundMode) (eq : E → E → Bool) (writing : Writing E P) (table : Table E) (rs : List (CiteRender E P)) (are : AreCitesOfTable eq table rs) where
-  pub round-placed : (places : List (List ℕ)) (count : ℕ) (marks : List Mark) → places ≡ table.places → count ≡ length table.entries → marks ≡ round_marks mode eq writing rs
+  pub round-placed : (places : List (List ℕ)) (count : ℕ) (marks : List Mark) → places ≡ table.places → count ≡ length table.entries → marks ≡ round_marks mode eq writing.answers rs
       → All (λ m. IsPlaced places count m.0) marks
   round-placed places count marks e f m =
       subst (λ ps. All (λ m. IsPlaced ps count m.0) marks) (sym e)
@@ -65,9 +65,9 @@ module _ {E P : Type 0} (mode : RoundMode) (eq : E → E → Bool) (writing : Wr
       (are-placed eq table.entries table.places rs are.placed are.listed marks (subst (λ ms. All (λ m. IsPlace rs m.0) ms) (sym m) (marks-stand rs mode eq writing))))
 
   module _ (laws : IsEquivalence eq) (places : List (List ℕ)) (count : ℕ) (marks : List Mark) (states now : List (Option DisambiguateState)) (e : places ≡ table.places)
-      (n : count ≡ length table.entries) (m : marks ≡ round_marks mode eq writing rs) (s : now ≡ states) (great : AreGreatest places marks count states) where
+      (n : count ≡ length table.entries) (m : marks ≡ round_marks mode eq writing.answers rs) (s : now ≡ states) (great : AreGreatest places marks count states) where
     abbrev all : List Mark
-    all = round_marks mode eq writing rs
+    all = round_marks mode eq writing.answers rs
 
     greatest-now : AreGreatest table.places all (length table.entries) now
     greatest-now =

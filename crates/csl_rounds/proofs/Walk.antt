@@ -45,14 +45,14 @@ module _ (n c s : List Place → List Mark) where
 
 module _ {E P : Type 0} (eq : E → E → Bool) (writing : Writing E P) (rs : List (CiteRender E P)) (dated : Bool) (groups : List (List Place)) (d : dated ≡ shows_dates writing.answers rs)
     (f : groups ≡ ambiguous_groups eq rs) where
-  round-of : (mode : RoundMode) → marks_of (marked_groups eq rs dated mode groups) ≡ round_marks mode eq writing rs
+  round-of : (mode : RoundMode) → marks_of (marked_groups eq rs dated mode groups) ≡ round_marks mode eq writing.answers rs
   unfolding round_marks
   round-of mode = ap (λ b. marks_of (marked_groups eq rs b mode groups)) d ∙ ap (λ gs. marks_of (marked_groups eq rs (shows_dates writing.answers rs) mode gs)) f
 
-  pub three-is : fold (with_group eq dated rs) [] groups ≡ round_marks RoundMode.Three eq writing rs
+  pub three-is : fold (with_group eq dated rs) [] groups ≡ round_marks RoundMode.Three eq writing.answers rs
   three-is = gathered (name_marks rs) (by_choice eq rs) (by_suffix eq rs dated) groups ∙ round-of RoundMode.Three
 
-  pub full-is : fold (with_counting eq dated rs) [] groups ≡ round_marks RoundMode.Full eq writing rs
+  pub full-is : fold (with_counting eq dated rs) [] groups ≡ round_marks RoundMode.Full eq writing.answers rs
   full-is =
       gathered-full (counting rs (name_marks rs)) (counting rs (by_choice eq rs)) (counting rs (by_suffix eq rs dated)) (waits eq rs) [] groups ∙ round-of RoundMode.Full
 

@@ -1,24 +1,24 @@
 -- What holds after the rounds.
 use Rattle.std.specs.Prelude.{◌≡◌, ℕ, ◌-◌, ◌^◌, Bool, false, List, Option, min}
-use Rattle.csl_writers.specs.Writing.{Writing}
 use Rattle.csl_lookup.specs.declared.state.DisambiguateState.{DisambiguateState}
 use Rattle.csl_passes.specs.Renders.{CiteRender}
-use Rattle.csl_round_laws.specs.Rerenders.{AreStatesOf, rerenders}
+use Rattle.csl_round_laws.specs.Rerenders.{AreStatesOf}
 use Rattle.csl_round_laws.specs.RoundMarks.{has_any}
-use Rattle.csl_round_laws.specs.Rounds.{entries_cited}
-use Rattle.csl_round_laws.specs.Tables.{disambiguated, last_states, marks_at, round_tables, rounds}
+use Rattle.csl_round_laws.specs.Tables.{disambiguated, last_states, marks_at, round_tasks, rounds}
 use Rattle.csl_round_laws.specs.declared.mode.RoundMode.{RoundMode}
-use Rattle.csl_writing.specs.Counted.{counted_times}
+use Rattle.csl_writers.specs.Desk.{Desk, after}
+use Rattle.csl_writers.specs.Writing.{Writing}
 
--- so many rounds marked these first renders, and the entries have these states now; of the counter the old
--- value and the new one
-pub record AreAfterRounds {E P : Type 0} (mode : RoundMode) (eq : E → E → Bool) (writing : Writing E P) (firsts : List (CiteRender E P)) (entries : List E) (old : ℕ)
-    (now : List (CiteRender E P)) (states : List (Option DisambiguateState)) (marked count : ℕ) : Type 0 where
+-- so many rounds marked these first renders, and the entries have these states now; of the desk what it was
+-- before and what it is behind
+pub record AreAfterRounds {E P N : Type 0} (mode : RoundMode) (eq : E → E → Bool) (writing : Writing E P)
+    (firsts : List (CiteRender E P)) (entries : List E) (before : Desk E P N)
+    (now : List (CiteRender E P)) (states : List (Option DisambiguateState)) (marked : ℕ)
+    (behind : Desk E P N) : Type 0 where
   pub cites : now ≡ disambiguated mode eq writing firsts
   pub states_are : AreStatesOf eq entries (last_states mode eq writing firsts) states
   pub marked_is : marked ≡ min (rounds mode eq writing firsts) (2 ^ 128 - 1)
-  pub counted : count ≡ counted_times
-      (rerenders (entries_cited firsts) (round_tables mode eq writing firsts)) old
+  pub asked : behind ≡ after (round_tasks mode eq writing firsts) before
   -- in mode full they came to an end: at the last table nothing marks
   pub ended : mode ≡ RoundMode.Full
       → has_any (marks_at mode eq writing firsts (last_states mode eq writing firsts)) ≡ false

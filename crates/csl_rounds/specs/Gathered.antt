@@ -1,16 +1,17 @@
 -- For the code: marks gathered group by group, and put in by the places of entries.
 use Rattle.std.specs.Prelude.{◌≡◌, ◌<◌, ◌||◌, ℕ, Bool, false, List, [], ◌++◌, Option, Some, None, filter, is_some, length, map, nat_eq, slice_index, slice_index_or, if◌then◌else◌}
-use Rattle.std.specs.List.{enumerate_from, list_any}
+use Rattle.std.specs.List.{enumerate_from, flat_map, list_any}
 use Rattle.std.specs.Option.{option_or}
-use Rattle.csl_writers.specs.Writing.{Writing}
 use Rattle.csl_lookup.specs.States.{greater}
 use Rattle.csl_lookup.specs.declared.state.DisambiguateState.{DisambiguateState}
 use Rattle.csl_name_marks.specs.NameMarks.{name_marks}
 use Rattle.csl_passes.specs.Renders.{CiteRender, ItemRender, Place}
 use Rattle.csl_passes.specs.Request.{Request}
 use Rattle.csl_round_laws.specs.RoundMarks.{Mark, all_ways, by_choice, by_suffix, greatest_state, or_others, waits, ways}
-use Rattle.csl_round_laws.specs.Rounds.{with_any}
+use Rattle.csl_round_laws.specs.Rounds.{tasks_with, with_any}
 use Rattle.csl_round_laws.specs.declared.mode.RoundMode.{RoundMode}
+use Rattle.csl_writers.specs.Tasks.{TaskValue}
+use Rattle.csl_writers.specs.Writing.{Writing}
 
 module _ {E P : Type 0} (eq : E → E → Bool) (dated : Bool) (cites : List (CiteRender E P)) where
   -- the marks of the groups so far, and those of one more
@@ -61,10 +62,6 @@ AreMarked places marks old new =
     (p : ℕ) → p < length old → slice_index_or new p false
     ≡ (slice_index_or old p false || list_any (λ m. nat_eq (entry_place places m.0) p) marks)
 
--- how many of these places have a state
-abbrev pub with_states : List (Option DisambiguateState) → List ℕ → ℕ
-with_states states places = length (filter (λ p. is_some (slice_index_or states p None)) places)
-
 -- each member changed by its place
 abbrev pub by_places : {X : Type 0} → (ℕ → X → X) → List X → List X
 by_places change xs = map (λ p. change p.0 p.1) (enumerate_from 0 xs)
@@ -74,13 +71,27 @@ abbrev pub put_before : List (Option DisambiguateState) → List (Option Disambi
     → List (Option DisambiguateState)
 put_before states = by_places (λ p. option_or (slice_index_or states p None))
 
-module _ {E P : Type 0} (writing : Writing E P) (states : List (Option DisambiguateState)) where
-  -- the k-th cite of a request, rendered again where its entry has a state
-  abbrev pub cite_again : Request E P → List ℕ → ℕ → ItemRender E P → ItemRender E P
-  cite_again request places k = with_any writing request (slice_index_or states (slice_index places k) None)
+module _ {E P : Type 0} (states : List (Option DisambiguateState)) where
+  -- the state that the entry of the k-th cite of a request has, by the places of their entries
+  abbrev pub state_at : List ℕ → ℕ → Option DisambiguateState
+  state_at places k = slice_index_or states (slice_index places k) None
 
-  abbrev pub request_again : List ℕ → CiteRender E P → CiteRender E P
-  request_again places c = record c { items = by_places (cite_again c.request places) c.items }
+  -- what is asked for where the cites are rendered again whose entries have states
+  abbrev pub request_tasks : Request E P → List ℕ → List (ItemRender E P) → List (TaskValue E P)
+  request_tasks request places items =
+      flat_map (λ p. tasks_with request (state_at places p.0) p.1) (enumerate_from 0 items)
 
-  abbrev pub document_again : List (List ℕ) → List (CiteRender E P) → List (CiteRender E P)
-  document_again places = by_places (λ r. request_again (slice_index_or places r []))
+  abbrev pub document_tasks : List (List ℕ) → List (CiteRender E P) → List (TaskValue E P)
+  document_tasks places cites = flat_map
+      (λ p. request_tasks p.1.request (slice_index_or places p.0 []) p.1.items) (enumerate_from 0 cites)
+
+  module _ (writing : Writing E P) where
+    -- the k-th cite of a request, rendered again where its entry has a state
+    abbrev pub cite_again : Request E P → List ℕ → ℕ → ItemRender E P → ItemRender E P
+    cite_again request places k = with_any writing request (state_at places k)
+
+    abbrev pub request_again : List ℕ → CiteRender E P → CiteRender E P
+    request_again places c = record c { items = by_places (cite_again c.request places) c.items }
+
+    abbrev pub document_again : List (List ℕ) → List (CiteRender E P) → List (CiteRender E P)
+    document_again places = by_places (λ r. request_again (slice_index_or places r []))

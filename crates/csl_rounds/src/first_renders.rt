@@ -1,14 +1,13 @@
 //! The first renders of cites.
-ghost use Rattle.std.specs.Prelude.{◌≡◌, IfOk, OnOk, length, map};
+ghost use Rattle.std.specs.Prelude.{◌≡◌, ◌∷◌, [], IfOk, OnOk, length, map};
 ghost use Rattle.csl_lookup.specs.PropertiesView.{properties_view};
 ghost use Rattle.csl_passes.specs.RendersView.{item_view, render_view, renders_view};
-ghost use Rattle.csl_passes.specs.Request.{cites_of};
 ghost use Rattle.csl_passes.specs.RequestView.{cite_view, request_view, requests_view};
-ghost use Rattle.csl_round_laws.specs.FirstRenders.{HasShapeOf, first_render, first_renders, first_renders_of, first_written_by, noted};
-ghost use Rattle.csl_writing.specs.Counted.{counted, counted_times};
-ghost use Rattle.csl_writers.specs.Writing.{layout_writing};
+ghost use Rattle.csl_round_laws.specs.FirstRenders.{HasShapeOf, first_render, first_renders, first_renders_of, first_task, first_tasks, first_tasks_of, first_written_by, noted};
+ghost use Rattle.csl_writers.specs.Desk.{after, desk};
+ghost use Rattle.csl_writers.specs.Tasks.{cite_task};
+ghost use Rattle.csl_writers.specs.Writing.{writing_of};
 
-use crate::contexts::request_context;
 use csl_base::entry::EntryLike;
 use csl_lookup::properties::{CiteProperties, SpeculativeCiteProperties};
 use csl_lookup::state::IdentifierUsage;
@@ -16,87 +15,97 @@ use csl_passes::acyclic::{AcyclicRequest, AcyclicRequests};
 use csl_passes::first::FirstProperties;
 use csl_passes::item::CitationItem;
 use csl_passes::renders::{Cites, SpeculativeCiteRender, SpeculativeItemRender};
-use csl_writing::counter::Renders;
-use std::alloc::{AllocError, Global};
+use csl_writers::asking::written_cite;
+use csl_writers::counter::Renders;
+use csl_writers::pushed::push;
+use csl_writers::task::CiteTask;
+use csl_writers::writer::CiteWriter;
+use std::alloc::Global;
 
 /// Renders each cite of each request once, hidden ones too, for its purpose and by what is known of it first:
-/// it has no locator, and nothing tells its entry apart (CSL 1.0.2, disambiguation). `firsts` has a list for
+/// it has no locator, and nothing disambiguates its entry (CSL 1.0.2, disambiguation). `firsts` has a list for
 /// each request, as long as the request's items. Each rendering is counted.
 ///
 /// # Errors
-/// Where memory is refused.
-pub fn first_renders<'r, 'a, T: EntryLike, P: Drop>(
+/// The writer's; a want of memory among others.
+pub fn first_renders<'r, 'a, T: EntryLike, P: Drop, W: CiteWriter<T, P>>(
     alloc: Global,
     requests: AcyclicRequests<'r, 'a, T, P>,
     firsts: &[Vec<FirstProperties>],
+    writer: &mut W,
     counter: &mut Renders,
-) -> Result<Cites<'r, 'a, T, P>, AllocError>
+) -> Result<Cites<'r, 'a, T, P>, W::Error>
     requires shape { HasShapeOf (requests_view requests.requests.now) (map (λ f. f.items) firsts.now) }
     ensures cites { IfOk result (λ c. renders_view c.by_request.items
-        ≡ first_renders (layout_writing T.answers) (requests_view requests.entry.requests.now)
+        ≡ first_renders (writing_of T.answers (W.state writer.old)) (requests_view requests.entry.requests.now)
         (map (λ f. f.items) firsts.now)) }
-    ensures counted { OnOk result (counter.new
-        ≡ counted_times (length (cites_of (requests_view requests.entry.requests.now))) counter.old) }
+    ensures asked { OnOk result (desk (W.state writer.new) counter.new
+        ≡ after (first_tasks (requests_view requests.entry.requests.now) (map (λ f. f.items) firsts.now))
+        (desk (W.state writer.old) counter.old)) }
 {
     let mut cites = Cites::with_capacity(alloc, firsts.len())?;
     for (k, of_request) in firsts.iter().enumerate() {
-        let rendered = first_renders_of(alloc, requests.at(k), of_request, counter)?;
+        let rendered = first_renders_of(alloc, requests.at(k), of_request, writer, counter)?;
         cites.push(rendered)?;
     }
     Ok(cites)
 }
 
 /// The cites of a request as they are rendered first.
-fn first_renders_of<'r, 'a, T: EntryLike, P: Drop>(
+fn first_renders_of<'r, 'a, T: EntryLike, P: Drop, W: CiteWriter<T, P>>(
     alloc: Global,
     request: AcyclicRequest<'r, 'a, T, P>,
     firsts: &[FirstProperties],
+    writer: &mut W,
     counter: &mut Renders,
-) -> Result<SpeculativeCiteRender<'r, 'a, T, P>, AllocError>
+) -> Result<SpeculativeCiteRender<'r, 'a, T, P>, W::Error>
     requires shape { length firsts.now ≡ length (request_view request.request.now).cites }
     ensures cites { IfOk result (λ c. render_view c
-        ≡ first_renders_of (layout_writing T.answers) (request_view request.entry.request.now) firsts.now) }
-    ensures counted { OnOk result (counter.new
-        ≡ counted_times (length (request_view request.entry.request.now).cites) counter.old) }
+        ≡ first_renders_of (writing_of T.answers (W.state writer.old)) (request_view request.entry.request.now)
+        firsts.now) }
+    ensures asked { OnOk result (desk (W.state writer.new) counter.new
+        ≡ after (first_tasks_of (request_view request.entry.request.now) firsts.now)
+        (desk (W.state writer.old) counter.old)) }
 {
     let mut cites = SpeculativeCiteRender {
         items: Vec::with_capacity(alloc, firsts.len())?,
         request: request.request,
     };
     for (k, item) in request.request.items.iter().enumerate() {
-        cites
-            .items
-            .push(first_render(alloc, request, item, firsts[k], counter)?)?;
+        let cite = first_render(alloc, request, item, firsts[k], writer, counter)?;
+        push(&mut cites.items, cite)?;
     }
     Ok(cites)
 }
 
 /// A cite as it is rendered first.
-fn first_render<'a, T: EntryLike, P: Drop>(
+fn first_render<'a, T: EntryLike, P: Drop, W: CiteWriter<T, P>>(
     alloc: Global,
     request: AcyclicRequest<'_, 'a, T, P>,
     item: &CitationItem<'a, T, P>,
     first: FirstProperties,
+    writer: &mut W,
     counter: &mut Renders,
-) -> Result<SpeculativeItemRender<'a, T, P>, AllocError>
+) -> Result<SpeculativeItemRender<'a, T, P>, W::Error>
     ensures cite { IfOk result (λ i. item_view i
-        ≡ first_render (layout_writing T.answers) (request_view request.entry.request.now) (cite_view item.now) first) }
-    ensures counted { OnOk result (counter.new ≡ counted counter.old) }
+        ≡ first_render (writing_of T.answers (W.state writer.old)) (request_view request.entry.request.now)
+        (cite_view item.now) first) }
+    ensures asked { OnOk result (desk (W.state writer.new) counter.new
+        ≡ after (cite_task (first_task (request_view request.entry.request.now) (cite_view item.now) first) ∷ [])
+        (desk (W.state writer.old) counter.old)) }
 {
     let locator = item.locator.clone()?;
     let locale = item.locale.clone()?;
     let cite_props = first_written_by(first);
-    let request = request.request;
-    let cite = request_context(request).do_citation(
-        alloc,
-        item.entry,
-        &cite_props,
-        item.locale.as_ref(),
-        request.locale.as_ref(),
-        item.purpose,
-        None,
-        counter,
-    )?;
+    let task = CiteTask {
+        source: request.source(),
+        entry: item.entry,
+        properties: &cite_props,
+        purpose: item.purpose,
+        verdict: None,
+        place: None,
+    };
+    let cite = written_cite(alloc, task, writer, counter)?;
     Ok(SpeculativeItemRender {
         rendered: cite.children,
         entry: item.entry,

@@ -1,7 +1,6 @@
 //! The first renders of cites, and the rounds in which cites that read alike are disambiguated.
 #![tactic(auto)]
 
-pub mod contexts;
 mod counting;
 pub mod first_renders;
 mod marks;

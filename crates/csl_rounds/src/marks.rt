@@ -7,7 +7,6 @@ ghost use Rattle.csl_rounds.specs.CitesOfTable.{AreCitesOfTable, IsGroupOf};
 ghost use Rattle.csl_rounds.specs.Gathered.{counting_ways, with_group};
 ghost use Rattle.csl_round_laws.specs.RoundMarks.{round_marks};
 ghost use Rattle.csl_round_laws.specs.declared.mode.RoundMode.{RoundMode};
-ghost use Rattle.csl_writers.specs.Writing.{layout_writing};
 
 use crate::counting::{counting, none_marked, note, waits};
 use csl_ambiguity::ambiguity::find_ambiguous_sets;
@@ -28,7 +27,7 @@ pub(crate) fn round_marks<'a, T: EntryLike, P>(
     mode: RoundMode,
 ) -> Result<Marks, AllocError>
     requires cites { AreCitesOfTable T.eq (table_view table.now) (renders_view cites.now) }
-    ensures { IfOk result (λ v. v.items ≡ round_marks mode T.eq (layout_writing T.answers) (renders_view cites.now)) }
+    ensures { IfOk result (λ v. v.items ≡ round_marks mode T.eq T.answers (renders_view cites.now)) }
 {
     match mode {
         RoundMode::Three => marks_of_three(alloc, cites),
@@ -44,7 +43,7 @@ fn marks_of_three<T: EntryLike, P>(
     cites: &[SpeculativeCiteRender<'_, '_, T, P>],
 ) -> Result<Marks, AllocError>
     ensures { IfOk result (λ v. v.items
-        ≡ round_marks RoundMode.Three T.eq (layout_writing T.answers) (renders_view cites.now)) }
+        ≡ round_marks RoundMode.Three T.eq T.answers (renders_view cites.now)) }
 {
     let dated = shows_dates(cites);
     let groups = find_ambiguous_sets(alloc, cites)?;
@@ -87,7 +86,7 @@ fn marks_of_full<'a, T: EntryLike, P>(
 ) -> Result<Marks, AllocError>
     requires cites { AreCitesOfTable T.eq (table_view table.now) (renders_view cites.now) }
     ensures { IfOk result (λ v. v.items
-        ≡ round_marks RoundMode.Full T.eq (layout_writing T.answers) (renders_view cites.now)) }
+        ≡ round_marks RoundMode.Full T.eq T.answers (renders_view cites.now)) }
 {
     let dated = shows_dates(cites);
     let groups = find_ambiguous_sets(alloc, cites)?;

@@ -5,12 +5,12 @@ ghost use Rattle.csl_passes.specs.RendersView.{renders_view};
 ghost use Rattle.csl_rounds.specs.AfterRounds.{AreAfterRounds};
 ghost use Rattle.csl_rounds.specs.CitesOfTable.{AreCitesOfTable};
 ghost use Rattle.csl_round_laws.specs.FirstRenders.{AreBegun};
-ghost use Rattle.csl_round_laws.specs.Rerenders.{AreStatesOf, marked_among};
+ghost use Rattle.csl_round_laws.specs.Rerenders.{AreStatesOf};
 ghost use Rattle.csl_round_laws.specs.RoundMarks.{has_any, round_marks};
-ghost use Rattle.csl_round_laws.specs.Rounds.{StateTable, at_table, entries_cited, marked_by, with_marks};
+ghost use Rattle.csl_round_laws.specs.Rounds.{StateTable, again_tasks, at_table, marked_by, with_marks};
 ghost use Rattle.csl_round_laws.specs.declared.mode.RoundMode.{RoundMode};
-ghost use Rattle.csl_writing.specs.Counted.{counted_times};
-ghost use Rattle.csl_writers.specs.Writing.{layout_writing};
+ghost use Rattle.csl_writers.specs.Desk.{after, desk};
+ghost use Rattle.csl_writers.specs.Writing.{writing_of};
 
 use crate::marks::round_marks;
 use crate::rerender::render_marked;
@@ -20,8 +20,9 @@ use csl_entries::table::EntryTable;
 use csl_lookup::state::DisambiguateState;
 use csl_passes::renders::SpeculativeCiteRender;
 use csl_round_laws::mode::RoundMode;
-use csl_writing::counter::Renders;
-use std::alloc::{AllocError, Global};
+use csl_writers::counter::Renders;
+use csl_writers::writer::CiteWriter;
+use std::alloc::Global;
 
 /// What the rounds did.
 #[derive(Drop)]
@@ -33,7 +34,7 @@ pub struct Rounds {
     pub states: Vec<Option<DisambiguateState>>,
 }
 
-/// Tells cites apart that read alike and cite different entries (CSL 1.0.2, disambiguation), in rounds.
+/// Disambiguates cites that read alike and cite different entries (CSL 1.0.2, disambiguation), in rounds.
 ///
 /// In mode three there are three rounds at most. Each ambiguous group is marked by names. The first group
 /// that can be marked in any way gets, where it has no marks by names, choose marks, or suffixes where it
@@ -51,37 +52,39 @@ pub struct Rounds {
 ///
 /// # Errors
 ///
-/// Where memory is refused. Then the cites are of no further use.
-pub fn disambiguate<'a, T: EntryLike, P>(
+/// The writer's; a want of memory among others. Then the cites are of no further use.
+pub fn disambiguate<'a, T: EntryLike, P, W: CiteWriter<T, P>>(
     alloc: Global,
     cites: &mut [SpeculativeCiteRender<'_, 'a, T, P>],
     table: &EntryTable<'a, T>,
     mode: RoundMode,
+    writer: &mut W,
     counter: &mut Renders,
-) -> Result<Rounds, AllocError>
+) -> Result<Rounds, W::Error>
     requires cites { AreCitesOfTable T.eq (table_view table.now) (renders_view cites.old) }
     requires begun { mode ≡ RoundMode.Full → AreBegun (renders_view cites.old) }
-    ensures { IfOk result (λ r. AreAfterRounds mode T.eq (layout_writing T.answers) (renders_view cites.old)
-        (table_view table.now).entries counter.old
-        (renders_view cites.new) r.states.items r.marked counter.new) }
+    ensures { IfOk result (λ r. AreAfterRounds mode T.eq (writing_of T.answers (W.state writer.old))
+        (renders_view cites.old) (table_view table.now).entries (desk (W.state writer.old) counter.old)
+        (renders_view cites.new) r.states.items r.marked (desk (W.state writer.new) counter.new)) }
 {
     match mode {
-        RoundMode::Three => three_rounds(alloc, cites, table, counter),
-        RoundMode::Full => all_rounds(alloc, cites, table, counter),
+        RoundMode::Three => three_rounds(alloc, cites, table, writer, counter),
+        RoundMode::Full => all_rounds(alloc, cites, table, writer, counter),
     }
 }
 
 /// At most three rounds. One without marks is the last.
-fn three_rounds<'a, T: EntryLike, P>(
+fn three_rounds<'a, T: EntryLike, P, W: CiteWriter<T, P>>(
     alloc: Global,
     cites: &mut [SpeculativeCiteRender<'_, 'a, T, P>],
     table: &EntryTable<'a, T>,
+    writer: &mut W,
     counter: &mut Renders,
-) -> Result<Rounds, AllocError>
+) -> Result<Rounds, W::Error>
     requires cites { AreCitesOfTable T.eq (table_view table.now) (renders_view cites.old) }
-    ensures { IfOk result (λ r. AreAfterRounds RoundMode.Three T.eq (layout_writing T.answers) (renders_view cites.old)
-        (table_view table.now).entries counter.old
-        (renders_view cites.new) r.states.items r.marked counter.new) }
+    ensures { IfOk result (λ r. AreAfterRounds RoundMode.Three T.eq (writing_of T.answers (W.state writer.old))
+        (renders_view cites.old) (table_view table.now).entries (desk (W.state writer.old) counter.old)
+        (renders_view cites.new) r.states.items r.marked (desk (W.state writer.new) counter.new)) }
 {
     let mut rounds = Rounds {
         marked: 0,
@@ -94,6 +97,7 @@ fn three_rounds<'a, T: EntryLike, P>(
             table,
             RoundMode::Three,
             &mut rounds.states,
+            writer,
             counter,
         )? {
             return Ok(rounds);
@@ -104,17 +108,18 @@ fn three_rounds<'a, T: EntryLike, P>(
 }
 
 /// Rounds until one has no marks that count.
-fn all_rounds<'a, T: EntryLike, P>(
+fn all_rounds<'a, T: EntryLike, P, W: CiteWriter<T, P>>(
     alloc: Global,
     cites: &mut [SpeculativeCiteRender<'_, 'a, T, P>],
     table: &EntryTable<'a, T>,
+    writer: &mut W,
     counter: &mut Renders,
-) -> Result<Rounds, AllocError>
+) -> Result<Rounds, W::Error>
     requires cites { AreCitesOfTable T.eq (table_view table.now) (renders_view cites.old) }
     requires begun { AreBegun (renders_view cites.old) }
-    ensures { IfOk result (λ r. AreAfterRounds RoundMode.Full T.eq (layout_writing T.answers) (renders_view cites.old)
-        (table_view table.now).entries counter.old
-        (renders_view cites.new) r.states.items r.marked counter.new) }
+    ensures { IfOk result (λ r. AreAfterRounds RoundMode.Full T.eq (writing_of T.answers (W.state writer.old))
+        (renders_view cites.old) (table_view table.now).entries (desk (W.state writer.old) counter.old)
+        (renders_view cites.new) r.states.items r.marked (desk (W.state writer.new) counter.new)) }
 {
     let mut rounds = Rounds {
         marked: 0,
@@ -126,6 +131,7 @@ fn all_rounds<'a, T: EntryLike, P>(
         table,
         RoundMode::Full,
         &mut rounds.states,
+        writer,
         counter,
     )? {
         rounds.marked = rounds.marked.saturating_add(1);
@@ -135,35 +141,36 @@ fn all_rounds<'a, T: EntryLike, P>(
 
 /// One round: the cites whose entries get marks are rendered again with these, which are their states from
 /// now on. Whether there were any.
-fn run_round<'a, T: EntryLike, P>(
+fn run_round<'a, T: EntryLike, P, W: CiteWriter<T, P>>(
     alloc: Global,
     cites: &mut [SpeculativeCiteRender<'_, 'a, T, P>],
     table: &EntryTable<'a, T>,
     mode: RoundMode,
     states: &mut [Option<DisambiguateState>],
+    writer: &mut W,
     counter: &mut Renders,
-) -> Result<bool, AllocError>
+) -> Result<bool, W::Error>
     requires cites { AreCitesOfTable T.eq (table_view table.now) (renders_view cites.old) }
     requires long { length states.old ≡ length (table_view table.now).entries }
     ensures again { IfOk result (λ again. again
-        ≡ has_any (round_marks mode T.eq (layout_writing T.answers) (renders_view cites.old))) }
+        ≡ has_any (round_marks mode T.eq T.answers (renders_view cites.old))) }
     ensures marked { OnOk result (renders_view cites.new
-        ≡ at_table (layout_writing T.answers) (marked_by mode T.eq (layout_writing T.answers) (renders_view cites.old))
+        ≡ at_table (writing_of T.answers (W.state writer.old)) (marked_by mode T.eq (writing_of T.answers (W.state writer.old)) (renders_view cites.old))
         (renders_view cites.old)) }
     ensures states { OnOk result ((known : StateTable T)
         → AreStatesOf T.eq (table_view table.now).entries known states.old
         → AreStatesOf T.eq (table_view table.now).entries
-        (with_marks (marked_by mode T.eq (layout_writing T.answers) (renders_view cites.old)) known) states.new) }
-    ensures counted { OnOk result (counter.new
-        ≡ counted_times (marked_among (entries_cited (renders_view cites.old))
-        (marked_by mode T.eq (layout_writing T.answers) (renders_view cites.old))) counter.old) }
+        (with_marks (marked_by mode T.eq (writing_of T.answers (W.state writer.old)) (renders_view cites.old)) known) states.new) }
+    ensures asked { OnOk result (desk (W.state writer.new) counter.new
+        ≡ after (again_tasks (marked_by mode T.eq (writing_of T.answers (W.state writer.old)) (renders_view cites.old))
+        (renders_view cites.old)) (desk (W.state writer.old) counter.old)) }
 {
     let marks = round_marks(alloc, cites, table, mode)?;
     if marks.is_empty() {
         return Ok(false);
     }
     let marked = greatest_marks(alloc, table.places(), table.len(), marks)?;
-    render_marked(alloc, cites, table, &marked, counter)?;
+    render_marked(alloc, cites, table, &marked, writer, counter)?;
     put_before(&marked, states)?;
     Ok(true)
 }

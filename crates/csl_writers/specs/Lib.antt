@@ -1,1 +1,5 @@
+pub mod Counted
+pub mod Tasks
+pub mod TaskView
 pub mod Writing
+pub mod Desk

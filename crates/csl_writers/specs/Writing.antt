@@ -1,29 +1,42 @@
 -- What is written of the entries of a document.
-use Rattle.std.specs.Prelude.{List, Option}
+use Rattle.std.specs.Prelude.{◌≡◌, List, [], ◌∷◌, Option}
 use Rattle.csl_base.specs.Answers.{Answers}
 use Rattle.csl_base.specs.Child.{Child}
-use Rattle.csl_lookup.specs.Lookup.{Source}
-use Rattle.csl_lookup.specs.Properties.{Properties}
-use Rattle.csl_lookup.specs.declared.purpose.CitePurpose.{CitePurpose}
-use Rattle.csl_lookup.specs.declared.state.CollapseVerdict.{CollapseVerdict}
-use Rattle.csl_writing.specs.CiteText.{bibliography_text, cite, date_text}
-use Rattle.csl_writing.specs.declared.cite.Cite.{Cite}
+use Rattle.csl_writers.specs.Tasks.{CiteTaskValue, DateTaskValue, ItemTaskValue, TaskValue}
+use Rattle.csl_writers.specs.declared.cite.Cite.{Cite}
 
--- what is known of entries, and what is written of them in a style with its locales
+-- what is known of entries, and what is written of them
 pub record Writing (E P : Type 0) : Type 0 where
   pub answers : E → Answers
-  -- a cite, by what holds of it, for its purpose and as its verdict cuts it
-  pub cite : Source → E → Properties P → Option CitePurpose → Option CollapseVerdict → Cite
-  -- an item of the bibliography, where the style has one
-  pub item : Source → E → Properties P → Option (List Child)
-  -- a date, where a cite is of the year alone
-  pub date : Source → E → List Child
+  pub cite : CiteTaskValue E P → Cite
+  -- where the style has a bibliography
+  pub item : ItemTaskValue E P → Option (List Child)
+  pub date : DateTaskValue E → List Child
 
--- what the layouts of styles write
-abbrev pub layout_writing : {E P : Type 0} → (E → Answers) → Writing E P
-layout_writing answers = record {
-  answers = answers;
-  cite = λ source e. cite source (answers e);
-  item = λ source e. bibliography_text source (answers e);
-  date = λ source e. date_text source (answers e);
-}
+-- a writer: what it writes, what it notes where it is asked for something, and its notes
+pub record WriterState (E P N : Type 0) : Type 0 where
+  pub cite : CiteTaskValue E P → Cite
+  pub item : ItemTaskValue E P → Option (List Child)
+  pub date : DateTaskValue E → List Child
+  pub noting : TaskValue E P → List N → List N
+  pub notes : List N
+
+-- the notes once all this was asked for, one after another
+abbrev pub noted_all : {A N : Type 0} → (A → List N → List N) → List A → List N → List N
+noted_all noting [] notes = notes
+noted_all noting (task ∷ tasks) notes = noted_all noting tasks (noting task notes)
+
+module _ {E P N : Type 0} where
+  -- the writer once it was asked for all this: only its notes have changed
+  abbrev pub asked_for : List (TaskValue E P) → WriterState E P N → WriterState E P N
+  asked_for tasks w = record w { notes = noted_all w.noting tasks w.notes }
+
+  -- what the writer writes of entries that answer so
+  abbrev pub writing_of : (E → Answers) → WriterState E P N → Writing E P
+  writing_of answers w = record { answers = answers; cite = w.cite; item = w.item; date = w.date }
+
+  -- two entries are written alike, whatever else is asked for
+  pub record AreWrittenEqually (w : WriterState E P N) (a b : E) : Type 0 where
+    pub cite : (t : CiteTaskValue E P) → w.cite (record t { entry = a }) ≡ w.cite (record t { entry = b })
+    pub item : (t : ItemTaskValue E P) → w.item (record t { entry = a }) ≡ w.item (record t { entry = b })
+    pub date : (t : DateTaskValue E) → w.date (record t { entry = a }) ≡ w.date (record t { entry = b })

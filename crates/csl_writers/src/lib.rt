@@ -1,2 +1,9 @@
-//! What a writer writes of cites, items and dates.
+//! Who writes cites: what a driver asks of a writer, and what it may rely on.
 #![tactic(auto)]
+
+pub mod asking;
+pub mod cite;
+pub mod counter;
+pub mod pushed;
+pub mod task;
+pub mod writer;

@@ -6,4 +6,3 @@ pub mod PlanSteps
 pub mod CiteSteps
 pub mod ItemSteps
 pub mod KeptHeights
-pub mod Counting

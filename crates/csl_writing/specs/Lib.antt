@@ -2,7 +2,6 @@ pub mod ContextSource
 pub mod PartsWritten
 pub mod PieceRun
 pub mod OpenNodes
-pub mod Counted
 pub mod Subject
 pub mod Sections
 pub mod Plans

@@ -1,0 +1,2 @@
+pub mod TasksDone
+pub mod Counting

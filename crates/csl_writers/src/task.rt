@@ -1,0 +1,40 @@
+//! What a writer is asked to write.
+ghost use Rattle.csl_base.specs.Ring.{HasNoRing};
+ghost use Rattle.csl_lookup.specs.SourceView.{source_view};
+
+use csl_lookup::lookup::StyleLocales;
+use csl_lookup::properties::CiteProperties;
+use csl_lookup::purpose::CitePurpose;
+use csl_lookup::state::CollapseVerdict;
+
+/// A cite: of an entry, in a style with its locales, by what is known of the cite.
+///
+/// Cites that are rendered to be compared have no place; a cite that is written for the last time has
+/// the index of its request and, behind it, its own in the items of that request, both from 0.
+pub struct CiteTask<'t, 'p, T, P> {
+    pub source: StyleLocales<'t>,
+    pub entry: &'t T,
+    pub properties: &'t CiteProperties<'p, P>,
+    pub purpose: Option<CitePurpose>,
+    pub verdict: Option<CollapseVerdict>,
+    pub place: Option<(usize, usize)>,
+    pub ghost no_ring: { HasNoRing (source_view source).style.macros },
+}
+
+/// An item of the bibliography, by what is known of the first cite of its entry, which has no locator
+/// here.
+pub struct ItemTask<'t, 'p, T, P> {
+    pub source: StyleLocales<'t>,
+    pub entry: &'t T,
+    pub properties: &'t CiteProperties<'p, P>,
+    pub ghost no_ring: { HasNoRing (source_view source).style.macros },
+}
+
+/// The date of an entry, in place of a cite that is for the year alone. It is written for the last time,
+/// at this place.
+pub struct DateTask<'t, T> {
+    pub source: StyleLocales<'t>,
+    pub entry: &'t T,
+    pub place: Option<(usize, usize)>,
+    pub ghost no_ring: { HasNoRing (source_view source).style.macros },
+}

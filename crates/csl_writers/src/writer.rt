@@ -1,0 +1,76 @@
+//! A writer of cites.
+use crate::cite::Cite;
+use crate::task::{CiteTask, DateTask, ItemTask};
+use csl_base::elem::ElemChildren;
+use csl_base::entry::EntryLike;
+use std::alloc::{AllocError, Global};
+
+/// Writes cites, items of the bibliography and dates for a driver.
+///
+/// What it writes follows from what it is asked for, however often and in whichever order it is asked,
+/// and equal entries are written equally. All that being asked may change is what the writer notes of it.
+///
+/// A driver reads these parts of a tree: its plain text, by which cites are compared; the elements that
+/// stand for names, with their persons; and whether there are elements that stand for a date, for the
+/// number of the entry or for its label. A writer that marks no names is neither grouped nor disambiguated
+/// by names; without dates no suffixes are added and no years collapsed, and without numbers no runs.
+pub trait CiteWriter<T: EntryLike, P> {
+    ghost use Rattle.std.specs.Prelude.{◌≡◌, ◌∷◌, [], true, IfOk, OnOk};
+    ghost use Rattle.csl_writers.specs.Writing.{AreWrittenEqually, WriterState, asked_for, writing_of};
+    ghost use Rattle.csl_writers.specs.Tasks.{cite_task, date_task, item_task};
+    ghost use Rattle.csl_writers.specs.TaskView.{cite_task_view, date_task_view, item_task_view};
+
+    /// Why it may write nothing; a want of memory among others.
+    type Error: From<AllocError> + Drop;
+
+    /// What it notes where it is asked for something.
+    type Note;
+
+    /// What it writes, and its notes.
+    ghost state: { Self → WriterState T P Self.Note };
+
+    /// Writes a cite.
+    ///
+    /// # Errors
+    ///
+    /// The writer's own.
+    fn write_cite(
+        &mut self,
+        alloc: Global,
+        task: CiteTask<'_, '_, T, P>,
+    ) -> Result<Cite, Self::Error>
+        ensures cite { IfOk result (λ c. c ≡ (state self.old).cite (cite_task_view task.entry)) }
+        ensures asked { OnOk result
+            (state self.new ≡ asked_for (cite_task (cite_task_view task.entry) ∷ []) (state self.old)) };
+
+    /// Writes an item of the bibliography; `None` where its style has none.
+    ///
+    /// # Errors
+    ///
+    /// The writer's own.
+    fn write_item(
+        &mut self,
+        alloc: Global,
+        task: ItemTask<'_, '_, T, P>,
+    ) -> Result<Option<ElemChildren>, Self::Error>
+        ensures item { IfOk result (λ i. i ≡ (state self.old).item (item_task_view task.entry)) }
+        ensures asked { OnOk result
+            (state self.new ≡ asked_for (item_task (item_task_view task.entry) ∷ []) (state self.old)) };
+
+    /// Writes a date.
+    ///
+    /// # Errors
+    ///
+    /// The writer's own.
+    fn write_date(
+        &mut self,
+        alloc: Global,
+        task: DateTask<'_, T>,
+    ) -> Result<ElemChildren, Self::Error>
+        ensures date { IfOk result (λ d. d ≡ (state self.old).date (date_task_view task.entry)) }
+        ensures asked { OnOk result
+            (state self.new ≡ asked_for (date_task (date_task_view task.entry) ∷ []) (state self.old)) };
+
+    ghost equal_written_equally: { (w : Self) (a : T) (b : T) → T.eq a b ≡ true
+        → AreWrittenEqually (state w) a b };
+}
