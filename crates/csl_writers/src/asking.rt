@@ -28,7 +28,7 @@ pub fn written_cite<T: EntryLike, P, W: CiteWriter<T, P>>(
         ≡ after (cite_task (cite_task_view task.entry) ∷ []) (desk (W.state writer.old) counter.old)) }
 {
     counter.add_one();
-    writer.write_cite(alloc, task)
+    writer.write_cite(alloc, &task)
 }
 
 /// An item of the bibliography as the writer writes it.
@@ -47,7 +47,7 @@ pub fn written_item<T: EntryLike, P, W: CiteWriter<T, P>>(
         ≡ after (item_task (item_task_view task.entry) ∷ []) (desk (W.state writer.old) counter.old)) }
 {
     counter.add_one();
-    writer.write_item(alloc, task)
+    writer.write_item(alloc, &task)
 }
 
 /// A date as the writer writes it.
@@ -66,5 +66,5 @@ pub fn written_date<T: EntryLike, P, W: CiteWriter<T, P>>(
         ≡ after (date_task (date_task_view task.entry) ∷ []) (desk (W.state writer.old) counter.old)) }
 {
     counter.add_one();
-    writer.write_date(alloc, task)
+    writer.write_date(alloc, &task)
 }

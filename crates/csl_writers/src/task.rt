@@ -1,4 +1,5 @@
 //! What a writer is asked to write.
+ghost use Rattle.std.specs.Prelude.{◌≡◌, ⊤};
 ghost use Rattle.csl_base.specs.Ring.{HasNoRing};
 ghost use Rattle.csl_lookup.specs.SourceView.{source_view};
 
@@ -6,6 +7,7 @@ use csl_lookup::lookup::StyleLocales;
 use csl_lookup::properties::CiteProperties;
 use csl_lookup::purpose::CitePurpose;
 use csl_lookup::state::CollapseVerdict;
+use std::alloc::AllocError;
 
 /// A cite: of an entry, in a style with its locales, by what is known of the cite.
 ///
@@ -38,3 +40,39 @@ pub struct DateTask<'t, T> {
     pub place: Option<(usize, usize)>,
     pub ghost no_ring: { HasNoRing (source_view source).style.macros },
 }
+
+impl<'t, 'p, T, P> Clone for CiteTask<'t, 'p, T, P> {
+    ghost is_clone = { λ s r. r ≡ s };
+
+    ghost is_infallible = { λ _. ⊤ };
+
+    fn clone(&self) -> Result<CiteTask<'t, 'p, T, P>, AllocError> {
+        Ok(*self)
+    }
+}
+
+impl<'t, 'p, T, P> Copy for CiteTask<'t, 'p, T, P> {}
+
+impl<'t, 'p, T, P> Clone for ItemTask<'t, 'p, T, P> {
+    ghost is_clone = { λ s r. r ≡ s };
+
+    ghost is_infallible = { λ _. ⊤ };
+
+    fn clone(&self) -> Result<ItemTask<'t, 'p, T, P>, AllocError> {
+        Ok(*self)
+    }
+}
+
+impl<'t, 'p, T, P> Copy for ItemTask<'t, 'p, T, P> {}
+
+impl<'t, T> Clone for DateTask<'t, T> {
+    ghost is_clone = { λ s r. r ≡ s };
+
+    ghost is_infallible = { λ _. ⊤ };
+
+    fn clone(&self) -> Result<DateTask<'t, T>, AllocError> {
+        Ok(*self)
+    }
+}
+
+impl<'t, T> Copy for DateTask<'t, T> {}

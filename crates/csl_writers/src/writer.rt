@@ -37,11 +37,11 @@ pub trait CiteWriter<T: EntryLike, P> {
     fn write_cite(
         &mut self,
         alloc: Global,
-        task: CiteTask<'_, '_, T, P>,
+        task: &CiteTask<'_, '_, T, P>,
     ) -> Result<Cite, Self::Error>
-        ensures cite { IfOk result (λ c. c ≡ (state self.old).cite (cite_task_view task.entry)) }
+        ensures cite { IfOk result (λ c. c ≡ (state self.old).cite (cite_task_view task.now)) }
         ensures asked { OnOk result
-            (state self.new ≡ asked_for (cite_task (cite_task_view task.entry) ∷ []) (state self.old)) };
+            (state self.new ≡ asked_for (cite_task (cite_task_view task.now) ∷ []) (state self.old)) };
 
     /// Writes an item of the bibliography; `None` where its style has none.
     ///
@@ -51,11 +51,11 @@ pub trait CiteWriter<T: EntryLike, P> {
     fn write_item(
         &mut self,
         alloc: Global,
-        task: ItemTask<'_, '_, T, P>,
+        task: &ItemTask<'_, '_, T, P>,
     ) -> Result<Option<ElemChildren>, Self::Error>
-        ensures item { IfOk result (λ i. i ≡ (state self.old).item (item_task_view task.entry)) }
+        ensures item { IfOk result (λ i. i ≡ (state self.old).item (item_task_view task.now)) }
         ensures asked { OnOk result
-            (state self.new ≡ asked_for (item_task (item_task_view task.entry) ∷ []) (state self.old)) };
+            (state self.new ≡ asked_for (item_task (item_task_view task.now) ∷ []) (state self.old)) };
 
     /// Writes a date.
     ///
@@ -65,11 +65,11 @@ pub trait CiteWriter<T: EntryLike, P> {
     fn write_date(
         &mut self,
         alloc: Global,
-        task: DateTask<'_, T>,
+        task: &DateTask<'_, T>,
     ) -> Result<ElemChildren, Self::Error>
-        ensures date { IfOk result (λ d. d ≡ (state self.old).date (date_task_view task.entry)) }
+        ensures date { IfOk result (λ d. d ≡ (state self.old).date (date_task_view task.now)) }
         ensures asked { OnOk result
-            (state self.new ≡ asked_for (date_task (date_task_view task.entry) ∷ []) (state self.old)) };
+            (state self.new ≡ asked_for (date_task (date_task_view task.now) ∷ []) (state self.old)) };
 
     ghost equal_written_equally: { (w : Self) (a : T) (b : T) → T.eq a b ≡ true
         → AreWrittenEqually (state w) a b };

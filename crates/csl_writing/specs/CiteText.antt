@@ -4,7 +4,7 @@ use Rattle.csl_base.specs.Answers.{Answers}
 use Rattle.csl_base.specs.Child.{Child}
 use Rattle.csl_base.specs.Element.{Affix}
 use Rattle.csl_base.specs.Style.{StyleValue, LayoutValue, BibliographyValue}
-use Rattle.csl_writing.specs.declared.cite.Cite.{Cite}
+use Rattle.csl_writers.specs.declared.cite.Cite.{Cite}
 use Rattle.csl_picking.specs.declared.notes.Form.{Form}
 use Rattle.csl_lookup.specs.declared.purpose.CitePurpose.{CitePurpose}
 use Rattle.csl_lookup.specs.declared.state.CollapseVerdict.{CollapseVerdict}

@@ -11,3 +11,4 @@ pub mod SubjectView
 pub mod SectionView
 pub mod StepsWritten
 pub mod CiteText
+pub mod LayoutWriting

@@ -6,11 +6,11 @@
 pub use csl_context::{context, token, writing};
 pub use csl_lookup::{brackets, laws, locator, properties, purpose, state, year};
 pub use csl_styles::{sound, terms};
+pub use csl_writers::{cite, counter};
 
-pub mod cite;
-pub mod counter;
 mod date;
 mod first_field;
+pub mod layout_writer;
 pub mod lookup;
 mod open_node;
 mod parts;
@@ -18,4 +18,5 @@ pub mod picking;
 mod purposes;
 mod render;
 mod section;
+mod spare;
 mod subject;

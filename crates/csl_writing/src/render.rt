@@ -3,7 +3,7 @@ ghost use Rattle.std.specs.Prelude.{◌≡◌, ◌&&◌, IfOk, is_some};
 ghost use Rattle.csl_base.specs.Ring.{HasNoRing};
 ghost use Rattle.csl_base.specs.StyleView.{bibliography_view, style_view};
 ghost use Rattle.csl_writing.specs.CiteText as rendered;
-ghost use Rattle.csl_writing.specs.Counted.{counted};
+ghost use Rattle.csl_writers.specs.Counted.{counted};
 ghost use Rattle.csl_lookup.specs.PropertiesView.{properties_view};
 ghost use Rattle.csl_writing.specs.ContextSource.{context_source};
 ghost use Rattle.csl_writing.specs.Subject as plain;
@@ -11,13 +11,12 @@ ghost use Rattle.csl_writing.specs.SubjectView.{subject_view};
 ghost use Rattle.csl_lookup.specs.States.{year_suffix};
 ghost use Rattle.csl_styles.specs.SuffixText as suffixes;
 
-use crate::cite::Cite;
-use crate::counter::Renders;
 use crate::date::date_text;
 use crate::first_field::put_first_field_first;
 use crate::lookup::StyleContext;
 use crate::purposes::write_section;
 use crate::section::first_notes;
+use crate::spare::SpareRoom;
 use crate::subject::{Subject, cite_facts};
 use csl_base::elem::ElemChildren;
 use csl_base::entry::EntryLike;
@@ -29,6 +28,8 @@ use csl_lookup::properties::CiteProperties;
 use csl_lookup::purpose::CitePurpose;
 use csl_lookup::state::{CollapseVerdict, DisambiguateState};
 use csl_picking::notes::Form;
+use csl_writers::cite::Cite;
+use csl_writers::counter::Renders;
 use std::alloc::{AllocError, Global};
 
 /// Whether the second fields of the bibliography are aligned.
@@ -69,18 +70,17 @@ fn render_cite<T: EntryLike>(
     alloc: Global,
     purpose: Option<CitePurpose>,
     verdict: Option<CollapseVerdict>,
-    renders: &mut Renders,
+    spare: &mut SpareRoom,
 ) -> Result<Cite, AllocError>
-    ensures cite { IfOk result (λ c. c
+    ensures { IfOk result (λ c. c
         ≡ rendered.rendered_cite (subject_view T.answers subject.now) purpose verdict) }
-    ensures count { renders.new ≡ renders.old }
 {
     let style = subject.context.style;
-    let room = renders.take_room(alloc)?;
+    let room = spare.take(alloc)?;
     let mut writing = WritingContext::in_room(alloc, &style.settings.options, room);
     let notes = subject.write_cite(alloc, purpose, verdict, &mut writing)?;
     let (tree, room) = writing.flush_apart()?;
-    renders.leave_room(room);
+    spare.leave(room);
     let children = arrange(alloc, style, purpose, tree)?;
     Ok(Cite {
         children,
@@ -94,11 +94,10 @@ fn render_item<'a, T: EntryLike>(
     subject: &Subject<'a, T>,
     alloc: Global,
     bibliography: &'a Bibliography,
-    renders: &mut Renders,
+    spare: &mut SpareRoom,
 ) -> Result<ElemChildren, AllocError>
-    ensures item { IfOk result (λ tree. tree
+    ensures { IfOk result (λ tree. tree
         ≡ rendered.rendered_item (subject_view T.answers subject.now) (bibliography_view bibliography.now)) }
-    ensures count { renders.new ≡ renders.old }
 {
     let style = &subject.context;
     let notes = first_notes(subject.cite.usage);
@@ -106,13 +105,13 @@ fn render_item<'a, T: EntryLike>(
     let layout = &bibliography.layout;
     let before = layout.prefix.as_deref();
     let behind = layout.suffix.as_deref();
-    let room = renders.take_room(alloc)?;
+    let room = spare.take(alloc)?;
     let mut writing = WritingContext::in_room(alloc, &style.style.settings.options, room);
     let prefix = begin_prefix(&mut writing, before)?;
     let _noted = write_section(style, &mut writing, section)?;
     apply_suffix(style, &mut writing, behind, prefix)?;
     let (tree, room) = writing.flush_apart()?;
-    renders.leave_room(room);
+    spare.leave(room);
     Ok(tree)
 }
 
@@ -131,20 +130,19 @@ impl<'a> StyleContext<'a> {
         }
     }
 
-    // A cite, without a count.
+    // A cite.
     #[tactic(auto, unfolding(crate::specs::CiteText::cite))]
-    fn cite_of<T: EntryLike, P>(
+    pub(crate) fn cite_of<T: EntryLike, P>(
         &self,
         alloc: Global,
         entry: &T,
         props: &CiteProperties<'_, P>,
         purpose: Option<CitePurpose>,
         verdict: Option<CollapseVerdict>,
-        renders: &mut Renders,
+        spare: &mut SpareRoom,
     ) -> Result<Cite, AllocError>
         requires { HasNoRing (context_source self.now).style.macros }
-        ensures count { renders.new ≡ renders.old }
-        ensures cite { IfOk result (λ c. c
+        ensures { IfOk result (λ c. c
             ≡ rendered.cite (context_source self.now) (T.answers entry.now)
             (properties_view props.now) purpose verdict) }
     {
@@ -155,7 +153,7 @@ impl<'a> StyleContext<'a> {
             cite: cite_facts(props),
             explicit_suffix: writes,
         };
-        render_cite(&subject, alloc, purpose, verdict, renders)
+        render_cite(&subject, alloc, purpose, verdict, spare)
     }
 
     /// Renders a cite of the entry by what it is written for, and counts a rendering, also where
@@ -188,9 +186,15 @@ impl<'a> StyleContext<'a> {
             (properties_view props.now) purpose verdict) }
         ensures count { renders.new ≡ counted renders.old }
     {
-        let cite = self.cite_of(alloc, entry, props, purpose, verdict, renders);
         renders.add_one();
-        cite
+        self.cite_of(
+            alloc,
+            entry,
+            props,
+            purpose,
+            verdict,
+            &mut SpareRoom::none(),
+        )
     }
 
     /// The tree of the cite that `do_citation` renders from the same arguments; counts a rendering,
@@ -218,7 +222,8 @@ impl<'a> StyleContext<'a> {
         ensures count { renders.new ≡ counted renders.old }
     {
         renders.add_one();
-        let cite = self.cite_of(alloc, entry, props, purpose, verdict, renders)?;
+        let mut spare = SpareRoom::none();
+        let cite = self.cite_of(alloc, entry, props, purpose, verdict, &mut spare)?;
         Ok(cite.children)
     }
 
@@ -254,11 +259,10 @@ impl<'a> StyleContext<'a> {
         entry: &T,
         props: &CiteProperties<'_, P>,
         bibliography: &Bibliography,
-        renders: &mut Renders,
+        spare: &mut SpareRoom,
     ) -> Result<ElemChildren, AllocError>
         requires { HasNoRing (context_source self.now).style.macros }
-        ensures count { renders.new ≡ renders.old }
-        ensures item { IfOk result (λ tree. tree
+        ensures { IfOk result (λ tree. tree
             ≡ rendered.rendered_item
             (plain.subject (context_source self.now) (T.answers entry.now) (properties_view props.now))
             (bibliography_view bibliography.now)) }
@@ -270,27 +274,26 @@ impl<'a> StyleContext<'a> {
             cite: cite_facts(props),
             explicit_suffix: writes,
         };
-        render_item(&subject, alloc, bibliography, renders)
+        render_item(&subject, alloc, bibliography, spare)
     }
 
-    // The item of the bibliography, if there is one, without a count.
+    // The item of the bibliography, if there is one.
     #[tactic(auto, unfolding(crate::specs::CiteText::bibliography_text))]
-    fn listed<T: EntryLike, P>(
+    pub(crate) fn listed<T: EntryLike, P>(
         &self,
         alloc: Global,
         entry: &T,
         props: &CiteProperties<'_, P>,
-        renders: &mut Renders,
+        spare: &mut SpareRoom,
     ) -> Result<Option<ElemChildren>, AllocError>
         requires { HasNoRing (context_source self.now).style.macros }
-        ensures count { renders.new ≡ renders.old }
-        ensures item { IfOk result (λ item. item
+        ensures { IfOk result (λ item. item
             ≡ rendered.bibliography_text (context_source self.now) (T.answers entry.now)
             (properties_view props.now)) }
     {
         match &self.locales.style.bibliography {
             Some(bibliography) => {
-                let tree = self.item_of(alloc, entry, props, bibliography, renders)?;
+                let tree = self.item_of(alloc, entry, props, bibliography, spare)?;
                 Ok(Some(tree))
             }
             None => Ok(None),
@@ -323,6 +326,6 @@ impl<'a> StyleContext<'a> {
         ensures count { renders.new ≡ counted renders.old }
     {
         renders.add_one();
-        self.listed(alloc, entry, props, renders)
+        self.listed(alloc, entry, props, &mut SpareRoom::none())
     }
 }

@@ -3,7 +3,7 @@ use Rattle.csl_context.specs.WritingState.{state}
 use Rattle.csl_writing.proofs.CiteSteps.{cite_rendered}
 use Rattle.csl_writing.proofs.render.render_cite.Goals as goal
 
-pub returns-clause-cite : goal.returns-clause-cite
-returns-clause-cite g c =
+pub returns : goal.returns
+returns g c =
     cite_rendered (subject_view g.T.EntryLike.answers c.args.subject.now) c.args.purpose c.args.verdict (state c.in_room-writing.result) (state c.write_cite.new.writing) c.in_ok-notes.notes c.in_ok-tree.tree c.in_ok-children.children
     c.in_room-writing.ensures c.in_ok-notes.ensures c.in_ok-tree.ensures c.in_ok-children.ensures

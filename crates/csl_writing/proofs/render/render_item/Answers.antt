@@ -25,8 +25,8 @@ flush_apart-requires g c =
     item_flushes (lookup_view c.args.subject.now.context) _ (options_view c.args.subject.now.context.style.now.settings.options) _ _ (state c.in_room-writing.result) (state c.begin_prefix.new.writing) (state c.write_section.new.writing) (state c.apply_suffix.new.writing)
     c.in_room-writing.ensures c.in_ok-prefix.ensures.formats c.in_ok-prefix.ensures.same_formats inside.formats c.in_ok-apply_suffix.ensures.done
 
-pub returns-clause-item : goal.returns-clause-item
-returns-clause-item g c =
+pub returns : goal.returns
+returns g c =
     let k = lookup_view c.args.subject.now.context in
     let a = state c.in_room-writing.result in
     let d = state c.write_section.new.writing in

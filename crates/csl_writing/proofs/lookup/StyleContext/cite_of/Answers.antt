@@ -7,9 +7,9 @@ use Rattle.csl_lookup.specs.SourceView.{source_view}
 use Rattle.csl_writing.proofs.CiteSteps.{subject_known}
 use Rattle.csl_writing.proofs.lookup.StyleContext.cite_of.Goals as goal
 
-pub returns-clause-cite : goal.returns-clause-cite
+pub returns : goal.returns
 unfolding cite
-returns-clause-cite g c =
+returns g c =
     subst (λ s. IfOk c.render_cite.result (λ t. t ≡ rendered_cite s c.args.purpose c.args.verdict))
     (subject_known (source_view c.args.self.now.locales) (g.T.EntryLike.answers c.args.entry.now) (properties_view c.args.props.now) (cite_facts c.cite_facts.result) c.in_ok-writes.writes c.cite_facts.ensures c.in_ok-writes.ensures)
-    c.render_cite.ensures.cite
+    c.render_cite.ensures

@@ -8,8 +8,8 @@ use Rattle.csl_lookup.specs.SourceView.{source_view}
 use Rattle.csl_writing.proofs.CiteSteps.{subject_known}
 use Rattle.csl_writing.proofs.lookup.StyleContext.item_of.Goals as goal
 
-pub returns-clause-item : goal.returns-clause-item
-returns-clause-item g c =
+pub returns : goal.returns
+returns g c =
     subst (λ s. IfOk c.render_item.result (λ t. t ≡ rendered_item s (bibliography_view c.args.bibliography.now)))
     (subject_known (source_view c.args.self.now.locales) (g.T.EntryLike.answers c.args.entry.now) (properties_view c.args.props.now) (cite_facts c.cite_facts.result) c.in_ok-writes.writes c.cite_facts.ensures c.in_ok-writes.ensures)
-    c.render_item.ensures.item
+    c.render_item.ensures
