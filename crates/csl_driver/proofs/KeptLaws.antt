@@ -12,7 +12,7 @@ use Rattle.csl_assembly.specs.declared.rendered.Rendered.{Rendered}
 use Rattle.csl_writers.specs.Writing.{Writing}
 use Rattle.csl_collapse.specs.Collapsed.{collapsed}
 use Rattle.csl_collapse.specs.NumberLaws.{CanBeReadBack}
-use Rattle.csl_driver.specs.Answer.{Asked, citation_of, drawn_together, entries_listed, final_number, in_final_order, in_the_end, numbered_finally, order_in_use, rendered_first}
+use Rattle.csl_driver.specs.Answer.{Asked, drawn_together, entries_listed, final_number, in_final_order, in_the_end, numbered_finally, order_in_use, rendered_first}
 use Rattle.csl_driver.specs.AnswerLaws.{AreInOrder, ComeFrom, HaveNumbersOnce, IsBroughtTogether, IsReadBack, IsSettled, KeepsLaws, number_in, unsettled}
 use Rattle.csl_driver.specs.AreCitesOf.{AreCitesOf}
 use Rattle.csl_driver.specs.Promised.{IsAnswer, IsExactly}
@@ -188,7 +188,7 @@ module _ {E P : Type 0} (eq : E → E → Bool) (laws : IsEquivalence eq) (each_
         settles = settled-cites;
         runs = zip-mapped IsReadBack drawn_together (read-back drawn) in_end;
         asked_for = drawn-requests in_end ∙ (final-stand eq laws writing (table_of eq asked.requests) asked.requests in_order ordered payload_eq number_of).of;
-        made = ap (λ (a : Rendered). a.citations) is.ok ∙ sym (map-map (citation_of writing) drawn_together in_end);
+        made = ap (λ (a : Rendered). a.citations) is.ok;
       }
 
       laws-of-rounds : IsLawful mode eq writing firsts all_tables (rounds mode eq writing firsts) → IsLawful mode eq writing firsts all_tables r.1.rounds

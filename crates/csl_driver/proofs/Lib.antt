@@ -13,3 +13,6 @@ pub mod ByEntries
 pub mod EachOnce
 pub mod KeptLaws
 pub mod Promises
+pub mod TaskCounts
+pub mod ByIndex
+pub mod Steps

@@ -32,7 +32,7 @@ use Rattle.csl_round_laws.specs.Tables.{disambiguated, last_states, round_tables
 use Rattle.csl_round_laws.specs.declared.mode.RoundMode.{RoundMode}
 
 module _ {X : Type 0} where
-  sum-same : (v w : X → ℕ) → ((x : X) → v x ≡ w x) → (xs : List X) → sum_by v xs ≡ sum_by w xs
+  pub sum-same : (v w : X → ℕ) → ((x : X) → v x ≡ w x) → (xs : List X) → sum_by v xs ≡ sum_by w xs
   sum-same v w h [] = refl
   sum-same v w h (x ∷ xs) = sum_by-cons v x xs ∙ (λ i. h x i + sum-same v w h xs i) ∙ sym (sum_by-cons w x xs)
 
@@ -73,7 +73,7 @@ module _ {E P : Type 0} where
       by false = refl
 
 module _ {E P : Type 0} (eq : E → E → Bool) (payload_eq : P → P → Bool) (writing : Writing E P) (mode : RoundMode) (asked : Asked E P) where
-  first-size : sum_by size (rendered_first eq payload_eq writing asked) ≡ length (cites_of asked.requests)
+  pub first-size : sum_by size (rendered_first eq payload_eq writing asked) ≡ length (cites_of asked.requests)
   first-size =
       let firsts = rendered_first eq payload_eq writing asked in
       let requests = asked.requests in
@@ -99,18 +99,3 @@ module _ {E P : Type 0} (eq : E → E → Bool) (payload_eq : P → P → Bool) 
       ∙ sum-changed size (λ k c. record c { items = with_final_items eq payload_eq number_of (items_before (in_final_order eq payload_eq writing mode asked) k) c.items })
       (λ k c. length-map (enumerate_from 0 c.items) _ ∙ length-enumerate_from 0 c.items) 0 (map grouped told)
       ∙ sum-mapped size grouped grouped-size told ∙ told-size ∙ first-size
-
-  -- all renderings, from none: of the first renders, the rounds, the bibliography and the citations
-  pub all-counted : (begun told listed all last : ℕ) → begun ≡ counted_times (length (cites_of asked.requests)) 0
-      → let firsts = rendered_first eq payload_eq writing asked in told ≡ counted_times (rerenders (entries_cited firsts) (round_tables mode eq writing firsts)) begun
-      → listed ≡ counted_times (listed_count eq asked.wanted asked.requests) told → all ≡ counted_times last listed → last ≡ length (cites_of asked.requests)
-      → all ≡ min (cost eq payload_eq writing mode asked) (2 ^ 128 - 1)
-  all-counted begun told listed all last first rounds bibliography citations same =
-      let n = length (cites_of asked.requests) in
-      let a = rerendered eq payload_eq writing mode asked in
-      let b = listed_count eq asked.wanted asked.requests in
-      let firsts = rendered_first eq payload_eq writing asked in
-      let again = ap (λ es. rerenders es (round_tables mode eq writing firsts)) (first-cited eq payload_eq writing (number eq asked.offset (entries_listed eq asked.wanted asked.requests)) [] asked.requests) in
-      let sum : n + (b + (a + n)) ≡ 2 * n + a + b = omega arith in
-      citations ∙ ap (λ k. counted_times k listed) same ∙ ap (counted_times n) (bibliography ∙ ap (counted_times b) (rounds ∙ (λ i. counted_times (again i) (first i)) ∙ sym (counted_times-add a n 0)) ∙ sym (counted_times-add b (a + n) 0))
-      ∙ sym (counted_times-add n (b + (a + n)) 0) ∙ ap (λ k. counted_times k 0) sum ∙ counted_times-all (2 * n + a + b)

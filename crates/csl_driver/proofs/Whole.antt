@@ -7,16 +7,15 @@ use Rattle.csl_assembly.specs.declared.rendered.Rendered.{Rendered}
 use Rattle.csl_assembly.specs.declared.rendered.RenderedBibliography.{RenderedBibliography}
 use Rattle.csl_assembly.specs.declared.rendered.RenderedCitation.{RenderedCitation}
 use Rattle.csl_writers.specs.Writing.{Writing}
-use Rattle.csl_driver.specs.Answer.{Asked, citation_of, drawn_together, entries_listed, in_the_end, rendered}
+use Rattle.csl_driver.specs.Answer.{Asked, citations_of, drawn_together, entries_listed, in_the_end, rendered}
 use Rattle.csl_passes.specs.Renders.{CiteRender}
 use Rattle.csl_passes.specs.Request.{wanted_source}
 use Rattle.csl_positions.specs.FinalProperties.{first_item}
-use Rattle.csl_positions.proofs.Tables.{map-map}
 use Rattle.csl_round_laws.specs.declared.mode.RoundMode.{RoundMode}
 
 module _ {E P : Type 0} (eq : E → E → Bool) (payload_eq : P → P → Bool) (writing : Writing E P) (mode : RoundMode) (asked : Asked E P)
     (settled drawn : List (CiteRender E P)) (in_end : settled ≡ in_the_end eq payload_eq writing mode asked) (together : drawn ≡ map drawn_together settled) where
-  pub whole : {citations : List RenderedCitation} {bibliography : Option RenderedBibliography} → citations ≡ map (citation_of writing) drawn
+  pub whole : {citations : List RenderedCitation} {bibliography : Option RenderedBibliography} → citations ≡ citations_of writing drawn
       → bibliography ≡ option_map (λ b. bibliography_of writing (wanted_source asked.wanted) b (filter_map (first_item eq settled) (entries_listed eq asked.wanted asked.requests))) asked.wanted.style.bibliography
       → let r : Rendered = record { bibliography = bibliography; citations = citations } in r ≡ rendered eq payload_eq writing mode asked
   whole {citations} {bibliography} cites items = λ i. record { bibliography = all_items i; citations = all_cites i }
@@ -24,8 +23,8 @@ module _ {E P : Type 0} (eq : E → E → Bool) (payload_eq : P → P → Bool) 
       last : List (CiteRender E P)
       last = in_the_end eq payload_eq writing mode asked
 
-      all_cites : citations ≡ map (λ c. citation_of writing (drawn_together c)) last
-      all_cites = cites ∙ ap (map (citation_of writing)) (together ∙ ap (map drawn_together) in_end) ∙ map-map (citation_of writing) drawn_together last
+      all_cites : citations ≡ citations_of writing (map drawn_together last)
+      all_cites = cites ∙ ap (citations_of writing) (together ∙ ap (map drawn_together) in_end)
 
       all_items : bibliography ≡ option_map (λ b. bibliography_of writing (wanted_source asked.wanted) b (filter_map (first_item eq last) (entries_listed eq asked.wanted asked.requests))) asked.wanted.style.bibliography
       all_items =

@@ -1,11 +1,10 @@
 -- The whole answer, from the whole list of requests.
 use Rattle.std.specs.Prelude.{ℕ, Bool, List, map, Option, None, Some, if◌then◌else◌, option_map}
-use Rattle.std.specs.List.{filter_map}
+use Rattle.std.specs.List.{enumerate_from, filter_map}
 use Rattle.csl_assembly.specs.BibliographyItems.{bibliography_of}
 use Rattle.csl_assembly.specs.CitationTree.{citation_tree, has_no_purpose}
 use Rattle.csl_assembly.specs.declared.rendered.Rendered.{Rendered}
 use Rattle.csl_assembly.specs.declared.rendered.RenderedCitation.{RenderedCitation}
-use Rattle.csl_writers.specs.Writing.{Writing}
 use Rattle.csl_collapse.specs.Collapsed.{collapsed}
 use Rattle.csl_entries.specs.Entries.{used_order, bibliography_order, distinct, number}
 use Rattle.csl_grouping.specs.Blocks.{grouped}
@@ -16,6 +15,7 @@ use Rattle.csl_positions.specs.FirstProperties.{first_properties}
 use Rattle.csl_round_laws.specs.FirstRenders.{first_renders}
 use Rattle.csl_round_laws.specs.Tables.{disambiguated}
 use Rattle.csl_round_laws.specs.declared.mode.RoundMode.{RoundMode}
+use Rattle.csl_writers.specs.Writing.{Writing}
 
 -- what a driver is asked: the bibliography, the requests, and the number of the first entry
 pub record Asked (E P : Type 0) : Type 0 where
@@ -38,13 +38,19 @@ module _ {E P : Type 0} (eq : E → E → Bool) where
   numbered_finally None requests cites = distinct eq (cited_finally cites)
   numbered_finally (Some order) requests cites = bibliography_order eq (Some order) (cited requests)
 
--- the cites of a request drawn together, where none has a purpose
+-- the cites of a request collapsed, where none has a purpose
 abbrev pub drawn_together : {E P : Type 0} → CiteRender E P → CiteRender E P
 drawn_together c = if has_no_purpose c.items then collapsed c else c
 
--- the answer to one request, from its cites as they stand in the end
-abbrev pub citation_of : {E P : Type 0} → Writing E P → CiteRender E P → RenderedCitation
-citation_of writing c = record { note_number = c.request.note_number; citation = citation_tree writing c }
+module _ {E P : Type 0} (writing : Writing E P) where
+  -- the answer to the r-th request, from its cites as they stand in the end
+  abbrev pub citation_of : ℕ → CiteRender E P → RenderedCitation
+  citation_of r c =
+      record { note_number = c.request.note_number; citation = citation_tree writing r c }
+
+  -- the answers to all
+  abbrev pub citations_of : List (CiteRender E P) → List RenderedCitation
+  citations_of cites = map (λ c. citation_of c.0 c.1) (enumerate_from 0 cites)
 
 module _ {E P : Type 0} (eq : E → E → Bool) (payload_eq : P → P → Bool) (writing : Writing E P) where
   -- the cites of all requests, rendered by their first properties; their numbers are those of the
@@ -79,5 +85,5 @@ module _ {E P : Type 0} (eq : E → E → Bool) (payload_eq : P → P → Bool) 
     rendered = record {
       bibliography = option_map (λ b. bibliography_of writing (wanted_source asked.wanted) b first_cites)
           asked.wanted.style.bibliography;
-      citations = map (λ c. citation_of writing (drawn_together c)) in_the_end;
+      citations = citations_of writing (map drawn_together in_the_end);
     }

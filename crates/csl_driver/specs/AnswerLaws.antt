@@ -7,7 +7,7 @@ use Rattle.csl_assembly.specs.declared.rendered.Rendered.{Rendered}
 use Rattle.csl_assembly.specs.declared.rendered.RenderedCitation.{RenderedCitation}
 use Rattle.csl_writers.specs.Writing.{Writing}
 use Rattle.csl_collapse.specs.NumberLaws.{CanBeReadBack}
-use Rattle.csl_driver.specs.Answer.{Asked, citation_of, order_in_use, rendered_first}
+use Rattle.csl_driver.specs.Answer.{Asked, citations_of, order_in_use, rendered_first}
 use Rattle.csl_driver.specs.declared.account.Account.{Account}
 use Rattle.csl_entries.specs.Entries.{distinct, place}
 use Rattle.csl_entries.specs.Laws.{NoTwoEqual}
@@ -69,7 +69,7 @@ module _ {E P : Type 0} where
     pub runs : AllZip IsReadBack settled drawn
     -- they are those of the requests that were asked, one citation for each
     pub asked_for : map (λ c. c.request) drawn ≡ asked.requests
-    pub made : citations ≡ map (citation_of writing) drawn
+    pub made : citations ≡ citations_of writing drawn
 
 -- what holds of every answer and its account
 pub record KeepsLaws {E P : Type 0} (eq : E → E → Bool) (payload_eq : P → P → Bool) (writing : Writing E P)

@@ -10,3 +10,6 @@ pub mod AnswerLaws
 pub mod Promised
 pub mod AskedView
 pub mod DraftView
+pub mod WriterTasks
+pub mod Finished
+pub mod OwnError

@@ -1,7 +1,6 @@
 -- A citation that stands for itself.
 use Rattle.std.specs.Prelude.{ℕ, true, not, List, map, filter, Option, None, Some, unwrap_or, codes}
 use Rattle.csl_base.specs.Style.{LayoutValue}
-use Rattle.csl_writers.specs.Writing.{Writing}
 use Rattle.csl_base.specs.Child.{Child}
 use Rattle.csl_base.specs.Tree.{has_content}
 use Rattle.csl_lookup.specs.Lookup.{Source}
@@ -9,8 +8,10 @@ use Rattle.csl_lookup.specs.NoProperties.{nothing_certain, speculated}
 use Rattle.csl_lookup.specs.Properties.{LocatorValue, Properties}
 use Rattle.csl_lookup.specs.declared.state.IbidState.{IbidState}
 use Rattle.csl_assembly.specs.Assembly.{Shown, assembled}
-use Rattle.csl_assembly.specs.LastTree.{tree_for_purpose}
+use Rattle.csl_assembly.specs.LastTree.{tree_by_purpose}
 use Rattle.csl_passes.specs.Request.{RequestedCite, Request, source_of}
+use Rattle.csl_writers.specs.Tasks.{CiteTaskValue}
+use Rattle.csl_writers.specs.Writing.{Writing}
 
 -- what stands between cites: the layout's delimiter, or else a comma and a space
 abbrev pub lone_delimiter : LayoutValue → List ℕ
@@ -27,10 +28,20 @@ lone_properties locator = record {
   speculative = speculated locator 0 IbidState.Different;
 }
 
+-- a cite that has no number and no place of its own
+abbrev pub lone_task : {E P : Type 0} → Source → RequestedCite E P → CiteTaskValue E P
+lone_task source c = record {
+  source = source;
+  entry = c.entry;
+  properties = lone_properties c.locator;
+  purpose = c.purpose;
+  verdict = None;
+  place = None;
+}
+
 module _ {E P : Type 0} (writing : Writing E P) where
-  -- the tree of a cite that has no number and no place of its own
   abbrev pub lone_tree : Source → RequestedCite E P → List Child
-  lone_tree source c = tree_for_purpose writing source c.entry (lone_properties c.locator) c.purpose None
+  lone_tree source c = tree_by_purpose writing (lone_task source c)
 
   -- the trees of the cites that aren't hidden and have content
   abbrev pub lone_trees : Source → List (RequestedCite E P) → List (List Child)

@@ -1,4 +1,4 @@
-//! What an answer cost, and how it numbers its entries and tells them apart.
+//! What an answer cost, and how it numbers and disambiguates its entries.
 ghost use Rattle.std.specs.Prelude.{◌≡◌, ◌+◌, IfOk, length, map, take};
 ghost use Rattle.csl_driver.specs.DraftView.{table_in};
 ghost use Rattle.csl_entries.specs.TableView.{table_view};
@@ -9,7 +9,7 @@ use csl_base::entry::EntryLike;
 use csl_entries::table::EntryTable;
 use csl_lookup::state::DisambiguateState;
 use csl_rounds::rounds::Rounds;
-use csl_writing::counter::Renders;
+use csl_writers::counter::Renders;
 use std::alloc::{AllocError, Global};
 
 /// The account of an answer.

@@ -1,17 +1,17 @@
 //! The bibliography of an answer.
 ghost use Rattle.std.specs.Prelude.{◌≡◌, All, IfOk, OnOk, option_map};
 ghost use Rattle.std.specs.List.{filter_map};
-ghost use Rattle.csl_assembly.specs.BibliographyItems.{bibliography_of, cites_at};
-ghost use Rattle.csl_driver.specs.Account.{listed_count};
+ghost use Rattle.csl_assembly.specs.BibliographyItems.{bibliography_of, bibliography_tasks, cites_at};
 ghost use Rattle.csl_driver.specs.Answer.{entries_listed};
 ghost use Rattle.csl_driver.specs.AreCitesOf.{AreCitesOf};
 ghost use Rattle.csl_driver.specs.DraftView.{asked_in, table_in};
+ghost use Rattle.csl_driver.specs.WriterTasks.{where_wanted};
 ghost use Rattle.csl_passes.specs.Places.{IsPlace};
 ghost use Rattle.csl_passes.specs.RendersView.{renders_view};
 ghost use Rattle.csl_passes.specs.Request.{wanted_source};
 ghost use Rattle.csl_positions.specs.FinalProperties.{first_item};
-ghost use Rattle.csl_writing.specs.Counted.{counted_times};
-ghost use Rattle.csl_writers.specs.Writing.{layout_writing};
+ghost use Rattle.csl_writers.specs.Desk.{after, desk};
+ghost use Rattle.csl_writers.specs.Writing.{writing_of};
 
 use crate::draft::Draft;
 use csl_assembly::bibliography::bibliography_of;
@@ -19,32 +19,40 @@ use csl_assembly::rendered::RenderedBibliography;
 use csl_base::entry::EntryLike;
 use csl_passes::renders::SpeculativeCiteRender;
 use csl_positions::final_order::first_items;
-use csl_writing::counter::Renders;
+use csl_writers::counter::Renders;
+use csl_writers::writer::CiteWriter;
 use std::alloc::{AllocError, Global};
 
 impl<'d, 'o, 'a, T: EntryLike, P: Drop> Draft<'d, 'o, 'a, T, P> {
     /// The bibliography, where the style that was asked for has one.
-    pub(crate) fn bibliography(
+    pub(crate) fn bibliography<W: CiteWriter<T, P>>(
         self,
         alloc: Global,
         cites: &[SpeculativeCiteRender<'_, 'a, T, P>],
+        writer: &mut W,
         counter: &mut Renders,
-    ) -> Result<Option<RenderedBibliography>, AllocError>
+    ) -> Result<Option<RenderedBibliography>, W::Error>
         requires cites { AreCitesOf T.eq (table_in self) (asked_in self).requests (renders_view cites.now) }
         ensures bibliography { let asked = asked_in self.entry in
             IfOk result (λ r. r
-            ≡ option_map (λ b. bibliography_of (layout_writing T.answers) (wanted_source asked.wanted) b
+            ≡ option_map (λ b. bibliography_of (writing_of T.answers (W.state writer.old))
+            (wanted_source asked.wanted) b
             (filter_map (first_item T.eq (renders_view cites.now))
             (entries_listed T.eq asked.wanted asked.requests)))
             asked.wanted.style.bibliography) }
-        ensures counted { let asked = asked_in self.entry in
-            OnOk result (counter.new
-            ≡ counted_times (listed_count T.eq asked.wanted asked.requests) counter.old) }
+        ensures asked { let asked = asked_in self.entry in
+            OnOk result (desk (W.state writer.new) counter.new
+            ≡ after (where_wanted asked.wanted.style.bibliography
+            (bibliography_tasks (wanted_source asked.wanted)
+            (filter_map (first_item T.eq (renders_view cites.now))
+            (entries_listed T.eq asked.wanted asked.requests))))
+            (desk (W.state writer.old) counter.old)) }
     {
         match &self.wanted.wanted.style.bibliography {
             Some(style) => {
                 let firsts = self.first_cites(alloc, cites)?;
-                let made = bibliography_of(alloc, self.wanted, style, cites, &firsts, counter)?;
+                let wanted = self.wanted;
+                let made = bibliography_of(alloc, wanted, style, cites, &firsts, writer, counter)?;
                 Ok(Some(made))
             }
             None => Ok(None),

@@ -23,6 +23,40 @@ pub enum RingPlace {
     Bibliography,
 }
 
+/// Why no answer is given with a writer of the caller's own.
+#[derive(Drop)]
+pub enum FinishError<X: Drop> {
+    /// The driver refuses.
+    Driver(DriverError),
+    /// The writer refuses; a want of memory while the answer is made is reported as its error too.
+    Writer(X),
+}
+
+impl<X: Drop> From<DriverError> for FinishError<X> {
+    ghost use Rattle.std.specs.Prelude.{◌≡◌};
+    ghost use Rattle.csl_driver.specs.declared.error.FinishError.TheVariants.{Driver};
+
+    ghost from_gives = { λ d e. e ≡ Driver d };
+
+    fn from(error: DriverError) -> FinishError<X> {
+        FinishError::Driver(error)
+    }
+}
+
+impl From<FinishError<AllocError>> for DriverError {
+    ghost use Rattle.std.specs.Prelude.{◌≡◌};
+    ghost use Rattle.csl_driver.specs.OwnError.{own_error};
+
+    ghost from_gives = { λ d e. e ≡ own_error d };
+
+    fn from(error: FinishError<AllocError>) -> DriverError {
+        match error {
+            FinishError::Driver(error) => error,
+            FinishError::Writer(error) => DriverError::OutOfMemory(error),
+        }
+    }
+}
+
 impl From<AllocError> for DriverError {
     ghost use Rattle.std.specs.Prelude.{◌≡◌};
     ghost use Rattle.csl_driver.specs.declared.error.DriverError.TheVariants.{OutOfMemory};

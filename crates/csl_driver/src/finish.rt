@@ -1,25 +1,26 @@
 //! The whole answer, from all requests at once.
 ghost use Rattle.std.specs.Prelude.{◌≡◌, ◌+◌, length, map, OnOk, IfOk};
-ghost use Rattle.std.specs.List.{sum_by};
-ghost use Rattle.csl_driver.specs.Answer.{citation_of, drawn_together, numbered_finally, order_in_use, rendered, rendered_first};
+ghost use Rattle.csl_driver.specs.Answer.{citations_of, drawn_together, numbered_finally, order_in_use, rendered, rendered_first};
 ghost use Rattle.csl_driver.specs.AreCitesOf.{AreCitesOf};
 ghost use Rattle.csl_driver.specs.AskedView.{asked_of};
 ghost use Rattle.csl_driver.specs.DraftView.{asked_in, table_in};
+ghost use Rattle.csl_driver.specs.Finished.{FinishesWith};
 ghost use Rattle.csl_driver.specs.Promised.{Finishes, IsAnswer};
+ghost use Rattle.csl_driver.specs.WriterTasks.{begun_tasks, last_tasks, tasks};
 ghost use Rattle.csl_entries.specs.Entries.{number};
 ghost use Rattle.csl_grouping.specs.Blocks.{grouped};
 ghost use Rattle.csl_passes.specs.RendersView.{render_view, renders_view};
-ghost use Rattle.csl_passes.specs.Request.{cites_of};
 ghost use Rattle.csl_positions.specs.FirstProperties.{numbered_by};
 ghost use Rattle.csl_round_laws.specs.declared.mode.RoundMode.{RoundMode};
-ghost use Rattle.csl_writing.specs.Counted.{counted_times};
-ghost use Rattle.csl_writers.specs.Writing.{layout_writing};
+ghost use Rattle.csl_writers.specs.Desk.{after, desk};
+ghost use Rattle.csl_writers.specs.Writing.{asked_for, writing_of};
+ghost use Rattle.csl_writing.specs.LayoutWriting.{layout_writing};
 
 use crate::account::Account;
 use crate::cited::{Cited, used_order};
 use crate::draft::Draft;
 use crate::driver::BibliographyDriver;
-use crate::error::DriverError;
+use crate::error::{DriverError, FinishError};
 use crate::laws::answers_keep_laws;
 use crate::rings::without_rings;
 use csl_assembly::citation::{citation_tree, has_no_purpose};
@@ -36,7 +37,10 @@ use csl_positions::first::first_properties;
 use csl_round_laws::mode::RoundMode;
 use csl_rounds::first_renders::first_renders;
 use csl_rounds::rounds::disambiguate;
-use csl_writing::counter::Renders;
+use csl_writers::counter::Renders;
+use csl_writers::pushed::push;
+use csl_writers::writer::CiteWriter;
+use csl_writing::layout_writer::LayoutWriter;
 use std::alloc::{AllocError, Global};
 
 impl<'a, T: EntryLike, P: Eq + Drop> BibliographyDriver<'a, T, P> {
@@ -79,7 +83,7 @@ impl<'a, T: EntryLike, P: Eq + Drop> BibliographyDriver<'a, T, P> {
             (IsAnswer T.eq P.eq (layout_writing T.answers) RoundMode.Three (asked_of self.entry request.entry))
             T.eq (asked_of self.entry request.entry) result }
     {
-        self.answered(&request, RoundMode::Three)
+        Ok(self.finish_with(request, RoundMode::Three, &mut LayoutWriter::new())?)
     }
 
     /// Answers all requests, as `finish_counted` does, but for the rounds in which cites are disambiguated:
@@ -98,28 +102,40 @@ impl<'a, T: EntryLike, P: Eq + Drop> BibliographyDriver<'a, T, P> {
             (IsAnswer T.eq P.eq (layout_writing T.answers) RoundMode.Full (asked_of self.entry request.entry))
             T.eq (asked_of self.entry request.entry) result }
     {
-        self.answered(&request, RoundMode::Full)
+        Ok(self.finish_with(request, RoundMode::Full, &mut LayoutWriter::new())?)
     }
 
-    /// Answers all requests with so many rounds, and gives the account: rings are refused, the entries that
-    /// are cited are listed, and what is then known is finished.
-    fn answered(
-        &self,
-        request: &BibliographyRequest<'_, 'a, T>,
+    /// Answers all requests, as `finish_counted` does or, in mode full, as `finish_full` does, with cites,
+    /// items and dates as this writer writes them. The account counts how often it was asked.
+    ///
+    /// # Errors
+    /// `Driver` where `finish` refuses before anything is rendered; `Writer`, with the writer's own error,
+    /// where it refuses, and where memory runs out later on.
+    pub fn finish_with<W: CiteWriter<T, P>>(
+        self,
+        request: BibliographyRequest<'_, 'a, T>,
         mode: RoundMode,
-    ) -> Result<(Rendered, Account<'a, T>), DriverError>
-        ensures { Finishes (IsAnswer T.eq P.eq (layout_writing T.answers) mode (asked_of self.now request.now))
-            T.eq (asked_of self.now request.now) result }
+        writer: &mut W,
+    ) -> Result<(Rendered, Account<'a, T>), FinishError<W::Error>>
+        ensures finished { FinishesWith T.eq (asked_of self.entry request.entry)
+            (IsAnswer T.eq P.eq (writing_of T.answers (W.state writer.old)) mode
+            (asked_of self.entry request.entry)) result }
+        ensures asked { OnOk result (W.state writer.new
+            ≡ asked_for (tasks T.eq P.eq (writing_of T.answers (W.state writer.old)) mode
+            (asked_of self.entry request.entry)) (W.state writer.old)) }
     {
         let alloc = self.alloc;
-        let (requests, wanted) = without_rings(alloc, &self.citations, request)?;
+        let (requests, wanted) = without_rings(alloc, &self.citations, &request)?;
         let cited = Cited::by_requests(alloc, requests, wanted, self.citation_number_offset)?;
         let draft = Draft {
             requests,
             wanted,
             cited: &cited,
         };
-        Ok(draft.finish(alloc, mode)?)
+        match draft.finish(alloc, mode, writer) {
+            Ok(answer) => Ok(answer),
+            Err(error) => Err(FinishError::Writer(error)),
+        }
     }
 }
 
@@ -127,24 +143,29 @@ impl<'d, 'o, 'a, T: EntryLike, P: Eq + Drop> Draft<'d, 'o, 'a, T, P> {
     /// The answer, and its account. The cites are rendered a first time, disambiguated and grouped, and their
     /// entries numbered in their final order; then the bibliography is written, and from the collapsed cites
     /// the citations.
-    pub(crate) fn finish(
+    pub(crate) fn finish<W: CiteWriter<T, P>>(
         self,
         alloc: Global,
         mode: RoundMode,
-    ) -> Result<(Rendered, Account<'a, T>), AllocError>
-        ensures { IfOk result (IsAnswer T.eq P.eq (layout_writing T.answers) mode (asked_in self.entry)) }
+        writer: &mut W,
+    ) -> Result<(Rendered, Account<'a, T>), W::Error>
+        ensures answer { IfOk result (IsAnswer T.eq P.eq (writing_of T.answers (W.state writer.old)) mode
+            (asked_in self.entry)) }
+        ensures asked { OnOk result (W.state writer.new
+            ≡ asked_for (tasks T.eq P.eq (writing_of T.answers (W.state writer.old)) mode (asked_in self.entry))
+            (W.state writer.old)) }
     {
         let table = &self.cited.table;
         let mut counter = Renders::new();
-        let mut first = self.first_renders(alloc, &mut counter)?;
+        let mut first = self.first_renders(alloc, writer, &mut counter)?;
         let cites: &mut [SpeculativeCiteRender<'d, 'a, T, P>] = &mut first.by_request;
-        let rounds = disambiguate(alloc, cites, table, mode, &mut counter)?;
+        let rounds = disambiguate(alloc, cites, table, mode, writer, &mut counter)?;
         group_all(alloc, cites)?;
         let numbers = self.final_numbers(alloc, cites)?;
         set_final_properties(cites, table, &numbers);
-        let bibliography = self.bibliography(alloc, cites, &mut counter)?;
+        let bibliography = self.bibliography(alloc, cites, writer, &mut counter)?;
         collapse_all(cites);
-        let citations = self.citations(alloc, cites, &mut counter)?;
+        let citations = self.citations(alloc, cites, writer, &mut counter)?;
         let account = self.account(alloc, rounds, numbers, &counter)?;
         answers_keep_laws::<T, P>();
         let rendered = Rendered {
@@ -156,21 +177,21 @@ impl<'d, 'o, 'a, T: EntryLike, P: Eq + Drop> Draft<'d, 'o, 'a, T, P> {
 
     /// The cites of all requests, rendered by their first properties. Their numbers are those of the
     /// bibliography.
-    fn first_renders(
+    fn first_renders<W: CiteWriter<T, P>>(
         self,
         alloc: Global,
+        writer: &mut W,
         counter: &mut Renders,
-    ) -> Result<Cites<'d, 'a, T, P>, AllocError>
+    ) -> Result<Cites<'d, 'a, T, P>, W::Error>
         ensures cites { IfOk result (λ c. renders_view c.by_request.items
-            ≡ rendered_first T.eq P.eq (layout_writing T.answers) (asked_in self.entry)) }
-        ensures counted { OnOk result (counter.new
-            ≡ counted_times (length (cites_of (asked_in self.entry).requests)) counter.old) }
+            ≡ rendered_first T.eq P.eq (writing_of T.answers (W.state writer.old)) (asked_in self.entry)) }
+        ensures asked { OnOk result (desk (W.state writer.new) counter.new
+            ≡ after (begun_tasks T.eq P.eq (asked_in self.entry)) (desk (W.state writer.old) counter.old)) }
     {
         let table = &self.cited.table;
         let numbers = self.cited.numbers(alloc, &self.cited.listing)?;
         let firsts = first_properties(alloc, self.requests.requests, table, &numbers)?;
-        let cites = first_renders(alloc, self.requests, &firsts, counter)?;
-        Ok(cites)
+        first_renders(alloc, self.requests, &firsts, writer, counter)
     }
 
     /// The numbers of the entries in the end, by their places in the table: those of the bibliography where
@@ -198,27 +219,29 @@ impl<'d, 'o, 'a, T: EntryLike, P: Eq + Drop> Draft<'d, 'o, 'a, T, P> {
     }
 
     /// The citation of each request, from its cites as they stand in the end.
-    fn citations(
+    fn citations<W: CiteWriter<T, P>>(
         self,
         alloc: Global,
         cites: &[SpeculativeCiteRender<'_, '_, T, P>],
+        writer: &mut W,
         counter: &mut Renders,
-    ) -> Result<Vec<RenderedCitation>, AllocError>
+    ) -> Result<Vec<RenderedCitation>, W::Error>
         requires cites { map (λ c. c.request) (renders_view cites.now) ≡ (asked_in self).requests }
         ensures citations { IfOk result (λ v. v.items
-            ≡ map (citation_of (layout_writing T.answers)) (renders_view cites.now)) }
-        ensures counted { OnOk result (counter.new
-            ≡ counted_times (sum_by (λ c. length c.items) (renders_view cites.now)) counter.old) }
+            ≡ citations_of (writing_of T.answers (W.state writer.old)) (renders_view cites.now)) }
+        ensures asked { OnOk result (desk (W.state writer.new) counter.new
+            ≡ after (last_tasks (renders_view cites.now)) (desk (W.state writer.old) counter.old)) }
     {
         let mut citations = Vec::with_capacity(alloc, cites.len())?;
-        for cite in cites {
+        for (index, cite) in cites.iter().enumerate() {
             let request = AcyclicRequest {
                 request: cite.request,
             };
-            citations.push(RenderedCitation {
+            let citation = RenderedCitation {
                 note_number: cite.request.note_number(),
-                citation: citation_tree(alloc, request, &cite.items, counter)?,
-            })?;
+                citation: citation_tree(alloc, request, index, &cite.items, writer, counter)?,
+            };
+            push(&mut citations, citation)?;
         }
         Ok(citations)
     }

@@ -7,18 +7,20 @@ ghost use Rattle.csl_passes.specs.RequestView.{cite_view, request_view};
 ghost use Rattle.csl_driver.specs.Rings.{RefusesAlone};
 ghost use Rattle.csl_assembly.specs.ShownView.{shown_views};
 ghost use Rattle.csl_driver.specs.StandaloneCitation.{behind, lone_delimiter, lone_tree, lone_trees, standalone};
-ghost use Rattle.csl_writers.specs.Writing.{layout_writing};
+ghost use Rattle.csl_writing.specs.LayoutWriting.{layout_writing};
 
 use crate::error::{DriverError, RingPlace};
 use csl_assembly::assemble::{ShownCite, assembled};
-use csl_assembly::last_tree::tree_for_purpose;
+use csl_assembly::last_tree::tree_by_purpose;
 use csl_base::elem::ElemChildren;
 use csl_base::entry::EntryLike;
 use csl_base::style::Layout;
 use csl_passes::acyclic::AcyclicRequest;
 use csl_passes::item::CitationItem;
 use csl_passes::request::CitationRequest;
-use csl_writing::counter::Renders;
+use csl_writers::counter::Renders;
+use csl_writers::task::CiteTask;
+use csl_writing::layout_writer::LayoutWriter;
 use csl_writing::properties::CiteProperties;
 use std::alloc::{AllocError, Global};
 
@@ -27,22 +29,21 @@ fn lone_cite<T: EntryLike, P: Drop>(
     alloc: Global,
     request: AcyclicRequest<'_, '_, T, P>,
     item: &CitationItem<'_, T, P>,
-    counter: &mut Renders,
+    writer: &mut LayoutWriter,
 ) -> Result<ElemChildren, AllocError>
     ensures { IfOk result (λ tree. tree
         ≡ lone_tree (layout_writing T.answers) (source_of (request_view request.entry.request.now)) (cite_view item.now)) }
 {
     let properties = CiteProperties::for_sorting(item.locator.clone()?, 0);
-    tree_for_purpose(
-        alloc,
-        request,
-        item.entry,
-        &properties,
-        item.locale.as_ref(),
-        item.purpose,
-        None,
-        counter,
-    )
+    let task = CiteTask {
+        source: request.source(),
+        entry: item.entry,
+        properties: &properties,
+        purpose: item.purpose,
+        verdict: None,
+        place: None,
+    };
+    tree_by_purpose(alloc, task, writer, &mut Renders::new())
 }
 
 /// The trees of the cites that aren't hidden and have content.
@@ -57,11 +58,11 @@ fn lone_cites<'r, T: EntryLike, P: Drop>(
 {
     let request = acyclic.request;
     let delimiter = delimiter_of(&request.style().citation.layout);
-    let mut counter = Renders::new();
+    let mut writer = LayoutWriter::new();
     let mut cites = Vec::new(alloc);
     for item in &request.items {
         if !item.hidden {
-            let tree = lone_cite(alloc, acyclic, item, &mut counter)?;
+            let tree = lone_cite(alloc, acyclic, item, &mut writer)?;
             if tree.has_content() {
                 cites.push(ShownCite {
                     delimiter: Some(delimiter),

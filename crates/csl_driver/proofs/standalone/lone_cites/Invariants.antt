@@ -1,4 +1,4 @@
-use Rattle.csl_writers.specs.Writing.{layout_writing}
+use Rattle.csl_writing.specs.LayoutWriting.{layout_writing}
 use Rattle.std.proofs.Common.{◌≡◌, ◌++◌, drop, map}
 use Rattle.csl_assembly.specs.ShownView.{shown_views}
 use Rattle.csl_passes.specs.Request.{source_of}

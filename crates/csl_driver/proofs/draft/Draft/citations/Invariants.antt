@@ -1,13 +1,15 @@
-use Rattle.csl_writers.specs.Writing.{layout_writing}
-use Rattle.std.proofs.Common.{◌≡◌, length, map, take}
-use Rattle.std.specs.List.{sum_by}
-use Rattle.csl_driver.specs.Answer.{citation_of}
+use Rattle.csl_driver.specs.Answer.{citations_of}
+use Rattle.csl_driver.specs.WriterTasks.{last_tasks}
 use Rattle.csl_passes.specs.RendersView.{renders_view}
-use Rattle.csl_writing.specs.Counted.{counted_times}
+use Rattle.csl_writers.specs.Desk.{after, desk}
+use Rattle.csl_writers.specs.Writing.{writing_of}
+use Rattle.std.proofs.Common.{◌≡◌, take}
 use Rattle.csl_driver.proofs.draft.Draft.citations.Given as goal
 
-abbrev pub invariant-loop-cite : goal.invariant-loop-cite
-invariant-loop-cite g l = record {
-  citations : l.citations.items ≡ map (citation_of (layout_writing g.T.EntryLike.answers)) (renders_view (take l.cite-index l.cites));
-  counted : l.counter ≡ counted_times (sum_by (λ c. length c.items) (take l.cite-index (renders_view l.cites))) l.fn.counter;
-}
+abbrev pub invariant-loop-index : goal.invariant-loop-index
+invariant-loop-index g l =
+    let done = take l.index (renders_view l.cites) in
+    record {
+      citations : l.citations.items ≡ citations_of (writing_of g.T.EntryLike.answers (g.W.CiteWriter.state l.fn.writer)) done;
+      asked : desk (g.W.CiteWriter.state l.writer) l.counter ≡ after (last_tasks done) (desk (g.W.CiteWriter.state l.fn.writer) l.fn.counter);
+    }

@@ -1,86 +1,112 @@
-use Rattle.csl_writers.specs.Writing.{layout_writing}
-use Rattle.std.proofs.Common.{ap, length, map, subst, sym, ◌∙◌}
-use Rattle.std.specs.List.{sum_by}
-use Rattle.csl_driver.specs.Answer.{drawn_together, entries_listed, final_number, numbered_finally, order_in_use, rendered_first}
+use Rattle.std.proofs.Common.{◌-◌, ◌^◌, ap, length, map, subst, sym, ◌∙◌}
+use Rattle.std.specs.List.{filter_map}
+use Rattle.std.specs.Prelude.{min, option_map}
+use Rattle.csl_assembly.specs.BibliographyItems.{bibliography_of, bibliography_tasks}
+use Rattle.csl_driver.specs.Answer.{citations_of, drawn_together, entries_listed, final_number, in_the_end, numbered_finally, order_in_use, rendered_first}
 use Rattle.csl_driver.specs.DraftView.{asked_in, table_in}
+use Rattle.csl_driver.specs.WriterTasks.{begun_tasks, last_tasks, listed_tasks, where_wanted}
 use Rattle.csl_driver.proofs.ByEntries.{numbers-of, states-of}
 use Rattle.csl_driver.proofs.KeptLaws.{is-answer}
 use Rattle.csl_driver.proofs.Listings.{table-once}
-use Rattle.csl_driver.proofs.Sizes.{all-counted, last-size}
 use Rattle.csl_driver.proofs.Standing.{begun-of-table, drawn-requests, ordered-stand, settled-stand}
+use Rattle.csl_driver.proofs.Steps.{all-steps, rounds-same, same-told, same-written}
+use Rattle.csl_driver.proofs.TaskCounts.{task-count}
 use Rattle.csl_driver.proofs.Whole.{whole}
 use Rattle.csl_entries.specs.Entries.{number}
 use Rattle.csl_grouping.specs.Blocks.{grouped}
 use Rattle.csl_passes.specs.RendersView.{renders_view}
-use Rattle.csl_passes.specs.Request.{cites_of}
-use Rattle.csl_positions.specs.FinalProperties.{with_final_properties}
+use Rattle.csl_passes.specs.Request.{wanted_source}
+use Rattle.csl_positions.specs.FinalProperties.{first_item, with_final_properties}
 use Rattle.csl_positions.specs.FirstProperties.{first_properties, numbered_by}
+use Rattle.csl_round_laws.proofs.Begun.{first-begun}
 use Rattle.csl_round_laws.specs.FirstRenders.{AreBegun}
 use Rattle.csl_round_laws.specs.Rounds.{told_by}
-use Rattle.csl_round_laws.specs.Tables.{last_states}
+use Rattle.csl_round_laws.specs.Tables.{last_states, round_tasks}
 use Rattle.csl_rounds.specs.AfterRounds.{AreAfterRounds}
-use Rattle.csl_writing.specs.Counted.{counted_times}
-use Rattle.csl_round_laws.proofs.Begun.{first-begun}
+use Rattle.csl_writers.proofs.Counting.{counted_times-all}
+use Rattle.csl_writers.specs.Counted.{counted_times}
+use Rattle.csl_writers.specs.Desk.{after, desk}
+use Rattle.csl_writers.specs.Writing.{writing_of}
 use Rattle.csl_driver.proofs.draft.Draft.finish.Goals as goal
 
 pub disambiguate-requires-clause-cites : goal.disambiguate-requires-clause-cites
 disambiguate-requires-clause-cites g c =
     let draft = c.args.self in
-    begun-of-table g.met.T.Eq.laws (layout_writing g.T.EntryLike.answers) g.P.PartialEq.eq (asked_in draft) draft.known.table (ap renders_view c.deref_mut-cites.ensures.value ∙ c.in_ok-first.ensures.cites) draft.requests.no_ring
+    begun-of-table g.met.T.Eq.laws (writing_of g.T.EntryLike.answers (g.W.CiteWriter.state c.args.writer.now)) g.P.PartialEq.eq (asked_in draft) draft.known.table (ap renders_view c.deref_mut-cites.ensures.value ∙ c.in_ok-first.ensures.cites) draft.requests.no_ring
 
 pub disambiguate-requires-clause-begun : goal.disambiguate-requires-clause-begun
 disambiguate-requires-clause-begun g c = λ full.
     let eq = g.T.PartialEq.eq in
     let asked = asked_in c.args.self in
     subst AreBegun (sym (ap renders_view c.deref_mut-cites.ensures.value ∙ c.in_ok-first.ensures.cites))
-    (first-begun (layout_writing g.T.EntryLike.answers) asked.requests (first_properties eq g.P.PartialEq.eq (number eq asked.offset (entries_listed eq asked.wanted asked.requests)) asked.requests))
+    (first-begun (writing_of g.T.EntryLike.answers (g.W.CiteWriter.state c.args.writer.now)) asked.requests (first_properties eq g.P.PartialEq.eq (number eq asked.offset (entries_listed eq asked.wanted asked.requests)) asked.requests))
 
 pub final_numbers-requires : goal.final_numbers-requires
 final_numbers-requires g c =
     let draft = c.args.self in
+    let rounds =
+    rounds-same g.T.EntryLike.answers c.args.mode g.T.PartialEq.eq (begun_tasks g.T.PartialEq.eq g.P.PartialEq.eq (asked_in draft)) (desk (g.W.CiteWriter.state c.args.writer.now) c.new-counter.result)
+    (desk (g.W.CiteWriter.state c.first_renders.new.writer) c.first_renders.new.counter) c.in_ok-first.ensures.asked c.in_ok-rounds.ensures in
     record {
-      cites = ordered-stand g.met.T.Eq.laws (layout_writing g.T.EntryLike.answers) g.P.PartialEq.eq (asked_in draft) draft.known.table (ap renders_view c.deref_mut-cites.ensures.value ∙ c.in_ok-first.ensures.cites)
-          c.args.mode c.in_ok-rounds.ensures.cites c.in_ok-group_all.ensures;
+      cites = ordered-stand g.met.T.Eq.laws (writing_of g.T.EntryLike.answers (g.W.CiteWriter.state c.args.writer.now)) g.P.PartialEq.eq (asked_in draft) draft.known.table
+          (ap renders_view c.deref_mut-cites.ensures.value ∙ c.in_ok-first.ensures.cites) c.args.mode rounds.cites c.in_ok-group_all.ensures;
     }
 
 pub set_final_properties-requires : goal.set_final_properties-requires
 set_final_properties-requires g c =
     let draft = c.args.self in
+    let rounds =
+    rounds-same g.T.EntryLike.answers c.args.mode g.T.PartialEq.eq (begun_tasks g.T.PartialEq.eq g.P.PartialEq.eq (asked_in draft)) (desk (g.W.CiteWriter.state c.args.writer.now) c.new-counter.result)
+    (desk (g.W.CiteWriter.state c.first_renders.new.writer) c.first_renders.new.counter) c.in_ok-first.ensures.asked c.in_ok-rounds.ensures in
     record {
-      placed = (ordered-stand g.met.T.Eq.laws (layout_writing g.T.EntryLike.answers) g.P.PartialEq.eq (asked_in draft) draft.known.table (ap renders_view c.deref_mut-cites.ensures.value ∙ c.in_ok-first.ensures.cites)
-          c.args.mode c.in_ok-rounds.ensures.cites c.in_ok-group_all.ensures).placed;
+      placed = (ordered-stand g.met.T.Eq.laws (writing_of g.T.EntryLike.answers (g.W.CiteWriter.state c.args.writer.now)) g.P.PartialEq.eq (asked_in draft) draft.known.table
+          (ap renders_view c.deref_mut-cites.ensures.value ∙ c.in_ok-first.ensures.cites) c.args.mode rounds.cites c.in_ok-group_all.ensures).placed;
     }
 
 pub bibliography-requires : goal.bibliography-requires
 bibliography-requires g c =
     let draft = c.args.self in
+    let rounds =
+    rounds-same g.T.EntryLike.answers c.args.mode g.T.PartialEq.eq (begun_tasks g.T.PartialEq.eq g.P.PartialEq.eq (asked_in draft)) (desk (g.W.CiteWriter.state c.args.writer.now) c.new-counter.result)
+    (desk (g.W.CiteWriter.state c.first_renders.new.writer) c.first_renders.new.counter) c.in_ok-first.ensures.asked c.in_ok-rounds.ensures in
     record {
-      cites = settled-stand g.met.T.Eq.laws (layout_writing g.T.EntryLike.answers) g.P.PartialEq.eq (asked_in draft) draft.known.table (ap renders_view c.deref_mut-cites.ensures.value ∙ c.in_ok-first.ensures.cites)
-          c.args.mode c.in_ok-rounds.ensures.cites c.in_ok-group_all.ensures _ c.set_final_properties.ensures;
+      cites = settled-stand g.met.T.Eq.laws (writing_of g.T.EntryLike.answers (g.W.CiteWriter.state c.args.writer.now)) g.P.PartialEq.eq (asked_in draft) draft.known.table
+          (ap renders_view c.deref_mut-cites.ensures.value ∙ c.in_ok-first.ensures.cites) c.args.mode rounds.cites c.in_ok-group_all.ensures _ c.set_final_properties.ensures;
     }
 
 pub citations-requires : goal.citations-requires
 citations-requires g c =
     let draft = c.args.self in
-    let stand = settled-stand g.met.T.Eq.laws (layout_writing g.T.EntryLike.answers) g.P.PartialEq.eq (asked_in draft) draft.known.table (ap renders_view c.deref_mut-cites.ensures.value ∙ c.in_ok-first.ensures.cites)
-    c.args.mode c.in_ok-rounds.ensures.cites c.in_ok-group_all.ensures _ c.set_final_properties.ensures in
+    let rounds =
+    rounds-same g.T.EntryLike.answers c.args.mode g.T.PartialEq.eq (begun_tasks g.T.PartialEq.eq g.P.PartialEq.eq (asked_in draft)) (desk (g.W.CiteWriter.state c.args.writer.now) c.new-counter.result)
+    (desk (g.W.CiteWriter.state c.first_renders.new.writer) c.first_renders.new.counter) c.in_ok-first.ensures.asked c.in_ok-rounds.ensures in
+    let stand = settled-stand g.met.T.Eq.laws (writing_of g.T.EntryLike.answers (g.W.CiteWriter.state c.args.writer.now)) g.P.PartialEq.eq (asked_in draft) draft.known.table
+    (ap renders_view c.deref_mut-cites.ensures.value ∙ c.in_ok-first.ensures.cites) c.args.mode rounds.cites c.in_ok-group_all.ensures _ c.set_final_properties.ensures in
     record { cites = ap (map (λ r. r.request)) c.collapse_all.ensures ∙ drawn-requests (renders_view c.set_final_properties.new.renders) ∙ stand.of }
 
 pub returns : goal.returns
 returns g c =
     let eq = g.T.PartialEq.eq in
-    let writing = (layout_writing g.T.EntryLike.answers) in
+    let peq = g.P.PartialEq.eq in
+    let answers = g.T.EntryLike.answers in
+    let mode = c.args.mode in
     let draft = c.args.self in
     let asked = asked_in draft in
     let table = table_in draft in
-    let first = ap renders_view c.deref_mut-cites.ensures.value ∙ c.in_ok-first.ensures.cites in
-    let peq = g.P.PartialEq.eq in
-    let mode = c.args.mode in
+    let source = wanted_source asked.wanted in
+    let listed = entries_listed eq asked.wanted asked.requests in
+    let start = desk (g.W.CiteWriter.state c.args.writer.now) c.new-counter.result in
+    let begun = desk (g.W.CiteWriter.state c.first_renders.new.writer) c.first_renders.new.counter in
+    let told = desk (g.W.CiteWriter.state c.disambiguate.new.writer) c.disambiguate.new.counter in
+    let written = desk (g.W.CiteWriter.state c.bibliography.new.writer) c.bibliography.new.counter in
+    let end = desk (g.W.CiteWriter.state c.citations.new.writer) c.citations.new.counter in
+    let writing = writing_of answers (g.W.CiteWriter.state c.args.writer.now) in
     let firsts = rendered_first eq peq writing asked in
+    let first = ap renders_view c.deref_mut-cites.ensures.value ∙ c.in_ok-first.ensures.cites in
     let once = table-once eq g.met.T.Eq.laws asked.requests table draft.known.table in
     let rounds =
-    subst (λ fs. AreAfterRounds mode eq writing fs table.entries c.first_renders.new.counter (renders_view c.disambiguate.new.cites) c.in_ok-rounds.rounds.states.items c.in_ok-rounds.rounds.marked c.disambiguate.new.counter)
-    first c.in_ok-rounds.ensures in
+    subst (λ fs. AreAfterRounds mode eq writing fs table.entries begun (renders_view c.disambiguate.new.cites) c.in_ok-rounds.rounds.states.items c.in_ok-rounds.rounds.marked told)
+    first (rounds-same answers mode eq (begun_tasks eq peq asked) start begun c.in_ok-first.ensures.asked c.in_ok-rounds.ensures) in
     let ordered = c.in_ok-group_all.ensures ∙ ap (map grouped) rounds.cites in
     let number_of = final_number eq peq writing mode asked in
     let numbers = c.in_ok-numbers.ensures.numbers ∙ ap (λ cs. number eq asked.offset (numbered_finally eq (order_in_use asked.wanted) asked.requests cs)) ordered in
@@ -89,15 +115,28 @@ returns g c =
     ∙ (λ i. with_final_properties eq peq ((ap (λ ns. numbered_by eq ns table.entries) c.deref.ensures.value ∙ numbers) i) (ordered i)) in
     let account = c.in_ok-account.ensures in
     let last = last_states mode eq writing firsts in
-    let sizes = ap (sum_by (λ r. length r.items)) (c.collapse_all.ensures ∙ ap (map drawn_together) settled) ∙ last-size eq peq writing mode asked in
-    is-answer eq peq writing mode asked _ (c.answers_keep_laws.ensures writing mode asked) (record {
-      ok = whole eq peq writing mode asked (renders_view c.set_final_properties.new.renders) (renders_view c.collapse_all.new.cites) settled c.collapse_all.ensures
-          (c.new.ensures ∙ c.in_ok-citations.ensures.citations) c.in_ok-bibliography.ensures.bibliography;
-      renders = account.renders
-          ∙ all-counted eq peq writing mode asked _ _ _ _ _ (c.in_ok-first.ensures.counted ∙ ap (counted_times (length (cites_of asked.requests))) c.new-counter.ensures)
-          rounds.counted c.in_ok-bibliography.ensures.counted c.in_ok-citations.ensures.counted sizes;
-      rounds = account.rounds ∙ rounds.marked_is;
-      entries = account.entries ∙ ap (λ t. t.entries) draft.known.table;
-      states = account.states ∙ states-of eq g.met.T.Eq.laws table.entries once last _ rounds.states_are ∙ ap (λ t. map (λ e. told_by (last e)) t.entries) draft.known.table;
-      numbers = account.numbers ∙ numbers-of eq g.met.T.Eq.laws table.entries once number_of _ c.in_ok-numbers.ensures.long numbers ∙ ap (λ t. map number_of t.entries) draft.known.table;
-    })
+    let listed_is =
+    c.in_ok-bibliography.ensures.asked
+    ∙ ap (λ cs. after (where_wanted asked.wanted.style.bibliography (bibliography_tasks source (filter_map (first_item eq cs) listed))) told) settled in
+    let last_is = c.in_ok-citations.ensures.asked ∙ ap (λ cs. after (last_tasks cs) written) (c.collapse_all.ensures ∙ ap (map drawn_together) settled) in
+    let first_tasks = begun_tasks eq peq asked in
+    let again_tasks = round_tasks mode eq writing firsts in
+    let bibliography_asked = listed_tasks eq peq writing mode asked in
+    let last_asked = last_tasks (map drawn_together (in_the_end eq peq writing mode asked)) in
+    let second = same-told answers first_tasks again_tasks bibliography_asked last_asked start begun told written end c.in_ok-first.ensures.asked rounds.asked listed_is last_is in
+    let third = same-written answers first_tasks again_tasks bibliography_asked last_asked start begun told written end c.in_ok-first.ensures.asked rounds.asked listed_is last_is in
+    let all = all-steps answers first_tasks again_tasks bibliography_asked last_asked start begun told written end c.in_ok-first.ensures.asked rounds.asked listed_is last_is in
+    let wanted = asked.wanted.style.bibliography in
+    record {
+      answer = is-answer eq peq writing mode asked _ (c.answers_keep_laws.ensures writing mode asked) (record {
+        ok = whole eq peq writing mode asked (renders_view c.set_final_properties.new.renders) (renders_view c.collapse_all.new.cites) settled c.collapse_all.ensures
+            (c.new.ensures ∙ c.in_ok-citations.ensures.citations ∙ ap (λ w. citations_of w (renders_view c.collapse_all.new.cites)) third)
+            (c.in_ok-bibliography.ensures.bibliography ∙ ap (λ w. option_map (λ b. bibliography_of w source b (filter_map (first_item eq (renders_view c.set_final_properties.new.renders)) listed)) wanted) second);
+        renders = account.renders ∙ ap (λ d. d.renders) all ∙ (λ i. counted_times (task-count eq g.met.T.Eq.laws peq writing mode asked i) (c.new-counter.ensures i)) ∙ counted_times-all _;
+        rounds = account.rounds ∙ rounds.marked_is;
+        entries = account.entries ∙ ap (λ t. t.entries) draft.known.table;
+        states = account.states ∙ states-of eq g.met.T.Eq.laws table.entries once last _ rounds.states_are ∙ ap (λ t. map (λ e. told_by (last e)) t.entries) draft.known.table;
+        numbers = account.numbers ∙ numbers-of eq g.met.T.Eq.laws table.entries once number_of _ c.in_ok-numbers.ensures.long numbers ∙ ap (λ t. map number_of t.entries) draft.known.table;
+      });
+      asked = ap (λ d. d.writer) all;
+    }

@@ -1,10 +1,11 @@
-use Rattle.csl_writers.specs.Writing.{layout_writing}
 use Rattle.std.proofs.Common.{ap, arith, length, map, subst, sym, ◌∙◌}
 use Rattle.csl_entries.specs.Entries.{distinct}
 use Rattle.csl_driver.specs.DraftView.{asked_in, table_in}
 use Rattle.csl_passes.specs.Request.{cited}
 use Rattle.csl_positions.specs.FirstProperties.{first_properties, numbered_by}
-use Rattle.csl_round_laws.specs.FirstRenders.{HasShapeOf, first_renders}
+use Rattle.csl_round_laws.specs.FirstRenders.{HasShapeOf, first_renders, first_tasks}
+use Rattle.csl_writers.specs.Desk.{after, desk}
+use Rattle.csl_writers.specs.Writing.{writing_of}
 use Rattle.csl_driver.proofs.FirstPlaced.{first-shape}
 use Rattle.csl_driver.proofs.Listings.{known-listed, numbers-are, numbers-fit, numbers-long}
 use Rattle.csl_driver.proofs.draft.Draft.first_renders.Goals as goal
@@ -25,15 +26,18 @@ first_renders-requires g c =
     let number_of = numbered_by eq c.deref.result.now (table_in c.args.self).entries in
     record {
       shape = subst (HasShapeOf requests) (sym (ap (map (λ f. f.items)) c.deref-2.ensures.value ∙ c.in_ok-firsts.ensures))
-          (first-shape eq g.P.PartialEq.eq (layout_writing g.T.EntryLike.answers) number_of (distinct eq (cited requests)) requests);
+          (first-shape eq g.P.PartialEq.eq (writing_of g.T.EntryLike.answers (g.W.CiteWriter.state c.args.writer.now)) number_of (distinct eq (cited requests)) requests);
     }
 
-pub returns-clause-cites : goal.returns-clause-cites
-returns-clause-cites g c =
+pub returns : goal.returns
+returns g c =
     let eq = g.T.PartialEq.eq in
     let draft = c.args.self in
     let requests = (asked_in draft).requests in
     let numbers = ap (λ ns. numbered_by eq ns (table_in draft).entries) (c.deref.ensures.value ∙ c.in_ok-numbers.ensures) ∙ numbers-are draft.known (known-listed draft.known) in
-    c.in_ok-cites.ensures.cites
-    ∙ ap (first_renders (layout_writing g.T.EntryLike.answers) requests)
-    (ap (map (λ f. f.items)) c.deref-2.ensures.value ∙ c.in_ok-firsts.ensures ∙ ap (λ n. first_properties eq g.P.PartialEq.eq n requests) numbers)
+    let properties =
+    ap (map (λ f. f.items)) c.deref-2.ensures.value ∙ c.in_ok-firsts.ensures ∙ ap (λ n. first_properties eq g.P.PartialEq.eq n requests) numbers in
+    record {
+      cites = on_ok c.first_renders.result (λ x. x ∙ ap (first_renders (writing_of g.T.EntryLike.answers (g.W.CiteWriter.state c.args.writer.now)) requests) properties) c.first_renders.ensures.cites;
+      asked = on_ok c.first_renders.result (λ x. x ∙ ap (λ ps. after (first_tasks requests ps) (desk (g.W.CiteWriter.state c.args.writer.now) c.args.counter.now)) properties) c.first_renders.ensures.asked;
+    }

@@ -1,5 +1,5 @@
 use Rattle.std.proofs.Common.{rules, sym, ◌∙◌}
-use Rattle.csl_driver.proofs.driver.BibliographyDriver.answered.Goals as goal
+use Rattle.csl_driver.proofs.driver.BibliographyDriver.finish_with.Goals as goal
 
 pub returns-in_err-cited : goal.returns-in_err-cited
 returns-in_err-cited g c =
@@ -7,14 +7,19 @@ returns-in_err-cited g c =
     let wanted = sym c.in_ok-requests.ensures.wanted in
     rw (requests, wanted) (search rules)
 
-pub returns : goal.returns
-returns g c =
+pub returns-in-Ok : goal.returns-in-Ok
+returns-in-Ok g c =
     let requests = sym (c.in_ok-requests.ensures.requests ∙ c.deref.ensures.value) in
     let wanted = sym c.in_ok-requests.ensures.wanted in
     let offset = sym c.in_ok-cited.ensures.offset in
     rw (requests, wanted, offset) (record {
-      answer = c.in_ok-finish.ensures;
-      no_ring = (c.in_ok-requests.requests.no_ring, c.in_ok-requests.wanted.no_ring);
-      fits = c.in_ok-cited.ensures.known.fits;
-      refused = tt;
+      finished = record {
+        answer = c.in-Ok.ensures.answer;
+        possible = record {
+          no_ring = (c.in_ok-requests.requests.no_ring, c.in_ok-requests.wanted.no_ring);
+          fits = c.in_ok-cited.ensures.known.fits;
+        };
+        refused = tt;
+      };
+      asked = c.in-Ok.ensures.asked;
     })

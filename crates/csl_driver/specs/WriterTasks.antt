@@ -1,0 +1,41 @@
+-- What a writer is asked for where a driver answers.
+use Rattle.std.specs.Prelude.{ℕ, Bool, List, [], ◌++◌, Option, None, Some, map}
+use Rattle.std.specs.List.{enumerate_from, flat_map}
+use Rattle.csl_assembly.specs.BibliographyItems.{bibliography_tasks}
+use Rattle.csl_assembly.specs.CitationTree.{citation_tasks}
+use Rattle.csl_driver.specs.Answer.{Asked, drawn_together, entries_listed, first_cites, in_the_end, rendered_first}
+use Rattle.csl_entries.specs.Entries.{number}
+use Rattle.csl_passes.specs.Renders.{CiteRender}
+use Rattle.csl_passes.specs.Request.{wanted_source}
+use Rattle.csl_positions.specs.FirstProperties.{first_properties}
+use Rattle.csl_round_laws.specs.FirstRenders.{first_tasks}
+use Rattle.csl_round_laws.specs.Tables.{round_tasks}
+use Rattle.csl_round_laws.specs.declared.mode.RoundMode.{RoundMode}
+use Rattle.csl_writers.specs.Tasks.{TaskValue}
+use Rattle.csl_writers.specs.Writing.{Writing}
+
+-- these where there is a bibliography
+abbrev pub where_wanted : {B X : Type 0} → Option B → List X → List X
+where_wanted None tasks = []
+where_wanted (Some b) tasks = tasks
+
+-- for all citations, from the cites as they stand in the end
+abbrev pub last_tasks : {E P : Type 0} → List (CiteRender E P) → List (TaskValue E P)
+last_tasks cites = flat_map (λ c. citation_tasks c.0 c.1) (enumerate_from 0 cites)
+
+module _ {E P : Type 0} (eq : E → E → Bool) (payload_eq : P → P → Bool) where
+  -- where the cites are rendered first
+  abbrev pub begun_tasks : Asked E P → List (TaskValue E P)
+  begun_tasks asked = first_tasks asked.requests (first_properties eq payload_eq
+      (number eq asked.offset (entries_listed eq asked.wanted asked.requests)) asked.requests)
+
+  module _ (writing : Writing E P) (mode : RoundMode) (asked : Asked E P) where
+    -- where the bibliography is written
+    abbrev pub listed_tasks : List (TaskValue E P)
+    listed_tasks = where_wanted asked.wanted.style.bibliography
+        (bibliography_tasks (wanted_source asked.wanted) (first_cites eq payload_eq writing mode asked))
+
+    -- all that is asked for: the first renders, those of the rounds, the bibliography, the citations
+    abbrev pub tasks : List (TaskValue E P)
+    tasks = begun_tasks asked ++ (round_tasks mode eq writing (rendered_first eq payload_eq writing asked)
+        ++ (listed_tasks ++ last_tasks (map drawn_together (in_the_end eq payload_eq writing mode asked))))
