@@ -1,4 +1,7 @@
 pub mod Joined
 pub mod Taken
 pub mod Equal
-pub mod CountedNext
+pub mod Steps
+pub mod Asked
+pub mod ShownMore
+pub mod ItemsMore

@@ -48,6 +48,31 @@ fn unlocated<'a, T, P: Drop>(
     })
 }
 
+/// The entry of a cite as the bibliography writes it by these properties; `None` where the style has none.
+fn tree_by_properties<T: EntryLike, P, W: CiteWriter<T, P>>(
+    alloc: Global,
+    wanted: AcyclicWanted<'_, '_, '_, T>,
+    first: &SpeculativeItemRender<'_, T, P>,
+    properties: &CiteProperties<'_, P>,
+    writer: &mut W,
+    counter: &mut Renders,
+) -> Result<Option<ElemChildren>, W::Error>
+    ensures tree { let task = record (item_of (wanted_source (wanted_view wanted.entry.wanted.now))
+        (item_view first.now)) { properties = properties_view properties.now } in
+        IfOk result (λ tree. tree ≡ (W.state writer.old).item task) }
+    ensures asked { let task = record (item_of (wanted_source (wanted_view wanted.entry.wanted.now))
+        (item_view first.now)) { properties = properties_view properties.now } in
+        OnOk result (desk (W.state writer.new) counter.new
+        ≡ after (item_task task ∷ []) (desk (W.state writer.old) counter.old)) }
+{
+    let task = ItemTask {
+        source: wanted.source(),
+        entry: first.entry,
+        properties,
+    };
+    asking::written_item(alloc, task, writer, counter)
+}
+
 /// The entry of a cite as the bibliography writes it, and its key.
 fn written_item<T: EntryLike, P: Drop, W: CiteWriter<T, P>>(
     alloc: Global,
@@ -64,12 +89,7 @@ fn written_item<T: EntryLike, P: Drop, W: CiteWriter<T, P>>(
         (desk (W.state writer.old) counter.old)) }
 {
     let properties = unlocated(first)?;
-    let task = ItemTask {
-        source: wanted.source(),
-        entry: first.entry,
-        properties: &properties,
-    };
-    let text = asking::written_item(alloc, task, writer, counter)?;
+    let text = tree_by_properties(alloc, wanted, first, &properties, writer, counter)?;
     let mut content = text.unwrap_or(ElemChildren::new(alloc));
     content.simplify_children()?;
     Ok((content, String::from_str(alloc, first.entry.key())?))

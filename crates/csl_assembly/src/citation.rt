@@ -3,6 +3,7 @@ ghost use Rattle.std.specs.Prelude.{◌≡◌, ◌∷◌, [], IfOk, OnOk, map, o
 ghost use Rattle.csl_base.specs.StyleView.{layout_view};
 ghost use Rattle.csl_passes.specs.Request.{source_of};
 ghost use Rattle.csl_passes.specs.RequestView.{request_view};
+ghost use Rattle.csl_passes.specs.Renders.{CiteRender};
 ghost use Rattle.csl_passes.specs.RendersView.{item_view, items_view};
 ghost use Rattle.csl_assembly.specs.CitationTree.{citation_tasks, citation_tree, delimiter_before, has_no_purpose, marked_cite, place_of, shown, shown_cite};
 ghost use Rattle.csl_assembly.specs.LastTree.{last_task, task_by_purpose, tree_by_purpose};
@@ -87,10 +88,10 @@ fn shown_cites<'a, T: EntryLike, P: Drop, W: CiteWriter<T, P>>(
         IfOk result (λ cites. shown_views cites.items
         ≡ map (shown_cite (writing_of T.answers (W.state writer.old)) index (source_of request)
         request.style.citation.layout) (shown (items_view items.now))) }
-    ensures asked { let cites = record {
-          items = items_view items.now;
-          request = request_view request.entry.request.now;
-        } in
+    ensures asked { let cites : CiteRender T P = record {
+      items = items_view items.now;
+      request = request_view request.entry.request.now;
+    } in
         OnOk result (desk (W.state writer.new) counter.new
         ≡ after (citation_tasks index cites) (desk (W.state writer.old) counter.old)) }
 {
@@ -122,16 +123,16 @@ pub fn citation_tree<'a, T: EntryLike, P: Drop, W: CiteWriter<T, P>>(
     writer: &mut W,
     counter: &mut Renders,
 ) -> Result<ElemChildren, W::Error>
-    ensures tree { let cites = record {
-          items = items_view items.now;
-          request = request_view request.entry.request.now;
-        } in
+    ensures tree { let cites : CiteRender T P = record {
+      items = items_view items.now;
+      request = request_view request.entry.request.now;
+    } in
         IfOk result (λ tree. tree
         ≡ citation_tree (writing_of T.answers (W.state writer.old)) index cites) }
-    ensures asked { let cites = record {
-          items = items_view items.now;
-          request = request_view request.entry.request.now;
-        } in
+    ensures asked { let cites : CiteRender T P = record {
+      items = items_view items.now;
+      request = request_view request.entry.request.now;
+    } in
         OnOk result (desk (W.state writer.new) counter.new
         ≡ after (citation_tasks index cites) (desk (W.state writer.old) counter.old)) }
 {

@@ -73,10 +73,32 @@ pub fn last_tree<T: EntryLike, P: Drop, W: CiteWriter<T, P>>(
         (item_view item.now)) ∷ []) (desk (W.state writer.old) counter.old)) }
 {
     let properties = last_properties(item)?;
+    tree_by_properties(alloc, request, place, item, &properties, writer, counter)
+}
+
+/// The tree of a cite of the request at this place, for its purpose and as its verdict cuts it, by these
+/// properties.
+fn tree_by_properties<T: EntryLike, P, W: CiteWriter<T, P>>(
+    alloc: Global,
+    request: AcyclicRequest<'_, '_, T, P>,
+    place: (usize, usize),
+    item: &SpeculativeItemRender<'_, T, P>,
+    properties: &CiteProperties<'_, P>,
+    writer: &mut W,
+    counter: &mut Renders,
+) -> Result<ElemChildren, W::Error>
+    ensures tree { let task = record (last_task (source_of (request_view request.entry.request.now)) (Some place)
+        (item_view item.now)) { properties = properties_view properties.now } in
+        IfOk result (λ tree. tree ≡ tree_by_purpose (writing_of T.answers (W.state writer.old)) task) }
+    ensures asked { let task = record (last_task (source_of (request_view request.entry.request.now)) (Some place)
+        (item_view item.now)) { properties = properties_view properties.now } in
+        OnOk result (desk (W.state writer.new) counter.new
+        ≡ after (task_by_purpose task ∷ []) (desk (W.state writer.old) counter.old)) }
+{
     let task = CiteTask {
         source: request.source(),
         entry: item.entry,
-        properties: &properties,
+        properties,
         purpose: item.purpose,
         verdict: item.collapse_verdict,
         place: Some(place),

@@ -1,18 +1,20 @@
-use Rattle.csl_writers.specs.Writing.{layout_writing}
-use Rattle.std.proofs.Common.{◌≡◌, ◌++◌, drop, map}
+use Rattle.std.proofs.Common.{◌≡◌, ◌++◌, drop, map, take}
 use Rattle.csl_passes.specs.RendersView.{items_view}
 use Rattle.csl_passes.specs.Request.{source_of}
 use Rattle.csl_passes.specs.RequestView.{request_view}
-use Rattle.csl_assembly.specs.CitationTree.{shown, shown_cite}
+use Rattle.csl_assembly.specs.CitationTree.{citation_tasks, shown, shown_cite}
 use Rattle.csl_assembly.specs.ShownView.{shown_views}
-use Rattle.csl_writing.specs.Counted.{counted_times}
+use Rattle.csl_writers.specs.Desk.{after, desk}
+use Rattle.csl_writers.specs.Writing.{writing_of}
 use Rattle.csl_assembly.proofs.citation.shown_cites.Given as goal
 
 abbrev pub invariant-loop-item : goal.invariant-loop-item
 invariant-loop-item g l =
     let request = request_view l.request.request.now in
-    let one = shown_cite (layout_writing g.T.EntryLike.answers) (source_of request) request.style.citation.layout in
+    let writing = writing_of g.T.EntryLike.answers (g.W.CiteWriter.state l.fn.writer) in
+    let one = shown_cite writing l.index (source_of request) request.style.citation.layout in
     record {
       cites : shown_views l.cites.items ++ map one (shown (items_view (drop l.item-index l.items))) ≡ map one (shown (items_view l.items));
-      counted : l.counter ≡ counted_times l.item-index l.fn.counter;
+      asked : desk (g.W.CiteWriter.state l.writer) l.counter
+          ≡ after (citation_tasks l.index (record { items = items_view (take l.item-index l.items); request = request })) (desk (g.W.CiteWriter.state l.fn.writer) l.fn.counter);
     }

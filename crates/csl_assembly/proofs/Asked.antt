@@ -1,0 +1,33 @@
+-- What is asked for in a loop, one thing after another.
+use Rattle.std.proofs.Common.{◌≡◌, ℕ, ◌+◌, ◌<◌, List, [], ◌∷◌, ◌++◌, Option, Some, length, map, take, get_or, ap, sym, ◌∙◌}
+use Rattle.std.specs.List.{filter_map}
+use Rattle.std.proofs.lemmas.List.{map-append}
+use Rattle.csl_writers.specs.Desk.{Desk, after}
+use Rattle.csl_writers.specs.Tasks.{TaskValue}
+use Rattle.csl_writers.proofs.TasksDone.{after-then}
+use Rattle.csl_assembly.proofs.Steps.{filter_map-push, one_more}
+
+module _ {E P N : Type 0} where
+  asked-more : (first grown : List (TaskValue E P)) (task : TaskValue E P) (old before new : Desk E P N)
+      → grown ≡ first ++ task ∷ [] → before ≡ after first old → new ≡ after (task ∷ []) before → new ≡ after grown old
+  asked-more first grown task old before new more begun one =
+      after-then first (task ∷ []) old before new begun one ∙ ap (λ l. after l old) (sym more)
+
+  module _ {X Y : Type 0} (xs : List X) (k : ℕ) (d x : X) (within : k < length xs) (here : x ≡ get_or xs k d) (task : Y → TaskValue E P) (old before new : Desk E P N) where
+    -- one thing for each member
+    pub asked-each : (view : X → Y) → before ≡ after (map task (map view (take k xs))) old → new ≡ after (task (view x) ∷ []) before
+        → new ≡ after (map task (map view (take (k + 1) xs))) old
+    asked-each view =
+        let tasks : List X → List (TaskValue E P) = λ l. map task (map view l) in
+        asked-more (tasks (take k xs)) (tasks (take (k + 1) xs)) (task (view x)) old before new
+        (ap tasks (one_more xs k d x within here) ∙ ap (map task) (map-append view (take k xs) (x ∷ []))
+        ∙ map-append task (map view (take k xs)) (view x ∷ []))
+
+    -- one thing for what is found at each place
+    pub asked-found : (f : X → Option Y) (y : Y) → f x ≡ Some y → before ≡ after (map task (filter_map f (take k xs))) old
+        → new ≡ after (task y ∷ []) before → new ≡ after (map task (filter_map f (take (k + 1) xs))) old
+    asked-found f y found =
+        let tasks : List X → List (TaskValue E P) = λ l. map task (filter_map f l) in
+        asked-more (tasks (take k xs)) (tasks (take (k + 1) xs)) (task y) old before new
+        (ap tasks (one_more xs k d x within here) ∙ ap (map task) (filter_map-push f (take k xs) x y found)
+        ∙ map-append task (filter_map f (take k xs)) (y ∷ []))
