@@ -1,6 +1,8 @@
 pub mod Pairs
+pub mod Made
 pub mod FirstSteps
 pub mod Halves
+pub mod Changed
 pub mod Walk
 pub mod Counted
 pub mod Raising
