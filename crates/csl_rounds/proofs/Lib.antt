@@ -7,7 +7,6 @@ pub mod Walk
 pub mod Counted
 pub mod Raising
 pub mod Placed
-pub mod Rerendered
 pub mod OfTable
 pub mod Marked
 pub mod InRounds

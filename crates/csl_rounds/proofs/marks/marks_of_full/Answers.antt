@@ -1,4 +1,3 @@
-use Rattle.csl_writers.specs.Writing.{layout_writing}
 use Rattle.std.proofs.Common.{◌≡◌, [], ◌∷◌, ◌++◌, false, ap, get_or, length, map, subst, sym, take, ◌∙◌}
 use Rattle.std.specs.Prelude.{All, fold}
 use Rattle.std.specs.List.{list_any}
@@ -85,4 +84,4 @@ returns g c =
     let eq = g.T.PartialEq.eq in
     c.loop-group.invariant.gathered
     ∙ ap (λ l. fold (with_counting eq c.shows_dates-dated.result rs) [] (map (λ p. p.items) l)) (all-taken c.deref-group-items.result.now c.loop-group.group-index c.loop-group-test.false)
-    ∙ full-is eq (layout_writing g.T.EntryLike.answers) rs c.shows_dates-dated.result _ c.shows_dates-dated.ensures (ap (map (λ p. p.items)) c.deref-group-items.ensures.value ∙ c.in_ok-groups.ensures.groups)
+    ∙ full-is eq g.T.EntryLike.answers rs c.shows_dates-dated.result _ c.shows_dates-dated.ensures (ap (map (λ p. p.items)) c.deref-group-items.ensures.value ∙ c.in_ok-groups.ensures.groups)

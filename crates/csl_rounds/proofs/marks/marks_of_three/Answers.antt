@@ -1,4 +1,3 @@
-use Rattle.csl_writers.specs.Writing.{layout_writing}
 use Rattle.std.proofs.Common.{[], ap, map, ◌∙◌}
 use Rattle.std.specs.Prelude.{fold}
 use Rattle.csl_passes.specs.RendersView.{renders_view}
@@ -12,4 +11,4 @@ returns g c =
     let eq = g.T.PartialEq.eq in
     c.loop-group.invariant
     ∙ ap (λ l. fold (with_group eq c.shows_dates-dated.result rs) [] (map (λ p. p.items) l)) (all-taken c.deref-group-items.result.now c.loop-group.group-index c.loop-group-test.false)
-    ∙ three-is eq (layout_writing g.T.EntryLike.answers) rs c.shows_dates-dated.result _ c.shows_dates-dated.ensures (ap (map (λ p. p.items)) c.deref-group-items.ensures.value ∙ c.in_ok-groups.ensures.groups)
+    ∙ three-is eq g.T.EntryLike.answers rs c.shows_dates-dated.result _ c.shows_dates-dated.ensures (ap (map (λ p. p.items)) c.deref-group-items.ensures.value ∙ c.in_ok-groups.ensures.groups)
