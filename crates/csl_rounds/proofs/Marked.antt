@@ -30,14 +30,6 @@ module _ {X : Type 0} where
   any-tested (x ∷ xs) n true l e = absurd (omega (arith, l, eqb-true n 0 (sym e)))
   any-tested (x ∷ xs) n false l e = refl
 
-  pub first-kept : (xs ys : List X) → has_any xs ≡ true → or_others xs ys ≡ xs
-  first-kept [] ys h = cc
-  first-kept (x ∷ xs) ys h = refl
-
-  pub others-taken : (xs ys : List X) → has_any xs ≡ false → or_others xs ys ≡ ys
-  others-taken [] ys h = refl
-  others-taken (x ∷ xs) ys h = cc
-
   pub nothing-marked : (xs : List X) → has_any xs ≡ false → xs ≡ []
   nothing-marked [] h = refl
   nothing-marked (x ∷ xs) h = cc
@@ -73,24 +65,22 @@ module _ {E P : Type 0} (mode : RoundMode) (eq : E → E → Bool) (writing : Wr
       (subst (λ n. All (λ m. IsPlaced table.places n m.0) marks) (sym f)
       (are-placed eq table.entries table.places rs are.placed are.listed marks (subst (λ ms. All (λ m. IsPlace rs m.0) ms) (sym m) (marks-stand rs mode eq writing))))
 
-  module _ (laws : IsEquivalence eq) (places : List (List ℕ)) (count : ℕ) (marks : List Mark) (states now : List (Option DisambiguateState)) (e : places ≡ table.places)
-      (n : count ≡ length table.entries) (m : marks ≡ round_marks mode eq writing.answers rs) (s : now ≡ states) (great : AreGreatest places marks count states) where
-    abbrev all : List Mark
-    all = round_marks mode eq writing.answers rs
+  abbrev all : List Mark
+  all = round_marks mode eq writing.answers rs
 
-    greatest-now : AreGreatest table.places all (length table.entries) now
-    greatest-now =
-        let one : AreGreatest table.places marks count states = subst (λ ps. AreGreatest ps marks count states) e great in
-        let two : AreGreatest table.places all count states = subst (λ ms. AreGreatest table.places ms count states) m one in
-        let three : AreGreatest table.places all (length table.entries) states = subst (λ k. AreGreatest table.places all k states) n two in
-        subst (λ ss. AreGreatest table.places all (length table.entries) ss) (sym s) three
+  pub greatest-now : (places : List (List ℕ)) (count : ℕ) (marks : List Mark) (states now : List (Option DisambiguateState)) → places ≡ table.places → count ≡ length table.entries → marks ≡ all → now ≡ states
+      → AreGreatest places marks count states → AreGreatest table.places all (length table.entries) now
+  greatest-now places count marks states now e n m s great =
+      subst (AreGreatest table.places all (length table.entries)) (sym s)
+      (subst (λ k. AreGreatest table.places all k states) n (subst (λ ms. AreGreatest table.places ms count states) m (subst (λ ps. AreGreatest ps marks count states) e great)))
 
+  module _ (laws : IsEquivalence eq) (now : List (Option DisambiguateState)) (great : AreGreatest table.places all (length table.entries) now) where
     pub round-done : document_again now writing table.places rs ≡ at_table writing (marked_by mode eq writing rs) rs
-    round-done = document-alike eq table.entries table.places rs are.placed are.listed laws all (marks-stand rs mode eq writing) now greatest-now writing
+    round-done = document-alike eq table.entries table.places rs are.placed are.listed laws all (marks-stand rs mode eq writing) now great writing
 
     -- what it asks for
     pub round-asked : document_tasks now table.places rs ≡ again_tasks (marked_by mode eq writing rs) rs
-    round-asked = tasks-alike eq table.entries table.places rs are.placed are.listed laws all (marks-stand rs mode eq writing) now greatest-now
+    round-asked = tasks-alike eq table.entries table.places rs are.placed are.listed laws all (marks-stand rs mode eq writing) now great
 
     -- and the entries have its states before those that they had
     pub round-states : (known : StateTable E) (old new : List (Option DisambiguateState)) → new ≡ put_before now old → AreStatesOf eq table.entries known old
@@ -102,7 +92,7 @@ module _ {E P : Type 0} (mode : RoundMode) (eq : E → E → Bool) (writing : Wr
           at = λ e below.
               by_places-at before old (place eq e table.entries) None (subst (λ n. place eq e table.entries < n) (sym were.long) below)
               ∙ ap (λ s. option_or s (get_or old (place eq e table.entries) None))
-              (state-at eq table.entries table.places rs are.placed are.listed laws all (marks-stand rs mode eq writing) now greatest-now e below)
+              (state-at eq table.entries table.places rs are.placed are.listed laws all (marks-stand rs mode eq writing) now great e below)
               ∙ ap (option_or (marked_by mode eq writing rs e)) (were.at e below);
         })
       where

@@ -29,12 +29,6 @@ module _ {X V : Type 0} (view : X → V) {xs ys : List X} (k : ℕ) (same : xs �
       let kept : length (map view ys) ≡ length ys = length-map ys view in
       omega (arith, past, long, kept)
 
-  pub end_view : length xs ≤ k → k ≤ length xs → k ≡ length (map view ys)
-  end_view past within =
-      let long : length xs ≡ length ys = ap length same in
-      let kept : length (map view ys) ≡ length ys = length-map ys view in
-      omega (arith, past, within, long, kept)
-
   -- what stands at a place stands there in the view
   pub at_view : (x : X) → x ≡ get_or xs k x → view x ≡ get_or (map view ys) k (view x)
   at_view x here = ap view here ∙ ap (λ (l : List X). view (get_or l k x)) same ∙ sym (get_or-map view ys k x)

@@ -55,9 +55,3 @@ module _ {E P : Type 0} (eq : E → E → Bool) (answers : E → Answers) (rs : 
   pub full-is : fold (with_counting eq dated rs) [] groups ≡ round_marks RoundMode.Full eq answers rs
   full-is =
       gathered-full (counting rs (name_marks rs)) (counting rs (by_choice eq rs)) (counting rs (by_suffix eq rs dated)) (waits eq rs) [] groups ∙ round-of RoundMode.Full
-
-pub all-taken : {X : Type 0} (xs : List X) (k : ℕ) → length xs ≤ k → take k xs ≡ xs
-all-taken [] zero h = refl
-all-taken [] (suc k) h = refl
-all-taken (x ∷ xs) zero h = absurd (omega arith)
-all-taken (x ∷ xs) (suc k) h = ap (λ ys. x ∷ ys) (all-taken xs k (omega arith))
