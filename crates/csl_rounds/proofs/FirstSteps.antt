@@ -1,17 +1,20 @@
 -- The first renders, made one after another.
-use Rattle.std.proofs.Common.{◌≡◌, ℕ, ◌+◌, ◌<◌, ◌≤◌, List, [], ◌∷◌, ◌++◌, length, map, take, get_or, Vec, Global, refl, ap, sym, ◌∙◌, arith, length-append, append-nil}
+use Rattle.std.proofs.Common.{◌≡◌, ℕ, ◌+◌, ◌<◌, ◌≤◌, List, [], ◌∷◌, ◌++◌, length, map, get_or, Vec, Global, ap, sym, ◌∙◌, arith}
 use Rattle.std.specs.Prelude.{zip}
+use Rattle.std.specs.List.{flat_map}
 use Rattle.std.proofs.Math.ListN.{get_or-map, length-map}
-use Rattle.std.proofs.lemmas.List.{get_or_default, take_all, take_more}
-use Rattle.std.proofs.lemmas.Grind.{flat_map-append}
-use Rattle.csl_writers.specs.Writing.{Writing}
+use Rattle.std.proofs.lemmas.List.{get_or_default}
+use Rattle.std.proofs.lemmas.List.Concat.{flat_map_single}
+use Rattle.csl_base.specs.Answers.{Answers}
 use Rattle.csl_passes.specs.Renders.{CiteRender, ItemRender}
-use Rattle.csl_passes.specs.Request.{RequestedCite, Request, cites_of}
+use Rattle.csl_passes.specs.Request.{Request, RequestedCite}
 use Rattle.csl_passes.specs.declared.first.FirstProperties.{FirstProperties}
-use Rattle.csl_round_laws.specs.FirstRenders.{HasShapeOf, first_render, first_renders, first_renders_of}
-use Rattle.csl_writing.proofs.Counting.{counted_times-add, counted_times-more}
-use Rattle.csl_rounds.proofs.Pairs.{mapped_zip-more, mapped_zip-all}
-use Rattle.csl_writing.specs.Counted.{counted, counted_times}
+use Rattle.csl_round_laws.specs.FirstRenders.{HasShapeOf, first_render, first_renders, first_renders_of, first_task, first_tasks, first_tasks_of}
+use Rattle.csl_writers.specs.Desk.{Desk, after}
+use Rattle.csl_writers.specs.Tasks.{TaskValue, cite_task}
+use Rattle.csl_writers.specs.Writing.{Writing, writing_of}
+use Rattle.csl_rounds.proofs.Made.{Made, all-made, none-made, one-made}
+use Rattle.csl_rounds.proofs.Pairs.{zip_here, zip_past, zip_within}
 
 -- the properties of a request's cites
 abbrev pub row_of : Vec FirstProperties Global → List FirstProperties
@@ -29,91 +32,66 @@ request-within view xs rows k shape within =
     let requests : length (map view xs) ≡ length xs = length-map xs view in
     omega (arith, within, long, kept, requests)
 
-module _ {E P : Type 0} (requests : List (Request E P)) (k : ℕ) (request : Request E P) (within : k < length requests) (here : request ≡ get_or requests k request) where
-  -- it is as long as the request's cites
-  pub list-length : (firsts : List (List FirstProperties)) (row : List FirstProperties) → HasShapeOf requests firsts → row ≡ get_or firsts k row → length row ≡ length request.cites
-  list-length firsts row shape at =
-      let size : Request E P → ℕ = λ r. length r.cites in
-      let inside : k < length (map size requests) = simp length-map within in
-      ap length at ∙ sym (get_or-map length firsts k row) ∙ ap (λ (l : List ℕ). get_or l k (length row)) shape
-      ∙ get_or_default (map size requests) k (length row) (size request) inside ∙ get_or-map size requests k request ∙ ap size (sym here)
+-- each is as long as the request's cites
+pub list-length : {E P : Type 0} (requests : List (Request E P)) (k : ℕ) (request : Request E P) → k < length requests → request ≡ get_or requests k request
+    → (firsts : List (List FirstProperties)) (row : List FirstProperties) → HasShapeOf requests firsts → row ≡ get_or firsts k row → length row ≡ length request.cites
+list-length {E} {P} requests k request within here firsts row shape at =
+    let size : Request E P → ℕ = λ r. length r.cites in
+    let inside : k < length (map size requests) = simp length-map within in
+    ap length at ∙ sym (get_or-map length firsts k row) ∙ ap (λ (l : List ℕ). get_or l k (length row)) shape
+    ∙ get_or_default (map size requests) k (length row) (size request) inside ∙ get_or-map size requests k request ∙ ap size (sym here)
 
-  counted_cites-more : length (cites_of (take (k + 1) requests)) ≡ length request.cites + length (cites_of (take k requests))
-  counted_cites-more =
-      let grown : take (k + 1) requests ≡ take k requests ++ request ∷ [] =
-      take_more requests k request within ∙ ap (λ (r : Request E P). take k requests ++ r ∷ []) (sym here) in
-      let joined : cites_of (take (k + 1) requests) ≡ cites_of (take k requests) ++ request.cites =
-      ap cites_of grown ∙ flat_map-append (λ (r : Request E P). r.cites) (take k requests) (request ∷ []) ∙ ap (λ (l : List (RequestedCite E P)). cites_of (take k requests) ++ l) (append-nil request.cites) in
-      let sum : length (cites_of (take (k + 1) requests)) ≡ length (cites_of (take k requests)) + length request.cites =
-      ap length joined ∙ length-append (cites_of (take k requests)) request.cites in
-      omega (arith, sum)
+module _ {E P N : Type 0} (answers : E → Answers) where
+  -- the cites of a request
+  module _ (request : Request E P) (firsts : List FirstProperties) (old : Desk E P N) where
+    abbrev item-of : Writing E P → RequestedCite E P × FirstProperties → ItemRender E P
+    item-of w c = first_render w request c.0 c.1
 
-  -- and its cites are counted beside those before
-  pub counted-more : (old before now : ℕ) → before ≡ counted_times (length (cites_of (take k requests))) old → now ≡ counted_times (length request.cites) before
-      → now ≡ counted_times (length (cites_of (take (k + 1) requests))) old
-  counted-more old before now was more =
-      more ∙ ap (counted_times (length request.cites)) was
-      ∙ sym (counted_times-add (length request.cites) (length (cites_of (take k requests))) old)
-      ∙ ap (λ (n : ℕ). counted_times n old) (sym counted_cites-more)
+    abbrev asked-of : RequestedCite E P × FirstProperties → List (TaskValue E P)
+    asked-of c = cite_task (first_task request c.0 c.1) ∷ []
 
-module _ {E P : Type 0} (writing : Writing E P) where
-  -- the first k renders of a request's cites are made and counted
-  pub record ItemsMade (request : Request E P) (firsts : List FirstProperties) (k old : ℕ) (made : CiteRender E P) (count : ℕ) : Type 0 where
-    pub items : made.items ≡ map (λ c. first_render writing request c.0 c.1) (take k (zip request.cites firsts))
-    pub same : made.request ≡ request
-    pub count_is : count ≡ counted_times k old
+    abbrev pub ItemsMade : ℕ → List (ItemRender E P) → Desk E P N → Type 0
+    ItemsMade = Made answers item-of asked-of (zip request.cites firsts) old
 
-  module _ (request : Request E P) (firsts : List FirstProperties) (old : ℕ) where
-    pub items-begun : (made : CiteRender E P) → made.items ≡ [] → made.request ≡ request → ItemsMade request firsts 0 old made old
-    items-begun made empty same = record { items = empty; same = same; count_is = refl }
+    pub items-none : (made : List (ItemRender E P)) → made ≡ [] → ItemsMade 0 made old
+    items-none made empty = none-made answers item-of asked-of (zip request.cites firsts) old made empty
 
-    -- one more is made
-    pub items-more : (k : ℕ) (c : RequestedCite E P) (first : FirstProperties) (c_within : k < length request.cites) (first_within : k < length firsts)
-        (c_here : c ≡ get_or request.cites k c) (first_here : first ≡ get_or firsts k first)
-        (made more : CiteRender E P) (i : ItemRender E P) (before now : ℕ) → ItemsMade request firsts k old made before
-        → more.items ≡ made.items ++ i ∷ [] → i ≡ first_render writing request c first → more.request ≡ made.request → now ≡ counted before
-        → ItemsMade request firsts (k + 1) old more now
-    items-more k c first c_within first_within c_here first_here made more i before now so_far push one same counting = record {
-      items = mapped_zip-more request.cites firsts k c first c_within first_within c_here first_here (λ c. first_render writing request c.0 c.1) so_far.items push one;
-      same = same ∙ so_far.same;
-      count_is = counting ∙ ap counted so_far.count_is ∙ sym (counted_times-more k old);
-    }
+    pub items-more : (k : ℕ) (c : RequestedCite E P) (first : FirstProperties) → k < length request.cites → k < length firsts → c ≡ get_or request.cites k c → first ≡ get_or firsts k first
+        → (made more : List (ItemRender E P)) (i : ItemRender E P) (before now : Desk E P N) → ItemsMade k made before → more ≡ made ++ i ∷ [] → i ≡ first_render (writing_of answers before.writer) request c first
+        → now ≡ after (cite_task (first_task request c first) ∷ []) before → ItemsMade (k + 1) more now
+    items-more k c first within first_within here first_here made more i before now =
+        one-made answers item-of asked-of (zip request.cites firsts) old k (c, first) made more i before now (zip_within request.cites firsts k within first_within)
+        (zip_here request.cites firsts k c first within first_within here first_here)
 
-    -- all are made
-    pub items-done : (k : ℕ) (made : CiteRender E P) (count : ℕ) → ItemsMade request firsts k old made count → k ≡ length request.cites
-        → (made ≡ first_renders_of writing request firsts) × (count ≡ counted_times (length request.cites) old)
-    items-done k made count so_far end =
-        let past : length request.cites ≤ k = omega arith in
-        let items : made.items ≡ (first_renders_of writing request firsts).items =
-        so_far.items ∙ mapped_zip-all (λ c. first_render writing request c.0 c.1) request.cites firsts k past in (
-          ap (λ (l : List (ItemRender E P)). record { items = l; request = made.request }) items ∙ ap (λ (r : Request E P). record { items = (first_renders_of writing request firsts).items; request = r }) so_far.same,
-          so_far.count_is ∙ ap (λ (n : ℕ). counted_times n old) end,
+    pub items-all : (k : ℕ) (made : List (ItemRender E P)) (of : Request E P) (now : Desk E P N) → length request.cites ≤ k → ItemsMade k made now → of ≡ request
+        → (record { items = made; request = of } ≡ first_renders_of (writing_of answers old.writer) request firsts) × (now ≡ after (first_tasks_of request firsts) old)
+    items-all k made of now past so_far same =
+        let all = all-made answers item-of asked-of (zip request.cites firsts) old k made now (zip_past request.cites firsts k past) so_far in (
+          λ i. record { items = all.0 i; request = same i },
+          all.1 ∙ ap (λ l. after l old) (flat_map_single (λ c. cite_task (first_task request c.0 c.1)) (zip request.cites firsts)),
         )
 
-  -- the first renders of the first k requests' cites are made and counted
-  pub record RendersMade (requests : List (Request E P)) (firsts : List (List FirstProperties)) (k old : ℕ) (made : List (CiteRender E P)) (count : ℕ) : Type 0 where
-    pub cites : made ≡ map (λ r. first_renders_of writing r.0 r.1) (take k (zip requests firsts))
-    pub count_is : count ≡ counted_times (length (cites_of (take k requests))) old
+  -- those of all requests
+  module _ (requests : List (Request E P)) (firsts : List (List FirstProperties)) (old : Desk E P N) where
+    abbrev request-of : Writing E P → Request E P × List FirstProperties → CiteRender E P
+    request-of w r = first_renders_of w r.0 r.1
 
-  module _ (requests : List (Request E P)) (firsts : List (List FirstProperties)) (old : ℕ) where
-    pub cites-begun : (made : List (CiteRender E P)) → made ≡ [] → RendersMade requests firsts 0 old made old
-    cites-begun made empty = record { cites = empty; count_is = refl }
+    abbrev asked-for : Request E P × List FirstProperties → List (TaskValue E P)
+    asked-for r = first_tasks_of r.0 r.1
 
-    -- those of one more request are made
-    pub cites-more : (k : ℕ) (request : Request E P) (row : List FirstProperties) (within : k < length requests) (row_within : k < length firsts)
-        (here : request ≡ get_or requests k request) (row_here : row ≡ get_or firsts k row)
-        (made more : List (CiteRender E P)) (r : CiteRender E P) (before now : ℕ) → RendersMade requests firsts k old made before
-        → more ≡ made ++ r ∷ [] → r ≡ first_renders_of writing request row → now ≡ counted_times (length request.cites) before
-        → RendersMade requests firsts (k + 1) old more now
-    cites-more k request row within row_within here row_here made more r before now so_far push one counting = record {
-      cites = mapped_zip-more requests firsts k request row within row_within here row_here (λ r. first_renders_of writing r.0 r.1) so_far.cites push one;
-      count_is = counted-more requests k request within here old before now so_far.count_is counting;
-    }
+    abbrev pub RendersMade : ℕ → List (CiteRender E P) → Desk E P N → Type 0
+    RendersMade = Made answers request-of asked-for (zip requests firsts) old
 
-    -- all are made
-    pub cites-done : (k : ℕ) (made : List (CiteRender E P)) (count : ℕ) → RendersMade requests firsts k old made count → length requests ≤ k
-        → (made ≡ first_renders writing requests firsts) × (count ≡ counted_times (length (cites_of requests)) old)
-    cites-done k made count so_far past = (
-      so_far.cites ∙ mapped_zip-all (λ r. first_renders_of writing r.0 r.1) requests firsts k past,
-      so_far.count_is ∙ ap (λ (l : List (Request E P)). counted_times (length (cites_of l)) old) (take_all k requests past),
-    )
+    pub cites-none : (made : List (CiteRender E P)) → made ≡ [] → RendersMade 0 made old
+    cites-none made empty = none-made answers request-of asked-for (zip requests firsts) old made empty
+
+    pub cites-more : (k : ℕ) (request : Request E P) (row : List FirstProperties) → k < length requests → k < length firsts → request ≡ get_or requests k request → row ≡ get_or firsts k row
+        → (made more : List (CiteRender E P)) (r : CiteRender E P) (before now : Desk E P N) → RendersMade k made before → more ≡ made ++ r ∷ [] → r ≡ first_renders_of (writing_of answers before.writer) request row
+        → now ≡ after (first_tasks_of request row) before → RendersMade (k + 1) more now
+    cites-more k request row within row_within here row_here made more r before now =
+        one-made answers request-of asked-for (zip requests firsts) old k (request, row) made more r before now (zip_within requests firsts k within row_within)
+        (zip_here requests firsts k request row within row_within here row_here)
+
+    pub cites-all : (k : ℕ) (made : List (CiteRender E P)) (now : Desk E P N) → length requests ≤ k → RendersMade k made now
+        → (made ≡ first_renders (writing_of answers old.writer) requests firsts) × (now ≡ after (first_tasks requests firsts) old)
+    cites-all k made now past = all-made answers request-of asked-for (zip requests firsts) old k made now (zip_past requests firsts k past)

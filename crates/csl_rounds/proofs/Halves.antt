@@ -78,15 +78,7 @@ module _ {X Y : Type 0} (view : X → Y) (f : ℕ → Y → Y) (xs now : List X)
 pub named_by : {X : Type 0} (xs : List (Option X)) (ps : List ℕ) (k : ℕ) (x : Option X) → All (λ p. p < length xs) ps → k < length ps → x ≡ get_or xs (get_or ps k 0) x → x ≡ get_or xs (get_or ps k 0) None
 named_by xs ps k x all h e = e ∙ get_or_default xs (get_or ps k 0) x None (All-get_or (λ p. p < length xs) ps k 0 h all)
 
--- what two lists agree in
-pub agree_at : {A B C : Type 0} (f : A → C) (g : B → C) (xs : List A) (ys : List B) (r : ℕ) (a : A) (b : B) → map f xs ≡ map g ys → r < length ys → a ≡ get_or xs r a → f a ≡ g (get_or ys r b)
-agree_at f g xs ys r a b e h here =
-    ap f here ∙ sym (get_or-map f xs r a) ∙ ap (λ l. get_or l r (f a)) e
-    ∙ get_or_default (map g ys) r (f a) (g b) (subst (λ n. r < n) (sym (length-map ys g)) h) ∙ get_or-map g ys r b
-
-pub same_long : {A B C : Type 0} (f : A → C) (g : B → C) (xs : List A) (ys : List B) → map f xs ≡ map g ys → length xs ≡ length ys
-same_long f g xs ys e = sym (length-map xs f) ∙ ap length e ∙ length-map ys g
-
+-- the member of the list that f makes
 pub row_of : {A B : Type 0} (f : A → B) (xs : List A) (r : ℕ) (a : A) (e : B) → r < length xs → a ≡ get_or xs r a → f a ≡ get_or (map f xs) r e
 row_of f xs r a e h here =
     ap f here ∙ sym (get_or-map f xs r a) ∙ get_or_default (map f xs) r (f a) e (subst (λ n. r < n) (sym (length-map xs f)) h)

@@ -1,23 +1,25 @@
 -- The rounds, one after another.
-use Rattle.std.proofs.Common.{◌≡◌, ℕ, zero, suc, ◌+◌, ◌-◌, ◌^◌, ◌<◌, ◌≤◌, Bool, true, false, Option, None, List, [], ◌∷◌, ◌++◌, drop, take, get_or, length, map, replicate, refl, ap, sym, subst, ◌∙◌, arith, append_assoc, length-append}
+use Rattle.std.proofs.Common.{◌≡◌, ℕ, zero, suc, ◌+◌, ◌-◌, ◌^◌, ◌<◌, ◌≤◌, Bool, true, false, Option, None, List, [], ◌∷◌, ◌++◌, drop, take, get_or, length, replicate, refl, ap, sym, subst, ◌∙◌, arith, append_assoc, length-append}
 use Rattle.std.specs.Prelude.{min}
+use Rattle.std.specs.List.{flat_map}
 use Rattle.std.proofs.Math.Seq.{get_or-append_seam, take-append_seam}
-use Rattle.std.proofs.lemmas.List.{get_or-replicate, length-replicate, map-append, take_at}
-use Rattle.std.proofs.lemmas.List.Sums.{sum_by_push}
-use Rattle.csl_writers.specs.Writing.{Writing}
+use Rattle.std.proofs.lemmas.List.{flat_map_more, get_or-replicate, length-replicate, take_at}
+use Rattle.csl_base.specs.Answers.{Answers}
 use Rattle.csl_entries.specs.Entries.{place}
 use Rattle.csl_lookup.specs.declared.state.DisambiguateState.{DisambiguateState}
 use Rattle.csl_passes.specs.Renders.{CiteRender}
+use Rattle.csl_writers.specs.Desk.{Desk, after}
+use Rattle.csl_writers.specs.Tasks.{TaskValue}
+use Rattle.csl_writers.specs.Writing.{Writing, writing_of}
+use Rattle.csl_writers.proofs.TasksDone.{after-then, writes-same}
 use Rattle.csl_rounds.specs.AfterRounds.{AreAfterRounds}
-use Rattle.csl_round_laws.specs.Rerenders.{AreStatesOf, marked_among, rerenders}
+use Rattle.csl_round_laws.specs.Rerenders.{AreStatesOf}
 use Rattle.csl_round_laws.specs.RoundMarks.{has_any, round_marks}
-use Rattle.csl_round_laws.specs.Rounds.{StateTable, at_table, entries_cited, mark_of, marked_by, no_states, with_marks}
-use Rattle.csl_round_laws.specs.Tables.{disambiguated, last_states, marked_at, marks_at, most_rounds, round_tables, rounds, tables, tables_from}
+use Rattle.csl_round_laws.specs.Rounds.{StateTable, again_tasks, at_table, mark_of, marked_by, no_states, with_marks}
+use Rattle.csl_round_laws.specs.Tables.{disambiguated, last_states, marked_at, marks_at, most_rounds, rounds, tables, tables_from}
 use Rattle.csl_round_laws.specs.declared.mode.RoundMode.{RoundMode}
-use Rattle.csl_rounds.proofs.Marked.{empty-counted, empty-round, nothing-marked}
-use Rattle.csl_round_laws.proofs.Twice.{nothing-new, same-entries, twice}
-use Rattle.csl_writing.proofs.Counting.{counted_times-add}
-use Rattle.csl_writing.specs.Counted.{counted_times}
+use Rattle.csl_rounds.proofs.Marked.{empty-asked, empty-round, nothing-marked}
+use Rattle.csl_round_laws.proofs.Twice.{nothing-new, twice}
 
 pub three-not-full : RoundMode.Three ≡ RoundMode.Full → ⊥
 three-not-full e = cc
@@ -58,127 +60,128 @@ module _ {E P : Type 0} (mode : RoundMode) (eq : E → E → Bool) (writing : Wr
     last-done : t ≡ last_states mode eq writing firsts
     last-done = sym (get_or-append_seam done t [] no_states) ∙ ap (λ ts. get_or ts (length done) no_states) all ∙ ap (λ n. get_or (tables mode eq writing firsts) n no_states) rounds-done
 
-    marked-done : map (marked_at mode eq writing firsts) done ≡ round_tables mode eq writing firsts
-    marked-done =
-        ap (map (marked_at mode eq writing firsts))
-        (sym (take-append_seam done (t ∷ [])) ∙ ap (take (length done)) all ∙ ap (λ n. take n (tables mode eq writing firsts)) rounds-done)
+    taken-done : done ≡ take (rounds mode eq writing firsts) (tables mode eq writing firsts)
+    taken-done = sym (take-append_seam done (t ∷ [])) ∙ ap (take (length done)) all ∙ ap (λ n. take n (tables mode eq writing firsts)) rounds-done
 
   -- the cites after a round are those at the next table
   pub cites-after : (now new : List (CiteRender E P)) (t : StateTable E) → now ≡ at_table writing t firsts → new ≡ at_table writing (marked_by mode eq writing now) now
       → new ≡ at_table writing (with_marks (marked_at mode eq writing firsts t) t) firsts
   cites-after now new t here again = again ∙ ap (λ rs. at_table writing (marked_by mode eq writing rs) rs) here ∙ twice writing (marked_at mode eq writing firsts t) t firsts
 
-  module _ (es : List E) (old : ℕ) where
-    -- k rounds have marked
-    pub record InRounds (k : ℕ) (now : List (CiteRender E P)) (states : List (Option DisambiguateState)) (marked count : ℕ) : Type 0 where
-      pub table : StateTable E
-      pub done : List (StateTable E)
-      pub cites : now ≡ at_table writing table firsts
-      pub all : done ++ tables_from mode eq writing firsts (most_rounds mode eq firsts - k) table ≡ tables mode eq writing firsts
-      pub states_are : AreStatesOf eq es table states
-      pub each : length done ≡ k
-      pub marked_is : marked ≡ min k (2 ^ 128 - 1)
-      pub counted : count ≡ counted_times (rerenders (entries_cited firsts) (map (marked_at mode eq writing firsts) done)) old
+  -- what the round asks for that begins with this table
+  abbrev tasks-at : StateTable E → List (TaskValue E P)
+  tasks-at t = again_tasks (marked_at mode eq writing firsts t) (at_table writing t firsts)
 
-    unfoldable pub begun : (states : List (Option DisambiguateState)) (n : ℕ) → states ≡ replicate n None → n ≡ length es → InRounds 0 firsts states 0 old
-    begun states n none same = record {
-      table = no_states;
-      done = [];
-      cites = sym (nothing-new writing firsts);
-      all = ap (λ m. tables_from mode eq writing firsts m no_states) whole;
-      states_are = record {
-        long = ap length none ∙ length-replicate n None ∙ same;
-        at = λ e below. ap (λ ss. get_or ss (place eq e es) None) none ∙ get_or-replicate n (place eq e es) None None (subst (λ m. place eq e es < m) (sym same) below);
-      };
-      each = refl;
-      marked_is = refl;
-      counted = refl;
-    }
-      where
-        whole : most_rounds mode eq firsts - 0 ≡ most_rounds mode eq firsts
-        whole = omega arith
+module _ {E P N : Type 0} (mode : RoundMode) (eq : E → E → Bool) (answers : E → Answers) (firsts : List (CiteRender E P)) (es : List E) (old : Desk E P N) where
+  abbrev writing : Writing E P
+  writing = writing_of answers old.writer
 
-    module _ (k : ℕ) (now : List (CiteRender E P)) (states : List (Option DisambiguateState)) (marked count : ℕ) (so : InRounds k now states marked count) where
-      done-with : tables_from mode eq writing firsts (most_rounds mode eq firsts - k) so.table ≡ last_of so.table
-          → (mode ≡ RoundMode.Full → has_any (marks_at mode eq writing firsts so.table) ≡ false) → AreAfterRounds mode eq writing firsts es old now states marked count
-      done-with last ended =
-          let all : so.done ++ so.table ∷ [] ≡ tables mode eq writing firsts = ap (λ ts. so.done ++ ts) (sym last) ∙ so.all in
-          let table : so.table ≡ last_states mode eq writing firsts = last-done so.done so.table all in
+  -- k rounds have marked
+  pub record InRounds (k : ℕ) (now : List (CiteRender E P)) (states : List (Option DisambiguateState)) (marked : ℕ) (behind : Desk E P N) : Type 0 where
+    pub table : StateTable E
+    pub done : List (StateTable E)
+    pub cites : now ≡ at_table writing table firsts
+    pub all : done ++ tables_from mode eq writing firsts (most_rounds mode eq firsts - k) table ≡ tables mode eq writing firsts
+    pub states_are : AreStatesOf eq es table states
+    pub each : length done ≡ k
+    pub marked_is : marked ≡ min k (2 ^ 128 - 1)
+    pub asked : behind ≡ after (flat_map (tasks-at mode eq writing firsts) done) old
+
+  unfoldable pub begun : (states : List (Option DisambiguateState)) (n : ℕ) → states ≡ replicate n None → n ≡ length es → InRounds 0 firsts states 0 old
+  begun states n none same = record {
+    table = no_states;
+    done = [];
+    cites = sym (nothing-new writing firsts);
+    all = ap (λ m. tables_from mode eq writing firsts m no_states) whole;
+    states_are = record {
+      long = ap length none ∙ length-replicate n None ∙ same;
+      at = λ e below. ap (λ ss. get_or ss (place eq e es) None) none ∙ get_or-replicate n (place eq e es) None None (subst (λ m. place eq e es < m) (sym same) below);
+    };
+    each = refl;
+    marked_is = refl;
+    asked = refl;
+  }
+    where
+      whole : most_rounds mode eq firsts - 0 ≡ most_rounds mode eq firsts
+      whole = omega arith
+
+  module _ (k : ℕ) (now : List (CiteRender E P)) (states : List (Option DisambiguateState)) (marked : ℕ) (before : Desk E P N) (so : InRounds k now states marked before) where
+    module _ (last : tables_from mode eq writing firsts (most_rounds mode eq firsts - k) so.table ≡ last_of mode eq writing firsts so.table) where
+      all-done : so.done ++ so.table ∷ [] ≡ tables mode eq writing firsts
+      all-done = ap (λ ts. so.done ++ ts) (sym last) ∙ so.all
+
+      last-table : so.table ≡ last_states mode eq writing firsts
+      last-table = last-done mode eq writing firsts so.done so.table all-done
+
+      done-with : (mode ≡ RoundMode.Full → has_any (marks_at mode eq writing firsts so.table) ≡ false) → AreAfterRounds mode eq writing firsts es old now states marked before
+      done-with ended = record {
+        cites = told-apart mode eq writing firsts now (so.cites ∙ ap (λ t. at_table writing t firsts) last-table);
+        states_are = subst (λ t. AreStatesOf eq es t states) last-table so.states_are;
+        marked_is = so.marked_is ∙ ap (λ n. min n (2 ^ 128 - 1)) (sym so.each ∙ rounds-done mode eq writing firsts so.done so.table all-done);
+        asked = so.asked ∙ ap (λ ts. after (flat_map (tasks-at mode eq writing firsts) ts) old) (taken-done mode eq writing firsts so.done so.table all-done);
+        ended = λ full. subst (λ t. has_any (marks_at mode eq writing firsts t) ≡ false) last-table (ended full);
+      }
+
+    -- no round is left
+    pub no-round-left : most_rounds mode eq firsts ≤ k → (mode ≡ RoundMode.Full → ⊥) → AreAfterRounds mode eq writing firsts es old now states marked before
+    no-round-left past three =
+        let none : most_rounds mode eq firsts - k ≡ 0 = omega (arith, past) in
+        done-with (ap (λ n. tables_from mode eq writing firsts n so.table) none ∙ from-none mode eq writing firsts so.table) (λ full. absurd (three full))
+
+    -- one more round
+    pub record Round (new : List (CiteRender E P)) (given : List (Option DisambiguateState)) (behind : Desk E P N) : Type 0 where
+      pub cites : new ≡ at_table writing (marked_by mode eq writing now) now
+      pub states_are : AreStatesOf eq es (with_marks (marked_by mode eq writing now) so.table) given
+      pub asked : behind ≡ after (again_tasks (marked_by mode eq writing now) now) before
+
+    -- its writer writes as before, and the states are put back where they came from
+    pub round-made : (len : ℕ) (lent given : List (Option DisambiguateState)) (new : List (CiteRender E P)) (behind : Desk E P N) → len ≡ length states → lent ≡ states
+        → new ≡ at_table (writing_of answers before.writer) (marked_by mode eq (writing_of answers before.writer) now) now
+        → ((known : StateTable E) → AreStatesOf eq es known lent → AreStatesOf eq es (with_marks (marked_by mode eq (writing_of answers before.writer) now) known) given)
+        → behind ≡ after (again_tasks (marked_by mode eq (writing_of answers before.writer) now) now) before
+        → Round new (take len (given ++ drop (length given) states)) behind
+    round-made len lent given new behind long same again are asking =
+        let got : AreStatesOf eq es (with_marks (marked_by mode eq writing now) so.table) given = are so.table (subst (AreStatesOf eq es so.table) (sym same) so.states_are) in
+        record {
+          cites = again ∙ ap (λ w. at_table w (marked_by mode eq w now) now) (writes-same answers (flat_map (tasks-at mode eq writing firsts) so.done) old before so.asked);
+          states_are = subst (AreStatesOf eq es (with_marks (marked_by mode eq writing now) so.table))
+              (sym (take_at given (drop (length given) states) len (got.long ∙ sym so.states_are.long ∙ sym long))) got;
+          asked = asking;
+        }
+
+    module _ (new : List (CiteRender E P)) (given : List (Option DisambiguateState)) (behind : Desk E P N) (round : Round new given behind) where
+      -- it marks
+      unfoldable pub one-round : k < most_rounds mode eq firsts → (next : ℕ) → has_any (round_marks mode eq answers now) ≡ true → next ≡ min (marked + 1) (2 ^ 128 - 1)
+          → InRounds (k + 1) new given next behind
+      one-round within next any one =
+          let left : most_rounds mode eq firsts - k ≡ suc (most_rounds mode eq firsts - (k + 1)) = omega (arith, within) in
+          let yes : has_any (marks_at mode eq writing firsts so.table) ≡ true = subst (λ rs. has_any (round_marks mode eq answers rs) ≡ true) so.cites any in
+          let tasks = tasks-at mode eq writing firsts in
           record {
-            cites = told-apart now (so.cites ∙ ap (λ t. at_table writing t firsts) table);
-            states_are = subst (λ t. AreStatesOf eq es t states) table so.states_are;
-            marked_is = so.marked_is ∙ ap (λ n. min n (2 ^ 128 - 1)) (sym so.each ∙ rounds-done so.done so.table all);
-            counted = so.counted ∙ ap (λ ts. counted_times (rerenders (entries_cited firsts) ts) old) (marked-done so.done so.table all);
-            ended = λ full. subst (λ t. has_any (marks_at mode eq writing firsts t) ≡ false) table (ended full);
+            table = with_marks (marked_at mode eq writing firsts so.table) so.table;
+            done = so.done ++ so.table ∷ [];
+            cites = cites-after mode eq writing firsts now new so.table so.cites round.cites;
+            all = append_assoc so.done (so.table ∷ []) _
+                ∙ ap (λ ts. so.done ++ ts)
+                (sym (from-yes mode eq writing firsts (most_rounds mode eq firsts - (k + 1)) so.table yes) ∙ ap (λ n. tables_from mode eq writing firsts n so.table) (sym left)) ∙ so.all;
+            states_are = subst (λ rs. AreStatesOf eq es (with_marks (marked_by mode eq writing rs) so.table) given) so.cites round.states_are;
+            each = length-append so.done (so.table ∷ []) ∙ ap (λ n. n + 1) so.each;
+            marked_is = one ∙ ap (λ n. min (n + 1) (2 ^ 128 - 1)) so.marked_is ∙ one-more k;
+            asked = after-then (flat_map tasks so.done) (tasks so.table) old before behind so.asked (round.asked ∙ ap (λ rs. after (again_tasks (marked_by mode eq writing rs) rs) before) so.cites)
+                ∙ ap (λ l. after l old) (flat_map_more tasks [] so.done so.table);
           }
 
-      -- no round is left
-      pub no-round-left : most_rounds mode eq firsts ≤ k → (mode ≡ RoundMode.Full → ⊥) → AreAfterRounds mode eq writing firsts es old now states marked count
-      no-round-left past three =
-          let none : most_rounds mode eq firsts - k ≡ 0 = omega (arith, past) in
-          done-with (ap (λ n. tables_from mode eq writing firsts n so.table) none ∙ from-none so.table) (λ full. absurd (three full))
-
-      module _ (new : List (CiteRender E P)) (given : List (Option DisambiguateState)) (total : ℕ)
-          (again : new ≡ at_table writing (marked_by mode eq writing now) now) (are : AreStatesOf eq es (with_marks (marked_by mode eq writing now) so.table) given)
-          (more : total ≡ counted_times (marked_among (entries_cited now) (marked_by mode eq writing now)) count) where
-        abbrev start : List (CiteRender E P)
-        start = at_table writing so.table firsts
-
-        -- a round that marks
-        unfoldable pub one-round : k < most_rounds mode eq firsts → (next : ℕ) → has_any (round_marks mode eq writing.answers now) ≡ true → next ≡ min (marked + 1) (2 ^ 128 - 1)
-            → InRounds (k + 1) new given next total
-        one-round within next any one =
-            let left : most_rounds mode eq firsts - k ≡ suc (most_rounds mode eq firsts - (k + 1)) = omega (arith, within) in
-            let yes : has_any (round_marks mode eq writing.answers start) ≡ true = subst (λ rs. has_any (round_marks mode eq writing.answers rs) ≡ true) so.cites any in
-            let table : StateTable E = marked_by mode eq writing start in
-            record {
-              table = with_marks table so.table;
-              done = so.done ++ so.table ∷ [];
-              cites = cites-after now new so.table so.cites again;
-              all = append_assoc so.done (so.table ∷ []) _
-                  ∙ ap (λ ts. so.done ++ ts)
-                  (sym (from-yes (most_rounds mode eq firsts - (k + 1)) so.table yes) ∙ ap (λ n. tables_from mode eq writing firsts n so.table) (sym left)) ∙ so.all;
-              states_are = subst (λ rs. AreStatesOf eq es (with_marks (marked_by mode eq writing rs) so.table) given) so.cites are;
-              each = length-append so.done (so.table ∷ []) ∙ ap (λ n. n + 1) so.each;
-              marked_is = one ∙ ap (λ n. min (n + 1) (2 ^ 128 - 1)) so.marked_is ∙ one-more k;
-              counted = more
-                  ∙ ap (λ rs. counted_times (marked_among (entries_cited rs) (marked_by mode eq writing rs)) count) so.cites
-                  ∙ ap (λ cited. counted_times (marked_among cited table) count) (same-entries writing so.table firsts)
-                  ∙ ap (counted_times (marked_among (entries_cited firsts) table)) so.counted
-                  ∙ sym (counted_times-add (marked_among (entries_cited firsts) table) (rerenders (entries_cited firsts) marked_before) old)
-                  ∙ ap (λ n. counted_times n old) (sum table)
-                  ∙ ap (λ ts. counted_times (rerenders (entries_cited firsts) ts) old) (sym (map-append (marked_at mode eq writing firsts) so.done (so.table ∷ [])));
-            }
-          where
-            marked_before : List (StateTable E)
-            marked_before = map (marked_at mode eq writing firsts) so.done
-
-            sum : (t : StateTable E) → marked_among (entries_cited firsts) t + rerenders (entries_cited firsts) marked_before ≡ rerenders (entries_cited firsts) (marked_before ++ t ∷ [])
-            sum t = omega (arith, sum_by_push (marked_among (entries_cited firsts)) marked_before t)
-
--- a round that marks nothing is the last
-pub last-round : {E P : Type 0} (mode : RoundMode) (eq : E → E → Bool) (writing : Writing E P) (firsts : List (CiteRender E P)) (es : List E) (old k : ℕ) (now new : List (CiteRender E P))
-    (states given : List (Option DisambiguateState)) (marked count total : ℕ) (so : InRounds mode eq writing firsts es old k now states marked count)
-    → new ≡ at_table writing (marked_by mode eq writing now) now → AreStatesOf eq es (with_marks (marked_by mode eq writing now) so.table) given
-    → total ≡ counted_times (marked_among (entries_cited now) (marked_by mode eq writing now)) count
-    → has_any (round_marks mode eq writing.answers now) ≡ false → AreAfterRounds mode eq writing firsts es old new given marked total
-last-round mode eq writing firsts es old k now new states given marked count total so again are more none =
-    let marks : round_marks mode eq writing.answers now ≡ [] = nothing-marked (round_marks mode eq writing.answers now) none in
-    let no : has_any (marks_at mode eq writing firsts so.table) ≡ false = subst (λ rs. has_any (round_marks mode eq writing.answers rs) ≡ false) so.cites none in
-    let same : InRounds mode eq writing firsts es old k new given marked total = record {
-      table = so.table;
-      done = so.done;
-      cites = again ∙ sym (empty-round writing eq now (round_marks mode eq writing.answers now) marks) ∙ so.cites;
-      all = so.all;
-      states_are = subst (λ ms. AreStatesOf eq es (with_marks (mark_of eq now ms) so.table) given) marks are;
-      each = so.each;
-      marked_is = so.marked_is;
-      counted = more ∙ sym (empty-counted eq es now (round_marks mode eq writing.answers now) marks (entries_cited now) count) ∙ so.counted;
-    } in
-    done-with mode eq writing firsts es old k new given marked total same (from-no mode eq writing firsts (most_rounds mode eq firsts - k) so.table no) (λ full. no)
-
--- states that are put back where they came from
-pub put-back : {E : Type 0} (eq : E → E → Bool) (es : List E) (known table : StateTable E) (old new : List (Option DisambiguateState)) (len : ℕ) → len ≡ length old
-    → AreStatesOf eq es known old → AreStatesOf eq es table new → AreStatesOf eq es table (take len (new ++ drop (length new) old))
-put-back eq es known table old new len same were are =
-    subst (AreStatesOf eq es table) (sym (take_at new (drop (length new) old) len (are.long ∙ sym were.long ∙ sym same))) are
+      -- it marks nothing, and is the last
+      pub last-round : has_any (round_marks mode eq answers now) ≡ false → AreAfterRounds mode eq writing firsts es old new given marked behind
+      last-round none =
+          let marks : round_marks mode eq answers now ≡ [] = nothing-marked (round_marks mode eq answers now) none in
+          let no : has_any (marks_at mode eq writing firsts so.table) ≡ false = subst (λ rs. has_any (round_marks mode eq answers rs) ≡ false) so.cites none in
+          let last = from-no mode eq writing firsts (most_rounds mode eq firsts - k) so.table no in
+          let done = done-with last (λ full. no) in
+          record {
+            cites = round.cites ∙ sym (empty-round eq now (round_marks mode eq answers now) marks writing) ∙ done.cites;
+            states_are = subst (λ t. AreStatesOf eq es t given) (last-table last) (subst (λ ms. AreStatesOf eq es (with_marks (mark_of eq now ms) so.table) given) marks round.states_are);
+            marked_is = done.marked_is;
+            asked = round.asked ∙ sym (empty-asked eq now (round_marks mode eq answers now) marks before) ∙ done.asked;
+            ended = done.ended;
+          }

@@ -1,11 +1,12 @@
 pub mod Pairs
+pub mod Made
 pub mod FirstSteps
 pub mod Halves
+pub mod Changed
 pub mod Walk
 pub mod Counted
 pub mod Raising
 pub mod Placed
-pub mod Rerendered
 pub mod OfTable
 pub mod Marked
 pub mod InRounds

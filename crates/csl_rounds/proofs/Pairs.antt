@@ -1,32 +1,19 @@
 -- Two lists that are gone through side by side.
-use Rattle.std.proofs.Common.{◌≡◌, ℕ, ◌+◌, ◌<◌, ◌≤◌, List, [], ◌∷◌, ◌++◌, length, map, take, get_or, ap, sym, ◌∙◌, arith}
+use Rattle.std.proofs.Common.{◌≡◌, ℕ, ◌<◌, ◌≤◌, List, length, map, get_or, ap, sym, ◌∙◌, arith}
 use Rattle.std.specs.Prelude.{zip}
 use Rattle.std.proofs.Math.ListN.{get_or-map, length-map}
-use Rattle.std.proofs.lemmas.List.{map-append, take_all, take_more}
 use Rattle.std.proofs.lemmas.Slice.Zip.{length-zip, get_or-zip}
 
-module _ {A B : Type 0} (xs : List A) (ys : List B) (k : ℕ) (x : A) (y : B) (x_within : k < length xs) (y_within : k < length ys) (x_here : x ≡ get_or xs k x) (y_here : y ≡ get_or ys k y) where
-  zip_within : k < length (zip xs ys)
-  zip_within = omega (arith, length-zip xs ys)
+module _ {A B : Type 0} (xs : List A) (ys : List B) (k : ℕ) where
+  pub zip_within : k < length xs → k < length ys → k < length (zip xs ys)
+  zip_within h g = omega (arith, length-zip xs ys, h, g)
 
-  zip_more : take (k + 1) (zip xs ys) ≡ take k (zip xs ys) ++ (x, y) ∷ []
-  zip_more =
-      take_more (zip xs ys) k (x, y) zip_within
-      ∙ ap (λ (p : A × B). take k (zip xs ys) ++ p ∷ [])
+  pub zip_past : length xs ≤ k → length (zip xs ys) ≤ k
+  zip_past h = omega (arith, length-zip xs ys, h)
+
+  pub zip_here : (x : A) (y : B) → k < length xs → k < length ys → x ≡ get_or xs k x → y ≡ get_or ys k y → (x, y) ≡ get_or (zip xs ys) k (x, y)
+  zip_here x y x_within y_within x_here y_here = sym
       (get_or-zip xs ys k (x, y) x_within y_within ∙ ap (λ (a : A). (a, get_or ys k y)) (sym x_here) ∙ ap (λ (b : B). (x, b)) (sym y_here))
-
-  -- one more of what f makes of a pair
-  pub mapped_zip-more : {C : Type 0} (f : A × B → C) {made more : List C} {c : C}
-      → made ≡ map f (take k (zip xs ys)) → more ≡ made ++ c ∷ [] → c ≡ f (x, y) → more ≡ map f (take (k + 1) (zip xs ys))
-  mapped_zip-more {C} f {made} {more} {c} was push one =
-      push ∙ ap (λ (l : List C). l ++ c ∷ []) was ∙ ap (λ (d : C). map f (take k (zip xs ys)) ++ d ∷ []) one
-      ∙ sym (map-append f (take k (zip xs ys)) ((x, y) ∷ [])) ∙ ap (map f) (sym zip_more)
-
--- all of them
-pub mapped_zip-all : {A B C : Type 0} (f : A × B → C) (xs : List A) (ys : List B) (k : ℕ) → length xs ≤ k → map f (take k (zip xs ys)) ≡ map f (zip xs ys)
-mapped_zip-all f xs ys k past =
-    let all : length (zip xs ys) ≤ k = omega (arith, length-zip xs ys) in
-    ap (map f) (take_all k (zip xs ys) all)
 
 -- a list and its view
 module _ {X V : Type 0} (view : X → V) {xs ys : List X} (k : ℕ) (same : xs ≡ ys) where
@@ -41,12 +28,6 @@ module _ {X V : Type 0} (view : X → V) {xs ys : List X} (k : ℕ) (same : xs �
       let long : length xs ≡ length ys = ap length same in
       let kept : length (map view ys) ≡ length ys = length-map ys view in
       omega (arith, past, long, kept)
-
-  pub end_view : length xs ≤ k → k ≤ length xs → k ≡ length (map view ys)
-  end_view past within =
-      let long : length xs ≡ length ys = ap length same in
-      let kept : length (map view ys) ≡ length ys = length-map ys view in
-      omega (arith, past, within, long, kept)
 
   -- what stands at a place stands there in the view
   pub at_view : (x : X) → x ≡ get_or xs k x → view x ≡ get_or (map view ys) k (view x)

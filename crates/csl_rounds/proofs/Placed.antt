@@ -2,12 +2,13 @@
 use Rattle.std.proofs.Common.{◌≡◌, ℕ, zero, suc, ◌+◌, ◌<◌, Bool, true, false, cond, not, ◌||◌, Option, Some, None, List, [], ◌∷◌, length, map, filter, get_or, refl, ap, sym, subst, ◌∙◌, arith}
 use Rattle.std.specs.Prelude.{All, IsSome, nat_eq, option_map, slice_get}
 use Rattle.std.specs.Cmp.{IsEquivalence}
-use Rattle.std.specs.List.{enumerate_from, list_any}
+use Rattle.std.specs.List.{enumerate_from, flat_map, list_any}
 use Rattle.std.specs.Option.{option_and_then, option_map_or}
 use Rattle.std.proofs.lemmas.Bool.{false≢true}
 use Rattle.std.proofs.lemmas.Bool.Decides.{nat_tests}
 use Rattle.std.proofs.lemmas.Option.{slice_get_within}
 use Rattle.std.proofs.lemmas.List.Elements.{All-head, All-tail, All-get_or, All-nil, All-cons}
+use Rattle.std.proofs.lemmas.List.Folds.{flat_map-map}
 use Rattle.std.proofs.Math.ListN.{length-map}
 use Rattle.csl_ambiguity.specs.Members.{Member, entry_of, member_at}
 use Rattle.csl_writers.specs.Writing.{Writing}
@@ -16,9 +17,9 @@ use Rattle.csl_lookup.specs.declared.state.DisambiguateState.{DisambiguateState}
 use Rattle.csl_passes.specs.Places.{IsPlace}
 use Rattle.csl_passes.specs.Renders.{CiteRender, ItemRender, Place}
 use Rattle.csl_passes.specs.Request.{Request}
-use Rattle.csl_rounds.specs.Gathered.{AreGreatest, IsPlaced, by_places, cite_again, document_again, entry_place, greatest_at, request_again}
+use Rattle.csl_rounds.specs.Gathered.{AreGreatest, IsPlaced, cite_again, document_again, document_tasks, entry_place, greatest_at, request_again, request_tasks, state_at}
 use Rattle.csl_round_laws.specs.RoundMarks.{Mark, cites_entry, greatest_state, waits}
-use Rattle.csl_round_laws.specs.Rounds.{at_table, mark_of, request_at, with_any}
+use Rattle.csl_round_laws.specs.Rounds.{again_tasks, again_tasks_of, at_table, mark_of, request_at, tasks_with, with_any}
 
 -- the same place is an equal entry
 module _ {E : Type 0} (eq : E → E → Bool) (laws : IsEquivalence eq) where
@@ -54,8 +55,8 @@ module _ {X Y : Type 0} (f : X → Y) where
       by g = ap f cc
   map-at (y ∷ ys) (suc k) x e h = map-at ys k x e h
 
--- what changes each member by its place alike changes each
-module _ {X : Type 0} (f : ℕ → X → X) (g : X → X) where
+-- what makes something of each member by its place alike makes it of each
+module _ {X Y : Type 0} (f : ℕ → X → Y) (g : X → Y) where
   alike-from : (b : ℕ) (xs : List X) → ((k : ℕ) (x : X) → slice_get xs k ≡ Some x → f (b + k) x ≡ g x) → map (λ p. f p.0 p.1) (enumerate_from b xs) ≡ map g xs
   alike-from b [] h = refl
   alike-from b (x ∷ xs) h =
@@ -64,11 +65,16 @@ module _ {X : Type 0} (f : ℕ → X → X) (g : X → X) where
       ap (λ y. y ∷ map (λ p. f p.0 p.1) (enumerate_from (b + 1) xs)) (ap (λ k. f k x) (sym here) ∙ h 0 x refl)
       ∙ ap (λ ys. g x ∷ ys) (alike-from (b + 1) xs (λ k y e. ap (λ j. f j y) (shift k) ∙ h (suc k) y e))
 
-  alike : (xs : List X) → ((k : ℕ) (x : X) → slice_get xs k ≡ Some x → f k x ≡ g x) → by_places f xs ≡ map g xs
+  alike : (xs : List X) → ((k : ℕ) (x : X) → slice_get xs k ≡ Some x → f k x ≡ g x) → map (λ p. f p.0 p.1) (enumerate_from 0 xs) ≡ map g xs
   alike xs h = alike-from 0 xs (λ k x e. ap (λ j. f j x) (zero-more k) ∙ h k x e)
     where
       zero-more : (k : ℕ) → 0 + k ≡ k
       zero-more k = omega arith
+
+all-alike : {X Y : Type 0} (f : ℕ → X → List Y) (g : X → List Y) (xs : List X) → ((k : ℕ) (x : X) → slice_get xs k ≡ Some x → f k x ≡ g x)
+    → flat_map (λ p. f p.0 p.1) (enumerate_from 0 xs) ≡ flat_map g xs
+all-alike f g xs h =
+    sym (flat_map-map (λ y. y) (λ p. f p.0 p.1) (enumerate_from 0 xs)) ∙ ap (flat_map (λ y. y)) (alike f g xs h) ∙ flat_map-map (λ y. y) g xs
 
 -- two tests that agree at members of which something is known keep the same ones
 same-kept : {X : Type 0} (Q : X → Type 0) (p q : X → Bool) → ((x : X) → Q x → p x ≡ q x) → (xs : List X) → All Q xs → filter p xs ≡ filter q xs
@@ -179,26 +185,28 @@ module _ {E P : Type 0} (eq : E → E → Bool) (es : List E) (places : List (Li
             let s : Stands at = stands at (All-head (IsPlace cites) at group h) in
             rw (member-of at s) (λ i. flag-at at s i || waits-alike group (All-tail (IsPlace cites) at group h) i)
 
-      module _ (writing : Writing E P) (marks : List Mark) (there : All (λ m. IsPlace cites m.0) marks) (states : List (Option DisambiguateState)) (great : AreGreatest places marks (length es) states) where
+      module _ (marks : List Mark) (there : All (λ m. IsPlace cites m.0) marks) (states : List (Option DisambiguateState)) (great : AreGreatest places marks (length es) states) where
         abbrev table : E → Option DisambiguateState
         table = mark_of eq cites marks
-
-        item-alike : (r : ℕ) (c : CiteRender E P) → slice_get cites r ≡ Some c → (k : ℕ) (i : ItemRender E P) → slice_get c.items k ≡ Some i
-            → cite_again writing states c.request (get_or places r []) k i ≡ with_any writing c.request (table i.entry) i
-        item-alike r c e k i f =
-            let s : Stands (r, k) = record { cite = c; item = i; request = e; here = f } in
-            let below : place eq i.entry es < length es = subst (λ n. n < length es) (entry-at (r, k) s) (is-placed (r, k) s).below in
-            ap (λ s. with_any writing c.request s i)
-            (ap (λ p. get_or states p None) (entry-at (r, k) s) ∙ great.at (place eq i.entry es) below ∙ marks-at marks there i.entry)
-
-        request-alike : (r : ℕ) (c : CiteRender E P) → slice_get cites r ≡ Some c → request_again writing states (get_or places r []) c ≡ request_at writing table c
-        request-alike r c e =
-            ap (λ xs. record c { items = xs })
-            (alike (cite_again writing states c.request (get_or places r [])) (λ i. with_any writing c.request (table i.entry) i) c.items (item-alike r c e))
-
-        pub document-alike : document_again writing states places cites ≡ at_table writing table cites
-        document-alike = alike (λ r. request_again writing states (get_or places r [])) (request_at writing table) cites request-alike
 
         -- by its place an entry has its state
         pub state-at : (e : E) → place eq e es < length es → get_or states (place eq e es) None ≡ table e
         state-at e below = great.at (place eq e es) below ∙ marks-at marks there e
+
+        state-there : (r : ℕ) (c : CiteRender E P) → slice_get cites r ≡ Some c → (k : ℕ) (i : ItemRender E P) → slice_get c.items k ≡ Some i → state_at states (get_or places r []) k ≡ table i.entry
+        state-there r c e k i f =
+            let s : Stands (r, k) = record { cite = c; item = i; request = e; here = f } in
+            let below : place eq i.entry es < length es = subst (λ n. n < length es) (entry-at (r, k) s) (is-placed (r, k) s).below in
+            ap (λ p. get_or states p None) (entry-at (r, k) s) ∙ state-at i.entry below
+
+        -- so the same cites are rendered again, with the same states
+        pub document-alike : (writing : Writing E P) → document_again states writing places cites ≡ at_table writing table cites
+        document-alike writing = alike (λ r. request_again states writing (get_or places r [])) (request_at writing table) cites (λ r c e.
+            ap (λ xs. record c { items = xs })
+            (alike (cite_again states writing c.request (get_or places r [])) (λ i. with_any writing c.request (table i.entry) i) c.items
+            (λ k i f. ap (λ s. with_any writing c.request s i) (state-there r c e k i f))))
+
+        pub tasks-alike : document_tasks states places cites ≡ again_tasks table cites
+        tasks-alike = all-alike (λ r c. request_tasks states c.request (get_or places r []) c.items) (again_tasks_of table) cites (λ r c e.
+            all-alike (λ k. tasks_with c.request (state_at states (get_or places r []) k)) (λ i. tasks_with c.request (table i.entry) i) c.items
+            (λ k i f. ap (λ s. tasks_with c.request s i) (state-there r c e k i f)))

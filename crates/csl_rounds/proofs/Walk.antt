@@ -4,7 +4,7 @@ use Rattle.std.specs.Prelude.{fold}
 use Rattle.csl_ambiguity.specs.Ambiguity.{ambiguous_groups}
 use Rattle.csl_passes.specs.Renders.{CiteRender, Place}
 use Rattle.csl_ambiguity.specs.SuffixMarks.{shows_dates}
-use Rattle.csl_writers.specs.Writing.{Writing}
+use Rattle.csl_base.specs.Answers.{Answers}
 use Rattle.csl_name_marks.specs.NameMarks.{name_marks}
 use Rattle.csl_rounds.specs.Gathered.{with_counting, with_group}
 use Rattle.csl_round_laws.specs.RoundMarks.{Mark, MarkedGroups, all_ways, by_choice, by_full, by_suffix, by_three, counting, has_any, marked_groups, marks_of, or_others, round_marks, waits}
@@ -43,21 +43,15 @@ module _ (n c s : List Place → List Mark) where
         let own : List Mark = cond (w marks g) [] (all_ways n c s g) in
         gathered-full (marks ++ own) gs ∙ append_assoc marks own (marks_of (by_full n c s w (marks ++ own) gs))
 
-module _ {E P : Type 0} (eq : E → E → Bool) (writing : Writing E P) (rs : List (CiteRender E P)) (dated : Bool) (groups : List (List Place)) (d : dated ≡ shows_dates writing.answers rs)
+module _ {E P : Type 0} (eq : E → E → Bool) (answers : E → Answers) (rs : List (CiteRender E P)) (dated : Bool) (groups : List (List Place)) (d : dated ≡ shows_dates answers rs)
     (f : groups ≡ ambiguous_groups eq rs) where
-  round-of : (mode : RoundMode) → marks_of (marked_groups eq rs dated mode groups) ≡ round_marks mode eq writing.answers rs
+  round-of : (mode : RoundMode) → marks_of (marked_groups eq rs dated mode groups) ≡ round_marks mode eq answers rs
   unfolding round_marks
-  round-of mode = ap (λ b. marks_of (marked_groups eq rs b mode groups)) d ∙ ap (λ gs. marks_of (marked_groups eq rs (shows_dates writing.answers rs) mode gs)) f
+  round-of mode = ap (λ b. marks_of (marked_groups eq rs b mode groups)) d ∙ ap (λ gs. marks_of (marked_groups eq rs (shows_dates answers rs) mode gs)) f
 
-  pub three-is : fold (with_group eq dated rs) [] groups ≡ round_marks RoundMode.Three eq writing.answers rs
+  pub three-is : fold (with_group eq dated rs) [] groups ≡ round_marks RoundMode.Three eq answers rs
   three-is = gathered (name_marks rs) (by_choice eq rs) (by_suffix eq rs dated) groups ∙ round-of RoundMode.Three
 
-  pub full-is : fold (with_counting eq dated rs) [] groups ≡ round_marks RoundMode.Full eq writing.answers rs
+  pub full-is : fold (with_counting eq dated rs) [] groups ≡ round_marks RoundMode.Full eq answers rs
   full-is =
       gathered-full (counting rs (name_marks rs)) (counting rs (by_choice eq rs)) (counting rs (by_suffix eq rs dated)) (waits eq rs) [] groups ∙ round-of RoundMode.Full
-
-pub all-taken : {X : Type 0} (xs : List X) (k : ℕ) → length xs ≤ k → take k xs ≡ xs
-all-taken [] zero h = refl
-all-taken [] (suc k) h = refl
-all-taken (x ∷ xs) zero h = absurd (omega arith)
-all-taken (x ∷ xs) (suc k) h = ap (λ ys. x ∷ ys) (all-taken xs k (omega arith))

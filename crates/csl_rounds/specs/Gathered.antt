@@ -1,16 +1,18 @@
 -- For the code: marks gathered group by group, and put in by the places of entries.
-use Rattle.std.specs.Prelude.{◌≡◌, ◌<◌, ◌||◌, ℕ, Bool, false, List, [], ◌++◌, Option, Some, None, filter, is_some, length, map, nat_eq, slice_index, slice_index_or, if◌then◌else◌}
+use Rattle.std.specs.Prelude.{◌≡◌, ◌<◌, ◌||◌, ℕ, Bool, false, List, [], ◌++◌, Option, Some, None, filter, length, map, nat_eq, slice_index, slice_index_or, if◌then◌else◌}
 use Rattle.std.specs.List.{enumerate_from, flat_map, list_any}
 use Rattle.std.specs.Option.{option_or}
+use Rattle.csl_lookup.specs.Properties.{Properties}
 use Rattle.csl_lookup.specs.States.{greater}
+use Rattle.csl_lookup.specs.declared.purpose.CitePurpose.{CitePurpose}
 use Rattle.csl_lookup.specs.declared.state.DisambiguateState.{DisambiguateState}
 use Rattle.csl_name_marks.specs.NameMarks.{name_marks}
 use Rattle.csl_passes.specs.Renders.{CiteRender, ItemRender, Place}
-use Rattle.csl_passes.specs.Request.{Request}
+use Rattle.csl_passes.specs.Request.{Request, source_of}
 use Rattle.csl_round_laws.specs.RoundMarks.{Mark, all_ways, by_choice, by_suffix, greatest_state, or_others, waits, ways}
 use Rattle.csl_round_laws.specs.Rounds.{tasks_with, with_any}
 use Rattle.csl_round_laws.specs.declared.mode.RoundMode.{RoundMode}
-use Rattle.csl_writers.specs.Tasks.{TaskValue}
+use Rattle.csl_writers.specs.Tasks.{CiteTaskValue, TaskValue}
 use Rattle.csl_writers.specs.Writing.{Writing}
 
 module _ {E P : Type 0} (eq : E → E → Bool) (dated : Bool) (cites : List (CiteRender E P)) where
@@ -71,15 +73,27 @@ abbrev pub put_before : List (Option DisambiguateState) → List (Option Disambi
     → List (Option DisambiguateState)
 put_before states = by_places (λ p. option_or (slice_index_or states p None))
 
-module _ {E P : Type 0} (states : List (Option DisambiguateState)) where
-  -- the state that the entry of the k-th cite of a request has, by the places of their entries
-  abbrev pub state_at : List ℕ → ℕ → Option DisambiguateState
-  state_at places k = slice_index_or states (slice_index places k) None
+-- the state that the entry of the k-th cite of a request has, by the places of their entries
+abbrev pub state_at : List (Option DisambiguateState) → List ℕ → ℕ → Option DisambiguateState
+state_at states places k = slice_index_or states (slice_index places k) None
 
+module _ {E P : Type 0} where
+  -- what is asked for where a cite is rendered to be compared: for its purpose and by these properties
+  abbrev pub compared_task : Request E P → E → Properties P → Option CitePurpose → CiteTaskValue E P
+  compared_task request entry properties purpose = record {
+    source = source_of request;
+    entry = entry;
+    properties = properties;
+    purpose = purpose;
+    verdict = None;
+    place = None;
+  }
+
+module _ {E P : Type 0} (states : List (Option DisambiguateState)) where
   -- what is asked for where the cites are rendered again whose entries have states
   abbrev pub request_tasks : Request E P → List ℕ → List (ItemRender E P) → List (TaskValue E P)
   request_tasks request places items =
-      flat_map (λ p. tasks_with request (state_at places p.0) p.1) (enumerate_from 0 items)
+      flat_map (λ p. tasks_with request (state_at states places p.0) p.1) (enumerate_from 0 items)
 
   abbrev pub document_tasks : List (List ℕ) → List (CiteRender E P) → List (TaskValue E P)
   document_tasks places cites = flat_map
@@ -88,7 +102,7 @@ module _ {E P : Type 0} (states : List (Option DisambiguateState)) where
   module _ (writing : Writing E P) where
     -- the k-th cite of a request, rendered again where its entry has a state
     abbrev pub cite_again : Request E P → List ℕ → ℕ → ItemRender E P → ItemRender E P
-    cite_again request places k = with_any writing request (state_at places k)
+    cite_again request places k = with_any writing request (state_at states places k)
 
     abbrev pub request_again : List ℕ → CiteRender E P → CiteRender E P
     request_again places c = record c { items = by_places (cite_again c.request places) c.items }

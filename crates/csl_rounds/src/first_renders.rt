@@ -8,6 +8,7 @@ ghost use Rattle.csl_writers.specs.Desk.{after, desk};
 ghost use Rattle.csl_writers.specs.Tasks.{cite_task};
 ghost use Rattle.csl_writers.specs.Writing.{writing_of};
 
+use crate::compared::compared_cite;
 use csl_base::entry::EntryLike;
 use csl_lookup::properties::{CiteProperties, SpeculativeCiteProperties};
 use csl_lookup::state::IdentifierUsage;
@@ -15,10 +16,8 @@ use csl_passes::acyclic::{AcyclicRequest, AcyclicRequests};
 use csl_passes::first::FirstProperties;
 use csl_passes::item::CitationItem;
 use csl_passes::renders::{Cites, SpeculativeCiteRender, SpeculativeItemRender};
-use csl_writers::asking::written_cite;
 use csl_writers::counter::Renders;
 use csl_writers::pushed::push;
-use csl_writers::task::CiteTask;
 use csl_writers::writer::CiteWriter;
 use std::alloc::Global;
 
@@ -97,15 +96,15 @@ fn first_render<'a, T: EntryLike, P: Drop, W: CiteWriter<T, P>>(
     let locator = item.locator.clone()?;
     let locale = item.locale.clone()?;
     let cite_props = first_written_by(first);
-    let task = CiteTask {
-        source: request.source(),
-        entry: item.entry,
-        properties: &cite_props,
-        purpose: item.purpose,
-        verdict: None,
-        place: None,
-    };
-    let cite = written_cite(alloc, task, writer, counter)?;
+    let cite = compared_cite(
+        alloc,
+        request,
+        item.entry,
+        &cite_props,
+        item.purpose,
+        writer,
+        counter,
+    )?;
     Ok(SpeculativeItemRender {
         rendered: cite.children,
         entry: item.entry,

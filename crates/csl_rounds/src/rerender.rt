@@ -10,14 +10,13 @@ ghost use Rattle.csl_writers.specs.Desk.{after, desk};
 ghost use Rattle.csl_writers.specs.Tasks.{cite_task};
 ghost use Rattle.csl_writers.specs.Writing.{writing_of};
 
+use crate::compared::compared_cite;
 use csl_base::entry::EntryLike;
 use csl_entries::table::EntryTable;
 use csl_lookup::state::DisambiguateState;
 use csl_passes::acyclic::AcyclicRequest;
 use csl_passes::renders::{SpeculativeCiteRender, SpeculativeItemRender};
-use csl_writers::asking::written_cite;
 use csl_writers::counter::Renders;
-use csl_writers::task::CiteTask;
 use csl_writers::writer::CiteWriter;
 use std::alloc::Global;
 
@@ -114,15 +113,15 @@ fn render_again<T: EntryLike, P, W: CiteWriter<T, P>>(
         (desk (W.state writer.old) counter.old)) }
 {
     item.cite_props.speculative.disambiguation = state;
-    let task = CiteTask {
-        source: request.source(),
-        entry: item.entry,
-        properties: &item.cite_props,
-        purpose: item.purpose,
-        verdict: None,
-        place: None,
-    };
-    let cite = written_cite(alloc, task, writer, counter)?;
+    let cite = compared_cite(
+        alloc,
+        request,
+        item.entry,
+        &item.cite_props,
+        item.purpose,
+        writer,
+        counter,
+    )?;
     item.rendered = cite.children;
     Ok(())
 }

@@ -1,15 +1,14 @@
-use Rattle.csl_writers.specs.Writing.{layout_writing}
 use Rattle.std.proofs.Common.{◌≡◌, [], ◌∷◌, ◌++◌, false, ap, get_or, length, map, subst, sym, take, ◌∙◌}
 use Rattle.std.specs.Prelude.{All, fold}
 use Rattle.std.specs.List.{list_any}
-use Rattle.std.proofs.lemmas.List.{with_items_is}
+use Rattle.std.proofs.lemmas.List.{take_all, with_items_is}
 use Rattle.csl_entries.specs.TableView.{table_view}
 use Rattle.csl_passes.specs.Places.{IsPlace}
 use Rattle.csl_passes.specs.RendersView.{renders_view}
 use Rattle.csl_rounds.specs.Gathered.{AreMarked, IsPlaced, entry_place, with_counting}
 use Rattle.csl_rounds.proofs.Counted.{known-at}
 use Rattle.csl_rounds.proofs.FullMarks.{MarkedSoFar, group-known, group-marked, group-waits, one-more-group, own-known}
-use Rattle.csl_rounds.proofs.Walk.{all-taken, full-is}
+use Rattle.csl_rounds.proofs.Walk.{full-is}
 use Rattle.csl_rounds.proofs.marks.marks_of_full.Goals as goal
 use Rattle.csl_rounds.proofs.marks.marks_of_full.Goals.{then-not-waits+in_ok-own+in_ok-append, else-not-waits}
 
@@ -84,5 +83,5 @@ returns g c =
     let rs = renders_view c.args.cites.now in
     let eq = g.T.PartialEq.eq in
     c.loop-group.invariant.gathered
-    ∙ ap (λ l. fold (with_counting eq c.shows_dates-dated.result rs) [] (map (λ p. p.items) l)) (all-taken c.deref-group-items.result.now c.loop-group.group-index c.loop-group-test.false)
-    ∙ full-is eq (layout_writing g.T.EntryLike.answers) rs c.shows_dates-dated.result _ c.shows_dates-dated.ensures (ap (map (λ p. p.items)) c.deref-group-items.ensures.value ∙ c.in_ok-groups.ensures.groups)
+    ∙ ap (λ l. fold (with_counting eq c.shows_dates-dated.result rs) [] (map (λ p. p.items) l)) (take_all c.loop-group.group-index c.deref-group-items.result.now c.loop-group-test.false)
+    ∙ full-is eq g.T.EntryLike.answers rs c.shows_dates-dated.result _ c.shows_dates-dated.ensures (ap (map (λ p. p.items)) c.deref-group-items.ensures.value ∙ c.in_ok-groups.ensures.groups)

@@ -1,9 +1,9 @@
-use Rattle.csl_writers.specs.Writing.{layout_writing}
 use Rattle.std.proofs.Common.{[], ap, map, ◌∙◌}
 use Rattle.std.specs.Prelude.{fold}
+use Rattle.std.proofs.lemmas.List.{take_all}
 use Rattle.csl_passes.specs.RendersView.{renders_view}
 use Rattle.csl_rounds.specs.Gathered.{with_group}
-use Rattle.csl_rounds.proofs.Walk.{all-taken, three-is}
+use Rattle.csl_rounds.proofs.Walk.{three-is}
 use Rattle.csl_rounds.proofs.marks.marks_of_three.Goals as goal
 
 pub returns : goal.returns
@@ -11,5 +11,5 @@ returns g c =
     let rs = renders_view c.args.cites.now in
     let eq = g.T.PartialEq.eq in
     c.loop-group.invariant
-    ∙ ap (λ l. fold (with_group eq c.shows_dates-dated.result rs) [] (map (λ p. p.items) l)) (all-taken c.deref-group-items.result.now c.loop-group.group-index c.loop-group-test.false)
-    ∙ three-is eq (layout_writing g.T.EntryLike.answers) rs c.shows_dates-dated.result _ c.shows_dates-dated.ensures (ap (map (λ p. p.items)) c.deref-group-items.ensures.value ∙ c.in_ok-groups.ensures.groups)
+    ∙ ap (λ l. fold (with_group eq c.shows_dates-dated.result rs) [] (map (λ p. p.items) l)) (take_all c.loop-group.group-index c.deref-group-items.result.now c.loop-group-test.false)
+    ∙ three-is eq g.T.EntryLike.answers rs c.shows_dates-dated.result _ c.shows_dates-dated.ensures (ap (map (λ p. p.items)) c.deref-group-items.ensures.value ∙ c.in_ok-groups.ensures.groups)

@@ -1,14 +1,12 @@
-use Rattle.csl_writers.specs.Writing.{layout_writing}
-use Rattle.std.proofs.Common.{◌≡◌, take}
-use Rattle.csl_passes.specs.RendersView.{items_view}
+use Rattle.csl_passes.specs.RendersView.{item_view}
 use Rattle.csl_passes.specs.RequestView.{request_view}
-use Rattle.csl_rounds.specs.Gathered.{cite_again, with_states}
-use Rattle.csl_rounds.proofs.Halves.{half}
-use Rattle.csl_writing.specs.Counted.{counted_times}
+use Rattle.csl_round_laws.specs.Rounds.{tasks_with}
+use Rattle.csl_writers.specs.Desk.{desk}
+use Rattle.csl_rounds.specs.Gathered.{cite_again, state_at}
+use Rattle.csl_rounds.proofs.Changed.{Changed}
 use Rattle.csl_rounds.proofs.rerender.render_items.Given as goal
 
 abbrev pub invariant-loop-k : goal.invariant-loop-k
-invariant-loop-k g l = record {
-  again : items_view l.items ≡ half (cite_again (layout_writing g.T.EntryLike.answers) l.states (request_view l.request.request.now) l.places) l.k (items_view l.initial.items);
-  counted : l.counter ≡ counted_times (with_states l.states (take l.k l.places)) l.fn.counter;
-}
+invariant-loop-k g l =
+    Changed item_view g.T.EntryLike.answers (λ w. cite_again l.states w (request_view l.request.request.now) l.places) (λ k. tasks_with (request_view l.request.request.now) (state_at l.states l.places k))
+    l.initial.items (desk (g.W.CiteWriter.state l.fn.writer) l.fn.counter) l.k l.items (desk (g.W.CiteWriter.state l.writer) l.counter)

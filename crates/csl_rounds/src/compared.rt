@@ -1,0 +1,45 @@
+//! Cites rendered to be compared.
+ghost use Rattle.std.specs.Prelude.{◌≡◌, ◌∷◌, [], IfOk, OnOk};
+ghost use Rattle.csl_lookup.specs.PropertiesView.{properties_view};
+ghost use Rattle.csl_passes.specs.RequestView.{request_view};
+ghost use Rattle.csl_rounds.specs.Gathered.{compared_task};
+ghost use Rattle.csl_writers.specs.Desk.{after, desk};
+ghost use Rattle.csl_writers.specs.Tasks.{cite_task};
+
+use csl_base::entry::EntryLike;
+use csl_lookup::properties::CiteProperties;
+use csl_lookup::purpose::CitePurpose;
+use csl_passes::acyclic::AcyclicRequest;
+use csl_writers::asking::written_cite;
+use csl_writers::cite::Cite;
+use csl_writers::counter::Renders;
+use csl_writers::task::CiteTask;
+use csl_writers::writer::CiteWriter;
+use std::alloc::Global;
+
+/// A cite of an entry, rendered by these properties for a purpose. It has no verdict and no place.
+pub(crate) fn compared_cite<T: EntryLike, P, W: CiteWriter<T, P>>(
+    alloc: Global,
+    request: AcyclicRequest<'_, '_, T, P>,
+    entry: &T,
+    properties: &CiteProperties<'_, P>,
+    purpose: Option<CitePurpose>,
+    writer: &mut W,
+    counter: &mut Renders,
+) -> Result<Cite, W::Error>
+    ensures cite { IfOk result (λ c. c ≡ (W.state writer.old).cite
+        (compared_task (request_view request.entry.request.now) entry.now (properties_view properties.now) purpose)) }
+    ensures asked { OnOk result (desk (W.state writer.new) counter.new
+        ≡ after (cite_task (compared_task (request_view request.entry.request.now) entry.now
+        (properties_view properties.now) purpose) ∷ []) (desk (W.state writer.old) counter.old)) }
+{
+    let task = CiteTask {
+        source: request.source(),
+        entry,
+        properties,
+        purpose,
+        verdict: None,
+        place: None,
+    };
+    written_cite(alloc, task, writer, counter)
+}
