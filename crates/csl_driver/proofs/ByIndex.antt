@@ -11,7 +11,7 @@ enumerated-push n (y ∷ ys) x =
     let e : n + 1 + length ys ≡ n + length (y ∷ ys) = omega arith in
     ap (λ l. (n, y) ∷ l) (enumerated-push (n + 1) ys x ∙ ap (λ k. enumerate_from (n + 1) ys ++ (k, x) ∷ []) e)
 
-module _ {X A : Type 0} (xs : List X) (k : ℕ) (x : X) (within : k < length xs) (here : x ≡ get_or xs k x) where
+module _ {X : Type 0} (xs : List X) (k : ℕ) (x : X) (within : k < length xs) (here : x ≡ get_or xs k x) where
   numbered-more : enumerate_from 0 (take (k + 1) xs) ≡ enumerate_from 0 (take k xs) ++ (k, x) ∷ []
   numbered-more =
       let long = length-take-le k xs (omega (arith, within)) in
@@ -19,10 +19,10 @@ module _ {X A : Type 0} (xs : List X) (k : ℕ) (x : X) (within : k < length xs)
       ap (enumerate_from 0) (take_more xs k x within ∙ ap (λ y. take k xs ++ y ∷ []) (sym here)) ∙ enumerated-push 0 (take k xs) x
       ∙ ap (λ n. enumerate_from 0 (take k xs) ++ (n, x) ∷ []) last
 
-  pub each-more : (f : ℕ → X → A) → map (λ p. f p.0 p.1) (enumerate_from 0 (take (k + 1) xs)) ≡ map (λ p. f p.0 p.1) (enumerate_from 0 (take k xs)) ++ f k x ∷ []
+  pub each-more : {A : Type 0} (f : ℕ → X → A) → map (λ p. f p.0 p.1) (enumerate_from 0 (take (k + 1) xs)) ≡ map (λ p. f p.0 p.1) (enumerate_from 0 (take k xs)) ++ f k x ∷ []
   each-more f = ap (map (λ p. f p.0 p.1)) numbered-more ∙ map-append (λ p. f p.0 p.1) (enumerate_from 0 (take k xs)) ((k, x) ∷ [])
 
-  pub all-more : (f : ℕ → X → List A) → flat_map (λ p. f p.0 p.1) (enumerate_from 0 (take (k + 1) xs)) ≡ flat_map (λ p. f p.0 p.1) (enumerate_from 0 (take k xs)) ++ f k x
+  pub all-more : {A : Type 0} (f : ℕ → X → List A) → flat_map (λ p. f p.0 p.1) (enumerate_from 0 (take (k + 1) xs)) ≡ flat_map (λ p. f p.0 p.1) (enumerate_from 0 (take k xs)) ++ f k x
   all-more f =
       ap (flat_map (λ p. f p.0 p.1)) numbered-more ∙ flat_map-append (λ p. f p.0 p.1) (enumerate_from 0 (take k xs)) ((k, x) ∷ [])
       ∙ ap (λ l. flat_map (λ p. f p.0 p.1) (enumerate_from 0 (take k xs)) ++ l) (append-nil (f k x))

@@ -24,8 +24,6 @@ use Rattle.csl_grouping.proofs.Whole.{final-permuted}
 use Rattle.csl_passes.specs.Renders.{CiteRender, ItemRender}
 use Rattle.csl_passes.specs.Request.{cites_of, entries_of}
 use Rattle.csl_positions.specs.FinalProperties.{items_before, with_final_items}
-use Rattle.csl_writing.proofs.Counting.{counted_times-add, counted_times-all}
-use Rattle.csl_writing.specs.Counted.{counted_times}
 use Rattle.csl_round_laws.specs.Rerenders.{rerenders}
 use Rattle.csl_round_laws.specs.Rounds.{entries_cited, request_at}
 use Rattle.csl_round_laws.specs.Tables.{disambiguated, last_states, round_tables}

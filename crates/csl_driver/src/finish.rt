@@ -124,8 +124,26 @@ impl<'a, T: EntryLike, P: Eq + Drop> BibliographyDriver<'a, T, P> {
             ≡ asked_for (tasks T.eq P.eq (writing_of T.answers (W.state writer.old)) mode
             (asked_of self.entry request.entry)) (W.state writer.old)) }
     {
+        self.answered(&request, mode, writer)
+    }
+
+    /// Answers all requests with so many rounds, as this writer writes: rings are refused, the entries that
+    /// are cited are listed, and what is then known is finished.
+    fn answered<W: CiteWriter<T, P>>(
+        &self,
+        request: &BibliographyRequest<'_, 'a, T>,
+        mode: RoundMode,
+        writer: &mut W,
+    ) -> Result<(Rendered, Account<'a, T>), FinishError<W::Error>>
+        ensures finished { FinishesWith T.eq (asked_of self.now request.now)
+            (IsAnswer T.eq P.eq (writing_of T.answers (W.state writer.old)) mode (asked_of self.now request.now))
+            result }
+        ensures asked { OnOk result (W.state writer.new
+            ≡ asked_for (tasks T.eq P.eq (writing_of T.answers (W.state writer.old)) mode
+            (asked_of self.now request.now)) (W.state writer.old)) }
+    {
         let alloc = self.alloc;
-        let (requests, wanted) = without_rings(alloc, &self.citations, &request)?;
+        let (requests, wanted) = without_rings(alloc, &self.citations, request)?;
         let cited = Cited::by_requests(alloc, requests, wanted, self.citation_number_offset)?;
         let draft = Draft {
             requests,
@@ -191,7 +209,8 @@ impl<'d, 'o, 'a, T: EntryLike, P: Eq + Drop> Draft<'d, 'o, 'a, T, P> {
         let table = &self.cited.table;
         let numbers = self.cited.numbers(alloc, &self.cited.listing)?;
         let firsts = first_properties(alloc, self.requests.requests, table, &numbers)?;
-        first_renders(alloc, self.requests, &firsts, writer, counter)
+        let cites = first_renders(alloc, self.requests, &firsts, writer, counter)?;
+        Ok(cites)
     }
 
     /// The numbers of the entries in the end, by their places in the table: those of the bibliography where

@@ -5,8 +5,10 @@ ghost use Rattle.csl_base.specs.StyleView.{layout_view};
 ghost use Rattle.csl_passes.specs.Request.{source_of};
 ghost use Rattle.csl_passes.specs.RequestView.{cite_view, request_view};
 ghost use Rattle.csl_driver.specs.Rings.{RefusesAlone};
+ghost use Rattle.csl_assembly.specs.LastTree.{tree_by_purpose};
 ghost use Rattle.csl_assembly.specs.ShownView.{shown_views};
-ghost use Rattle.csl_driver.specs.StandaloneCitation.{behind, lone_delimiter, lone_tree, lone_trees, standalone};
+ghost use Rattle.csl_lookup.specs.PropertiesView.{properties_view};
+ghost use Rattle.csl_driver.specs.StandaloneCitation.{behind, lone_delimiter, lone_task, lone_tree, lone_trees, standalone};
 ghost use Rattle.csl_writing.specs.LayoutWriting.{layout_writing};
 
 use crate::error::{DriverError, RingPlace};
@@ -35,10 +37,25 @@ fn lone_cite<T: EntryLike, P: Drop>(
         ≡ lone_tree (layout_writing T.answers) (source_of (request_view request.entry.request.now)) (cite_view item.now)) }
 {
     let properties = CiteProperties::for_sorting(item.locator.clone()?, 0);
+    cite_by(alloc, request, item, &properties, writer)
+}
+
+/// The tree of such a cite by these properties.
+fn cite_by<T: EntryLike, P>(
+    alloc: Global,
+    request: AcyclicRequest<'_, '_, T, P>,
+    item: &CitationItem<'_, T, P>,
+    properties: &CiteProperties<'_, P>,
+    writer: &mut LayoutWriter,
+) -> Result<ElemChildren, AllocError>
+    ensures { let task = record (lone_task (source_of (request_view request.entry.request.now)) (cite_view item.now))
+        { properties = properties_view properties.now } in
+        IfOk result (λ tree. tree ≡ tree_by_purpose (layout_writing T.answers) task) }
+{
     let task = CiteTask {
         source: request.source(),
         entry: item.entry,
-        properties: &properties,
+        properties,
         purpose: item.purpose,
         verdict: None,
         place: None,

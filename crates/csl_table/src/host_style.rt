@@ -27,7 +27,10 @@ pub fn named(alloc: Global, name: &str) -> Result<Vec<LayoutRenderingElement>, A
             prefix: None,
             suffix: None,
         },
-        formatting: StyleFormatting::default(),
+        formatting: StyleFormatting {
+            font_style: None,
+            font_weight: None,
+        },
         display: None,
     })?;
     Ok(elements)

@@ -2,8 +2,7 @@
 ghost use Rattle.std.specs.Prelude.{◌≡◌, IfOk, option_map};
 ghost use Rattle.csl_lookup.specs.PropertiesView.{locator_view, properties_view};
 ghost use Rattle.csl_lookup.specs.SourceView.{source_view};
-ghost use Rattle.csl_table.specs.HostStyle.{style_name};
-ghost use Rattle.csl_table.specs.Keys.{cite_key, date_key, item_key, located, standing_of};
+ghost use Rattle.csl_table.specs.Keys.{cite_key, date_key, item_key, key_of, located, standing_of};
 ghost use Rattle.csl_writers.specs.TaskView.{cite_task_view, date_task_view, item_task_view};
 
 use crate::host_style::style_name;
@@ -18,8 +17,7 @@ use csl_lookup::state::{CollapseVerdict, DisambiguateState, IbidState, Identifie
 use csl_writers::task::{CiteTask, DateTask, ItemTask};
 use std::alloc::{AllocError, Global};
 
-/// What is asked for: an entry, by its key, in a style, by its name, and in a locale, where one is asked for
-/// in place of the style's own.
+/// What is asked for: an entry, by its key, in a style, by its name, and in the locale in use.
 ///
 /// Cites that are rendered to be compared have no place, and items of the bibliography have none; a cite
 /// or a date that is written for the last time has the index of its request and its own in the items of
@@ -27,7 +25,7 @@ use std::alloc::{AllocError, Global};
 #[derive(PartialEq, Eq, Hash, Drop)]
 pub struct TaskKey {
     pub style: Text,
-    pub locale: Option<Text>,
+    pub locale: Text,
     pub entry: Text,
     pub place: Option<(usize, usize)>,
     pub part: TaskPart,
@@ -82,10 +80,7 @@ fn located<P>(
 }
 
 /// What is known of a cite with these properties.
-fn standing_of<P>(
-    alloc: Global,
-    properties: &CiteProperties<'_, P>,
-) -> Result<Standing, AllocError>
+fn standing_of<P>(alloc: Global, properties: &CiteProperties<'_, P>) -> Result<Standing, AllocError>
     ensures { IfOk result (λ s. s ≡ standing_of (properties_view properties.now)) }
 {
     let certain = &properties.certain;
@@ -105,4 +100,94 @@ fn standing_of<P>(
         disambiguation: speculative.disambiguation.clone()?,
         identifier_usage: speculative.identifier_usage,
     })
+}
+
+/// The locale in use of a style, and its name, with the key of an entry.
+fn key_of<T: EntryLike>(
+    alloc: Global,
+    source: &StyleLocales<'_>,
+    entry: &T,
+    place: Option<(usize, usize)>,
+    part: TaskPart,
+) -> Result<TaskKey, AllocError>
+    ensures { IfOk result (λ k. k ≡ key_of (source_view source.now) (T.answers entry.now).key place part) }
+{
+    Ok(TaskKey {
+        style: Text::copied(alloc, style_name(source.style))?,
+        locale: Text::copied(alloc, source.locale())?,
+        entry: Text::copied(alloc, entry.key())?,
+        place,
+        part,
+    })
+}
+
+/// The key of a cite.
+///
+/// # Errors
+///
+/// Where memory is refused.
+pub fn cite_key<T: EntryLike, P>(
+    alloc: Global,
+    task: &CiteTask<'_, '_, T, P>,
+) -> Result<TaskKey, AllocError>
+    ensures { IfOk result (λ k. k ≡ cite_key T.answers (cite_task_view task.now)) }
+{
+    let standing = standing_of(alloc, task.properties)?;
+    let part = TaskPart::Cite(standing, task.purpose, task.verdict);
+    key_of(alloc, &task.source, task.entry, task.place, part)
+}
+
+/// The key of an item of the bibliography.
+///
+/// # Errors
+///
+/// Where memory is refused.
+pub fn item_key<T: EntryLike, P>(
+    alloc: Global,
+    task: &ItemTask<'_, '_, T, P>,
+) -> Result<TaskKey, AllocError>
+    ensures { IfOk result (λ k. k ≡ item_key T.answers (item_task_view task.now)) }
+{
+    let part = TaskPart::Item(standing_of(alloc, task.properties)?);
+    key_of(alloc, &task.source, task.entry, None, part)
+}
+
+/// The key of a date.
+///
+/// # Errors
+///
+/// Where memory is refused.
+pub fn date_key<T: EntryLike>(alloc: Global, task: &DateTask<'_, T>) -> Result<TaskKey, AllocError>
+    ensures { IfOk result (λ k. k ≡ date_key T.answers (date_task_view task.now)) }
+{
+    key_of(alloc, &task.source, task.entry, task.place, TaskPart::Date)
+}
+
+impl TaskKey {
+    ghost use Rattle.csl_table.specs.Keys.{stage};
+
+    /// When it is asked for: 0 for cites that are compared before any is disambiguated, 1 for those that
+    /// are compared later, and 2 for what is written for the last time.
+    pub fn stage(&self) -> u8
+        ensures { result ≡ stage self.now }
+    {
+        match (&self.part, self.place) {
+            (TaskPart::Cite(standing, _, _), None) => standing.stage(),
+            _ => 2,
+        }
+    }
+}
+
+impl Standing {
+    ghost use Rattle.csl_table.specs.Keys.{stage_of};
+
+    // The stage of a cite that is compared.
+    fn stage(&self) -> u8
+        ensures { result ≡ stage_of self.now }
+    {
+        match self.disambiguation {
+            DisambiguateState::None => 0,
+            _ => 1,
+        }
+    }
 }

@@ -20,7 +20,7 @@ pub invariant_of-request : goal.invariant_of-request
 invariant_of-request g c =
     let cites = c.args.cites.now in
     let acyclic = of-requests (λ r. HasNoRing r.style.macros) (renders_view cites) (asked_in c.args.self).requests c.requires.cites c.args.self.requests.no_ring in
-    record { no_ring = all-at (λ r. HasNoRing r.request.style.macros) render_view cites c.loop-index.index c.cite-item.result acyclic c.loop-index-test.true c.cite-item.is }
+    record { no_ring = all-at (λ r. HasNoRing r.request.style.macros) render_view cites c.loop-index.index c.index-cites-index.result acyclic c.loop-index-test.true c.index-cites-index.is }
 
 pub loop-index-preserved : goal.loop-index-preserved
 loop-index-preserved g c =
@@ -28,9 +28,9 @@ loop-index-preserved g c =
     let cites = c.args.cites.now in
     let views = renders_view cites in
     let k = c.loop-index.index in
-    let cite = render_view c.cite-item.result in
+    let cite = render_view c.index-cites-index.result in
     let within = within_view render_view {xs = cites} k refl c.loop-index-test.true in
-    let here = at_view render_view {xs = cites} k refl c.cite-item.result c.cite-item.is in
+    let here = at_view render_view {xs = cites} k refl c.index-cites-index.result c.index-cites-index.is in
     let begun = desk (g.W.CiteWriter.state c.args.writer.now) c.args.counter.now in
     let before = desk (g.W.CiteWriter.state c.loop-index.writer) c.loop-index.counter in
     let was = c.loop-index.invariant in

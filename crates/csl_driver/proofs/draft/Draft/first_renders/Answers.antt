@@ -38,6 +38,6 @@ returns g c =
     let properties =
     ap (map (λ f. f.items)) c.deref-2.ensures.value ∙ c.in_ok-firsts.ensures ∙ ap (λ n. first_properties eq g.P.PartialEq.eq n requests) numbers in
     record {
-      cites = on_ok c.first_renders.result (λ x. x ∙ ap (first_renders (writing_of g.T.EntryLike.answers (g.W.CiteWriter.state c.args.writer.now)) requests) properties) c.first_renders.ensures.cites;
-      asked = on_ok c.first_renders.result (λ x. x ∙ ap (λ ps. after (first_tasks requests ps) (desk (g.W.CiteWriter.state c.args.writer.now) c.args.counter.now)) properties) c.first_renders.ensures.asked;
+      cites = c.in_ok-cites.ensures.cites ∙ ap (first_renders (writing_of g.T.EntryLike.answers (g.W.CiteWriter.state c.args.writer.now)) requests) properties;
+      asked = c.in_ok-cites.ensures.asked ∙ ap (λ ps. after (first_tasks requests ps) (desk (g.W.CiteWriter.state c.args.writer.now) c.args.counter.now)) properties;
     }

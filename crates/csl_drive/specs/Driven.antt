@@ -1,0 +1,39 @@
+-- What comes of a table: the answer where it has all that is asked for, else what it lacks of that.
+use Rattle.std.specs.Prelude.{◌≡◌, Bool, List, [], Option, All, IsSome}
+use Rattle.csl_base.specs.Answers.{Answers}
+use Rattle.csl_driver.specs.Answer.{Asked}
+use Rattle.csl_driver.specs.Finished.{CanBeAnswered}
+use Rattle.csl_driver.specs.Promised.{IsAnswer}
+use Rattle.csl_driver.specs.WriterTasks.{tasks}
+use Rattle.csl_driver.specs.declared.account.Account.{Account}
+use Rattle.csl_assembly.specs.declared.rendered.Rendered.{Rendered}
+use Rattle.csl_round_laws.specs.declared.mode.RoundMode.{RoundMode}
+use Rattle.csl_table.specs.Keys.{task_key}
+use Rattle.csl_table.specs.Table.{IsMissingOf, table_writing}
+use Rattle.csl_drive.specs.declared.drive.Driven.{Driven}
+use Rattle.csl_drive.specs.declared.drive.Driven.TheVariants as results
+use Rattle.csl_table.specs.declared.key.TaskKey.{TaskKey}
+use Rattle.csl_writers.specs.Tasks.{TaskValue}
+use Rattle.csl_writers.specs.declared.cite.Cite.{Cite}
+
+module _ {E P : Type 0} (eq : E → E → Bool) (payload_eq : P → P → Bool) (answers : E → Answers)
+    (table : TaskKey → Option Cite) (mode : RoundMode) (asked : Asked E P) where
+  -- all that a driver asks for where it answers with what the table has
+  abbrev pub asked_for_all : List (TaskValue E P)
+  asked_for_all = tasks eq payload_eq (table_writing table answers) mode asked
+
+  -- the answer is the one with what the table has, and nothing that is asked for is lacked
+  pub record IsWhole (r : Rendered × Account E) : Type 0 where
+    pub possible : CanBeAnswered eq asked
+    pub answer : IsAnswer eq payload_eq (table_writing table answers) mode asked r
+    pub there : All (λ task. IsSome (table (task_key answers task))) asked_for_all
+
+  -- each of these is asked for, and the table lacks it; and there is one
+  pub record IsLacking (missing : List TaskKey) : Type 0 where
+    pub possible : CanBeAnswered eq asked
+    pub each : All (IsMissingOf table answers asked_for_all) missing
+    pub some : missing ≡ [] → ⊥
+
+  abbrev pub IsDriven : Driven E → Type 0
+  IsDriven (results.Answer rendered account) = IsWhole (rendered, account)
+  IsDriven (results.Missing missing) = IsLacking missing.keys

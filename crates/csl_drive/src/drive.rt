@@ -1,0 +1,58 @@
+//! A driver over a table: the answer, or what the table lacks.
+ghost use Rattle.std.specs.Prelude.{IfErr, IfOk};
+ghost use Rattle.csl_driver.specs.AskedView.{asked_of};
+ghost use Rattle.csl_driver.specs.Rings.{Refuses};
+ghost use Rattle.csl_drive.specs.Driven.{IsDriven};
+ghost use Rattle.csl_table.specs.Table.{found};
+
+use csl_table::key::TaskKey;
+use csl_table::table::{Table, TableWriter};
+use csl_base::entry::EntryLike;
+use csl_driver::account::Account;
+use csl_driver::driver::BibliographyDriver;
+use csl_driver::error::DriverError;
+use csl_driver::rendered::Rendered;
+use csl_passes::request::BibliographyRequest;
+use csl_round_laws::mode::RoundMode;
+use indexmap::IndexSet;
+use std::alloc::Global;
+
+/// What comes of a table.
+pub enum Driven<'a, T> {
+    /// The answer and its account, where the table has all that is asked for.
+    Answer(Rendered, Account<'a, T>),
+    /// What it lacks, each once: the host writes it, and asks again. Where something is missing by which
+    /// cites are compared, what is written for the last time isn't named yet.
+    Missing(IndexSet<TaskKey>),
+}
+
+/// Answers all requests of a driver with what a host has written. Called again and again with what was
+/// missing, it answers after at most three calls more than rounds mark.
+///
+/// # Errors
+///
+/// Those of `BibliographyDriver::finish`.
+pub fn drive<'a, T: EntryLike, P: Eq + Drop>(
+    alloc: Global,
+    driver: BibliographyDriver<'a, T, P>,
+    request: BibliographyRequest<'_, 'a, T>,
+    mode: RoundMode,
+    table: &Table,
+) -> Result<Driven<'a, T>, DriverError>
+    ensures driven { IfOk result
+        (IsDriven T.eq P.eq T.answers (found table.now) mode (asked_of driver.entry request.entry)) }
+    ensures refused { let asked = asked_of driver.entry request.entry in
+        IfErr result (Refuses T.eq asked.requests asked.wanted.style asked.offset) }
+{
+    let mut writer = TableWriter::new(alloc, table);
+    let (rendered, account) = driver.finish_with(request, mode, &mut writer)?;
+    let TableWriter {
+        written: _,
+        missing,
+    } = writer;
+    if missing.is_empty() {
+        Ok(Driven::Answer(rendered, account))
+    } else {
+        Ok(Driven::Missing(missing))
+    }
+}

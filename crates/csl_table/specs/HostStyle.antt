@@ -1,0 +1,21 @@
+-- Styles of a host, which have a name in place of layouts.
+use Rattle.std.specs.Prelude.{ℕ, List, [], Option, None, false}
+use Rattle.csl_base.specs.Element.{Elements, element, no_elements, text_element, value_target}
+use Rattle.csl_base.specs.Style.{StyleValue}
+use Rattle.csl_base.specs.declared.formatting.StyleFormatting.{StyleFormatting}
+
+-- the text with which elements begin
+abbrev pub first_text : Elements → List ℕ
+first_text (element (text_element (value_target name) quotes strip look) es) = name
+first_text _ = []
+
+abbrev pub style_name : StyleValue → List ℕ
+style_name style = first_text style.citation.layout.elements
+
+-- one text, without anything around it
+abbrev pub named : List ℕ → Elements
+named name = element (text_element (value_target name) false false (record {
+  affixes = record { prefix = None; suffix = None };
+  formatting = record { font_style = None; font_weight = None };
+  display = None;
+})) no_elements

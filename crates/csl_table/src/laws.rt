@@ -1,0 +1,11 @@
+//! Laws of keys.
+ghost use Rattle.csl_base.specs.Tells.{TellsEqual};
+
+use crate::key::{Standing, TaskKey, TaskPart};
+
+/// A law: `==` of keys, and of their parts, is true exactly of equal values.
+pub fn key_equality_decides()
+    ensures standing { TellsEqual ⟦<Standing as PartialEq>⟧.eq }
+    ensures part { TellsEqual ⟦<TaskPart as PartialEq>⟧.eq }
+    ensures key { TellsEqual ⟦<TaskKey as PartialEq>⟧.eq }
+{}
