@@ -1,4 +1,5 @@
-use Rattle.std.proofs.Common.{List, Option, get_or, map, refl, take}
+use Rattle.std.proofs.Common.{◌≡◌, List, Option, get_or, map, refl, take, arith, rules}
+use Rattle.std.proofs.lemmas.Grind.{common_steps}
 use Rattle.std.specs.List.{filter_map}
 use Rattle.std.specs.Prelude.{option_map, string_bytes}
 use Rattle.csl_passes.specs.Places.{cite_at}
@@ -12,9 +13,7 @@ use Rattle.csl_writers.specs.Tasks.{TaskValue, item_task}
 use Rattle.csl_writers.specs.Writing.{Writing, writing_of}
 use Rattle.csl_writers.proofs.TasksDone.{writes-same}
 use Rattle.csl_assembly.specs.BibliographyItems.{item_of, written_item}
-use Rattle.csl_assembly.proofs.Asked.{asked-found}
-use Rattle.csl_assembly.proofs.ItemsMore.{written-more}
-use Rattle.csl_assembly.proofs.Steps.{made_of_same}
+use Rattle.csl_assembly.proofs.Asked.{asked-found, written_by_same}
 use Rattle.csl_assembly.proofs.bibliography.written_items.Goals as goal
 
 pub loop-place-preserved : goal.loop-place-preserved
@@ -35,14 +34,11 @@ loop-place-preserved g c =
     let asked : List (TaskValue E P) = map task_of (filter_map found_at (take k firsts)) in
     let written = writing_of g.T.EntryLike.answers old.writer in
     let writes = writing_of g.T.EntryLike.answers before.writer in
-    let one : ItemRender E P → Item = written_item written source in
     let made : Item = (c.in_ok-item.item.0, string_bytes c.in_ok-item.item.1) in
+    let item : made ≡ written_item written source first =
+    written_by_same (λ (w : Writing E P). written_item w source first) writes written made (writes-same g.T.EntryLike.answers asked old before was.asked) c.in_ok-item.ensures.item in
     record {
-      items = written-more found_at one (λ m. (m.0, string_bytes m.1)) firsts k (0, 0) place first
-          c.loop-place.items.items c.push.new.values.items c.in_ok-item.item (map one (filter_map found_at firsts)) c.loop-place-test.true refl c.cite_at-first.ensures
-          c.in_ok-push.ensures
-          (made_of_same (λ (w : Writing E P). written_item w source first) writes written made (writes-same g.T.EntryLike.answers asked old before was.asked) c.in_ok-item.ensures.item)
-          was.items;
+      items = first_of (search (rules, common_steps), grind (arith, common_steps));
       asked = asked-found firsts k (0, 0) place c.loop-place-test.true refl task_of old before new found_at first
           c.cite_at-first.ensures was.asked c.in_ok-item.ensures.asked;
     }

@@ -1,7 +1,6 @@
-use Rattle.std.proofs.Common.{◌≡◌, List, map, take, ap}
+use Rattle.std.proofs.Common.{◌≡◌, List, map, take, arith, rules}
+use Rattle.std.proofs.lemmas.Grind.{common_steps}
 use Rattle.csl_base.specs.Child.{Child}
-use Rattle.csl_base.specs.Style.{StyleValue}
-use Rattle.csl_base.specs.StyleView.{layout_view, style_view}
 use Rattle.csl_passes.specs.Renders.{ItemRender}
 use Rattle.csl_passes.specs.RendersView.{item_view, items_view}
 use Rattle.csl_passes.specs.Request.{source_of}
@@ -10,13 +9,9 @@ use Rattle.csl_writers.specs.Desk.{desk}
 use Rattle.csl_writers.specs.Tasks.{CiteTaskValue, TaskValue}
 use Rattle.csl_writers.specs.Writing.{Writing, writing_of}
 use Rattle.csl_writers.proofs.TasksDone.{writes-same}
-use Rattle.csl_assembly.specs.Assembly.{Shown}
-use Rattle.csl_assembly.specs.CitationTree.{delimiter_before, marked_cite, place_of, shown, shown_cite}
+use Rattle.csl_assembly.specs.CitationTree.{marked_cite, place_of}
 use Rattle.csl_assembly.specs.LastTree.{last_task, task_by_purpose, tree_by_purpose}
-use Rattle.csl_assembly.specs.declared.assemble.ShownCite.{ShownCite}
-use Rattle.csl_assembly.proofs.Asked.{asked-each}
-use Rattle.csl_assembly.proofs.ShownMore.{hidden-more, shown-more}
-use Rattle.csl_assembly.proofs.Steps.{made_of_same}
+use Rattle.csl_assembly.proofs.Asked.{asked-each, written_by_same}
 use Rattle.csl_assembly.proofs.citation.shown_cites.Goals.{else-not-item, then-not-item+in_ok-push}
 use Rattle.csl_assembly.proofs.citation.shown_cites.Goals as goal
 
@@ -38,21 +33,11 @@ loop-item-preserved g c =
     let writes = writing_of g.T.EntryLike.answers before.writer in
     let marked : Writing E P → List Child = λ w. marked_cite (item_view item) (tree_by_purpose w (task_of (item_view item))) in
     let tree : c.in_ok-tree.tree ≡ marked written =
-    made_of_same marked writes written c.in_ok-tree.tree (writes-same g.T.EntryLike.answers asked old before was.asked) c.in_ok-tree.ensures.tree in
-    let one : ItemRender E P → Shown =
-    shown_cite written c.args.index source (layout_view c.args.request.request.now.style.now.citation.layout) in
-    let all : List Shown = map one (shown (items_view items)) in
+    written_by_same marked writes written c.in_ok-tree.tree (writes-same g.T.EntryLike.answers asked old before was.asked) c.in_ok-tree.ensures.tree in
     record {
       cites = elim c.if-not-item.branch [
-        | then-not-item+in_ok-push w ↦
-            let cite : ShownCite = record { delimiter = w.delimiter_before-delimiter.result; tree = c.in_ok-tree.tree } in
-            let delimiter = made_of_same (λ (s : StyleValue). delimiter_before s.citation.layout (item_view item)) (style_view c.style.result.now)
-            (style_view c.args.request.request.now.style.now) _ c.style.ensures w.delimiter_before-delimiter.ensures in
-            shown-more item_view one items k item item c.loop-item-test.true c.item-item.is c.loop-item.cites.items w.push.new.values.items c.if-not-item.cites.items cite all
-            (ap (λ v. v.items) w.cites-is) w.in_ok-push.ensures (λ i. record { delimiter = delimiter i; tree = tree i }) w.if-not-item.true was.cites
-        | else-not-item w ↦
-            hidden-more item_view one items k item item c.loop-item-test.true c.item-item.is c.loop-item.cites.items c.if-not-item.cites.items all
-            (ap (λ v. v.items) w.cites-is) w.if-not-item.false was.cites
+        | then-not-item+in_ok-push w ↦ first_of (search (rules, common_steps), grind (arith, common_steps))
+        | else-not-item w ↦ first_of (search (rules, common_steps), grind (arith, common_steps))
       ];
       asked = asked-each items k item item c.loop-item-test.true c.item-item.is (λ i. task_by_purpose (task_of i)) old before new item_view was.asked c.in_ok-tree.ensures.asked;
     }
