@@ -1,8 +1,7 @@
 -- Styles of a host, which have a name in place of layouts.
-use Rattle.std.specs.Prelude.{ℕ, List, [], Option, None, false}
+use Rattle.std.specs.Prelude.{ℕ, List, [], None, false}
 use Rattle.csl_base.specs.Element.{Elements, element, no_elements, text_element, value_target}
 use Rattle.csl_base.specs.Style.{StyleValue}
-use Rattle.csl_base.specs.declared.formatting.StyleFormatting.{StyleFormatting}
 
 -- the text with which elements begin
 abbrev pub first_text : Elements → List ℕ

@@ -1,5 +1,5 @@
 -- What identifies a task in a table.
-use Rattle.std.specs.Prelude.{ℕ, List, [], Option, Some, None, option_map}
+use Rattle.std.specs.Prelude.{ℕ, List, [], None, option_map}
 use Rattle.csl_base.specs.Answers.{Answers}
 use Rattle.csl_base.specs.declared.taxonomy.Locator.{Locator}
 use Rattle.csl_lookup.specs.Lookup.{Source, locale_in_use}
