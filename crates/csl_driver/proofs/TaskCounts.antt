@@ -1,5 +1,5 @@
 -- How much a writer is asked for.
-use Rattle.std.proofs.Common.{◌≡◌, ℕ, suc, ◌+◌, ◌*◌, Bool, cond, List, [], ◌∷◌, ◌++◌, Option, Some, None, length, map, refl, ap, sym, ◌∙◌, arith, filter, length-append, take}
+use Rattle.std.proofs.Common.{◌≡◌, ℕ, suc, ◌+◌, Bool, cond, List, [], ◌∷◌, ◌++◌, Option, Some, None, length, map, refl, ap, sym, ◌∙◌, arith, filter, length-append, take}
 use Rattle.std.specs.Prelude.{is_some, zip}
 use Rattle.std.specs.Cmp.{IsEquivalence}
 use Rattle.std.specs.List.{enumerate_from, flat_map, sum_by}
