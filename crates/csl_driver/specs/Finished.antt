@@ -7,6 +7,11 @@ use Rattle.csl_driver.specs.declared.error.FinishError.TheVariants as errors
 use Rattle.csl_entries.specs.Entries.{distinct}
 use Rattle.csl_passes.specs.Request.{cited}
 
+-- it holds where the driver itself refuses
+abbrev pub WhereDriverRefuses : {X : Type 0} → Type 0 → FinishError X → Type 0
+WhereDriverRefuses holds (errors.Driver e) = holds
+WhereDriverRefuses holds (errors.Writer x) = Unit {0}
+
 module _ {E P : Type 0} (eq : E → E → Bool) (asked : Asked E P) where
   -- no style has a ring, and the numbers fit
   pub record CanBeAnswered : Type 0 where

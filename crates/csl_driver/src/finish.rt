@@ -1,10 +1,10 @@
 //! The whole answer, from all requests at once.
-ghost use Rattle.std.specs.Prelude.{◌≡◌, ◌+◌, length, map, OnOk, IfOk};
+ghost use Rattle.std.specs.Prelude.{◌≡◌, ◌+◌, length, map, OnOk, IfErr, IfOk};
 ghost use Rattle.csl_driver.specs.Answer.{citations_of, drawn_together, numbered_finally, order_in_use, rendered, rendered_first};
 ghost use Rattle.csl_driver.specs.AreCitesOf.{AreCitesOf};
 ghost use Rattle.csl_driver.specs.AskedView.{asked_of};
 ghost use Rattle.csl_driver.specs.DraftView.{asked_in, table_in};
-ghost use Rattle.csl_driver.specs.Finished.{FinishesWith};
+ghost use Rattle.csl_driver.specs.Finished.{FinishesWith, WhereDriverRefuses};
 ghost use Rattle.csl_driver.specs.Promised.{Finishes, IsAnswer};
 ghost use Rattle.csl_driver.specs.WriterTasks.{begun_tasks, last_tasks, tasks};
 ghost use Rattle.csl_entries.specs.Entries.{number};
@@ -109,8 +109,8 @@ impl<'a, T: EntryLike, P: Eq + Drop> BibliographyDriver<'a, T, P> {
     /// items and dates as this writer writes them. The account counts how often it was asked.
     ///
     /// # Errors
-    /// `Driver` where `finish` refuses before anything is rendered; `Writer`, with the writer's own error,
-    /// where it refuses, and where memory runs out later on.
+    /// `Driver` where `finish` refuses before anything is rendered, so that the writer wasn't asked for
+    /// anything; `Writer`, with the writer's own error, where it refuses, and where memory runs out later on.
     pub fn finish_with<W: CiteWriter<T, P>>(
         self,
         request: BibliographyRequest<'_, 'a, T>,
@@ -123,6 +123,7 @@ impl<'a, T: EntryLike, P: Eq + Drop> BibliographyDriver<'a, T, P> {
         ensures asked { OnOk result (W.state writer.new
             ≡ asked_for (tasks T.eq P.eq (writing_of T.answers (W.state writer.old)) mode
             (asked_of self.entry request.entry)) (W.state writer.old)) }
+        ensures unasked { IfErr result (WhereDriverRefuses (W.state writer.new ≡ W.state writer.old)) }
     {
         self.answered(&request, mode, writer)
     }
@@ -141,6 +142,7 @@ impl<'a, T: EntryLike, P: Eq + Drop> BibliographyDriver<'a, T, P> {
         ensures asked { OnOk result (W.state writer.new
             ≡ asked_for (tasks T.eq P.eq (writing_of T.answers (W.state writer.old)) mode
             (asked_of self.now request.now)) (W.state writer.old)) }
+        ensures unasked { IfErr result (WhereDriverRefuses (W.state writer.new ≡ W.state writer.old)) }
     {
         let alloc = self.alloc;
         let (requests, wanted) = without_rings(alloc, &self.citations, request)?;

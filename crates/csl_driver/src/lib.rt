@@ -9,9 +9,11 @@ pub use csl_base::{
     elem, element, entry, formatting, initials, locale, names, seq, stack, style, taxonomy, text,
 };
 pub use csl_passes::{item, request};
+pub use csl_round_laws::mode;
+pub use csl_writers::{task, writer};
 pub use csl_writing::{
-    brackets, cite, context, counter, locator, lookup, properties, purpose, sound, state, terms,
-    token, writing, year,
+    brackets, cite, context, counter, layout_writer, locator, lookup, properties, purpose, sound,
+    state, terms, token, writing, year,
 };
 
 pub mod account;

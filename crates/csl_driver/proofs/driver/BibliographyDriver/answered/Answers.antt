@@ -22,6 +22,7 @@ returns-in-Ok g c =
         refused = tt;
       };
       asked = c.in-Ok.ensures.asked;
+      unasked = tt;
     })
 
 pub returns-clause-finished : goal.returns-clause-finished
