@@ -1,5 +1,5 @@
 -- What the driver answers to a document's requests, and what it refuses, is of the document.
-use Rattle.csl_writers.specs.Writing.{layout_writing}
+use Rattle.csl_writing.specs.LayoutWriting.{layout_writing}
 use Rattle.std.proofs.Common.{◌≡◌, ℕ, ◌+◌, ◌<◌, ◌^◌, Bool, List, length, ap, ◌∙◌, subst}
 use Rattle.std.specs.declared.convert.Infallible.{Infallible}
 use Rattle.csl_base.specs.PlainEntry.{plain_answers}

@@ -8,7 +8,7 @@ use Rattle.csl_base.specs.contracts.entry.PlainEntryPartialEq.TheImpl as plain_e
 use Rattle.std.specs.contracts.prelude.InfalliblePartialEq.TheImpl as infallible_eq
 use Rattle.csl_driver.specs.Answer.{Asked, rendered}
 use Rattle.csl_entries.specs.Entries.{distinct}
-use Rattle.csl_writers.specs.Writing.{layout_writing}
+use Rattle.csl_writing.specs.LayoutWriting.{layout_writing}
 use Rattle.csl_passes.specs.Request.{Request, Wanted, cited, with_places}
 use Rattle.csl_driver.specs.Rings.{NoRingAtAll, IsFirstRingOf, Overflows}
 use Rattle.csl_driver.specs.declared.error.RingPlace.{RingPlace}

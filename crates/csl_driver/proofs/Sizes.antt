@@ -1,6 +1,6 @@
 -- How many cites there are, from the first renders to the end.
-use Rattle.std.proofs.Common.{◌≡◌, ℕ, ◌+◌, ◌-◌, ◌*◌, ◌^◌, arith, Bool, true, false, List, [], ◌∷◌, Option, Some, None, length, map, refl, ap, sym, ◌∙◌}
-use Rattle.std.specs.Prelude.{if◌then◌else◌, min}
+use Rattle.std.proofs.Common.{◌≡◌, ℕ, ◌+◌, Bool, true, false, List, [], ◌∷◌, Option, Some, None, length, map, refl, ap, sym, ◌∙◌}
+use Rattle.std.specs.Prelude.{if◌then◌else◌}
 use Rattle.std.specs.List.{enumerate_from, range_with_len, sum_by}
 use Rattle.std.proofs.Math.ListN.{length-map}
 use Rattle.std.proofs.lemmas.List.FromFn.{length-enumerate_from}
@@ -13,7 +13,6 @@ use Rattle.csl_base.specs.Style.{CitationValue}
 use Rattle.csl_base.specs.declared.style.Collapse.{Collapse}
 use Rattle.csl_assembly.specs.CitationTree.{has_no_purpose}
 use Rattle.csl_collapse.specs.Collapsed.{collapsed, collapsed_cites}
-use Rattle.csl_driver.specs.Account.{cost, listed_count, rerendered}
 use Rattle.csl_driver.specs.Answer.{Asked, drawn_together, entries_listed, final_number, in_final_order, in_the_end, rendered_first}
 use Rattle.csl_driver.proofs.FirstPlaced.{first-cited}
 use Rattle.csl_entries.specs.Entries.{number}
@@ -24,9 +23,8 @@ use Rattle.csl_grouping.proofs.Whole.{final-permuted}
 use Rattle.csl_passes.specs.Renders.{CiteRender, ItemRender}
 use Rattle.csl_passes.specs.Request.{cites_of, entries_of}
 use Rattle.csl_positions.specs.FinalProperties.{items_before, with_final_items}
-use Rattle.csl_round_laws.specs.Rerenders.{rerenders}
-use Rattle.csl_round_laws.specs.Rounds.{entries_cited, request_at}
-use Rattle.csl_round_laws.specs.Tables.{disambiguated, last_states, round_tables}
+use Rattle.csl_round_laws.specs.Rounds.{request_at}
+use Rattle.csl_round_laws.specs.Tables.{disambiguated, last_states}
 use Rattle.csl_round_laws.specs.declared.mode.RoundMode.{RoundMode}
 
 module _ {X : Type 0} where

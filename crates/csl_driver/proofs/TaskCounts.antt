@@ -1,5 +1,5 @@
 -- How much a writer is asked for.
-use Rattle.std.proofs.Common.{◌≡◌, ℕ, suc, ◌+◌, ◌*◌, Bool, cond, List, [], ◌∷◌, ◌++◌, Option, Some, None, length, map, refl, ap, sym, ◌∙◌, arith, filter, length-append, take}
+use Rattle.std.proofs.Common.{◌≡◌, ℕ, suc, ◌+◌, Bool, cond, List, [], ◌∷◌, ◌++◌, Option, Some, None, length, map, refl, ap, sym, ◌∙◌, arith, filter, length-append, take}
 use Rattle.std.specs.Prelude.{is_some, zip}
 use Rattle.std.specs.Cmp.{IsEquivalence}
 use Rattle.std.specs.List.{enumerate_from, flat_map, sum_by}
@@ -45,7 +45,7 @@ module _ {E P : Type 0} (table : StateTable E) where
   again-row : (request : Request E P) (items : List (ItemRender E P))
       → length (flat_map (λ i. tasks_with request (table i.entry) i) items) ≡ marked_among (map (λ i. i.entry) items) table
   again-row request [] = refl
-  again-row request (i ∷ items) = by (table i.entry)
+  again-row request (i ∷ items) = by (again-row request items) (table i.entry)
     where
       more : List (TaskValue E P)
       more = flat_map (λ i. tasks_with request (table i.entry) i) items
@@ -53,9 +53,9 @@ module _ {E P : Type 0} (table : StateTable E) where
       kept : List E
       kept = filter (λ e. is_some (table e)) (map (λ i. i.entry) items)
 
-      by : (o : Option DisambiguateState) → length (tasks_with request o i ++ more) ≡ length (cond (is_some o) (i.entry ∷ kept) kept)
-      by None = again-row request items
-      by (Some s) = ap suc (again-row request items)
+      by : length more ≡ length kept → (o : Option DisambiguateState) → length (tasks_with request o i ++ more) ≡ length (cond (is_some o) (i.entry ∷ kept) kept)
+      by rest None = rest
+      by rest (Some s) = ap suc rest
 
   again-count : (cites : List (CiteRender E P)) → length (again_tasks table cites) ≡ marked_among (entries_cited cites) table
   again-count [] = refl
@@ -72,7 +72,7 @@ last-count cites =
     ∙ sum-numbered size 0 cites
 
 -- where there is a bibliography
-wanted-count : {B X E : Type 0} (o : Option B) (ts : List X) (n : ℕ) → length ts ≡ n → length (where_wanted o ts) ≡ where_listed o n
+wanted-count : {B X : Type 0} (o : Option B) (ts : List X) (n : ℕ) → length ts ≡ n → length (where_wanted o ts) ≡ where_listed o n
 wanted-count None ts n same = refl
 wanted-count (Some b) ts n same = same
 
@@ -90,7 +90,7 @@ module _ {E P : Type 0} (eq : E → E → Bool) (laws : IsEquivalence eq) (paylo
       length-flat_map (λ r. first_tasks_of r.0 r.1) rows
       ∙ sum-same (λ r. length (first_tasks_of r.0 r.1)) (λ r. size (first_renders_of writing r.0 r.1))
       (λ r. length-map (zip r.0.cites r.1) _ ∙ sym (length-map (zip r.0.cites r.1) _)) rows
-      ∙ sym (sum-map size (λ r. first_renders_of writing r.0 r.1) rows) ∙ first-size eq payload_eq writing asked
+      ∙ sym (sum-map size (λ r. first_renders_of writing r.0 r.1) rows) ∙ first-size eq payload_eq writing mode asked
 
   rounds-count : length (round_tasks mode eq writing firsts) ≡ rerendered eq payload_eq writing mode asked
   rounds-count =

@@ -1,5 +1,5 @@
 -- What a writer is asked for where a driver answers.
-use Rattle.std.specs.Prelude.{ℕ, Bool, List, [], ◌++◌, Option, None, Some, map}
+use Rattle.std.specs.Prelude.{Bool, List, [], ◌++◌, Option, None, Some, map}
 use Rattle.std.specs.List.{enumerate_from, flat_map}
 use Rattle.csl_assembly.specs.BibliographyItems.{bibliography_tasks}
 use Rattle.csl_assembly.specs.CitationTree.{citation_tasks}

@@ -2,7 +2,7 @@
 use Rattle.std.proofs.Common.{◌≡◌, ℕ, zero, suc, ◌+◌, ◌<◌, ◌≤◌, List, [], ◌∷◌, ◌++◌, take, drop, length, map, get_or, refl, ap, sym, subst, ◌∙◌, arith, add-one}
 use Rattle.std.proofs.Math.ListN.{get_or-map, length-map, set}
 use Rattle.std.proofs.lemmas.List.{get_or_default, map-set}
-use Rattle.std.proofs.lemmas.List.FromFn.{length-enumerate_from}
+use Rattle.std.proofs.lemmas.List.FromFn.{get_or-enumerate_from, length-enumerate_from}
 use Rattle.std.proofs.lemmas.List.Elements.{All-get_or}
 use Rattle.std.specs.List.{enumerate_from}
 use Rattle.std.specs.Prelude.{All, None, Option}
@@ -38,17 +38,15 @@ module _ {X : Type 0} (f : ℕ → X → X) where
   put n xs now d x so_far h q =
       ap (λ ys. set ys n x) so_far ∙ rw add-one (more-from 0 n n xs d x (omega arith) h (q ∙ ap (λ ys. f n (get_or ys n d)) so_far))
 
-  -- at its place each member is changed
-  pub by_places-at : (xs : List X) (n : ℕ) (d : X) → n < length xs → get_or (by_places f xs) n d ≡ f n (get_or xs n d)
-  by_places-at xs n d h = from 0 n xs h (omega arith)
-    where
-      from : (b k : ℕ) (ys : List X) → k < length ys → n ≡ b + k → get_or (map (λ p. f p.0 p.1) (enumerate_from b ys)) k d ≡ f n (get_or ys k d)
-      from b k [] w e = absurd (omega (arith, w))
-      from b zero (y ∷ ys) w e = let same : b ≡ n = omega (arith, e) in ap (λ m. f m y) same
-      from b (suc k) (y ∷ ys) w e = from (b + 1) k ys (omega (arith, w)) (omega (arith, e))
-
   pub by_places-length : (xs : List X) → length (by_places f xs) ≡ length xs
   by_places-length xs = length-map (enumerate_from 0 xs) (λ p. f p.0 p.1) ∙ length-enumerate_from 0 xs
+
+  -- at its place each member is changed
+  pub by_places-at : (xs : List X) (n : ℕ) (d : X) → n < length xs → get_or (by_places f xs) n d ≡ f n (get_or xs n d)
+  by_places-at xs n d h =
+      let same : 0 + n ≡ n = omega arith in
+      get_or_default (by_places f xs) n d (f 0 d) (subst (λ k. n < k) (sym (by_places-length xs)) h)
+      ∙ get_or-map (λ p. f p.0 p.1) (enumerate_from 0 xs) n (0, d) ∙ ap (λ p. f p.0 p.1) (get_or-enumerate_from 0 xs n (0, d) h) ∙ ap (λ m. f m (get_or xs n d)) same
 
 -- a loop over a list whose views are changed
 module _ {X Y : Type 0} (view : X → Y) (f : ℕ → Y → Y) (xs now : List X) (k : ℕ) (so_far : map view now ≡ half f k (map view xs)) where
@@ -77,8 +75,3 @@ module _ {X Y : Type 0} (view : X → Y) (f : ℕ → Y → Y) (xs now : List X)
 -- the member of a list at a place that another list gives
 pub named_by : {X : Type 0} (xs : List (Option X)) (ps : List ℕ) (k : ℕ) (x : Option X) → All (λ p. p < length xs) ps → k < length ps → x ≡ get_or xs (get_or ps k 0) x → x ≡ get_or xs (get_or ps k 0) None
 named_by xs ps k x all h e = e ∙ get_or_default xs (get_or ps k 0) x None (All-get_or (λ p. p < length xs) ps k 0 h all)
-
--- the member of the list that f makes
-pub row_of : {A B : Type 0} (f : A → B) (xs : List A) (r : ℕ) (a : A) (e : B) → r < length xs → a ≡ get_or xs r a → f a ≡ get_or (map f xs) r e
-row_of f xs r a e h here =
-    ap f here ∙ sym (get_or-map f xs r a) ∙ get_or_default (map f xs) r (f a) e (subst (λ n. r < n) (sym (length-map xs f)) h)

@@ -11,7 +11,7 @@ use Rattle.csl_lookup.specs.declared.state.DisambiguateState.{DisambiguateState}
 use Rattle.csl_passes.specs.Places.{IsPlace}
 use Rattle.csl_rounds.specs.CitesOfTable.{AreCitesOfTable}
 use Rattle.csl_rounds.specs.Gathered.{AreGreatest, IsPlaced, document_again, document_tasks, put_before}
-use Rattle.csl_round_laws.specs.RoundMarks.{Mark, has_any, or_others, round_marks}
+use Rattle.csl_round_laws.specs.RoundMarks.{Mark, has_any, round_marks}
 use Rattle.csl_round_laws.proofs.Kept.{marks-stand, places-kept, rings-kept}
 use Rattle.csl_rounds.proofs.Placed.{are-placed, document-alike, state-at, tasks-alike}
 use Rattle.csl_round_laws.specs.Rerenders.{AreStatesOf}

@@ -1,14 +1,13 @@
 -- The cites of a table, request by request.
 use Rattle.std.proofs.Common.{◌≡◌, ℕ, ◌<◌, Bool, List, [], length, map, get_or, ap, sym, subst, ◌∙◌}
 use Rattle.std.specs.Prelude.{All}
-use Rattle.std.proofs.Math.ListN.{get_or-map, length-map}
+use Rattle.std.proofs.Math.ListN.{length-map}
 use Rattle.std.proofs.lemmas.List.Elements.{All-get_or}
-use Rattle.std.proofs.lemmas.List.{get_or_default}
+use Rattle.std.proofs.lemmas.List.{get_or-map}
 use Rattle.csl_entries.specs.Entries.{place}
 use Rattle.csl_entries.specs.Table.{Table}
 use Rattle.csl_passes.specs.Renders.{CiteRender}
 use Rattle.csl_rounds.specs.CitesOfTable.{AreCitesOfTable}
-use Rattle.csl_rounds.proofs.Halves.{row_of}
 
 module _ {E P : Type 0} (eq : E → E → Bool) (table : Table E) (cites : List (CiteRender E P)) (are : AreCitesOfTable eq table cites) where
   abbrev places_of : CiteRender E P → List ℕ
@@ -26,13 +25,13 @@ module _ {E P : Type 0} (eq : E → E → Bool) (table : Table E) (cites : List 
     pub row-is : {A : Type 0} (view : A → List ℕ) (rows : List A) (row : A) → map view rows ≡ table.places → row ≡ get_or rows r row → view row ≡ get_or table.places r []
     row-is view rows row same here =
         let inside : r < length rows = subst (λ n. r < n) (ap length (sym same) ∙ length-map rows view) row-within in
-        row_of view rows r row [] inside here ∙ ap (λ l. get_or l r []) same
+        ap view here ∙ sym (get_or-map view rows r row [] inside) ∙ ap (λ l. get_or l r []) same
 
     -- one for each of its cites
     pub row-long : (c : CiteRender E P) → length (get_or table.places r []) ≡ length (get_or cites r c).items
     row-long c =
         ap (λ rows. length (get_or rows r [])) are.placed
-        ∙ ap length (get_or_default (map places_of cites) r [] (places_of c) (subst (λ n. r < n) (sym (length-map cites places_of)) within) ∙ get_or-map places_of cites r c)
+        ∙ ap length (get_or-map places_of cites r c [] within)
         ∙ length-map (get_or cites r c).items (λ i. place eq i.entry table.entries)
 
     -- and an entry stands at each

@@ -1,13 +1,14 @@
 -- The states of entries by their places are those of the entries.
-use Rattle.std.proofs.Common.{◌≡◌, ℕ, zero, suc, ◌+◌, ◌<◌, Bool, true, false, cond, not, ◌||◌, Option, Some, None, List, [], ◌∷◌, length, map, filter, get_or, refl, ap, sym, subst, ◌∙◌, arith}
+use Rattle.std.proofs.Common.{◌≡◌, ℕ, suc, ◌+◌, ◌<◌, Bool, true, false, cond, not, ◌||◌, Option, Some, None, List, [], ◌∷◌, length, map, filter, get_or, refl, ap, sym, subst, ◌∙◌, arith}
 use Rattle.std.specs.Prelude.{All, IsSome, nat_eq, option_map, slice_get}
 use Rattle.std.specs.Cmp.{IsEquivalence}
 use Rattle.std.specs.List.{enumerate_from, flat_map, list_any}
 use Rattle.std.specs.Option.{option_and_then, option_map_or}
 use Rattle.std.proofs.lemmas.Bool.{false≢true}
 use Rattle.std.proofs.lemmas.Bool.Decides.{nat_tests}
-use Rattle.std.proofs.lemmas.Option.{slice_get_within}
-use Rattle.std.proofs.lemmas.List.Elements.{All-head, All-tail, All-get_or, All-nil, All-cons}
+use Rattle.std.proofs.lemmas.Option.{get_or_from_slice_get, slice_get_within}
+use Rattle.std.proofs.lemmas.List.Elements.{All-head, All-tail, All-get_or}
+use Rattle.std.proofs.lemmas.List.{get_or-map}
 use Rattle.std.proofs.lemmas.List.Folds.{flat_map-map}
 use Rattle.std.proofs.Math.ListN.{length-map}
 use Rattle.csl_ambiguity.specs.Members.{Member, entry_of, member_at}
@@ -46,14 +47,8 @@ module _ {E : Type 0} (eq : E → E → Bool) (laws : IsEquivalence eq) where
       by false false u v h k = next (place eq x fs) (place eq e fs) (eq e x) (k (omega arith))
 
 -- a list by its places
-module _ {X Y : Type 0} (f : X → Y) where
-  pub map-at : (xs : List X) (k : ℕ) (x : X) (e : Y) → slice_get xs k ≡ Some x → get_or (map f xs) k e ≡ f x
-  map-at [] k x e h = cc
-  map-at (y ∷ ys) zero x e h = by h
-    where
-      by : Some y ≡ Some x → f y ≡ f x
-      by g = ap f cc
-  map-at (y ∷ ys) (suc k) x e h = map-at ys k x e h
+pub map-at : {X Y : Type 0} (f : X → Y) (xs : List X) (k : ℕ) (x : X) (e : Y) → slice_get xs k ≡ Some x → get_or (map f xs) k e ≡ f x
+map-at f xs k x e h = get_or-map f xs k x e (slice_get_within xs k x h) ∙ ap f (get_or_from_slice_get xs k x x h)
 
 -- what makes something of each member by its place alike makes it of each
 module _ {X Y : Type 0} (f : ℕ → X → Y) (g : X → Y) where
@@ -131,16 +126,11 @@ module _ {E P : Type 0} (eq : E → E → Bool) (es : List E) (places : List (Li
 
     -- the places of cites are known
     pub group-placed : (group : List Place) → All (IsPlace cites) group → All (IsPlaced places (length es)) group
-    group-placed [] h = All-nil (IsPlaced places (length es))
-    group-placed (p ∷ ps) h =
-        All-cons (IsPlaced places (length es)) p ps (is-placed p (stands p (All-head (IsPlace cites) p ps h))) (group-placed ps (All-tail (IsPlace cites) p ps h))
+    group-placed group h = λ k p within. is-placed (get_or group k p) (stands (get_or group k p) (h k p within))
 
     -- the marks of cites have places
     pub are-placed : (marks : List Mark) → All (λ m. IsPlace cites m.0) marks → All (λ m. IsPlaced places (length es) m.0) marks
-    are-placed [] h = All-nil (λ m. IsPlaced places (length es) m.0)
-    are-placed (m ∷ ms) h =
-        All-cons (λ m. IsPlaced places (length es) m.0) m ms (is-placed m.0 (stands m.0 (All-head (λ m. IsPlace cites m.0) m ms h)))
-        (are-placed ms (All-tail (λ m. IsPlace cites m.0) m ms h))
+    are-placed marks h = λ k m within. is-placed (get_or marks k m).0 (stands (get_or marks k m).0 (h k m within))
 
     module _ (laws : IsEquivalence eq) where
       cited-at : (at : Place) (e : E) (s : Stands at) → cites_entry eq cites e at ≡ eq e s.item.entry

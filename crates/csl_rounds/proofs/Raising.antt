@@ -1,10 +1,10 @@
 -- Marks put in one after another.
-use Rattle.std.proofs.Common.{◌≡◌, ◌≢◌, ℕ, ◌<◌, Bool, true, false, cond, Option, Some, None, List, [], ◌∷◌, ◌++◌, length, map, filter, get_or, refl, ap, sym, subst, ◌∙◌, append_assoc}
+use Rattle.std.proofs.Common.{◌≡◌, ◌≢◌, ℕ, ◌<◌, Bool, true, false, cond, Option, Some, None, List, [], ◌∷◌, ◌++◌, length, map, filter, get_or, refl, ap, sym, subst, ◌∙◌, append-nil, append_assoc}
 use Rattle.std.specs.Prelude.{All, nat_eq, replicate}
 use Rattle.std.proofs.Math.ListN.{set}
 use Rattle.std.proofs.lemmas.Bool.{eqb-true, eq-eqb, false≢true}
-use Rattle.std.proofs.lemmas.List.{get_or-replicate, get_or-set_other, get_or-set_same, get_or_default, length-replicate, length-set}
-use Rattle.std.proofs.lemmas.List.Elements.{All-head, All-tail}
+use Rattle.std.proofs.lemmas.List.{get_or-replicate, get_or-set_other, get_or-set_same, get_or_default, length-replicate, length-set, map-append}
+use Rattle.std.proofs.lemmas.List.Elements.{All-head, All-tail, filter-append}
 use Rattle.std.proofs.lemmas.List.Sums.{fold_push}
 use Rattle.csl_lookup.specs.States.{greater}
 use Rattle.csl_lookup.specs.declared.state.DisambiguateState.{DisambiguateState}
@@ -21,20 +21,11 @@ module _ (q : Mark → Bool) where
   seen ms = map (λ m. m.1) (filter q ms)
 
   seen-yes : (ms : List Mark) (m : Mark) → q m ≡ true → seen (ms ++ m ∷ []) ≡ seen ms ++ m.1 ∷ []
-  seen-yes [] m h = rw h refl
-  seen-yes (n ∷ ms) m h = by (q n) (seen-yes ms m h)
-    where
-      by : (b : Bool) → seen (ms ++ m ∷ []) ≡ seen ms ++ m.1 ∷ [] → map (λ x. x.1) (cond b (n ∷ filter q (ms ++ m ∷ [])) (filter q (ms ++ m ∷ []))) ≡ map (λ x. x.1) (cond b (n ∷ filter q ms) (filter q ms)) ++ m.1 ∷ []
-      by true more = ap (λ xs. n.1 ∷ xs) more
-      by false more = more
+  seen-yes ms m h =
+      ap (map (λ m. m.1)) (filter-append q ms (m ∷ []) ∙ ap (λ b. filter q ms ++ cond b (m ∷ []) []) h) ∙ map-append (λ m. m.1) (filter q ms) (m ∷ [])
 
   seen-no : (ms : List Mark) (m : Mark) → q m ≡ false → seen (ms ++ m ∷ []) ≡ seen ms
-  seen-no [] m h = rw h refl
-  seen-no (n ∷ ms) m h = by (q n) (seen-no ms m h)
-    where
-      by : (b : Bool) → seen (ms ++ m ∷ []) ≡ seen ms → map (λ x. x.1) (cond b (n ∷ filter q (ms ++ m ∷ [])) (filter q (ms ++ m ∷ []))) ≡ map (λ x. x.1) (cond b (n ∷ filter q ms) (filter q ms))
-      by true more = ap (λ xs. n.1 ∷ xs) more
-      by false more = more
+  seen-no ms m h = ap (map (λ m. m.1)) (filter-append q ms (m ∷ []) ∙ ap (λ b. filter q ms ++ cond b (m ∷ []) []) h ∙ append-nil (filter q ms))
 
 module _ (places : List (List ℕ)) (count : ℕ) where
   raised-at : (done : List Mark) (states : List (Option DisambiguateState)) (m : Mark) (p : ℕ) (d : Option DisambiguateState) → AreGreatest places done count states → p ≡ entry_place places m.0 → p < count

@@ -1,5 +1,5 @@
 -- Marks gathered group by group are those of the round.
-use Rattle.std.proofs.Common.{ℕ, zero, suc, ◌≤◌, take, ◌≡◌, Bool, List, [], ◌∷◌, ◌++◌, length, map, refl, sym, ◌∙◌, append-nil, append_assoc, arith, ap, cond}
+use Rattle.std.proofs.Common.{◌≡◌, Bool, List, [], ◌∷◌, ◌++◌, map, refl, sym, ◌∙◌, append-nil, append_assoc, ap, cond}
 use Rattle.std.specs.Prelude.{fold}
 use Rattle.csl_ambiguity.specs.Ambiguity.{ambiguous_groups}
 use Rattle.csl_passes.specs.Renders.{CiteRender, Place}

@@ -8,7 +8,7 @@ ghost use Rattle.csl_lookup.specs.States.{year_suffix};
 ghost use Rattle.csl_lookup.specs.SuffixLetters.{suffix_letters};
 ghost use Rattle.csl_round_laws.specs.declared.mode.RoundMode.{RoundMode};
 ghost use Rattle.csl_rows.specs.Clients.{AreHiddenBetween, GotSuffixesTogether, StandAtOnePlace};
-ghost use Rattle.csl_writers.specs.Writing.{layout_writing};
+ghost use Rattle.csl_writing.specs.LayoutWriting.{layout_writing};
 
 use csl_base::entry::EntryLike;
 use csl_driver::account::Account;

@@ -7,7 +7,7 @@ use Rattle.csl_base.specs.Answers.{Answers}
 use Rattle.csl_writers.specs.Counted.{counted_times}
 use Rattle.csl_writers.specs.Desk.{Desk, after, desk}
 use Rattle.csl_writers.specs.Tasks.{TaskValue}
-use Rattle.csl_writers.specs.Writing.{Writing, WriterState, noted_all, writing_of}
+use Rattle.csl_writers.specs.Writing.{noted_all, writing_of}
 use Rattle.csl_writers.proofs.Counting.{counted_times-add}
 
 noted-append : {A N : Type 0} (noting : A → List N → List N) (first second : List A) (notes : List N)

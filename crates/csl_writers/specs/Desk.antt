@@ -1,9 +1,8 @@
 -- A writer, and the counter of what it was asked for.
 use Rattle.std.specs.Prelude.{ℕ, List, length}
-use Rattle.csl_base.specs.Answers.{Answers}
 use Rattle.csl_writers.specs.Counted.{counted_times}
 use Rattle.csl_writers.specs.Tasks.{TaskValue}
-use Rattle.csl_writers.specs.Writing.{WriterState, Writing, asked_for, writing_of}
+use Rattle.csl_writers.specs.Writing.{WriterState, asked_for}
 
 pub record Desk (E P N : Type 0) : Type 0 where
   pub writer : WriterState E P N

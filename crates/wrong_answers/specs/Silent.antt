@@ -1,7 +1,8 @@
 -- What samples answer, and when they are equal.
 use Rattle.std.specs.Prelude.{◌≡◌, Bool, true, [], None, refl}
 use Rattle.csl_base.specs.Answers.{Answers}
-use Rattle.csl_writers.specs.Writing.{Writing, layout_writing}
+use Rattle.csl_writers.specs.Writing.{Writing}
+use Rattle.csl_writing.specs.LayoutWriting.{layout_writing}
 use Rattle.wrong_answers.specs.contracts.sample.SamplePartialEq.TheImpl as sample_eq
 use Rattle.wrong_answers.specs.declared.sample.Sample.{Sample}
 

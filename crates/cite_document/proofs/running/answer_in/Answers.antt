@@ -1,4 +1,4 @@
-use Rattle.csl_writers.specs.Writing.{layout_writing}
+use Rattle.csl_writing.specs.LayoutWriting.{layout_writing}
 use Rattle.std.proofs.Common.{◌≡◌, subst, sym, ◌∙◌}
 use Rattle.csl_base.specs.PlainEntry.{plain_answers}
 use Rattle.csl_driver.specs.Answer.{rendered}

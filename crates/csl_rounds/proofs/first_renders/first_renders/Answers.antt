@@ -5,7 +5,8 @@ use Rattle.csl_passes.specs.RequestView.{request_view, requests_view}
 use Rattle.csl_round_laws.specs.FirstRenders.{first_renders_of, first_tasks_of}
 use Rattle.csl_writers.specs.Desk.{after, desk}
 use Rattle.csl_writers.specs.Writing.{writing_of}
-use Rattle.csl_rounds.proofs.FirstSteps.{cites-all, cites-more, cites-none, list-length, lists-length, request-within, row_of}
+use Rattle.csl_rounds.proofs.FirstSteps.{list-length, lists-length, request-within, row_of}
+use Rattle.csl_rounds.proofs.Made.{all-made, one-made}
 use Rattle.csl_rounds.proofs.Pairs.{at_view, past_view, within_view}
 use Rattle.csl_rounds.proofs.first_renders.first_renders.Goals as goal
 
@@ -25,17 +26,17 @@ first_renders_of-requires g c =
     }
 
 pub loop-k-init : goal.loop-k-init
-loop-k-init g c =
-    cites-none g.T.EntryLike.answers (requests_view c.args.requests.requests.now) (map row_of c.args.firsts.now) (desk (g.W.CiteWriter.state c.args.writer.now) c.args.counter.now) _ c.in_ok-cites.ensures
+loop-k-init g c = record { made_is = c.in_ok-cites.ensures; asked = refl }
 
 pub loop-k-preserved : goal.loop-k-preserved
 loop-k-preserved g c =
     let k = c.loop-k.k in
     let requests = requests_view c.args.requests.requests.now in
     let request = request_view c.at.result.request.now in
-    cites-more g.T.EntryLike.answers requests (map row_of c.args.firsts.now) (desk (g.W.CiteWriter.state c.args.writer.now) c.args.counter.now) k request (row_of c.index-firsts-k.result)
-    (slice_get_within requests k request c.at.ensures) (within_view row_of {xs = c.args.firsts.now} k refl c.loop-k-test.true) (sym (get_or_from_slice_get requests k request request c.at.ensures))
-    (at_view row_of {xs = c.args.firsts.now} k refl c.index-firsts-k.result c.index-firsts-k.is) _ _ (render_view c.in_ok-rendered.rendered) _ _ c.loop-k.invariant c.in_ok-push.ensures
+    one-made g.T.EntryLike.answers first_renders_of first_tasks_of requests (map row_of c.args.firsts.now) (desk (g.W.CiteWriter.state c.args.writer.now) c.args.counter.now) k request (row_of c.index-firsts-k.result)
+    _ _ (render_view c.in_ok-rendered.rendered) _ _ (slice_get_within requests k request c.at.ensures) (within_view row_of {xs = c.args.firsts.now} k refl c.loop-k-test.true)
+    (sym (get_or_from_slice_get requests k request request c.at.ensures)) (at_view row_of {xs = c.args.firsts.now} k refl c.index-firsts-k.result c.index-firsts-k.is)
+    c.loop-k.invariant c.in_ok-push.ensures
     (c.in_ok-rendered.ensures.cites ∙ ap (first_renders_of (writing_of g.T.EntryLike.answers (g.W.CiteWriter.state c.loop-k.writer)) request) c.deref.ensures.value)
     (c.in_ok-rendered.ensures.asked ∙ ap (λ firsts. after (first_tasks_of request firsts) (desk (g.W.CiteWriter.state c.loop-k.writer) c.loop-k.counter)) c.deref.ensures.value)
 
@@ -44,5 +45,5 @@ returns g c =
     let requests = requests_view c.args.requests.requests.now in
     let rows = map row_of c.args.firsts.now in
     let past = subst (λ n. n ≤ c.loop-k.k) (lists-length requests rows c.requires.shape) (past_view row_of {xs = c.args.firsts.now} c.loop-k.k refl c.loop-k-test.false) in
-    let done = cites-all g.T.EntryLike.answers requests rows (desk (g.W.CiteWriter.state c.args.writer.now) c.args.counter.now) c.loop-k.k _ _ past c.loop-k.invariant in
+    let done = all-made g.T.EntryLike.answers first_renders_of first_tasks_of requests rows (desk (g.W.CiteWriter.state c.args.writer.now) c.args.counter.now) c.loop-k.k _ _ past c.loop-k.invariant in
     record { cites = done.0; asked = done.1 }

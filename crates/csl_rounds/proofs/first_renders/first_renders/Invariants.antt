@@ -1,11 +1,13 @@
 use Rattle.std.proofs.Common.{map}
 use Rattle.csl_passes.specs.RendersView.{renders_view}
 use Rattle.csl_passes.specs.RequestView.{requests_view}
+use Rattle.csl_round_laws.specs.FirstRenders.{first_renders_of, first_tasks_of}
 use Rattle.csl_writers.specs.Desk.{desk}
-use Rattle.csl_rounds.proofs.FirstSteps.{RendersMade, row_of}
+use Rattle.csl_rounds.proofs.FirstSteps.{row_of}
+use Rattle.csl_rounds.proofs.Made.{Made}
 use Rattle.csl_rounds.proofs.first_renders.first_renders.Given as goal
 
 abbrev pub invariant-loop-k : goal.invariant-loop-k
 invariant-loop-k g l =
-    RendersMade g.T.EntryLike.answers (requests_view l.requests.requests.now) (map row_of l.firsts) (desk (g.W.CiteWriter.state l.fn.writer) l.fn.counter) l.k (renders_view l.cites.by_request.items)
-    (desk (g.W.CiteWriter.state l.writer) l.counter)
+    Made g.T.EntryLike.answers first_renders_of first_tasks_of (requests_view l.requests.requests.now) (map row_of l.firsts) (desk (g.W.CiteWriter.state l.fn.writer) l.fn.counter) l.k
+    (renders_view l.cites.by_request.items) (desk (g.W.CiteWriter.state l.writer) l.counter)

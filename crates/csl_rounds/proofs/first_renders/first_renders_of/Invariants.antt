@@ -1,13 +1,15 @@
-use Rattle.std.proofs.Common.{◌≡◌}
+use Rattle.std.proofs.Common.{◌≡◌, [], ◌∷◌}
 use Rattle.csl_passes.specs.RendersView.{items_view}
 use Rattle.csl_passes.specs.RequestView.{request_view}
+use Rattle.csl_round_laws.specs.FirstRenders.{first_render, first_task}
 use Rattle.csl_writers.specs.Desk.{desk}
-use Rattle.csl_rounds.proofs.FirstSteps.{ItemsMade}
+use Rattle.csl_writers.specs.Tasks.{cite_task}
+use Rattle.csl_rounds.proofs.Made.{Made}
 use Rattle.csl_rounds.proofs.first_renders.first_renders_of.Given as goal
 
 abbrev pub invariant-loop-k : goal.invariant-loop-k
 invariant-loop-k g l = record {
-  made : ItemsMade g.T.EntryLike.answers (request_view l.request.request.now) l.firsts (desk (g.W.CiteWriter.state l.fn.writer) l.fn.counter) l.k (items_view l.cites.items.items)
-      (desk (g.W.CiteWriter.state l.writer) l.counter);
+  made : Made g.T.EntryLike.answers (λ w. first_render w (request_view l.request.request.now)) (λ x first. cite_task (first_task (request_view l.request.request.now) x first) ∷ [])
+      (request_view l.request.request.now).cites l.firsts (desk (g.W.CiteWriter.state l.fn.writer) l.fn.counter) l.k (items_view l.cites.items.items) (desk (g.W.CiteWriter.state l.writer) l.counter);
   same : request_view l.cites.request.now ≡ request_view l.request.request.now;
 }

@@ -10,7 +10,7 @@ use Rattle.csl_writers.specs.Writing.{writing_of}
 use Rattle.csl_rounds.specs.Gathered.{by_places, cite_again, request_again, request_tasks}
 use Rattle.csl_rounds.proofs.Changed.{all-changed, one-changed}
 use Rattle.csl_rounds.proofs.Halves.{as_before, known_next}
-use Rattle.csl_rounds.proofs.OfTable.{row-is, row-listed, row-long, row-within}
+use Rattle.csl_rounds.proofs.OfTable.{row-is, row-listed, row-long}
 use Rattle.csl_rounds.proofs.rerender.render_marked.Goals as goal
 
 pub invariant_of-request : goal.invariant_of-request

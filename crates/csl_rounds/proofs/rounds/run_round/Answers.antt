@@ -1,4 +1,4 @@
-use Rattle.std.proofs.Common.{◌≡◌, [], Vec, Global, ap, length, map, not, sym, ◌∙◌}
+use Rattle.std.proofs.Common.{ap, length, map, not, sym, ◌∙◌}
 use Rattle.csl_entries.specs.TableView.{table_view}
 use Rattle.csl_passes.specs.RendersView.{renders_view}
 use Rattle.csl_round_laws.specs.RoundMarks.{has_any}

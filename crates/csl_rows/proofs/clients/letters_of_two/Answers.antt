@@ -1,4 +1,4 @@
-use Rattle.csl_writers.specs.Writing.{layout_writing}
+use Rattle.csl_writing.specs.LayoutWriting.{layout_writing}
 use Rattle.std.proofs.Common.{◌≡◌, List, ap, sym, ◌∙◌}
 use Rattle.std.specs.Prelude.{option_and_then, slice_get}
 use Rattle.csl_lookup.specs.States.{year_suffix}

@@ -1,6 +1,6 @@
-use Rattle.std.proofs.Common.{◌-◌, ◌^◌, ap, length, map, subst, sym, ◌∙◌}
+use Rattle.std.proofs.Common.{ap, map, subst, sym, ◌∙◌}
 use Rattle.std.specs.List.{filter_map}
-use Rattle.std.specs.Prelude.{min, option_map}
+use Rattle.std.specs.Prelude.{option_map}
 use Rattle.csl_assembly.specs.BibliographyItems.{bibliography_of, bibliography_tasks}
 use Rattle.csl_driver.specs.Answer.{citations_of, drawn_together, entries_listed, final_number, in_the_end, numbered_finally, order_in_use, rendered_first}
 use Rattle.csl_driver.specs.DraftView.{asked_in, table_in}

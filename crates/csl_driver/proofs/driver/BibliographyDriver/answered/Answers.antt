@@ -23,3 +23,17 @@ returns-in-Ok g c =
       };
       asked = c.in-Ok.ensures.asked;
     })
+
+pub returns-clause-finished : goal.returns-clause-finished
+returns-clause-finished g c =
+    let requests = sym (c.in_ok-requests.ensures.requests ∙ c.deref.ensures.value) in
+    let wanted = sym c.in_ok-requests.ensures.wanted in
+    let offset = sym c.in_ok-cited.ensures.offset in
+    rw (requests, wanted, offset) (record {
+      answer = tt;
+      possible = tt;
+      refused = record {
+        no_ring = (c.in_ok-requests.requests.no_ring, c.in_ok-requests.wanted.no_ring);
+        fits = c.in_ok-cited.ensures.known.fits;
+      };
+    })

@@ -1,0 +1,2 @@
+pub mod MetaForm
+pub mod TreeForm
