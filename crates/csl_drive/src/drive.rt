@@ -18,6 +18,7 @@ use indexmap::IndexSet;
 use std::alloc::Global;
 
 /// What comes of a table.
+#[derive(Drop)]
 pub enum Driven<'a, T> {
     /// The answer and its account, where the table has all that is asked for.
     Answer(Rendered, Account<'a, T>),
