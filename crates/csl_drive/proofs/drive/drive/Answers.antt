@@ -16,7 +16,7 @@ returns-then-is_empty-clause-driven g c =
     let all = asked_for_all g.T.PartialEq.eq g.P.PartialEq.eq answers table c.args.mode asked in
     let missing = c.finish_with.new.writer.missing.keys in
     let noted = ap (λ (s : WriterState g.row.T.Denot g.row.P.Denot TaskKey). s.notes) c.in_ok-rendered.ensures.asked
-        ∙ ap (noted_all (λ task. note_once table (task_key answers task)) all) c.new-writer.ensures.nothing in
+    ∙ ap (noted_all (λ task. note_once table (task_key answers task)) all) c.new-writer.ensures.nothing in
     subst (λ t. IsWhole g.T.PartialEq.eq g.P.PartialEq.eq answers (found t) c.args.mode asked (c.in_ok-rendered.rendered, c.in_ok-rendered.account))
     c.new-writer.ensures.table (record {
       possible = c.in_ok-rendered.ensures.finished.possible;
@@ -32,7 +32,7 @@ returns-clause-driven g c =
     let all = asked_for_all g.T.PartialEq.eq g.P.PartialEq.eq answers table c.args.mode asked in
     let missing = c.finish_with.new.writer.missing.keys in
     let noted = ap (λ (s : WriterState g.row.T.Denot g.row.P.Denot TaskKey). s.notes) c.in_ok-rendered.ensures.asked
-        ∙ ap (noted_all (λ task. note_once table (task_key answers task)) all) c.new-writer.ensures.nothing in
+    ∙ ap (noted_all (λ task. note_once table (task_key answers task)) all) c.new-writer.ensures.nothing in
     subst (λ t. IsLacking g.T.PartialEq.eq g.P.PartialEq.eq answers (found t) c.args.mode asked missing)
     c.new-writer.ensures.table (record {
       possible = c.in_ok-rendered.ensures.finished.possible;
