@@ -5,8 +5,6 @@ ghost use Rattle.csl_driver.specs.Rings.{Refuses};
 ghost use Rattle.csl_drive.specs.Driven.{IsDriven};
 ghost use Rattle.csl_table.specs.Table.{found};
 
-use csl_table::key::TaskKey;
-use csl_table::table::{Table, TableWriter};
 use csl_base::entry::EntryLike;
 use csl_driver::account::Account;
 use csl_driver::driver::BibliographyDriver;
@@ -14,10 +12,13 @@ use csl_driver::error::DriverError;
 use csl_driver::rendered::Rendered;
 use csl_passes::request::BibliographyRequest;
 use csl_round_laws::mode::RoundMode;
+use csl_table::key::TaskKey;
+use csl_table::table::{Table, TableWriter};
 use indexmap::IndexSet;
 use std::alloc::Global;
 
 /// What comes of a table.
+#[derive(Drop)]
 pub enum Driven<'a, T> {
     /// The answer and its account, where the table has all that is asked for.
     Answer(Rendered, Account<'a, T>),
