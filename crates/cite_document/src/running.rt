@@ -122,7 +122,8 @@ fn answer_in<'e>(
     rounds: RoundMode,
 ) -> Result<Rendered, DriverError>
     ensures { Finishes
-        (λ r. r ≡ rendered same_entry same_payload (layout_writing plain_answers) rounds (asked_of driver.entry request.entry))
+        (λ r. r ≡ rendered same_entry same_payload (layout_writing plain_answers) rounds
+        (asked_of driver.entry request.entry))
         same_entry (asked_of driver.entry request.entry) result }
 {
     match rounds {

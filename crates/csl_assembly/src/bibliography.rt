@@ -85,7 +85,8 @@ fn written_item<T: EntryLike, P: Drop, W: CiteWriter<T, P>>(
         ≡ written_item (writing_of T.answers (W.state writer.old))
         (wanted_source (wanted_view wanted.entry.wanted.now)) (item_view first.now)) }
     ensures asked { OnOk result (desk (W.state writer.new) counter.new
-        ≡ after (item_task (item_of (wanted_source (wanted_view wanted.entry.wanted.now)) (item_view first.now)) ∷ [])
+        ≡ after (item_task (item_of (wanted_source (wanted_view wanted.entry.wanted.now))
+        (item_view first.now)) ∷ [])
         (desk (W.state writer.old) counter.old)) }
 {
     let properties = unlocated(first)?;
@@ -119,7 +120,8 @@ fn written_items<T: EntryLike, P: Drop, W: CiteWriter<T, P>>(
     requires exist { All (IsPlace (renders_view cites.now)) firsts.now }
     ensures items { IfOk result (λ made. items_view made.items
         ≡ map (written_item (writing_of T.answers (W.state writer.old))
-        (wanted_source (wanted_view wanted.entry.wanted.now))) (cites_at (renders_view cites.now) firsts.now)) }
+        (wanted_source (wanted_view wanted.entry.wanted.now)))
+        (cites_at (renders_view cites.now) firsts.now)) }
     ensures asked { OnOk result (desk (W.state writer.new) counter.new
         ≡ after (bibliography_tasks (wanted_source (wanted_view wanted.entry.wanted.now))
         (cites_at (renders_view cites.now) firsts.now)) (desk (W.state writer.old) counter.old)) }

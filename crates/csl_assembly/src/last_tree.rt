@@ -87,11 +87,11 @@ fn tree_by_properties<T: EntryLike, P, W: CiteWriter<T, P>>(
     writer: &mut W,
     counter: &mut Renders,
 ) -> Result<ElemChildren, W::Error>
-    ensures tree { let task = record (last_task (source_of (request_view request.entry.request.now)) (Some place)
-        (item_view item.now)) { properties = properties_view properties.now } in
+    ensures tree { let task = record (last_task (source_of (request_view request.entry.request.now))
+        (Some place) (item_view item.now)) { properties = properties_view properties.now } in
         IfOk result (λ tree. tree ≡ tree_by_purpose (writing_of T.answers (W.state writer.old)) task) }
-    ensures asked { let task = record (last_task (source_of (request_view request.entry.request.now)) (Some place)
-        (item_view item.now)) { properties = properties_view properties.now } in
+    ensures asked { let task = record (last_task (source_of (request_view request.entry.request.now))
+        (Some place) (item_view item.now)) { properties = properties_view properties.now } in
         OnOk result (desk (W.state writer.new) counter.new
         ≡ after (task_by_purpose task ∷ []) (desk (W.state writer.old) counter.old)) }
 {

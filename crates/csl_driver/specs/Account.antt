@@ -19,7 +19,8 @@ abbrev pub listed_count : {E P : Type 0} → (E → E → Bool) → Wanted E →
 listed_count eq wanted requests =
     where_listed wanted.style.bibliography (length (entries_listed eq wanted requests))
 
-module _ {E P : Type 0} (eq : E → E → Bool) (payload_eq : P → P → Bool) (writing : Writing E P) (mode : RoundMode) (asked : Asked E P) where
+module _ {E P : Type 0} (eq : E → E → Bool) (payload_eq : P → P → Bool) (writing : Writing E P)
+    (mode : RoundMode) (asked : Asked E P) where
   -- how many rounds mark
   abbrev pub marking : ℕ
   marking = rounds mode eq writing (rendered_first eq payload_eq writing asked)

@@ -24,7 +24,8 @@ module _ {E P : Type 0} (eq : E → E → Bool) (asked : Asked E P) where
   RefusesWith (errors.Writer x) = CanBeAnswered
 
   -- as with the writer of layouts, but for the errors
-  pub record FinishesWith {X R : Type 0} (holds : R → Type 0) (result : Result R (FinishError X)) : Type 0 where
+  pub record FinishesWith {X R : Type 0} (holds : R → Type 0)
+      (result : Result R (FinishError X)) : Type 0 where
     pub answer : IfOk result holds
     pub possible : OnOk result CanBeAnswered
     pub refused : IfErr result RefusesWith

@@ -60,7 +60,8 @@ impl<'a, T: EntryLike, P: Eq + Drop> BibliographyDriver<'a, T, P> {
     /// `usize::MAX`; `OutOfMemory` where memory runs out, at any point.
     pub fn finish(self, request: BibliographyRequest<'_, 'a, T>) -> Result<Rendered, DriverError>
         ensures { Finishes
-            (λ r. r ≡ rendered T.eq P.eq (layout_writing T.answers) RoundMode.Three (asked_of self.entry request.entry))
+            (λ r. r ≡ rendered T.eq P.eq (layout_writing T.answers) RoundMode.Three
+            (asked_of self.entry request.entry))
             T.eq (asked_of self.entry request.entry) result }
     {
         let (rendered, _account) = self.finish_counted(request)?;
@@ -80,7 +81,8 @@ impl<'a, T: EntryLike, P: Eq + Drop> BibliographyDriver<'a, T, P> {
         request: BibliographyRequest<'_, 'a, T>,
     ) -> Result<(Rendered, Account<'a, T>), DriverError>
         ensures { Finishes
-            (IsAnswer T.eq P.eq (layout_writing T.answers) RoundMode.Three (asked_of self.entry request.entry))
+            (IsAnswer T.eq P.eq (layout_writing T.answers) RoundMode.Three
+            (asked_of self.entry request.entry))
             T.eq (asked_of self.entry request.entry) result }
     {
         Ok(self.finish_with(request, RoundMode::Three, &mut LayoutWriter::new())?)
@@ -137,7 +139,8 @@ impl<'a, T: EntryLike, P: Eq + Drop> BibliographyDriver<'a, T, P> {
         writer: &mut W,
     ) -> Result<(Rendered, Account<'a, T>), FinishError<W::Error>>
         ensures finished { FinishesWith T.eq (asked_of self.now request.now)
-            (IsAnswer T.eq P.eq (writing_of T.answers (W.state writer.old)) mode (asked_of self.now request.now))
+            (IsAnswer T.eq P.eq (writing_of T.answers (W.state writer.old)) mode
+            (asked_of self.now request.now))
             result }
         ensures asked { OnOk result (W.state writer.new
             ≡ asked_for (tasks T.eq P.eq (writing_of T.answers (W.state writer.old)) mode
@@ -172,7 +175,8 @@ impl<'d, 'o, 'a, T: EntryLike, P: Eq + Drop> Draft<'d, 'o, 'a, T, P> {
         ensures answer { IfOk result (IsAnswer T.eq P.eq (writing_of T.answers (W.state writer.old)) mode
             (asked_in self.entry)) }
         ensures asked { OnOk result (W.state writer.new
-            ≡ asked_for (tasks T.eq P.eq (writing_of T.answers (W.state writer.old)) mode (asked_in self.entry))
+            ≡ asked_for (tasks T.eq P.eq (writing_of T.answers (W.state writer.old)) mode
+            (asked_in self.entry))
             (W.state writer.old)) }
     {
         let table = &self.cited.table;

@@ -34,7 +34,8 @@ fn lone_cite<T: EntryLike, P: Drop>(
     writer: &mut LayoutWriter,
 ) -> Result<ElemChildren, AllocError>
     ensures { IfOk result (λ tree. tree
-        ≡ lone_tree (layout_writing T.answers) (source_of (request_view request.entry.request.now)) (cite_view item.now)) }
+        ≡ lone_tree (layout_writing T.answers) (source_of (request_view request.entry.request.now))
+        (cite_view item.now)) }
 {
     let properties = CiteProperties::for_sorting(item.locator.clone()?, 0);
     cite_by(alloc, request, item, &properties, writer)
@@ -48,7 +49,8 @@ fn cite_by<T: EntryLike, P>(
     properties: &CiteProperties<'_, P>,
     writer: &mut LayoutWriter,
 ) -> Result<ElemChildren, AllocError>
-    ensures { let task = record (lone_task (source_of (request_view request.entry.request.now)) (cite_view item.now))
+    ensures { let task = record (lone_task (source_of (request_view request.entry.request.now))
+        (cite_view item.now))
         { properties = properties_view properties.now } in
         IfOk result (λ tree. tree ≡ tree_by_purpose (layout_writing T.answers) task) }
 {
@@ -115,7 +117,8 @@ pub fn standalone_citation<T: EntryLike, P: Drop>(
     alloc: Global,
     request: CitationRequest<'_, T, P>,
 ) -> Result<ElemChildren, DriverError>
-    ensures ok { IfOk result (λ tree. tree ≡ standalone (layout_writing T.answers) (request_view request.entry)) }
+    ensures ok { IfOk result (λ tree. tree ≡ standalone (layout_writing T.answers)
+        (request_view request.entry)) }
     ensures no_ring { OnOk result (HasNoRing (request_view request.entry).style.macros) }
     ensures refused { IfErr result (RefusesAlone (request_view request.entry).style) }
 {

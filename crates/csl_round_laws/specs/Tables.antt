@@ -20,7 +20,8 @@ form_count (Some names) = length names.forms
 abbrev pub most_forms : {E P : Type 0} → List (CiteRender E P) → ℕ
 most_forms cites = greatest (map (λ i. form_count i.first_name) (flat_map (λ c. c.items) cites))
 
-module _ {E P : Type 0} (mode : RoundMode) (eq : E → E → Bool) (writing : Writing E P) (firsts : List (CiteRender E P)) where
+module _ {E P : Type 0} (mode : RoundMode) (eq : E → E → Bool) (writing : Writing E P)
+    (firsts : List (CiteRender E P)) where
   -- the marks of the round that begins with this table
   abbrev pub marks_at : StateTable E → List Mark
   marks_at table = round_marks mode eq writing.answers (at_table writing table firsts)
@@ -46,7 +47,8 @@ most_rounds RoundMode.Full eq firsts =
 abbrev pub last_table : {E : Type 0} → List (StateTable E) → StateTable E
 last_table tables = slice_index_or tables (length tables - 1) no_states
 
-module _ {E P : Type 0} (mode : RoundMode) (eq : E → E → Bool) (writing : Writing E P) (firsts : List (CiteRender E P)) where
+module _ {E P : Type 0} (mode : RoundMode) (eq : E → E → Bool) (writing : Writing E P)
+    (firsts : List (CiteRender E P)) where
   -- the tables, from the empty one to the last
   abbrev pub tables : List (StateTable E)
   tables = tables_from mode eq writing firsts (most_rounds mode eq firsts) no_states
@@ -61,7 +63,8 @@ module _ {E P : Type 0} (mode : RoundMode) (eq : E → E → Bool) (writing : Wr
 
   -- what they ask for: in each that marks, the cites whose entries it marks, with the new states
   abbrev pub round_tasks : List (TaskValue E P)
-  round_tasks = flat_map (λ t. again_tasks (marked_at mode eq writing firsts t) (at_table writing t firsts)) (take rounds tables)
+  round_tasks = flat_map (λ t. again_tasks (marked_at mode eq writing firsts t)
+      (at_table writing t firsts)) (take rounds tables)
 
   -- the states that the entries have after them
   abbrev pub last_states : StateTable E

@@ -13,7 +13,8 @@ use csl_base::entry::EntryLike;
 
 /// All of these laws hold of each run that begins with first renders.
 pub fn runs_are_lawful<T: EntryLike, P>()
-    ensures { (writing : Writing T P) (mode : RoundMode) (requests : List (Request T P)) (properties : List (List FirstProperties))
+    ensures { (writing : Writing T P) (mode : RoundMode) (requests : List (Request T P))
+        (properties : List (List FirstProperties))
         → let firsts = first_renders writing requests properties in
         IsLawful mode T.eq writing firsts (tables mode T.eq writing firsts)
         (rounds mode T.eq writing firsts) }

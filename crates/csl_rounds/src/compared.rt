@@ -28,7 +28,8 @@ pub(crate) fn compared_cite<T: EntryLike, P, W: CiteWriter<T, P>>(
     counter: &mut Renders,
 ) -> Result<Cite, W::Error>
     ensures cite { IfOk result (λ c. c ≡ (W.state writer.old).cite
-        (compared_task (request_view request.entry.request.now) entry.now (properties_view properties.now) purpose)) }
+        (compared_task (request_view request.entry.request.now) entry.now
+        (properties_view properties.now) purpose)) }
     ensures asked { OnOk result (desk (W.state writer.new) counter.new
         ≡ after (cite_task (compared_task (request_view request.entry.request.now) entry.now
         (properties_view properties.now) purpose) ∷ []) (desk (W.state writer.old) counter.old)) }

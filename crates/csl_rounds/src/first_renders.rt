@@ -36,7 +36,8 @@ pub fn first_renders<'r, 'a, T: EntryLike, P: Drop, W: CiteWriter<T, P>>(
 ) -> Result<Cites<'r, 'a, T, P>, W::Error>
     requires shape { HasShapeOf (requests_view requests.requests.now) (map (λ f. f.items) firsts.now) }
     ensures cites { IfOk result (λ c. renders_view c.by_request.items
-        ≡ first_renders (writing_of T.answers (W.state writer.old)) (requests_view requests.entry.requests.now)
+        ≡ first_renders (writing_of T.answers (W.state writer.old))
+        (requests_view requests.entry.requests.now)
         (map (λ f. f.items) firsts.now)) }
     ensures asked { OnOk result (desk (W.state writer.new) counter.new
         ≡ after (first_tasks (requests_view requests.entry.requests.now) (map (λ f. f.items) firsts.now))
@@ -60,7 +61,8 @@ fn first_renders_of<'r, 'a, T: EntryLike, P: Drop, W: CiteWriter<T, P>>(
 ) -> Result<SpeculativeCiteRender<'r, 'a, T, P>, W::Error>
     requires shape { length firsts.now ≡ length (request_view request.request.now).cites }
     ensures cites { IfOk result (λ c. render_view c
-        ≡ first_renders_of (writing_of T.answers (W.state writer.old)) (request_view request.entry.request.now)
+        ≡ first_renders_of (writing_of T.answers (W.state writer.old))
+        (request_view request.entry.request.now)
         firsts.now) }
     ensures asked { OnOk result (desk (W.state writer.new) counter.new
         ≡ after (first_tasks_of (request_view request.entry.request.now) firsts.now)
@@ -90,11 +92,9 @@ fn first_render<'a, T: EntryLike, P: Drop, W: CiteWriter<T, P>>(
         ≡ first_render (writing_of T.answers (W.state writer.old)) (request_view request.entry.request.now)
         (cite_view item.now) first) }
     ensures asked { OnOk result (desk (W.state writer.new) counter.new
-        ≡ after (cite_task (first_task (request_view request.entry.request.now) (cite_view item.now) first) ∷ [])
-        (desk (W.state writer.old) counter.old)) }
+        ≡ after (cite_task (first_task (request_view request.entry.request.now)
+        (cite_view item.now) first) ∷ []) (desk (W.state writer.old) counter.old)) }
 {
-    let locator = item.locator.clone()?;
-    let locale = item.locale.clone()?;
     let cite_props = first_written_by(first);
     let cite = compared_cite(
         alloc,
@@ -113,9 +113,9 @@ fn first_render<'a, T: EntryLike, P: Drop, W: CiteWriter<T, P>>(
         first_name: cite.first_name,
         delim_override: None,
         group_idx: None,
-        locator,
+        locator: item.locator.clone()?,
         hidden: item.hidden,
-        locale,
+        locale: item.locale.clone()?,
         purpose: item.purpose,
         collapse_verdict: None,
     })

@@ -64,7 +64,8 @@ fn render_items<T: EntryLike, P, W: CiteWriter<T, P>>(
         ≡ by_places (cite_again states.now (writing_of T.answers (W.state writer.old))
         (request_view request.entry.request.now) places.now) (items_view items.old)) }
     ensures asked { OnOk result (desk (W.state writer.new) counter.new
-        ≡ after (request_tasks states.now (request_view request.entry.request.now) places.now (items_view items.old))
+        ≡ after (request_tasks states.now (request_view request.entry.request.now) places.now
+        (items_view items.old))
         (desk (W.state writer.old) counter.old)) }
 {
     for k in 0..items.len() {
@@ -84,7 +85,8 @@ fn render_with<T: EntryLike, P, W: CiteWriter<T, P>>(
     counter: &mut Renders,
 ) -> Result<(), W::Error>
     ensures again { OnOk result (item_view item.new
-        ≡ with_any (writing_of T.answers (W.state writer.old)) (request_view request.entry.request.now) state.now
+        ≡ with_any (writing_of T.answers (W.state writer.old))
+        (request_view request.entry.request.now) state.now
         (item_view item.old)) }
     ensures asked { OnOk result (desk (W.state writer.new) counter.new
         ≡ after (tasks_with (request_view request.entry.request.now) state.now (item_view item.old))
@@ -106,10 +108,12 @@ fn render_again<T: EntryLike, P, W: CiteWriter<T, P>>(
     counter: &mut Renders,
 ) -> Result<(), W::Error>
     ensures again { OnOk result (item_view item.new
-        ≡ rendered_again (writing_of T.answers (W.state writer.old)) (request_view request.entry.request.now) state
+        ≡ rendered_again (writing_of T.answers (W.state writer.old))
+        (request_view request.entry.request.now) state
         (item_view item.old)) }
     ensures asked { OnOk result (desk (W.state writer.new) counter.new
-        ≡ after (cite_task (again_task (request_view request.entry.request.now) state (item_view item.old)) ∷ [])
+        ≡ after (cite_task (again_task (request_view request.entry.request.now) state
+        (item_view item.old)) ∷ [])
         (desk (W.state writer.old) counter.old)) }
 {
     item.cite_props.speculative.disambiguation = state;

@@ -82,7 +82,8 @@ fn three_rounds<'a, T: EntryLike, P, W: CiteWriter<T, P>>(
     counter: &mut Renders,
 ) -> Result<Rounds, W::Error>
     requires cites { AreCitesOfTable T.eq (table_view table.now) (renders_view cites.old) }
-    ensures { IfOk result (λ r. AreAfterRounds RoundMode.Three T.eq (writing_of T.answers (W.state writer.old))
+    ensures { IfOk result (λ r. AreAfterRounds RoundMode.Three T.eq
+        (writing_of T.answers (W.state writer.old))
         (renders_view cites.old) (table_view table.now).entries (desk (W.state writer.old) counter.old)
         (renders_view cites.new) r.states.items r.marked (desk (W.state writer.new) counter.new)) }
 {
@@ -117,7 +118,8 @@ fn all_rounds<'a, T: EntryLike, P, W: CiteWriter<T, P>>(
 ) -> Result<Rounds, W::Error>
     requires cites { AreCitesOfTable T.eq (table_view table.now) (renders_view cites.old) }
     requires begun { AreBegun (renders_view cites.old) }
-    ensures { IfOk result (λ r. AreAfterRounds RoundMode.Full T.eq (writing_of T.answers (W.state writer.old))
+    ensures { IfOk result (λ r. AreAfterRounds RoundMode.Full T.eq
+        (writing_of T.answers (W.state writer.old))
         (renders_view cites.old) (table_view table.now).entries (desk (W.state writer.old) counter.old)
         (renders_view cites.new) r.states.items r.marked (desk (W.state writer.new) counter.new)) }
 {
@@ -155,14 +157,17 @@ fn run_round<'a, T: EntryLike, P, W: CiteWriter<T, P>>(
     ensures again { IfOk result (λ again. again
         ≡ has_any (round_marks mode T.eq T.answers (renders_view cites.old))) }
     ensures marked { OnOk result (renders_view cites.new
-        ≡ at_table (writing_of T.answers (W.state writer.old)) (marked_by mode T.eq (writing_of T.answers (W.state writer.old)) (renders_view cites.old))
+        ≡ at_table (writing_of T.answers (W.state writer.old))
+        (marked_by mode T.eq (writing_of T.answers (W.state writer.old)) (renders_view cites.old))
         (renders_view cites.old)) }
     ensures states { OnOk result ((known : StateTable T)
         → AreStatesOf T.eq (table_view table.now).entries known states.old
         → AreStatesOf T.eq (table_view table.now).entries
-        (with_marks (marked_by mode T.eq (writing_of T.answers (W.state writer.old)) (renders_view cites.old)) known) states.new) }
+        (with_marks (marked_by mode T.eq (writing_of T.answers (W.state writer.old))
+        (renders_view cites.old)) known) states.new) }
     ensures asked { OnOk result (desk (W.state writer.new) counter.new
-        ≡ after (again_tasks (marked_by mode T.eq (writing_of T.answers (W.state writer.old)) (renders_view cites.old))
+        ≡ after (again_tasks (marked_by mode T.eq (writing_of T.answers (W.state writer.old))
+        (renders_view cites.old))
         (renders_view cites.old)) (desk (W.state writer.old) counter.old)) }
 {
     let marks = round_marks(alloc, cites, table, mode)?;

@@ -93,7 +93,8 @@ pub fn letters_of_two<'a, T: EntryLike, P: Eq>(
     ensures differ { IfOk result (λ o. IfSome o (λ letters.
         (mode : RoundMode) (asked : Asked T P) (rendered : Rendered)
         (laws : KeepsLaws T.eq P.eq (layout_writing T.answers) mode asked (rendered, account.now))
-        → GotSuffixesTogether T.eq P.eq (layout_writing T.answers) mode asked (rendered, account.now) laws first second
+        → GotSuffixesTogether T.eq P.eq (layout_writing T.answers) mode asked
+        (rendered, account.now) laws first second
         → string_bytes letters.0 ≢ string_bytes letters.1)) }
 {
     suffixes_differ();

@@ -46,7 +46,8 @@ key_of source entry place part = record {
 module _ {E P : Type 0} (answers : E → Answers) where
   abbrev pub cite_key : CiteTaskValue E P → TaskKey
   cite_key t =
-      key_of t.source (answers t.entry).key t.place (parts.Cite (standing_of t.properties) t.purpose t.verdict)
+      key_of t.source (answers t.entry).key t.place
+      (parts.Cite (standing_of t.properties) t.purpose t.verdict)
 
   abbrev pub item_key : ItemTaskValue E P → TaskKey
   item_key t = key_of t.source (answers t.entry).key None (parts.Item (standing_of t.properties))
