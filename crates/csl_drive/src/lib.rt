@@ -2,3 +2,5 @@
 #![tactic(auto)]
 
 pub mod drive;
+#[cfg(test)]
+mod host;
