@@ -1,2 +1,0 @@
-pub mod MetaForm
-pub mod TreeForm
