@@ -1,0 +1,5 @@
+pub mod DrivenMembers
+pub mod Absent
+pub mod AskedBy
+pub mod NoMacros
+pub mod Tasks

@@ -1,0 +1,9 @@
+//! Driven documents: read, and answered with what their hosts have written.
+#![tactic(auto)]
+
+pub mod driving;
+pub mod faults;
+mod filling;
+mod printing;
+mod reading;
+pub mod styles;

@@ -1,0 +1,4 @@
+pub mod Pairs
+pub mod Nesting
+pub mod Plain
+pub mod Tables
