@@ -1,0 +1,163 @@
+"""driven_check.py [FIRST COUNT]: whether hosts and the driven call come to the answers of ordinary documents.
+
+Each document is taken apart: the driver is told its styles without layouts and its entries without texts, and what it
+asks for is written by the renderer of the model, which knows the whole document. The answer of the loop has to equal
+that of the document itself, with formats and metas. The documents are those of documents/ and examples/, and COUNT
+random ones from the seed FIRST (0 and 300, where nothing is said).
+"""
+import glob
+import json
+import os
+import sys
+from collections import Counter
+
+import driven
+import generate
+import model
+from data import tree_data
+from form import read, refusal
+from pieces import DATE_VARIABLES, DIFFERENT, Properties
+from rendering import Renderer
+from states import CHOOSE, NO_STATE, names_state, suffix_state
+
+ROOT = os.path.dirname(os.path.dirname(os.path.abspath(__file__)))
+RENDERER_KEYS = {'elements', 'italic', 'bold', 'options'}
+ITEM_KEYS = RENDERER_KEYS | {'prefix', 'suffix'}
+VERDICTS = {name: verdict for verdict, name in driven.VERDICTS.items()}
+
+
+def without(value, keys):
+    return {key: it for key, it in value.items() if key not in keys}
+
+
+def driven_style(style):
+    """The style without what it writes."""
+    kept = {key: style[key] for key in ('class',) if key in style}
+    kept['citation'] = without(style['citation'], RENDERER_KEYS)
+    if 'bibliography' in style:
+        kept['bibliography'] = without(style['bibliography'], ITEM_KEYS)
+    return kept
+
+
+def driven_document(document):
+    """What the driver is told of a document."""
+    kept = {key: document[key] for key in ('requests', 'bibliography', 'offset', 'rounds') if key in document}
+    kept['styles'] = {name: driven_style(style) for name, style in document['styles'].items()}
+    kept['entries'] = [{k: it for k, it in entry.items() if k in ('key',) + DATE_VARIABLES} for entry in document['entries']]
+    return kept
+
+
+def state_of(task):
+    said = task.get('state')
+    if said is None:
+        return NO_STATE
+    if said == 'choose':
+        return CHOOSE
+    if 'names' in said:
+        return names_state([driven.FORM_OF[name] for name in said['names']])
+    return suffix_state(said['suffix'])
+
+
+class Host:
+    """Writes tasks by the layouts of a document, and keeps what it was asked."""
+
+    def __init__(self, document):
+        self.document = document
+        self.entries = {}
+        for entry in document['entries']:
+            self.entries.setdefault(entry['key'], entry)
+
+    def renderer(self, task, properties):
+        style = self.document['styles'][task['style']]
+        files = self.document.get('locales', [])
+        return Renderer(style, task.get('locale'), files, self.entries[task['entry']], properties, Counter())
+
+    def write(self, task):
+        """The written thing for a task, as `written` has it."""
+        if task['kind'] == 'date':
+            return {'task': task, 'tree': tree_data(self.renderer(task, Properties(0)).date_text())}
+        properties = Properties(
+            task['number'], task.get('locator'), task.get('first_note'), task.get('near_note', False),
+            task.get('first', False), task.get('repeats', DIFFERENT), state_of(task),
+            driven.USAGES.get(task.get('usage'), frozenset()))
+        renderer = self.renderer(task, properties)
+        if task['kind'] == 'item':
+            return {'task': task, 'tree': tree_data(renderer.bibliography_item())}
+        tree = tree_data(renderer.cite(task.get('purpose'), VERDICTS.get(task.get('verdict'))))
+        return {'task': task, 'tree': tree, **noted(renderer.picker)}
+
+
+def noted(picker):
+    """What is told beside a tree."""
+    told = {'disambiguate_tested': True} if picker.checked else {}
+    if picker.first_name is not None:
+        told['first_name'] = [driven.FORMS[form] for form in picker.first_name]
+    usage = driven.usage_data(frozenset(picker.usage))
+    return {**told, **({} if usage is None else {'usage': usage})}
+
+
+def looped(document, rounds, counts):
+    """The answer of the loop. Fails where something is asked for twice, or where there are more calls than three and
+    the rounds that mark."""
+    host, driven_one, written = Host(document), driven_document(document), []
+    for calls in range(1, rounds + 4):
+        kind, value = driven.drive({**driven_one, 'written': written})
+        if kind == 'answer':
+            counts['documents of %d calls' % calls] += 1
+            return value
+        tasks = [driven.canonical(task) for task in value]
+        before = {driven.canonical(it['task']) for it in written}
+        assert len(set(tasks)) == len(tasks) and not before & set(tasks), 'asked for twice'
+        written += [host.write(task) for task in value]
+        counts['tasks'] += len(value)
+    raise AssertionError('more calls than rounds explain')
+
+
+def sources(first, count):
+    """The names and texts of documents."""
+    for path in sorted(glob.glob(f'{ROOT}/documents/*/*.json') + glob.glob(f'{ROOT}/examples/*.json')):
+        with open(path, 'rb') as file:
+            yield os.path.relpath(path, ROOT), file.read()
+    for seed in range(first, first + count):
+        yield f'seed {seed}', generate.source(seed)
+
+
+def agree(source, counts):
+    """Whether both ways come to the same answer, or the same refusal."""
+    document = read(source)
+    events = Counter()
+    whole = model.Document(document, events)
+    status = whole.status()
+    if status == 3:
+        counts['rings, left out'] += 1
+        return True
+    if status == 4:
+        try:
+            driven.drive(driven_document(document))
+        except driven.NumberOverflow:
+            counts['numbers out of range'] += 1
+            return True
+        return False
+    answer = whole.data()
+    counts['documents'] += 1
+    for by in ('names', 'choose', 'suffix'):
+        counts['marked by ' + by] += events['documents marked by ' + by]
+    return looped(document, events['rounds'], counts) == answer
+
+
+def main():
+    first, count = map(int, sys.argv[1:3] or (0, 300))
+    counts, wrong = Counter(), 0
+    for name, source in sources(first, count):
+        if refusal(source) is not None:
+            counts['refused, left out'] += 1
+        elif not agree(source, counts):
+            wrong += 1
+            print('DIFFERENT', name)
+    print(json.dumps(dict(sorted(counts.items()))))
+    print('%d passed, %d failed' % (counts['documents'] + counts['numbers out of range'] - wrong, wrong))
+    return 1 if wrong else 0
+
+
+if __name__ == '__main__':
+    sys.exit(main())
