@@ -15,7 +15,7 @@ MUTATIONS = [
     ("flag stays after push_str", "self.buffer += kept\n        self.pulling = False", "self.buffer += kept\n        self.pulling = self.pulling and not s"),
     ("flag stays after empty push_str", "self.buffer += kept\n        self.pulling = False", "self.buffer += kept\n        if s: self.pulling = False"),
     ("flag kept wholly", "self.buffer += kept\n        self.pulling = False", "self.buffer += kept"),
-    ("link clears flag", "self.frames[-1].append(Link(text, url))", "self.frames[-1].append(Link(text, url)); self.pulling = False"),
+    ("link clears flag", "self.frames[-1].append(Link(text, url, self.formats[-1]))", "self.frames[-1].append(Link(text, url, self.formats[-1])); self.pulling = False"),
     ("prefix clears flag", "self.buffer += prefix or ''", "self.buffer += prefix or ''\n        if prefix: self.pulling = False"),
     ("prefix by push_str", "self.buffer += prefix or ''", "self.push_str(prefix or '')"),
     ("always pull", "if self.locale.punctuation_in_quotes():", "if True:"),
