@@ -19,7 +19,7 @@ from __future__ import annotations
 import json
 from typing import Any, Dict, Optional, Union
 
-from . import csl_json, styles
+from . import csl, csl_json, styles
 from ._driving import Missing, State, Task, Writer, Written, drive_bytes, driven_value
 from ._library import library
 from ._limits import Limits
@@ -35,7 +35,7 @@ __all__ = [
     'Answer', 'Bibliography', 'Citation', 'Document', 'DocumentRefused', 'Item', 'LibraryMissing', 'LimitExceeded',
     'Limits', 'MacroRing', 'Missing', 'Node', 'NumberOverflow', 'OutOfMemory', 'Refused', 'State', 'Task', 'TooDeep',
     'TooManyElements', 'Tree', 'Version', 'Writer', 'Written', '__version__', 'bibliography_to_html',
-    'bibliography_to_latex', 'bibliography_to_markdown', 'check', 'csl_json', 'drive', 'driven', 'plain',
+    'bibliography_to_latex', 'bibliography_to_markdown', 'check', 'csl', 'csl_json', 'drive', 'driven', 'plain',
     'print_document', 'print_json', 'render', 'styles', 'to_html', 'to_latex', 'to_markdown', 'version',
 ]
 
