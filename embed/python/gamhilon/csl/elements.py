@@ -68,7 +68,7 @@ class Text(_Shown, model.Text):  # type: ignore
         return self.get('variable') == 'citation-number' or bool(super().calls_variable())
 
     def process(self, item: Any, *args: Any, **kwargs: Any) -> Any:
-        stays = 'macro' in self.attrib or self.get('variable') in ('locator', 'year-suffix')
+        stays = 'macro' in self.attrib or self.get('variable') in ('locator', 'year-suffix') or self.get('term') == 'no date'
         if _rendering(self).is_cut_to_suffix and not stays:
             return None, None
         return super().process(item, *args, **kwargs)
@@ -85,6 +85,13 @@ class Text(_Shown, model.Text):  # type: ignore
         if not text or self.get('variable') != 'citation-label':
             return text
         return String(str(text) + _rendering(self).suffix_here())
+
+    def _term(self, item: Any) -> Any:
+        """A term. The one for no date takes the year suffix, as a date does."""
+        text, rendering = super()._term(item), _rendering(self)
+        if self.get('term') != 'no date' or rendering.task is None:
+            return text
+        return String(rendering.date(str(text)))
 
     def case(self, text: Any, language: Optional[str] = None) -> Any:
         """The case of each run between marks; of the first run alone where only that is changed."""
@@ -166,7 +173,8 @@ class Name(model.Name):  # type: ignore
         """The forms that the style gives names, and whether the last is kept behind those that are cut."""
         form = 'short'
         if self.get_option('form', context) != 'short':
-            form = 'full' if self.get_option('initialize-with', context) is None else 'initials'
+            has_initials = self.get_option('initialize-with', context) is not None and self.get('initialize') != 'false'
+            form = 'initials' if has_initials else 'full'
         least, first = self._limits(context)
         if not (count > 1 and least and count >= least):
             return (form,) * count, False

@@ -55,7 +55,7 @@ class Rendering:
             return own
         rule = self.given_names.forms(persons)
         self.first_name = _raised(own, rule)
-        return _raised(_added(self.first_name, self.task.name_forms or ()), rule)
+        return _raised(_with_those_between(self.first_name, self.task.name_forms or ()), rule)
 
     def names(self, text: str, reference: Any, roles: List[str]) -> str:
         """A text with its names, marked."""
@@ -111,6 +111,14 @@ def _added(forms: Tuple[str, ...], wanted: Sequence[str]) -> Tuple[str, ...]:
     """The forms, each as far as is wanted; where the list of these ends they stay."""
     raised = [max(one, other, key=FORMS.index) for one, other in zip(forms, wanted)]
     return (*raised, *forms[len(raised):])
+
+
+def _with_those_between(forms: Tuple[str, ...], wanted: Sequence[str]) -> Tuple[str, ...]:
+    """The forms, each as far as is wanted. Names before one that is added are written too, as CSL has it: the driver tells
+    the least that tells works from each other."""
+    added = [place for place, (one, other) in enumerate(zip(forms, wanted)) if one == 'count' != other]
+    least = ['short'] * (added[-1] if added else 0)
+    return _added(_added(forms, wanted), least)
 
 
 def _raised(forms: Tuple[str, ...], wanted: Sequence[str]) -> Tuple[str, ...]:
