@@ -13,7 +13,7 @@ from citeproc import model  # type: ignore
 from citeproc.source import Name as PlainName, VariableError  # type: ignore
 from citeproc.string import String  # type: ignore
 
-from .marks import split
+from .marks import closed_up, split
 from .rendering import Rendering, person
 
 __all__ = ['ELEMENTS']
@@ -210,7 +210,8 @@ class Name(model.Name):  # type: ignore
             names = [*names[:-1], PlainName(literal=''), names[-1]] if keeps_last else [*names, PlainName(literal='')]
             options.update({'et-al-min': len(names), 'et-al-use-first': len(texts) - keeps_last, 'et-al-use-last': keeps_last})
         with self._with(options):
-            return super().process(_only(variable, names), variable, context=context)
+            text = super().process(_only(variable, names), variable, context=context)
+        return closed_up(str(text)) if _rendering(self).names_are_replaced_at_once else text
 
     @contextmanager
     def _with(self, options: Dict[str, Any]) -> Iterator[None]:
@@ -231,10 +232,12 @@ class _Conditions:
     """Conditions on what the driver decides: `disambiguate`, positions, and locators, which compared cites lack."""
 
     def render(self, item: Any, context: Any = None, **kwargs: Any) -> Any:
-        wanted = self.get('disambiguate')  # type: ignore
+        wanted, match = self.get('disambiguate'), self.get('match', 'all')  # type: ignore
         if wanted is not None:
             holds = _rendering(self).disambiguates() == (wanted == 'true')
-            if holds == (self.get('match') == 'none'):  # type: ignore
+            if holds and match == 'any':
+                return self.render_children(item, context=context, **kwargs)  # type: ignore
+            if match == 'none' and holds or match == 'all' and not holds:
                 raise model.ConditionFailed
         return super().render(item, context=context, **kwargs)  # type: ignore
 

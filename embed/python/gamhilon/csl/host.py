@@ -45,12 +45,15 @@ class Host:
         self.root, self.citations = root, citations
         self._references = {key: _reference(entry) for key, entry in entries.items()}
         self._is_implicit = not writes_suffix_itself(root)
+        rule = None if root.bibliography is None else root.bibliography.get('subsequent-author-substitute-rule')
+        self._replaces_at_once = rule in (None, 'complete-all')
         self._given_names = GivenNames(rule_of(root.citation), map(_persons, self._references.values()))
 
     def write(self, task: Task) -> Written:
         """Writes a cite or an item."""
         cite = self._cite(task)
         rendering = Rendering(task, writes_suffix_implicitly=self._is_implicit, given_names=self._given_names)
+        rendering.names_are_replaced_at_once = task.kind == 'item' and self._replaces_at_once
         rendering.leaves_out_names = task.verdict is not None or (cite is not None and cite.suppress_author)
         self.root.rendering = rendering
         layout = (self.root.bibliography if task.kind == 'item' else self.root.citation).layout

@@ -14,11 +14,17 @@ _NAME_VARIABLES = ('author', 'editor', 'translator')
 
 @dataclass
 class Rendering:
-    """One task. While keys of sorting are written there is no task, and nothing is marked."""
+    """One task. While keys of sorting are written there is no task, and nothing is marked.
+
+    `leaves_out_names` tells whether the names that come first are left out, `writes_suffix_implicitly` whether a year suffix
+    stands behind the first date, and `names_are_replaced_at_once` whether repeated authors are replaced as a whole: then what
+    stands between names is a part of them.
+    """
 
     task: Optional[Task] = None
     leaves_out_names: bool = False
     writes_suffix_implicitly: bool = False
+    names_are_replaced_at_once: bool = False
     given_names: GivenNames = field(default_factory=GivenNames)
     marks: Marks = field(default_factory=Marks)
     name_options: Dict[str, Any] = field(default_factory=dict)
