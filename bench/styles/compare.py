@@ -2,7 +2,9 @@
 """compare.py [--model] [--texts] [STYLE..]: published styles by Gamhilon, by citeproc-py alone, and by pandoc.
 
 Renders the citations of citations.json, of the works of references.json, in each style (those of styles.json where none is
-named), and prints which of them read as pandoc's do, in a table for docs/STYLES.md; with --texts each text that doesn't, too.
+named), and prints which of them read as pandoc's do, in the table of docs/STYLES.md; with --texts each text that doesn't, too.
+styles.json has by hand why citations differ, by the names of causes.json. The exit status is 1 where that isn't so: where a
+citation differs and no cause is told, or one is told and nothing differs.
 It needs Debian's python3-citeproc, citation-style-language-styles and pandoc, and runs by Debian's Python. With --model the
 model of the driver stands in for the library.
 """
@@ -145,23 +147,41 @@ def compare(name, entries, citations, tells_texts):
     return equal(alone, wanted), equal(driven, wanted)
 
 
+def causes_of(told):
+    """Why citations of a style differ, as a cell of the table."""
+    return '; '.join(f'{cause}: {runs(numbers)}' for cause, numbers in told.items())
+
+
+def unexplained(told, count, driven):
+    """The citations that differ with no cause, and those that have one and don't differ."""
+    explained = {number for numbers in told.values() for number in numbers}
+    return sorted(explained ^ (set(range(1, count + 1)) - set(driven)))
+
+
+def print_table(results, all_styles, count):
+    print('| Style | citeproc-py alone | with Gamhilon | Why others differ |\n|---|---|---|---|')
+    for name, (alone, driven) in results.items():
+        print(f'| {name} | {len(alone)}: {runs(alone)} | {len(driven)}: {runs(driven)} | {causes_of(all_styles.get(name, {}))} |')
+    alone, driven = (sum(len(it[which]) for it in results.values()) for which in (0, 1))
+    print(f'| of {len(results) * count} | {alone} | {driven} | |')
+
+
 def main(words):
     warnings.simplefilter('ignore')
     sys.path.insert(0, PACKAGE)
     if '--model' in words:
         use_model()
     entries, all_styles = read('references.json'), read('styles.json')
-    asked = read('citations.json')
-    citations = [it['cites'] for it in asked]
+    citations = [it['cites'] for it in read('citations.json')]
     names = [it for it in words if not it.startswith('--')] or list(all_styles)
     results = {name: compare(name, entries, citations, '--texts' in words) for name in names}
-    print('| Style | citeproc-py alone | with Gamhilon | Why the rest differs |\n|---|---|---|---|')
-    for name, (alone, driven) in results.items():
-        print(f'| {name} | {len(alone)}: {runs(alone)} | {len(driven)}: {runs(driven)} | {all_styles.get(name, "")} |')
-    total = len(results) * len(citations)
-    print(f'\nOf {total}: {sum(len(it[0]) for it in results.values())} by citeproc-py alone, '
-          f'{sum(len(it[1]) for it in results.values())} with Gamhilon.')
+    print_table(results, all_styles, len(citations))
+    wrong = {name: unexplained(all_styles.get(name, {}), len(citations), driven) for name, (_, driven) in results.items()}
+    for name, numbers in wrong.items():
+        if numbers:
+            print(f'{name}: not as styles.json says: {runs(numbers)}', file=sys.stderr)
+    return 1 if any(wrong.values()) else 0
 
 
 if __name__ == '__main__':
-    main(sys.argv[1:])
+    sys.exit(main(sys.argv[1:]))
