@@ -1,7 +1,8 @@
 """driven.py: the driven call of the model: what a driver decides for a host that writes each cite itself.
 
 `drive(document)` answers a driven document (`docs/DRIVEN.md`) as `('answer', value)`, or tells what isn't written yet as
-`('missing', tasks)`. As a program it reads a document from standard input, and prints what `gamhilon_drive` has to.
+`('missing', tasks)`. As a program it reads a document from standard input, and prints what `gamhilon_drive` has to, or ends
+with status 4.
 
 It is the model of whole documents (`model.py`) with other renderers: each rendering is looked up among what is written.
 """
@@ -141,9 +142,13 @@ def drive(document):
 
 
 def main():
-    kind, value = drive(json.load(sys.stdin))
+    try:
+        kind, value = drive(json.load(sys.stdin))
+    except NumberOverflow:
+        return 4
     print(json.dumps({kind: value}, ensure_ascii=False, sort_keys=True, separators=(',', ':')))
+    return 0
 
 
 if __name__ == '__main__':
-    main()
+    sys.exit(main())

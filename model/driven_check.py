@@ -1,9 +1,10 @@
-"""driven_check.py [FIRST COUNT]: whether hosts and the driven call come to the answers of ordinary documents.
+"""driven_check.py [--library FILE] [FIRST COUNT]: whether hosts and the driven call come to the answers of ordinary documents.
 
 Each document is taken apart: the driver is told its styles without layouts and its entries without texts, and what it
 asks for is written by the renderer of the model, which knows the whole document. The answer of the loop has to equal
 that of the document itself, with formats and metas. The documents are those of documents/ and examples/, and COUNT
-random ones from the seed FIRST (0 and 300, where nothing is said).
+random ones from the seed FIRST (0 and 300, where nothing is said). With --library the call of a shared library is made
+beside each of the model, and has to give the same value.
 """
 import glob
 import json
@@ -12,6 +13,7 @@ import sys
 from collections import Counter
 
 import driven
+import driven_library
 import generate
 import model
 from data import tree_data
@@ -96,12 +98,36 @@ def noted(picker):
     return {**told, **({} if usage is None else {'usage': usage})}
 
 
-def looped(document, rounds, counts):
+class Calls:
+    """The driven call: the model's, and where there is a library, that of the library too."""
+
+    def __init__(self, library=None):
+        self.library = library
+
+    def drive(self, document):
+        expected = self.result(driven.drive, document)
+        if self.library is not None:
+            got = self.result(self.library.drive, document)
+            assert got == expected, f'the library: {got}\nthe model: {expected}\nof {json.dumps(document)}'
+        if expected is None:
+            raise driven.NumberOverflow('the numbers of the entries')
+        return expected
+
+    @staticmethod
+    def result(call, document):
+        """What a call gives; None where the numbers are out of range."""
+        try:
+            return call(document)
+        except driven.NumberOverflow:
+            return None
+
+
+def looped(document, rounds, counts, driver):
     """The answer of the loop. Fails where something is asked for twice, or where there are more calls than three and
     the rounds that mark."""
     host, driven_one, written = Host(document), driven_document(document), []
     for calls in range(1, rounds + 4):
-        kind, value = driven.drive({**driven_one, 'written': written})
+        kind, value = driver.drive({**driven_one, 'written': written})
         if kind == 'answer':
             counts['documents of %d calls' % calls] += 1
             return value
@@ -122,7 +148,7 @@ def sources(first, count):
         yield f'seed {seed}', generate.source(seed)
 
 
-def agree(source, counts):
+def agree(source, counts, calls):
     """Whether both ways come to the same answer, or the same refusal."""
     document = read(source)
     events = Counter()
@@ -133,7 +159,7 @@ def agree(source, counts):
         return True
     if status == 4:
         try:
-            driven.drive(driven_document(document))
+            calls.drive(driven_document(document))
         except driven.NumberOverflow:
             counts['numbers out of range'] += 1
             return True
@@ -142,16 +168,19 @@ def agree(source, counts):
     counts['documents'] += 1
     for by in ('names', 'choose', 'suffix'):
         counts['marked by ' + by] += events['documents marked by ' + by]
-    return looped(document, events['rounds'], counts) == answer
+    return looped(document, events['rounds'], counts, calls) == answer
 
 
-def main():
-    first, count = map(int, sys.argv[1:3] or (0, 300))
-    counts, wrong = Counter(), 0
+def main(words):
+    library = None
+    if words[:1] == ['--library']:
+        library, words = driven_library.Library(words[1]), words[2:]
+    first, count = map(int, words or (0, 300))
+    calls, counts, wrong = Calls(library), Counter(), 0
     for name, source in sources(first, count):
         if refusal(source) is not None:
             counts['refused, left out'] += 1
-        elif not agree(source, counts):
+        elif not agree(source, counts, calls):
             wrong += 1
             print('DIFFERENT', name)
     print(json.dumps(dict(sorted(counts.items()))))
@@ -160,4 +189,4 @@ def main():
 
 
 if __name__ == '__main__':
-    sys.exit(main())
+    sys.exit(main(sys.argv[1:]))

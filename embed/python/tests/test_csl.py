@@ -55,7 +55,8 @@ def render(tmp_path, driver):
 
 def test_names_are_added_up_to_the_one_that_differs(render):
     """CSL: with et-al-use-first 1, names are added until the cites differ, and none is skipped."""
-    entries = [entry('one', 'Miller', 'Tanaka', 'Novak', 'Silva', year=2018), entry('two', 'Miller', 'Tanaka', 'Olsen', 'Petrov', year=2018)]
+    entries = [entry('one', 'Miller', 'Tanaka', 'Novak', 'Silva', year=2018),
+               entry('two', 'Miller', 'Tanaka', 'Olsen', 'Petrov', year=2018)]
     told = render(BOTH, entries, ['one'], ['two'], attributes='disambiguate-add-names="true" et-al-min="3" et-al-use-first="1"')
     assert told.citations == ['(Miller, Tanaka, Novak, et al. 2018)', '(Miller, Tanaka, Olsen, et al. 2018)']
 
@@ -70,7 +71,8 @@ def test_given_names_by_cite_are_initials_where_these_differ(render):
 
 def test_given_names_by_other_rules_tell_all_persons(render):
     """CSL: the rule `primary-name` disambiguates names, also of cites that aren't ambiguous."""
-    entries = [entry('one', 'Doe, Jane', 'Poe, Al', year=1999), entry('two', 'Doe, John', year=2004), entry('three', 'Poe, Ed', year=2005)]
+    entries = [entry('one', 'Doe, Jane', 'Poe, Al', year=1999), entry('two', 'Doe, John', year=2004),
+               entry('three', 'Poe, Ed', year=2005)]
     attributes = 'disambiguate-add-givenname="true" givenname-disambiguation-rule="{}"'
     one, two = (render(BOTH, entries, ['one'], ['two'], ['three'], attributes=attributes.format(rule)).citations
                 for rule in ('primary-name', 'all-names'))
@@ -169,7 +171,8 @@ def test_numbers_of_notes_may_be_given(render):
 # Cites
 
 def test_locators_have_their_labels(render):
-    layout = '<group delimiter=", "><text variable="title"/><group delimiter=" "><label variable="locator" form="short"/><text variable="locator"/></group></group>'
+    layout = ('<group delimiter=", "><text variable="title"/><group delimiter=" "><label variable="locator" form="short"/>'
+              '<text variable="locator"/></group></group>')
     cites = [{'id': 'one', 'locator': '4'}, {'id': 'one', 'locator': '4-6'}, {'id': 'one', 'locator': '2', 'label': 'chapter'},
              {'id': 'one', 'locator': '7', 'label': 'folio'}, {'id': 'one'}]
     assert render(layout, [entry('one')], *[[it] for it in cites]).citations == [
@@ -208,7 +211,8 @@ COLLAPSE = 'disambiguate-add-year-suffix="true" collapse="{}" after-collapse-del
 ])
 def test_years_are_collapsed(render, collapse, text):
     """CSL: cite-group-delimiter is a comma by default, and year-suffix-delimiter the delimiter of the layout."""
-    entries = [entry('one', 'Doe', year=1999), entry('two', 'Doe', year=1999), entry('three', 'Doe', year=2004), entry('four', 'Roe', year=2000)]
+    entries = [entry('one', 'Doe', year=1999), entry('two', 'Doe', year=1999), entry('three', 'Doe', year=2004),
+               entry('four', 'Roe', year=2000)]
     layout = f'<group delimiter=", ">{BOTH}<text variable="locator"/></group>'
     cites = ['one', 'two', {'id': 'three', 'locator': '5'}, 'four']
     assert render(layout, entries, cites, attributes=COLLAPSE.format(collapse)).citations == [text]
@@ -237,13 +241,15 @@ def test_cites_with_words_of_their_own_are_not_collapsed(render):
 # The bibliography
 
 BIBLIOGRAPHY = ('<bibliography {}><sort><key variable="author"/><key variable="title"/></sort><layout suffix=".">'
-                '<names variable="author"><name and="text"/><label form="short" prefix=", "/></names><text variable="title" prefix=". "/></layout></bibliography>')
+                '<names variable="author"><name and="text"/><label form="short" prefix=", "/></names>'
+                '<text variable="title" prefix=". "/></layout></bibliography>')
 
 
 def test_the_bibliography_is_sorted_and_substitutes(render):
     """CSL, complete-all: the text stands for the whole list of names."""
     entries = [entry('c', 'Doe', 'Roe'), entry('b', 'Doe', 'Roe'), entry('a', 'Doe'), entry('d', 'Able')]
-    told = render(NAMES, entries, ['c', 'b', 'a', 'd'], bibliography=BIBLIOGRAPHY.format('subsequent-author-substitute="---" hanging-indent="true"'))
+    attributes = 'subsequent-author-substitute="---" hanging-indent="true"'
+    told = render(NAMES, entries, ['c', 'b', 'a', 'd'], bibliography=BIBLIOGRAPHY.format(attributes))
     assert list(told.bibliography.items()) == [
         ('d', 'Able. Title d.'), ('a', 'Doe. Title a.'), ('b', 'Doe and Roe. Title b.'), ('c', '---. Title c.')]
     assert told.answer.bibliography.hanging_indent
@@ -387,5 +393,6 @@ PANDOC = {
 @pytest.mark.parametrize('name', PANDOC)
 def test_published_styles_as_pandoc_prints_them(driver, name):
     published()
-    told = csl.render(name, [WATSON, *SMITHS], [[{'id': 'watson'}], [{'id': 'watson', 'locator': '737'}], [{'id': 'anna'}, {'id': 'brian'}]])
+    citations = [[{'id': 'watson'}], [{'id': 'watson', 'locator': '737'}], [{'id': 'anna'}, {'id': 'brian'}]]
+    told = csl.render(name, [WATSON, *SMITHS], citations)
     assert told.citations == PANDOC[name]
