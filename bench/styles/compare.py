@@ -1,10 +1,12 @@
 #!/usr/bin/env python3
-"""compare.py [--model] [--texts] [STYLE..]: published styles by Gamhilon, by citeproc-py alone, and by pandoc.
+"""compare.py [--model] [--texts | --each N] [STYLE..]: published styles by Gamhilon, by citeproc-py alone, and by pandoc.
 
 Renders the citations of citations.json, of the works of references.json, in each style (those of styles.json where none is
 named), and prints which of them read as pandoc's do, in the table of docs/STYLES.md; with --texts each text that doesn't, too.
 styles.json has by hand why citations differ, by the names of causes.json. The exit status is 1 where that isn't so: where a
 citation differs and no cause is told, or one is told and nothing differs.
+With --each N nothing is compared: each N-th of the published styles is rendered, and those are told in which citeproc-py ends in an
+error, with Gamhilon and alone.
 It needs Debian's python3-citeproc, citation-style-language-styles and pandoc, and runs by Debian's Python. With --model the
 model of the driver stands in for the library.
 """
@@ -18,6 +20,7 @@ HERE = os.path.dirname(os.path.abspath(__file__))
 ROOT = os.path.normpath(f'{HERE}/../..')
 PACKAGE = f'{ROOT}/embed/python'
 LABELS = {'page': 'p.', 'chapter': 'chap.'}
+FAILED = 'citeproc-py fails: '
 QUOTES = {'DoubleQuote': '“”', 'SingleQuote': '‘’'}
 
 
@@ -73,8 +76,8 @@ def by_pandoc(style, citations):
 
 # citeproc-py alone
 
-def by_citeproc(style, entries, citations):
-    """The texts, or the name of the error that a citation ended in."""
+def by_citeproc(style, entries, citations, lists_items=False):
+    """The texts, or what error a citation ended in."""
     import citeproc
     from citeproc.formatter import plain
     from citeproc.source.json import CiteProcJSON
@@ -85,7 +88,10 @@ def by_citeproc(style, entries, citations):
         bibliography.register(citation)
     if bibliography.style.has_bibliography():
         bibliography.sort()
-    return [text_or_error(bibliography, it) for it in made]
+    texts = [text_or_error(bibliography, it) for it in made]
+    if bibliography.style.has_bibliography() and lists_items:
+        bibliography.bibliography()
+    return texts
 
 
 def item(cite):
@@ -100,7 +106,7 @@ def text_or_error(bibliography, citation):
     try:
         return normal(str(bibliography.cite(citation, lambda it: None)))
     except Exception as error:
-        return type(error).__name__
+        return f'{FAILED}{type(error).__name__}'
 
 
 # Gamhilon
@@ -116,6 +122,25 @@ def use_model():
     import conftest
     from gamhilon import _library
     _library._library = _library.Library(conftest.ModelOfTheDriver())
+
+
+def fails(render, *given):
+    """Whether citeproc-py ends in an error, in a citation or in all of them together."""
+    try:
+        return any(it.startswith(FAILED) for it in render(*given))
+    except Exception:
+        return True
+
+
+def try_each(step, entries, citations):
+    """Renders each style of a sample, and tells in which citeproc-py fails."""
+    from gamhilon.csl.style import STYLES
+    names = sorted(it[:-len('.csl')] for it in os.listdir(STYLES) if it.endswith('.csl'))[::step]
+    driven = [it for it in names if fails(by_gamhilon, it, entries, citations)]
+    alone = [it for it in names if fails(by_citeproc, f'{STYLES}/{it}.csl', entries, citations, True)]
+    print(f'{len(names)} styles; citeproc-py fails in {len(driven)} with Gamhilon: {", ".join(driven)}')
+    print(f'and in {len(alone)} alone: {", ".join(alone)}')
+    return 0
 
 
 # The table
@@ -173,6 +198,8 @@ def main(words):
         use_model()
     entries, all_styles = read('references.json'), read('styles.json')
     citations = [it['cites'] for it in read('citations.json')]
+    if '--each' in words:
+        return try_each(int(words[words.index('--each') + 1]), entries, citations)
     names = [it for it in words if not it.startswith('--')] or list(all_styles)
     results = {name: compare(name, entries, citations, '--texts' in words) for name in names}
     print_table(results, all_styles, len(citations))

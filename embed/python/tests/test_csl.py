@@ -396,3 +396,14 @@ def test_published_styles_as_pandoc_prints_them(driver, name):
     citations = [[{'id': 'watson'}], [{'id': 'watson', 'locator': '737'}], [{'id': 'anna'}, {'id': 'brian'}]]
     told = csl.render(name, [WATSON, *SMITHS], citations)
     assert told.citations == PANDOC[name]
+
+
+@pytest.mark.parametrize('layout, sort, entries, what', [
+    ('<text term="page" form="symbol"/>', '', [entry('one')], 'cite of one: '),
+    ('<text variable="title"/>', '<sort><key macro="none"/></sort>', [entry('one')], 'the keys of sorting: '),
+    ('<text variable="title"/>', '', [{**entry('one'), 'author': [{'given': 'Jane'}]}], 'entry one: '),
+])
+def test_an_error_of_citeproc_is_told(render, layout, sort, entries, what):
+    with pytest.raises(csl.CiteprocFailed, match=f'^{what}') as failure:
+        render(layout, entries, ['one'], sort=sort)
+    assert isinstance(failure.value.__cause__, Exception)

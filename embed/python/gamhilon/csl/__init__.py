@@ -17,15 +17,12 @@ from .. import csl_json
 from .._driving import driven_value
 from ..answer import Answer, plain
 from .cites import Cite, CiteLike, citations_of, note_of
+from .errors import CiteprocFailed, CiteprocMissing, StyleMissing
 from .marks import cleaned
 
-__all__ = ['Cite', 'CiteLike', 'CiteprocMissing', 'Rendered', 'document', 'render']
+__all__ = ['Cite', 'CiteLike', 'CiteprocFailed', 'CiteprocMissing', 'Rendered', 'StyleMissing', 'document', 'render']
 
 _STYLE, _APART = 'style', 'style, cites apart'
-
-
-class CiteprocMissing(ImportError):
-    """citeproc-py isn't there."""
 
 
 @dataclass(frozen=True)
@@ -51,8 +48,8 @@ def render(style: str, entries: Sequence[Dict[str, Any]], citations: Sequence[Se
     """Citations and the bibliography in a style: a name (`apa`), or the path of a .csl file. `locale` stands in for the
     style's own.
 
-    Raises CiteprocMissing where citeproc-py is missing, StyleMissing (a ValueError) where there is no such style, and
-    ValueError where a cite is of an entry that isn't there.
+    Raises CiteprocMissing where citeproc-py is missing, StyleMissing (a ValueError) where there is no such style, CiteprocFailed
+    where citeproc-py ends in an error, and ValueError where a cite is of an entry that isn't there.
     """
     try:
         from . import host as _host, style as _style

@@ -2,7 +2,8 @@
 from __future__ import annotations
 
 import json
-from typing import Any, Dict, List, Optional, Sequence
+from contextlib import contextmanager
+from typing import Any, Dict, Iterator, List, Optional, Sequence
 
 from citeproc.source import Locator, Reference, VariableError  # type: ignore
 from citeproc.source.json import CiteProcJSON  # type: ignore
@@ -10,6 +11,7 @@ from citeproc.source.json import CiteProcJSON  # type: ignore
 from .._driving import Task, Written
 from ..answer import Node, Tree
 from .cites import Cite
+from .errors import CiteprocFailed
 from .given_names import GivenNames, rule_of
 from .rendering import Rendering, person
 from .style import writes_suffix_itself
@@ -56,13 +58,17 @@ class Host:
         rendering.names_are_replaced_at_once = task.kind == 'item' and self._replaces_at_once
         rendering.leaves_out_names = task.verdict is not None or (cite is not None and cite.suppress_author)
         self.root.rendering = rendering
+        with _failing(f'{task.kind} of {task.entry}'):
+            text = self._text(task, _Item(self._told(task), (task.number or 0) + 1, _locator(cite)))
+        tree = rendering.marks.tree(text)
+        return rendering.written(tree if cite is None else [*_plain(cite.prefix), *tree, *_plain(cite.suffix)])
+
+    def _text(self, task: Task, item: _Item) -> str:
+        """What citeproc-py writes. The affixes of the layout belong to an item; those of cites are the driver's."""
         layout = (self.root.bibliography if task.kind == 'item' else self.root.citation).layout
         layout.repressed = {}
-        text = layout.render_children(_Item(self._told(task), (task.number or 0) + 1, _locator(cite))) or ''
-        if task.kind == 'item':
-            text = layout.wrap(text)
-        tree = rendering.marks.tree(str(layout.format(text)))
-        return rendering.written(tree if cite is None else [*_plain(cite.prefix), *tree, *_plain(cite.suffix)])
+        text = layout.render_children(item) or ''
+        return str(layout.format(layout.wrap(text) if task.kind == 'item' else text))
 
     def sorted_keys(self, keys: List[str]) -> List[str]:
         """Keys of entries, in the order that the style gives its bibliography."""
@@ -81,7 +87,9 @@ class Host:
             return values
         self.root.rendering = Rendering()
         places = {id(item): place for place, item in enumerate(items)}
-        return [values[places[id(item)]] for item in sort.sort(items, layout)]
+        with _failing('the keys of sorting'):
+            ordered = sort.sort(items, layout)
+        return [values[places[id(item)]] for item in ordered]
 
     def _cite(self, task: Task) -> Optional[Cite]:
         return None if task.place is None else self.citations[task.place[0]][task.place[1]]
@@ -99,9 +107,19 @@ class Host:
         return told
 
 
+@contextmanager
+def _failing(what: str) -> Iterator[None]:
+    """Tells of what citeproc-py made an error. (Any error may come out of it.)"""
+    try:
+        yield
+    except Exception as error:
+        raise CiteprocFailed(f'{what}: {type(error).__name__}: {error}') from error
+
+
 def _reference(entry: Dict[str, Any]) -> Any:
     """An entry of CSL-JSON as citeproc-py reads it."""
-    source = CiteProcJSON([json.loads(json.dumps(entry))])
+    with _failing(f'entry {entry["id"]}'):
+        source = CiteProcJSON([json.loads(json.dumps(entry))])
     return next(iter(source.values()))
 
 

@@ -8,16 +8,13 @@ from citeproc import model  # type: ignore
 from lxml import etree  # type: ignore
 
 from .elements import ELEMENTS
+from .errors import StyleMissing
 from .rendering import Rendering
 
 STYLES = '/usr/share/citation-style-language/styles'
 """Where Debian's package citation-style-language-styles has them."""
 
 _CSL = 'http://purl.org/net/xbiblio/csl'
-
-
-class StyleMissing(ValueError):
-    """There is no style of this name or path."""
 
 
 class _Formatter:
