@@ -407,3 +407,20 @@ def test_an_error_of_citeproc_is_told(render, layout, sort, entries, what):
     with pytest.raises(csl.CiteprocFailed, match=f'^{what}') as failure:
         render(layout, entries, ['one'], sort=sort)
     assert isinstance(failure.value.__cause__, Exception)
+
+
+def test_one_cite_may_stand_twice_in_a_citation(render):
+    cite = csl.Cite('one')
+    told = render('<text variable="title"/>', [entry('one')], [cite, cite])
+    assert [it['meta'] for it in told.answer.citations[0].content if 'meta' in it] == [{'entry': 0}, {'entry': 1}]
+
+
+def test_a_work_with_an_empty_list_of_authors_has_no_author(render):
+    names = '<names variable="author"><name/></names><names variable="editor" prefix=" "><name form="short"/></names>'
+    book = {**entry('one'), 'author': [], 'editor': [{'family': 'Doe', 'given': 'Jane'}]}
+    assert render(names, [book], ['one']).citations == ['( Doe)']
+
+
+def test_a_cite_with_an_unknown_key_is_refused(render):
+    with pytest.raises(TypeError, match='page'):
+        render('<text variable="title"/>', [entry('one')], [{'id': 'one', 'page': '4'}])

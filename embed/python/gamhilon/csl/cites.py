@@ -1,7 +1,7 @@
 """Cites and citations, as a document has them."""
 from __future__ import annotations
 
-from dataclasses import dataclass
+from dataclasses import dataclass, replace
 from typing import Any, Dict, List, Mapping, Optional, Sequence, Union
 
 from .marks import cleaned
@@ -40,9 +40,9 @@ CiteLike = Union[Cite, Mapping[str, Any]]
 
 
 def cite_of(value: CiteLike) -> Cite:
-    """The cite that a value says. Raises TypeError where it has another key."""
+    """A cite of its own that a value says. Raises TypeError where it has another key."""
     if isinstance(value, Cite):
-        return value
+        return replace(value)
     told = {key.replace('-', '_'): cleaned(it) for key, it in value.items()}
     for key in ('id', 'locator'):
         if told.get(key) is not None:

@@ -136,7 +136,7 @@ class Names(_Shown, model.Names):  # type: ignore
 
     def process(self, item: Any, *args: Any, **kwargs: Any) -> Any:
         rendering = _rendering(self)
-        roles = [role for role in self.get('variable').split() if role in item.reference]
+        roles = [role for role in self.get('variable').split() if item.reference.get(role)]
         if rendering.task is None or not roles:
             return super().process(item, *args, **kwargs)
         if rendering.is_cut_to_suffix or not rendering.may_write_names():

@@ -54,7 +54,7 @@ class Rendering:
         """The forms in which names are written. In the first names of a cite, whose forms are noted, each is at least what
         tells its person from others, and what the state of the entry asks for. Items of the bibliography have the forms of
         their style, as CSL has it."""
-        if self.first_name is not None:
+        if self.first_name is not None or not own:
             return own
         if self.task is None or self.task.kind != 'cite':
             self.first_name = own
