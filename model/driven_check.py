@@ -16,6 +16,7 @@ import driven
 import driven_library
 import generate
 import model
+from cites import note_of
 from data import tree_data
 from form import read, refusal
 from pieces import DATE_VARIABLES, DIFFERENT, Properties
@@ -75,7 +76,10 @@ class Host:
         return Renderer(style, task.get('locale'), files, self.entries[task['entry']], properties, Counter())
 
     def write(self, task):
-        """The written thing for a task, as `written` has it."""
+        """The written thing for a task, as `written` has it. The note of a cite, which no layout shows, has to be that of its
+        request."""
+        if task['kind'] == 'cite' and 'place' in task:
+            assert task.get('note') == note_of(self.document, self.document['requests'][task['place'][0]]), 'the note'
         if task['kind'] == 'date':
             return {'task': task, 'tree': tree_data(self.renderer(task, Properties(0)).date_text())}
         properties = Properties(
@@ -122,6 +126,28 @@ class Calls:
             return None
 
 
+def stage(task):
+    if task['kind'] != 'cite' or 'place' in task:
+        return driven.LAST
+    return driven.AGAIN if 'state' in task else driven.FIRST
+
+
+def hold_tasks(tasks, written, document):
+    """What no answer shows of tasks: that each is new, that those of one call are of one stage, that a cite is told what its
+    first rendering wrote, and that at last each cite is written, with its place."""
+    keys = [driven.canonical(task) for task in tasks]
+    assert len(set(keys)) == len(keys) and not written.keys() & set(keys), 'asked for twice'
+    stages = {stage(task) for task in tasks}
+    assert len(stages) == 1, 'tasks of several stages'
+    if stages == {driven.AGAIN}:
+        for task in tasks:
+            first = written[driven.canonical(without(task, {'state', 'usage'}))]
+            assert task.get('usage') == first.get('usage'), 'the usage'
+    if stages == {driven.LAST}:
+        places = sorted(task['place'] for task in tasks if task['kind'] != 'item')
+        assert places == [[at, i] for at, it in enumerate(document['requests']) for i in range(len(it['items']))], 'the places'
+
+
 def looped(document, rounds, counts, driver):
     """The answer of the loop. Fails where something is asked for twice, or where there are more calls than three and
     the rounds that mark."""
@@ -131,9 +157,7 @@ def looped(document, rounds, counts, driver):
         if kind == 'answer':
             counts['documents of %d calls' % calls] += 1
             return value
-        tasks = [driven.canonical(task) for task in value]
-        before = {driven.canonical(it['task']) for it in written}
-        assert len(set(tasks)) == len(tasks) and not before & set(tasks), 'asked for twice'
+        hold_tasks(value, {driven.canonical(it['task']): it for it in written}, document)
         written += [host.write(task) for task in value]
         counts['tasks'] += len(value)
     raise AssertionError('more calls than rounds explain')

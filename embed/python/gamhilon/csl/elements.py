@@ -207,7 +207,8 @@ class Name(model.Name):  # type: ignore
         names = [PlainName(literal=it) for it in texts]
         options = {'is-joining': True, 'form': 'long', 'name-as-sort-order': None, 'initialize-with': None, 'et-al-min': 0}
         if is_cut:
-            names = [*names[:-1], PlainName(literal=''), names[-1]] if keeps_last else [*names, PlainName(literal='')]
+            left_out = PlainName(literal='')
+            names = [*names[:-1], left_out, names[-1]] if keeps_last else [*names, left_out, left_out]
             options.update({'et-al-min': len(names), 'et-al-use-first': len(texts) - keeps_last, 'et-al-use-last': keeps_last})
         with self._with(options):
             text = super().process(_only(variable, names), variable, context=context)
