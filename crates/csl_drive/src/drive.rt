@@ -13,6 +13,7 @@ use csl_driver::rendered::Rendered;
 use csl_passes::request::BibliographyRequest;
 use csl_round_laws::mode::RoundMode;
 use csl_table::key::TaskKey;
+use csl_table::laws::key_equality_decides;
 use csl_table::table::{Table, TableWriter};
 use indexmap::IndexSet;
 use std::alloc::Global;
@@ -22,8 +23,8 @@ use std::alloc::Global;
 pub enum Driven<'a, T> {
     /// The answer and its account, where the table has all that is asked for.
     Answer(Rendered, Account<'a, T>),
-    /// What it lacks, each once: the host writes it, and asks again. Where something is missing by which
-    /// cites are compared, what is written for the last time isn't named yet.
+    /// What is asked for and the table lacks, each once: the host writes it, and asks again. What is of a
+    /// later stage (`TaskKey::stage`) than the first of it isn't named yet.
     Missing(IndexSet<TaskKey>),
 }
 
@@ -45,6 +46,7 @@ pub fn drive<'a, T: EntryLike, P: Eq + Drop>(
     ensures refused { let asked = asked_of driver.entry request.entry in
         IfErr result (Refuses T.eq asked.requests asked.wanted.style asked.offset) }
 {
+    key_equality_decides();
     let mut writer = TableWriter::new(alloc, table);
     let (rendered, account) = driver.finish_with(request, mode, &mut writer)?;
     let TableWriter {
