@@ -9,8 +9,10 @@ there is a NAME.alone, each request by `standalone_citation`; where there is a N
 that are written without a driver; where there is a NAME.equality, it is told which requests are equal to the first, and whether that
 for the bibliography is one for its style alone. A copy of each answer has to be equal to it. It tells where each document that is
 refused is wrong, which faults.txt has for most of them, and nothing of the others. Where there is a NAME.context,
-crates/context_calls prints what calls of a writing context give in its first style. It refuses each growth of memory in turn
-(refuse.c, for which a C compiler must be there), in all three programs; each such sweep is for some calls, and fails where one of
+what calls of a writing context give in its first style is printed. Each document that has an answer is answered once more from
+a table of what its styles write; with any one thing taken out exactly that has to be missing, and a table that is empty at first
+has to be filled in at most three calls more than rounds mark. It refuses each growth of memory in turn
+(refuse.c, for which a C compiler must be there), in both programs; each such sweep is for some calls, and fails where one of
 them met no refusal.
 run.py PROGRAM FOLDER..: runs it on the documents of these folders, and does nothing else.
 
@@ -188,8 +190,8 @@ def by_calls(calls, way, base, status, text):
         raise Failed(difference(text, got[1]))
 
 
-def call_by_call(calls, contexts, bases):
-    """What the programs of calls are to do with the documents that are of their form."""
+def call_by_call(calls, bases):
+    """What the program of calls is to do with the documents that are of their form."""
     made = []
     for base in bases:
         status, text = wanted(base)
@@ -201,10 +203,11 @@ def call_by_call(calls, contexts, bases):
             made.append(('account: ' + name_of(base), by_calls, calls, 'account', base, status, read(base + '.account')))
         if os.path.isfile(base + '.alone'):
             made.append(('standalone: ' + name_of(base), by_calls, calls, 'standalone_citation', base, 0, read(base + '.alone')))
-        for way, asked in (('passes', calls), ('equality', calls), ('context', contexts)):
+        for way in ('passes', 'equality', 'context'):
             if os.path.isfile(base + '.' + way):
-                made.append((way + ': ' + name_of(base), by_calls, asked, way, base, 0, read(base + '.' + way)))
+                made.append((way + ': ' + name_of(base), by_calls, calls, way, base, 0, read(base + '.' + way)))
         if status == 0:
+            made.append(('table: ' + name_of(base), by_calls, calls, 'table', base, 0, text))
             made.append(('copies: ' + name_of(base), by_calls, calls, 'copies', base, 0, b'copy: equal\n'))
     ring = HERE + '/rows/ring_of_one_macro'
     return [*made, ('standalone: ' + name_of(ring), by_calls, calls, 'standalone_citation', ring, 3, b'')]
@@ -531,13 +534,14 @@ SWEPT_PASSES = {
     'grouping/blocks': ['find_ambiguous_sets', 'group_cites'],
     'bibliography/author_substitution': ['find_ambiguous_sets', 'substitute_subsequent_authors'],
 }
+# Those that are answered from a table.
+SWEPT_TABLES = ['disambiguation/suffix_by_entry', 'bibliography/author_substitution']
 # The calls of a writing context that take memory; each is made in a context of its own, whose text fills its room.
 HEIGHTS = ['ensure_space', 'push_str', 'push_chunked', 'push_link', 'push_transparent', 'push_quotes', 'pop_quotes', 'write_str']
 HEIGHTS += ['push_format', 'pop_format', 'push_elem', 'commit_elem', 'discard_elem', 'push_delimiter', 'push_name_options']
 HEIGHTS += ['apply_prefix', 'has_content_since', 'apply_suffix', 'flush']
-# Calls of crates/call_by_call and crates/context_calls, which name them before they make them; the status is 5 where one is
-# refused, but for `citation`.
-CALLS = ['read', 'prepare', 'citation', 'finish', 'finish_counted', 'finish_full', 'standalone_citation', 'run', 'clone', 'context']
+# Calls of crates/call_by_call, which names them before it makes them; the status is 5 where one is refused, but for `citation`.
+CALLS = ['read', 'prepare', 'citation', 'finish', 'finish_counted', 'finish_full', 'standalone_citation', 'run', 'clone', 'context', 'finish_with', 'drive']
 CALLS += [*PASSES, *HEIGHTS]
 # Those that print before others are called.
 PRINT = ['standalone_citation', 'context', *PASSES]
@@ -696,15 +700,18 @@ def sweeps_of_calls(shim, program):
     for name in ('hidden_cites', 'cites_without_content'):
         base, way = HERE + '/alone/' + name, 'standalone_citation'
         made.append(('growths of %s: %s' % (way, name), sweep_of_calls, shim, program, way, [way], read(base + '.json'), 0, read(base + '.alone')))
+    for name in SWEPT_TABLES:
+        given, way = read(HERE + '/' + name + '.json'), 'drive 1'
+        made.append(('growths of %s: %s' % (way, name), sweep_of_calls, shim, program, way, ['finish_with', 'drive'], given, 0, b''))
     free = read(HERE + '/words/calls_without_memory.json')
     return [*made, ('growths of calls that take none', sweep_of_free, shim, program, free)]
 
 
-def sweeps(program, calls, contexts):
+def sweeps(program, calls):
     """The sweeps, each with its name."""
     shim = compiled(tempfile.mkdtemp())
     made = [('growths of %s' % it, sweep_of_program, shim, program, it) for it in SWEPT]
-    return made + sweeps_of_calls(shim, calls) + sweeps_of_contexts(shim, contexts)
+    return made + sweeps_of_calls(shim, calls) + sweeps_of_contexts(shim, calls)
 
 
 def model(program):
@@ -781,17 +788,17 @@ def main():
     bases = documents()
     tests = [('model: %d random documents' % RANDOM_DOCUMENTS, model, program)]
     tests += [('process: ' + it.__name__.replace('_', ' '), it, program) for it in reversed(PROCESSES)]
-    calls, contexts = (beside(program, it) for it in ('call_by_call', 'context_calls'))
-    if calls and contexts:
+    calls = beside(program, 'call_by_call')
+    if calls:
         try:
-            tests += sweeps(program, calls, contexts)
+            tests += sweeps(program, calls)
         except Failed as error:
             tests.append(('growths of memory', cannot, str(error)))
-        tests += call_by_call(calls, contexts, bases)
+        tests += call_by_call(calls, bases)
         tests += faults(calls, bases)
         tests += [('process: ' + it.__name__.replace('_', ' '), it, calls) for it in (failing_writer, slow_reader, most_reads)]
     else:
-        tests.append(('programs of calls', cannot, 'crates/call_by_call and crates/context_calls are not both built'))
+        tests.append(('program of calls', cannot, 'crates/call_by_call is not built'))
     tests += [(name_of(it), document, program, it) for it in bases]
     tests += [('model: ' + name_of(it), worked, it) for it in [*folders_of(HERE), ROOT + '/examples']]
     tests.append(('files of the folders', strays))

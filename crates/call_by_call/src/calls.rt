@@ -122,7 +122,7 @@ fn take_all<'e, 'f: 'e>(
     Ok(came_back)
 }
 
-fn refusal(error: DriverError) -> RunError {
+pub(crate) fn refusal(error: DriverError) -> RunError {
     match error {
         DriverError::MacroRing { place, macro_idx } => RunError::MacroRing { place, macro_idx },
         DriverError::NumberOverflow => RunError::NumberOverflow,
@@ -164,7 +164,8 @@ fn print_items(rt: &impl Print, bibliography: &RenderedBibliography) {
     }
 }
 
-fn print_answer(rt: &impl Print, rendered: &Rendered) {
+/// Prints an answer as `cite_run` does.
+pub(crate) fn print_answer(rt: &impl Print, rendered: &Rendered) {
     for each in rendered.citations.as_slice() {
         let _ = println!(rt; "{}", each.citation);
     }

@@ -2,5 +2,3 @@
 #![tactic(auto)]
 
 pub mod drive;
-#[cfg(test)]
-mod host;

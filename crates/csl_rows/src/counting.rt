@@ -1,8 +1,6 @@
 //! The renderings as an entry sees them, which is asked for its title in each but those of a date alone.
-ghost use Rattle.std.specs.Prelude.{IfOk};
-ghost use Rattle.csl_base.specs.Ring.{HasNoRing};
-ghost use Rattle.csl_writing.specs.ContextSource.{context_source};
 
+use crate::rings::ringless;
 use csl_base::element::{LayoutRenderingElement, TextTarget};
 use csl_base::entry::{Chunk, ChunkKind, ChunkedString, Date, EntryLike, Person, PlainEntry};
 use csl_base::seq::Seq;
@@ -13,7 +11,6 @@ use csl_driver::driver::BibliographyDriver;
 use csl_driver::item::CitationItem;
 use csl_driver::request::{BibliographyRequest, CitationRequest};
 use csl_writing::counter::Renders;
-use csl_writing::lookup::StyleContext;
 use csl_writing::properties::CiteProperties;
 use csl_writing::purpose::CitePurpose;
 use row_styles::styles::{
@@ -123,16 +120,6 @@ fn listing_titles(alloc: Global) -> Result<IndependentStyle, AllocError> {
     let title = text_element(TextTarget::Standard(StandardVariable::Title));
     style.bibliography = Some(bibliography_of(layout_of(alloc, title)?));
     Ok(style)
-}
-
-/// The style without locales.
-fn ringless<'a>(alloc: Global, style: &'a IndependentStyle) -> Result<StyleContext<'a>, Fail>
-    ensures { IfOk result (λ context. HasNoRing (context_source context).style.macros) }
-{
-    match style.ring(alloc)? {
-        Some(_) => Err(Fail::new("the style has a ring")),
-        None => Ok(StyleContext::new(style, None, &[])),
-    }
 }
 
 type Item<'a> = CitationItem<'a, Counting, Infallible>;

@@ -1,8 +1,6 @@
 //! A cite by itself, with pieces of other kinds and a mark for a caller's own locator.
-ghost use Rattle.std.specs.Prelude.{IfOk};
-ghost use Rattle.csl_base.specs.Ring.{HasNoRing};
-ghost use Rattle.csl_writing.specs.ContextSource.{context_source};
 
+use crate::rings::ringless;
 use csl_base::elem::ElemChild;
 use csl_base::element::{LayoutRenderingElement, TextTarget};
 use csl_base::entry::{Chunk, ChunkKind, ChunkedString, PlainEntry};
@@ -13,23 +11,12 @@ use csl_base::text::Text;
 use csl_writing::cite::Cite;
 use csl_writing::counter::Renders;
 use csl_writing::locator::{LocatorPayload, SpecificLocator, TransparentLocator};
-use csl_writing::lookup::StyleContext;
 use csl_writing::properties::CiteProperties;
 use row_styles::styles::{entry, no_affixes, number, text_element, writing};
 use std::alloc::{AllocError, Global};
 use std::test::Fail;
 
 type Properties<'a> = CiteProperties<'a, u8>;
-
-/// The style without locales.
-fn ringless<'a>(alloc: Global, style: &'a IndependentStyle) -> Result<StyleContext<'a>, Fail>
-    ensures { IfOk result (λ context. HasNoRing (context_source context).style.macros) }
-{
-    match style.ring(alloc)? {
-        Some(_) => Err(Fail::new("the style has a ring")),
-        None => Ok(StyleContext::new(style, None, &[])),
-    }
-}
 
 /// The entry's cite in the style.
 fn cite(

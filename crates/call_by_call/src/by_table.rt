@@ -1,0 +1,240 @@
+//! A document answered by the layouts of its styles, and again from a table of what these wrote, in styles
+//! that have a name in place of their layouts: answer and account have to be the same. Then each thing is
+//! taken out of the table, one at a time, and exactly that has to be missing.
+
+use crate::calls::{Seen, print_answer, refusal};
+use crate::hosting::host_styles;
+use crate::recording::Recorder;
+use crate::taking::{fill_in_turn, take_each_out};
+use cite_document::error::RunError;
+use cite_document::filling::{bibliography_request, filled_driver};
+use csl_base::entry::PlainEntry;
+use csl_base::locale::Locale;
+use csl_drive::drive::{Driven, drive};
+use csl_driver::account::Account;
+use csl_driver::error::DriverError;
+use csl_driver::rendered::Rendered;
+use csl_driver::terms::TermTables;
+use csl_table::table::Table;
+use csl_writing::layout_writer::LayoutWriter;
+use document_reading::document::{Asked, asked_in, top_of, value_of};
+use document_reading::entries::entries_of;
+use document_reading::finders::found_styles;
+use document_styles::locales::locales_at;
+use document_styles::styles::{NamedStyle, styles_of};
+use serde_json::Value;
+use std::alloc::Global;
+
+/// What is done with the document.
+#[derive(Clone, Copy)]
+pub enum TableWay {
+    /// It is answered by layouts and from the table, and then each thing is taken out of the table.
+    Compared,
+    /// It is answered so many times by layouts.
+    Finished(usize),
+    /// It is answered so many times from the table.
+    Driven(usize),
+}
+
+/// What a document asks for, with the tables of its locales.
+#[derive(Clone, Copy)]
+pub struct Asking<'a, 'e> {
+    pub alloc: Global,
+    pub asked: &'a Asked<'e>,
+    pub files: &'a TermTables<'e>,
+}
+
+/// What is read of a document once.
+#[derive(Clone, Copy)]
+struct Parts<'d> {
+    object: &'d Value,
+    /// As the document has them.
+    styles: &'d [NamedStyle],
+    /// With names in place of layouts.
+    hosts: &'d [NamedStyle],
+    entries: &'d [PlainEntry],
+    locales: &'d [Locale],
+}
+
+type Answer<'a> = (Rendered, Account<'a, PlainEntry>);
+
+/// Does it with the document.
+pub fn by_table(
+    rt: &(impl Print + Eprint + AllocGlobal),
+    document: &str,
+    way: TableWay,
+) -> Result<Seen, RunError> {
+    let _ = eprintln!(rt; "prepare");
+    let value = value_of(rt.alloc(), document)?;
+    answered_in(rt, top_of(rt.alloc(), &value)?, way)
+}
+
+fn answered_in(
+    rt: &(impl Print + Eprint + AllocGlobal),
+    object: &Value,
+    way: TableWay,
+) -> Result<Seen, RunError> {
+    let styles = styles_of(rt.alloc(), object)?;
+    let entries = entries_of(rt.alloc(), object)?;
+    let locales = locales_at(rt.alloc(), object, "locales")?;
+    let parts = Parts {
+        object,
+        styles: &styles,
+        hosts: &host_styles(rt.alloc(), object)?,
+        entries: &entries,
+        locales: &locales,
+    };
+    by_layouts(rt, &parts, way)
+}
+
+/// Answers it in the styles as they are.
+fn by_layouts(
+    rt: &(impl Print + Eprint + AllocGlobal),
+    parts: &Parts<'_>,
+    way: TableWay,
+) -> Result<Seen, RunError> {
+    let found = found_styles(rt.alloc(), parts.styles, parts.object)?;
+    let asked = asked_in(rt.alloc(), &found, parts.entries, parts.locales, parts.object)?;
+    let files = TermTables::new(rt.alloc(), asked.locales)?;
+    let asking = Asking {
+        alloc: rt.alloc(),
+        asked: &asked,
+        files: &files,
+    };
+    match way {
+        TableWay::Finished(times) => finish_often(&asking, times),
+        _ => recorded(rt, parts, &asking, way),
+    }
+}
+
+/// Answers it so many times by the layouts.
+fn finish_often(asking: &Asking<'_, '_>, times: usize) -> Result<Seen, RunError> {
+    for _ in 0..times {
+        finished(asking)?;
+    }
+    Ok(Seen::Answer)
+}
+
+/// Answers it by the layouts, and keeps nothing of that.
+fn finished(asking: &Asking<'_, '_>) -> Result<(), RunError> {
+    let asked = asking.asked;
+    let driver = filled_driver(asking.alloc, &asked.requests, asking.files, asked.offset)?;
+    let request = bibliography_request(asking.alloc, asked, asking.files)?;
+    match driver.finish_with(request, asked.rounds, &mut LayoutWriter::new()) {
+        Ok(_) => Ok(()),
+        Err(error) => Err(refusal(DriverError::from(error))),
+    }
+}
+
+/// The answer by the layouts; what they write goes into the writer's table.
+fn recorded_by<'a>(
+    asking: &Asking<'a, '_>,
+    recorder: &mut Recorder<'_>,
+) -> Result<Answer<'a>, RunError> {
+    let asked = asking.asked;
+    let driver = filled_driver(asking.alloc, &asked.requests, asking.files, asked.offset)?;
+    let request = bibliography_request(asking.alloc, asked, asking.files)?;
+    match driver.finish_with(request, asked.rounds, recorder) {
+        Ok(answer) => Ok(answer),
+        Err(error) => Err(refusal(DriverError::from(error))),
+    }
+}
+
+/// Answers it by the layouts, and then from the table.
+fn recorded(
+    rt: &(impl Print + Eprint + AllocGlobal),
+    parts: &Parts<'_>,
+    asking: &Asking<'_, '_>,
+    way: TableWay,
+) -> Result<Seen, RunError> {
+    let _ = eprintln!(rt; "finish_with");
+    let mut recorder = Recorder::new(rt.alloc(), parts.styles);
+    let answer = recorded_by(asking, &mut recorder)?;
+    by_hosts(rt, parts, &answer, &mut recorder.table, way)
+}
+
+/// Answers it from the table, in the styles of a host.
+fn by_hosts(
+    rt: &(impl Print + Eprint + AllocGlobal),
+    parts: &Parts<'_>,
+    answer: &Answer<'_>,
+    table: &mut Table,
+    way: TableWay,
+) -> Result<Seen, RunError> {
+    let _ = eprintln!(rt; "prepare");
+    let found = found_styles(rt.alloc(), parts.hosts, parts.object)?;
+    let asked = asked_in(rt.alloc(), &found, parts.entries, parts.locales, parts.object)?;
+    let files = TermTables::new(rt.alloc(), asked.locales)?;
+    let asking = Asking {
+        alloc: rt.alloc(),
+        asked: &asked,
+        files: &files,
+    };
+    let _ = eprintln!(rt; "drive");
+    match way {
+        TableWay::Driven(times) => drive_often(&asking, table, times),
+        _ if !agrees(rt, &asking, table, answer)? => Ok(Seen::Amiss("another answer, or none")),
+        _ => {
+            let calls = (answer.1.rounds as usize).wrapping_add(3);
+            take_out_and_fill(&asking, table, calls)
+        }
+    }
+}
+
+/// Takes each thing out of the table in turn, and then fills another one from it in so many calls.
+fn take_out_and_fill(
+    asking: &Asking<'_, '_>,
+    table: &mut Table,
+    calls: usize,
+) -> Result<Seen, RunError> {
+    match take_each_out(asking, table)? {
+        Seen::Answer => fill_in_turn(asking, table, calls),
+        seen => Ok(seen),
+    }
+}
+
+/// What comes of the table.
+pub fn driven<'a>(
+    asking: &Asking<'a, '_>,
+    table: &Table,
+) -> Result<Driven<'a, PlainEntry>, RunError> {
+    let asked = asking.asked;
+    let driver = filled_driver(asking.alloc, &asked.requests, asking.files, asked.offset)?;
+    let request = bibliography_request(asking.alloc, asked, asking.files)?;
+    match drive(asking.alloc, driver, request, asked.rounds, table) {
+        Ok(driven) => Ok(driven),
+        Err(error) => Err(refusal(error)),
+    }
+}
+
+/// Answers it so many times from the table.
+fn drive_often(asking: &Asking<'_, '_>, table: &Table, times: usize) -> Result<Seen, RunError> {
+    for _ in 0..times {
+        driven(asking, table)?;
+    }
+    Ok(Seen::Answer)
+}
+
+/// Prints the answer from the table, and tells whether it is the same as that of the layouts.
+fn agrees(
+    rt: &impl Print,
+    asking: &Asking<'_, '_>,
+    table: &Table,
+    answer: &Answer<'_>,
+) -> Result<bool, RunError> {
+    match driven(asking, table)? {
+        Driven::Answer(rendered, account) => {
+            print_answer(rt, &rendered);
+            Ok(rendered == answer.0 && is_same(&account, &answer.1))
+        }
+        Driven::Missing(_) => Ok(false),
+    }
+}
+
+fn is_same(one: &Account<'_, PlainEntry>, other: &Account<'_, PlainEntry>) -> bool {
+    one.renders == other.renders
+        && one.rounds == other.rounds
+        && one.entries == other.entries
+        && one.states == other.states
+        && one.numbers == other.numbers
+}

@@ -1,0 +1,30 @@
+//! Styles of a host, which have a name in place of their layouts.
+
+use cite_document::error::RunError;
+use csl_base::style::{Bibliography, IndependentStyle};
+use csl_table::host_style::named;
+use document_styles::styles::{NamedStyle, styles_of};
+use serde_json::Value;
+use std::alloc::{AllocError, Global};
+
+/// Puts the name in the place of the elements of the layouts.
+fn hide_layouts(
+    alloc: Global,
+    style: &mut IndependentStyle,
+    name: &str,
+) -> Result<(), AllocError> {
+    style.citation.layout.elements = named(alloc, name)?;
+    if let Some(Bibliography { layout, .. }) = &mut style.bibliography {
+        layout.elements = named(alloc, name)?;
+    }
+    Ok(())
+}
+
+/// The styles of the document, each with its name in place of its layouts.
+pub fn host_styles(alloc: Global, object: &Value) -> Result<Vec<NamedStyle>, RunError> {
+    let mut styles = styles_of(alloc, object)?;
+    for named in styles.iter_mut() {
+        hide_layouts(alloc, &mut named.style, named.name.as_str())?;
+    }
+    Ok(styles)
+}

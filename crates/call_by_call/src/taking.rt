@@ -1,0 +1,75 @@
+//! A table from which each thing is taken out in turn, and one that is filled with what is missing.
+
+use crate::by_table::{Asking, driven};
+use crate::calls::Seen;
+use cite_document::error::RunError;
+use csl_drive::drive::Driven;
+use csl_table::key::TaskKey;
+use csl_table::table::Table;
+use csl_writers::cite::Cite;
+use indexmap::{IndexMap, IndexSet};
+
+/// Whether the table lacks this and nothing else.
+fn lacks_alone(asking: &Asking<'_, '_>, table: &Table, key: &TaskKey) -> Result<bool, RunError> {
+    match driven(asking, table)? {
+        Driven::Answer(_, _) => Ok(false),
+        Driven::Missing(missing) => Ok(missing.len() == 1 && missing.contains(key)),
+    }
+}
+
+/// Puts what was taken out into a table.
+fn put(table: &mut Table, key: TaskKey, written: Cite) -> Result<(), RunError> {
+    match table.insert(key, written) {
+        Ok(_) => Ok(()),
+        Err(_) => Err(RunError::OutOfMemory),
+    }
+}
+
+/// Whether exactly the first thing is missing once it is taken out; then it is put back, at the end.
+fn misses_first(asking: &Asking<'_, '_>, table: &mut Table) -> Result<bool, RunError> {
+    let Some((key, written)) = table.shift_remove_index(0) else {
+        return Ok(false);
+    };
+    let is_missing = lacks_alone(asking, table, &key)?;
+    put(table, key, written)?;
+    Ok(is_missing)
+}
+
+/// Takes each thing out of the table in turn: exactly that has to be missing.
+pub fn take_each_out(asking: &Asking<'_, '_>, table: &mut Table) -> Result<Seen, RunError> {
+    for _ in 0..table.len() {
+        if !misses_first(asking, table)? {
+            return Ok(Seen::Amiss("what was taken out isn't all that is missing"));
+        }
+    }
+    Ok(Seen::Answer)
+}
+
+/// Moves what is missing from one table to the other. What was never written is asked for in vain: a cite that
+/// is compared in a later round, while one of an earlier round was missing.
+fn hand_over(missing: IndexSet<TaskKey>, from: &mut Table, to: &mut Table) -> Result<(), RunError> {
+    for key in missing {
+        if let Some((key, written)) = from.shift_remove_entry(&key) {
+            put(to, key, written)?;
+        }
+    }
+    Ok(())
+}
+
+/// Begins with an empty table and puts into it what is missing, until nothing is: the answer has to come after
+/// so many calls, and all of the table has to be asked for.
+pub fn fill_in_turn(
+    asking: &Asking<'_, '_>,
+    whole: &mut Table,
+    calls: usize,
+) -> Result<Seen, RunError> {
+    let mut given = IndexMap::new(asking.alloc);
+    for _ in 0..calls {
+        match driven(asking, &given)? {
+            Driven::Answer(_, _) if whole.is_empty() => return Ok(Seen::Answer),
+            Driven::Answer(_, _) => return Ok(Seen::Amiss("not all was asked for")),
+            Driven::Missing(missing) => hand_over(missing, whole, &mut given)?,
+        }
+    }
+    Ok(Seen::Amiss("there is no answer after so many calls"))
+}
