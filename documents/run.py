@@ -207,7 +207,9 @@ def call_by_call(calls, bases):
             if os.path.isfile(base + '.' + way):
                 made.append((way + ': ' + name_of(base), by_calls, calls, way, base, 0, read(base + '.' + way)))
         if status == 0:
-            made.append(('table: ' + name_of(base), by_calls, calls, 'table', base, 0, text))
+            # (what is written is kept under the name of a style, and those of equality/ have equal styles of several names)
+            if os.path.dirname(base) != HERE + '/equality':
+                made.append(('table: ' + name_of(base), by_calls, calls, 'table', base, 0, text))
             made.append(('copies: ' + name_of(base), by_calls, calls, 'copies', base, 0, b'copy: equal\n'))
     ring = HERE + '/rows/ring_of_one_macro'
     return [*made, ('standalone: ' + name_of(ring), by_calls, calls, 'standalone_citation', ring, 3, b'')]

@@ -77,12 +77,25 @@ fn answered_in(
     let styles = styles_of(rt.alloc(), object)?;
     let entries = entries_of(rt.alloc(), object)?;
     let locales = locales_at(rt.alloc(), object, "locales")?;
+    with_hosts(rt, object, &styles, &entries, &locales, way)
+}
+
+/// Does it with the styles of a host too.
+fn with_hosts(
+    rt: &(impl Print + Eprint + AllocGlobal),
+    object: &Value,
+    styles: &[NamedStyle],
+    entries: &[PlainEntry],
+    locales: &[Locale],
+    way: TableWay,
+) -> Result<Seen, RunError> {
+    let hosts = host_styles(rt.alloc(), object)?;
     let parts = Parts {
         object,
-        styles: &styles,
-        hosts: &host_styles(rt.alloc(), object)?,
-        entries: &entries,
-        locales: &locales,
+        styles,
+        hosts: &hosts,
+        entries,
+        locales,
     };
     by_layouts(rt, &parts, way)
 }
