@@ -3,8 +3,8 @@
 would: from C, Python and Rust, on each document of documents/ and examples/; then it runs the tests of the Python package.
 
 It needs the toolchain and a C compiler. What else it would use (c++, cargo, cmake, pkg-config, valgrind, pip, venv, pandoc, pytest,
-mypy, python3-pandocfilters, python3-jsonschema) is left out where it is missing, and a line says so. --many N has valgrind watch N
-calls in four threads, where it is 300 else.
+mypy, python3-pandocfilters, python3-jsonschema, python3-citeproc and its styles) is left out where it is missing, and a line says
+so. --many N has valgrind watch N calls in four threads, where it is 300 else.
 The last line is 'N passed, M failed', and the exit status is 1 where a test failed."""
 import collections
 import glob
@@ -400,7 +400,8 @@ def python_with_pytest():
         return os.path.exists(python) and ran(python, '-c', f'import {module}').returncode == 0
 
     pythons = [it for it in (sys.executable, '/usr/bin/python3') if has(it, 'pytest')]
-    return max(pythons, key=lambda it: sum(has(it, name) for name in ('mypy', 'pandocfilters', 'jsonschema')), default=None)
+    return max(pythons, key=lambda it: sum(has(it, name) for name in ('mypy', 'pandocfilters', 'jsonschema', 'citeproc')),
+               default=None)
 
 
 def try_tests_of_the_package(room):

@@ -8,6 +8,9 @@
 
 A document from others is answered within limits: `gamhilon.render(document, limits=gamhilon.Limits(100, 100000))`.
 
+A host that writes cites itself, such as a CSL processor, has the driver tell it what to write: `gamhilon.driven(document,
+write)`, as docs/DRIVEN.md tells it.
+
 `csl_json` reads the entries of a reference manager, `styles` has four styles to begin with, and `python -m gamhilon`
 does the same from the command line. Calls may be made from any number of threads and processes at once.
 """
@@ -16,7 +19,8 @@ from __future__ import annotations
 import json
 from typing import Any, Dict, Optional, Union
 
-from . import csl_json, styles
+from . import csl, csl_json, styles
+from ._driving import Missing, State, Task, Writer, Written, drive_bytes, driven_value
 from ._library import library
 from ._limits import Limits
 from ._version import Version, __version__, version
@@ -29,10 +33,10 @@ from .markdown_writer import bibliography_to_markdown, to_markdown
 
 __all__ = [
     'Answer', 'Bibliography', 'Citation', 'Document', 'DocumentRefused', 'Item', 'LibraryMissing', 'LimitExceeded',
-    'Limits', 'MacroRing', 'Node', 'NumberOverflow', 'OutOfMemory', 'Refused', 'TooDeep', 'TooManyElements', 'Tree',
-    'Version', '__version__', 'bibliography_to_html', 'bibliography_to_latex', 'bibliography_to_markdown', 'check',
-    'csl_json', 'plain', 'print_document', 'print_json', 'render', 'styles', 'to_html', 'to_latex', 'to_markdown',
-    'version',
+    'Limits', 'MacroRing', 'Missing', 'Node', 'NumberOverflow', 'OutOfMemory', 'Refused', 'State', 'Task', 'TooDeep',
+    'TooManyElements', 'Tree', 'Version', 'Writer', 'Written', '__version__', 'bibliography_to_html',
+    'bibliography_to_latex', 'bibliography_to_markdown', 'check', 'csl', 'csl_json', 'drive', 'driven', 'plain',
+    'print_document', 'print_json', 'render', 'styles', 'to_html', 'to_latex', 'to_markdown', 'version',
 ]
 
 Document = Union[Dict[str, Any], str, bytes]
@@ -83,6 +87,18 @@ def render(document: Document, *, limits: Optional[Limits] = None) -> Answer:
     document that isn't within them raises TooDeep or TooManyElements, each a LimitExceeded and so a Refused.
     """
     return answer_of(print_json(document, limits=limits))
+
+
+def drive(document: Document) -> Union[Answer, Missing]:
+    """The answer to a driven document (docs/DRIVEN.md), or the tasks that the host has to write before there is one.
+    Raises as `render` does, but for MacroRing: there are no macros."""
+    return drive_bytes(_bytes_of(document))
+
+
+def driven(document: Dict[str, Any], write: Writer) -> Answer:
+    """The answer to a driven document, in which the host writes each cite: `write` is called once for each task that the
+    driver asks for, and gives what was written. What the document has in `written` isn't asked for."""
+    return driven_value(document, write)
 
 
 def check(document: Document, *, limits: Optional[Limits] = None) -> None:

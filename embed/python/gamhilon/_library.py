@@ -18,6 +18,8 @@ HERE = os.path.dirname(os.path.abspath(__file__))
 NAME = 'libgamhilon.so'
 OK, ROOM_TOO_SMALL = 0, 6
 FAULT_ROOM = 4096
+# Calls that libraries from before them lack.
+DRIVE, DRIVE_FAULT = 'gamhilon_drive', 'gamhilon_drive_fault'
 
 
 class RingPlace(ctypes.Structure):
@@ -42,6 +44,19 @@ class Library:
         and a room that is too small costs the whole work once more."""
         room_length = 8 * len(document) + 4096 if room_length is None else room_length
         return self._text(self._functions.gamhilon_print_json, document, room_length)
+
+    def drive(self, document: bytes, room_length: Optional[int] = None) -> bytes:
+        """The JSON of what the driven call gives: an answer, or the tasks that are missing. Raises LibraryMissing where the
+        library is from before there was this call."""
+        function = getattr(self._functions, DRIVE, None)
+        if function is None:
+            raise LibraryMissing(f'{NAME} has no call {DRIVE}: build it anew by embed/build.py')
+        status, text = self._called(function, document, 8 * len(document) + 4096 if room_length is None else room_length)
+        if status == DocumentRefused.status:
+            raise self._driven_refused(document)
+        if status != OK:
+            raise self._refusal(status, document)
+        return text
 
     def check(self, document: bytes) -> None:
         """Raises what `render` would raise, and gives nothing where there is an answer."""
@@ -92,8 +107,16 @@ class Library:
             return OutOfMemory('memory was refused')
         return RuntimeError(f'{NAME} ended a call with status {status}, which this package does not know')
 
-    def _document_refused(self, document: bytes) -> Exception:
-        status, told = self._called(self._functions.gamhilon_fault, document, FAULT_ROOM)
+    def _driven_refused(self, document: bytes) -> Exception:
+        """The refusal of a driven document, with its place where the library has a call that tells it."""
+        function = getattr(self._functions, DRIVE_FAULT, None)
+        if function is not None:
+            return self._document_refused(document, function)
+        found, wanted = 'something else', 'a driven document'
+        return DocumentRefused(f'the document: {found}; wanted is {wanted}', '', found, wanted)
+
+    def _document_refused(self, document: bytes, fault: Optional[Any] = None) -> Exception:
+        status, told = self._called(fault or self._functions.gamhilon_fault, document, FAULT_ROOM)
         if status != OK:
             return OutOfMemory('memory was refused')
         said = json.loads(told)
@@ -123,6 +146,7 @@ def _loaded() -> ctypes.CDLL:
     try:
         library = ctypes.CDLL(place)
         texts = [library.gamhilon_print, library.gamhilon_print_json, library.gamhilon_fault]
+        texts += [getattr(library, name) for name in (DRIVE, DRIVE_FAULT) if hasattr(library, name)]
         rings, limits = [library.gamhilon_ring], [library.gamhilon_limits]
     except (OSError, AttributeError) as error:
         raise LibraryMissing(f'{error}: install the wheel of gamhilon, build {NAME} by embed/build.py, or name it in '

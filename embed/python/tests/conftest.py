@@ -69,6 +69,34 @@ def built():
         pytest.skip('the library is not built (embed/build.py)')
 
 
+class ModelOfTheDriver(MadeUpLibrary):
+    """Stands in for a library that has the driven call: the model of the repository answers it."""
+
+    def gamhilon_drive(self, document, document_length, *room):
+        sys.path.insert(0, f'{ROOT}/model')
+        try:
+            import driven
+        finally:
+            sys.path.remove(f'{ROOT}/model')
+        kind, value = driven.drive(json.loads(document))
+        return self._put(json.dumps({kind: value}).encode(), 0, document, document_length, *room)
+
+
+@pytest.fixture(params=['model', 'library'])
+def driver(request, monkeypatch):
+    """For tests of the driven call: the model of it, and the shared library where it is built and has it. Gives what counts
+    the calls of the model."""
+    if request.param == 'model':
+        functions = ModelOfTheDriver()
+        monkeypatch.setattr(_library, '_library', _library.Library(functions))
+        return functions
+    if not os.path.exists(_library.path()):
+        pytest.skip('the library is not built (embed/build.py)')
+    if not hasattr(_library._loaded(), _library.DRIVE):
+        pytest.skip('the library has no driven call')
+    return None
+
+
 @pytest.fixture
 def example():
     """The text of a file of examples/."""

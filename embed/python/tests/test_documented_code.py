@@ -1,0 +1,53 @@
+"""The Python of the documentation, as it stands there."""
+import contextlib
+import io
+import re
+
+import pytest
+from conftest import ROOT
+
+import gamhilon
+
+
+def block(name, first_words):
+    """The block of Python in a file that has these words."""
+    with open(f'{ROOT}/{name}', encoding='utf-8') as file:
+        blocks = re.findall(r'```python\n(.*?)```', file.read(), re.DOTALL)
+    found = [it for it in blocks if first_words in it]
+    assert len(found) == 1, f'{name}: {len(found)} blocks have {first_words!r}'
+    return found[0]
+
+
+def printed(code, **known):
+    out = io.StringIO()
+    with contextlib.redirect_stdout(out):
+        exec(code, {'__name__': 'documented', **known})
+    return out.getvalue()
+
+
+def test_the_host_of_the_readme(driver):
+    code = block('embed/README.md', 'gamhilon.driven(document, write)')
+    assert len(code.strip().splitlines()) <= 30
+    assert printed(code) == '(Doe 1999a, b, 4; Roe 2003)\n(John Doe 1999)\n'
+
+
+def needs_published_styles():
+    pytest.importorskip('citeproc', reason='there is no citeproc-py (Debian: python3-citeproc)')
+    from gamhilon.csl import style
+    try:
+        style.find('apa')
+    except style.StyleMissing:
+        pytest.skip('there are no published styles (Debian: citation-style-language-styles)')
+
+
+@pytest.mark.filterwarnings('ignore')
+def test_published_styles_of_the_documentation(driver):
+    needs_published_styles()
+    assert printed(block('docs/STYLES.md', 'csl.render')) == '(A. Smith, 2010, p. 4)\n(see B. Smith, 2010)\n'
+
+
+@pytest.mark.filterwarnings('ignore')
+def test_the_published_style_of_the_readme(driver, monkeypatch):
+    needs_published_styles()
+    monkeypatch.chdir(f'{ROOT}/embed/python/example')
+    assert printed(block('README.md', 'gamhilon.csl.render'), gamhilon=gamhilon) == "['(Darwin 1859, 84)']\n"
