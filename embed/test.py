@@ -298,6 +298,13 @@ def try_from_python(cases, jsons):
         hold((refusal.request, refusal.macro_place) == (1, 1), 'the place of a ring of a request')
 
 
+def try_driving():
+    """The driven call beside its model, as hosts of ordinary documents make it (model/driven_check.py)."""
+    done = ran(sys.executable, f'{ROOT}/model/driven_check.py', '--library', f'{OUT}/libgamhilon.so', timeout=600)
+    told = done.stdout.decode() + done.stderr.decode()
+    hold(done.returncode == 0 and ' passed, 0 failed' in told, f'the driven call and its model: {told[-1200:]}')
+
+
 def try_package(room):
     """`pip install embed/python`, and then a document in a process that knows nothing of this folder."""
     if ran(sys.executable, '-m', 'pip', '--version').returncode:
@@ -516,6 +523,7 @@ def main(words):
                 jsons = try_from_c(room, cases)
                 try_from_python(cases, jsons)
                 try_limits(room, cases)
+                try_driving()
                 try_building()
                 try_about(room)
                 try_package(room)

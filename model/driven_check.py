@@ -35,7 +35,7 @@ def without(value, keys):
 
 def driven_style(style):
     """The style without what it writes."""
-    kept = {key: style[key] for key in ('class',) if key in style}
+    kept = {key: style[key] for key in ('class', 'default_locale') if key in style}
     kept['citation'] = without(style['citation'], RENDERER_KEYS)
     if 'bibliography' in style:
         kept['bibliography'] = without(style['bibliography'], ITEM_KEYS)
@@ -73,7 +73,7 @@ class Host:
     def renderer(self, task, properties):
         style = self.document['styles'][task['style']]
         files = self.document.get('locales', [])
-        return Renderer(style, task.get('locale'), files, self.entries[task['entry']], properties, Counter())
+        return Renderer(style, task['locale'], files, self.entries[task['entry']], properties, Counter())
 
     def write(self, task):
         """The written thing for a task, as `written` has it. The note of a cite, which no layout shows, has to be that of its

@@ -119,9 +119,9 @@ def by_gamhilon(style, entries, citations):
 def use_model():
     """Has the model answer the driven call, as the tests of the package do."""
     sys.path.insert(0, f'{PACKAGE}/tests')
-    import conftest
     from gamhilon import _library
-    _library._library = _library.Library(conftest.ModelOfTheDriver())
+    from stand_ins import ModelOfTheDriver
+    _library._library = _library.Library(ModelOfTheDriver())
 
 
 def fails(render, *given):

@@ -97,7 +97,10 @@ def drive(document: Document) -> Union[Answer, Missing]:
 
 def driven(document: Dict[str, Any], write: Writer) -> Answer:
     """The answer to a driven document, in which the host writes each cite: `write` is called once for each task that the
-    driver asks for, and gives what was written. What the document has in `written` isn't asked for."""
+    driver asks for, and gives what was written. What the document has in `written` isn't asked for.
+
+    The document is handed in again with what was written, in all at most three times more than rounds of disambiguation
+    mark. Raises as `drive` does, and what `write` raises."""
     return driven_value(document, write)
 
 

@@ -39,14 +39,15 @@ class State:
 class Task:
     """Something that the host has to write: a `cite`, an `item` of the bibliography, or the `date` of a cite alone.
 
-    What doesn't apply is None or False. `number` counts from 0. `place` is there where a cite is written for the last time:
-    the places of its request and of its item, from 0. Tasks that are compared have none, and no locator.
+    What doesn't apply is None or False. `locale` is the locale in use, `number` counts from 0. `place` is there where a cite
+    is written for the last time: the places of its request and of its item, from 0. Cites that are compared have none, and
+    no locator.
     """
 
     kind: str
     style: str
+    locale: str
     entry: str
-    locale: Optional[str] = None
     place: Optional[Tuple[int, int]] = None
     note: Optional[int] = None
     first_note: Optional[int] = None
@@ -166,7 +167,8 @@ def drive_bytes(document: bytes) -> Union[Answer, Missing]:
 
 
 def driven_value(document: Dict[str, Any], write: Writer) -> Answer:
-    """Calls, and has the host write what is missing, until there is an answer."""
+    """Calls, and has the host write what is missing, until there is an answer. A driver that asks for what was written ends
+    it with a RuntimeError."""
     written: List[Any] = list(document.get('written', []))
     asked: Set[Task] = set()
     while True:

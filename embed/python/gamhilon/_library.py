@@ -18,7 +18,7 @@ HERE = os.path.dirname(os.path.abspath(__file__))
 NAME = 'libgamhilon.so'
 OK, ROOM_TOO_SMALL = 0, 6
 FAULT_ROOM = 4096
-# Calls that libraries from before them lack.
+# Calls that older libraries of the same name lack.
 DRIVE, DRIVE_FAULT = 'gamhilon_drive', 'gamhilon_drive_fault'
 
 
@@ -46,14 +46,12 @@ class Library:
         return self._text(self._functions.gamhilon_print_json, document, room_length)
 
     def drive(self, document: bytes, room_length: Optional[int] = None) -> bytes:
-        """The JSON of what the driven call gives: an answer, or the tasks that are missing. Raises LibraryMissing where the
-        library is from before there was this call."""
-        function = getattr(self._functions, DRIVE, None)
-        if function is None:
-            raise LibraryMissing(f'{NAME} has no call {DRIVE}: build it anew by embed/build.py')
-        status, text = self._called(function, document, 8 * len(document) + 4096 if room_length is None else room_length)
+        """The JSON of what comes of a driven document: an answer, or the tasks that are missing. Raises LibraryMissing where
+        the library is older than this call. Its room at first is that of `print_json`."""
+        room_length = 8 * len(document) + 4096 if room_length is None else room_length
+        status, text = self._called(self._newer(DRIVE), document, room_length)
         if status == DocumentRefused.status:
-            raise self._driven_refused(document)
+            raise self._document_refused(document, self._newer(DRIVE_FAULT))
         if status != OK:
             raise self._refusal(status, document)
         return text
@@ -92,13 +90,20 @@ class Library:
             if status != ROOM_TOO_SMALL:
                 return status, bytes(memoryview(room)[:length.value]) if status == OK else b''
 
+    def _newer(self, name: str) -> Any:
+        """A call that the library has unless it is older than the call."""
+        try:
+            return getattr(self._functions, name)
+        except AttributeError as error:
+            raise LibraryMissing(f'{error}: {NAME} is older than the call {name}, build it anew by embed/build.py') from error
+
     def _ring(self, document: bytes) -> Tuple[int, RingPlace]:
         ring = RingPlace()
         return self._functions.gamhilon_ring(document, len(document), ctypes.byref(ring)), ring
 
     def _refusal(self, status: int, document: bytes) -> Exception:
         if status == DocumentRefused.status:
-            return self._document_refused(document)
+            return self._document_refused(document, self._functions.gamhilon_fault)
         if status == MacroRing.status:
             return self._macro_ring(document)
         if status == NumberOverflow.status:
@@ -107,16 +112,9 @@ class Library:
             return OutOfMemory('memory was refused')
         return RuntimeError(f'{NAME} ended a call with status {status}, which this package does not know')
 
-    def _driven_refused(self, document: bytes) -> Exception:
-        """The refusal of a driven document, with its place where the library has a call that tells it."""
-        function = getattr(self._functions, DRIVE_FAULT, None)
-        if function is not None:
-            return self._document_refused(document, function)
-        found, wanted = 'something else', 'a driven document'
-        return DocumentRefused(f'the document: {found}; wanted is {wanted}', '', found, wanted)
-
-    def _document_refused(self, document: bytes, fault: Optional[Any] = None) -> Exception:
-        status, told = self._called(fault or self._functions.gamhilon_fault, document, FAULT_ROOM)
+    def _document_refused(self, document: bytes, fault: Any) -> Exception:
+        """The refusal of a document, whose first fault the call `fault` tells."""
+        status, told = self._called(fault, document, FAULT_ROOM)
         if status != OK:
             return OutOfMemory('memory was refused')
         said = json.loads(told)

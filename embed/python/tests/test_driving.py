@@ -5,6 +5,7 @@ import pytest
 
 import gamhilon
 from gamhilon import _library
+from stand_ins import MadeUpLibrary
 
 NORMAL = {'font_style': 'normal', 'font_weight': 'normal'}
 STYLE = {'citation': {'prefix': '(', 'suffix': ')', 'delimiter': '; ', 'add_names': True, 'add_givenname': True,
@@ -75,12 +76,47 @@ def test_each_task_is_written_once(driver):
     assert sum(task.entry == 'one' and task.state is None and not task.is_final for task in seen) == 3
 
 
+@pytest.fixture
+def handed_in(driver, monkeypatch):
+    """The driven documents of all calls."""
+    documents, drive = [], _library.Library.drive
+
+    def noting(library, document):
+        documents.append(json.loads(document))
+        return drive(library, document)
+
+    monkeypatch.setattr(_library.Library, 'drive', noting)
+    return documents
+
+
+@pytest.mark.parametrize('cited, rounds', [
+    ([], 0), (['four'], 0), (['one', 'two'], 1), (['one', 'three'], 1), (['one', 'two', 'three'], 2),
+])
+def test_a_document_is_handed_in_three_times_more_than_rounds_mark(handed_in, cited, rounds):
+    """Two works of Jane are told by suffixes, in one round; Jane and John by given names, in one round before that. Without
+    cites there is nothing to write."""
+    gamhilon.driven(document(*[[{'entry': key}] for key in cited], rounds='full'), write)
+    assert len(handed_in) == (rounds + 3 if cited else 1)
+    assert handed_in[0]['written'] == []
+    for before, after in zip(handed_in, handed_in[1:]):
+        assert before['written'] == after['written'][:len(before['written'])] != after['written']
+
+
+def test_the_locale_in_use_is_told(driver):
+    """It is the request's, else that of the style, else en-US."""
+    asked = document([{'entry': 'one'}], [{'entry': 'four'}])
+    asked['requests'][1]['locale'] = 'fr-FR'
+    assert [it.locale for it in gamhilon.drive(asked).tasks] == ['en-US', 'fr-FR']
+    asked['styles']['s'] = {**STYLE, 'default_locale': 'de-DE'}
+    assert [it.locale for it in gamhilon.drive(asked).tasks] == ['de-DE', 'fr-FR']
+
+
 def test_what_is_missing_at_first_are_the_first_renderings(driver):
     missing = gamhilon.drive(document([{'entry': 'one', 'locator': ['page', '4']}, {'entry': 'one'}], [{'entry': 'four'}]))
     assert missing == gamhilon.Missing([
-        gamhilon.Task('cite', 's', 'one', first=True, number=0),
-        gamhilon.Task('cite', 's', 'one', number=0),
-        gamhilon.Task('cite', 's', 'four', first=True, number=1)])
+        gamhilon.Task('cite', 's', 'en-US', 'one', first=True, number=0),
+        gamhilon.Task('cite', 's', 'en-US', 'one', number=0),
+        gamhilon.Task('cite', 's', 'en-US', 'four', first=True, number=1)])
     assert [task.position for task in missing.tasks] == ['first', 'subsequent', 'first']
     assert not any(task.is_final for task in missing.tasks)
 
@@ -120,12 +156,12 @@ def test_notes_and_positions(driver):
 
 
 @pytest.mark.parametrize('data', [
-    {'kind': 'date', 'style': 's', 'entry': 'e', 'place': [0, 1], 'locale': 'de-DE'},
-    {'kind': 'item', 'style': 's', 'entry': 'e', 'number': 0, 'note': 0, 'first_note': 0, 'near_note': True,
+    {'kind': 'date', 'style': 's', 'locale': 'de-DE', 'entry': 'e', 'place': [0, 1]},
+    {'kind': 'item', 'style': 's', 'locale': 'en-US', 'entry': 'e', 'number': 0, 'note': 0, 'first_note': 0, 'near_note': True,
      'first': True, 'state': 'choose', 'usage': 'both'},
-    {'kind': 'cite', 'style': 's', 'entry': 'e', 'number': 3, 'place': [2, 0], 'locator': ['page', '4'],
+    {'kind': 'cite', 'style': 's', 'locale': 'en-US', 'entry': 'e', 'number': 3, 'place': [2, 0], 'locator': ['page', '4'],
      'repeats': 'ibid-with-locator', 'state': {'suffix': 0}, 'purpose': 'prose', 'verdict': 'date'},
-    {'kind': 'cite', 'style': 's', 'entry': 'e', 'number': 3, 'state': {'names': ['short', 'count']}},
+    {'kind': 'cite', 'style': 's', 'locale': 'en-US', 'entry': 'e', 'number': 3, 'state': {'names': ['short', 'count']}},
 ])
 def test_a_task_is_the_value_that_the_driver_asked_for(data):
     task = gamhilon.Task.of(data)
@@ -134,12 +170,12 @@ def test_a_task_is_the_value_that_the_driver_asked_for(data):
 
 @pytest.mark.parametrize('place, letters', [(0, 'a'), (25, 'z'), (26, 'aa'), (51, 'az'), (52, 'ba'), (701, 'zz'), (702, 'aaa')])
 def test_letters_of_suffixes(place, letters):
-    assert gamhilon.Task('cite', 's', 'e', state=gamhilon.State(suffix=place)).year_suffix == letters
+    assert gamhilon.Task('cite', 's', 'en-US', 'e', state=gamhilon.State(suffix=place)).year_suffix == letters
 
 
 def test_a_state_is_told_by_the_properties_of_a_task():
-    plain, chosen = gamhilon.Task('cite', 's', 'e'), gamhilon.Task('cite', 's', 'e', state=gamhilon.State(choose=True))
-    named = gamhilon.Task('cite', 's', 'e', state=gamhilon.State(names=('full',)))
+    plain, chosen = gamhilon.Task('cite', 's', 'en-US', 'e'), gamhilon.Task('cite', 's', 'en-US', 'e', state=gamhilon.State(choose=True))
+    named = gamhilon.Task('cite', 's', 'en-US', 'e', state=gamhilon.State(names=('full',)))
     assert [(it.disambiguates, it.name_forms, it.year_suffix) for it in (plain, chosen, named)] == [
         (False, None, ''), (True, None, ''), (False, ('full',), '')]
 
@@ -149,30 +185,24 @@ def test_a_state_is_told_by_the_properties_of_a_task():
     (False, 'ibid-with-locator', 'ibid-with-locator'),
 ])
 def test_positions_are_those_of_csl(first, repeats, position):
-    assert gamhilon.Task('cite', 's', 'e', first=first, repeats=repeats).position == position
+    assert gamhilon.Task('cite', 's', 'en-US', 'e', first=first, repeats=repeats).position == position
 
 
 def test_what_was_noted_is_told_and_what_was_not_is_left_out():
-    task = gamhilon.Task('date', 's', 'e')
-    said = {'kind': 'date', 'style': 's', 'entry': 'e'}
+    task = gamhilon.Task('date', 's', 'en-US', 'e')
+    said = {'kind': 'date', 'style': 's', 'locale': 'en-US', 'entry': 'e'}
     assert gamhilon.Written([]).data(task) == {'task': said, 'tree': []}
     assert gamhilon.Written([text('x')], True, ('short', 'count'), 'number').data(task) == {
         'task': said, 'tree': [text('x')], 'disambiguate_tested': True, 'first_name': ['short', 'count'], 'usage': 'number'}
 
 
-class MadeUpDriver:
-    """Ends each driven call with a status, or with a text."""
+class MadeUpDriver(MadeUpLibrary):
+    """Ends each driven call with a status, or with a text; and has one fault."""
 
-    def __init__(self, status=0, told=b''):
-        self.status, self.told, self.calls = status, told, 0
+    gamhilon_drive = MadeUpLibrary.gamhilon_print
 
-    def gamhilon_drive(self, document, document_length, room, room_length, length):
-        self.calls += 1
-        length._obj.value = len(self.told)
-        if self.status == 0 and len(self.told) > room_length:
-            return 6
-        room[:len(self.told)] = self.told
-        return self.status
+    def gamhilon_drive_fault(self, *given):
+        return self.gamhilon_fault(*given)
 
 
 @pytest.fixture
@@ -185,12 +215,12 @@ def made_up_driver(monkeypatch):
 
 
 def test_a_driver_that_asks_again_ends_the_loop(made_up_driver):
-    task = json.dumps({'kind': 'date', 'style': 's', 'entry': 'e'})
-    functions = made_up_driver(told=f'{{"missing":[{task}]}}'.encode())
+    task = json.dumps({'kind': 'date', 'style': 's', 'locale': 'en-US', 'entry': 'e'})
+    functions = made_up_driver(text=f'{{"missing":[{task}]}}'.encode())
     with pytest.raises(RuntimeError, match='asked again'):
         gamhilon.driven({}, write)
-    assert functions.calls == 2
-    made_up_driver(told=b'{"missing":[]}')
+    assert len(functions.calls) == 2
+    made_up_driver(text=b'{"missing":[]}')
     with pytest.raises(RuntimeError, match='asked again'):
         gamhilon.driven({}, write)
 
@@ -209,17 +239,51 @@ def test_each_status_has_its_error(made_up_driver, status, kind):
 
 
 def test_a_refused_document_has_the_place_that_the_library_tells(made_up_driver):
-    functions = made_up_driver(status=2)
-    with pytest.raises(gamhilon.DocumentRefused) as refusal:
-        gamhilon.drive({'styles': 5})
-    assert refusal.value.pointer == ''
-    told = json.dumps({'pointer': '/styles', 'found': 'a number', 'wanted': 'an object'}).encode()
-    functions.gamhilon_drive_fault = MadeUpDriver(told=told).gamhilon_drive
+    made_up_driver(status=2, fault={'pointer': '/styles', 'found': 'a number', 'wanted': 'an object'})
     with pytest.raises(gamhilon.DocumentRefused) as refusal:
         gamhilon.drive({'styles': 5})
     assert refusal.value.pointer == '/styles' and str(refusal.value) == '/styles: a number, 5; wanted is an object'
 
 
+def test_memory_that_is_refused_while_the_place_is_looked_for_is_told(made_up_driver):
+    made_up_driver(status=2, fault_status=5)
+    with pytest.raises(gamhilon.OutOfMemory):
+        gamhilon.drive({'styles': 5})
+
+
 def test_a_room_that_is_too_small_grows(made_up_driver):
-    functions = made_up_driver(told=json.dumps({'answer': {'citations': [{'content': [text('x' * 100000)]}]}}).encode())
-    assert texts(gamhilon.drive({})) == ['x' * 100000] and functions.calls == 2
+    functions = made_up_driver(text=json.dumps({'answer': {'citations': [{'content': [text('x' * 100000)]}]}}).encode())
+    assert texts(gamhilon.drive({})) == ['x' * 100000] and len(functions.calls) == 2
+
+
+def with_written(*tree, **task):
+    """A document in which this task is written as this tree."""
+    asked = {'kind': 'date', 'style': 's', 'locale': 'en-US', 'entry': 'one', **task}
+    return document(written=[{'task': {key: it for key, it in asked.items() if it is not None}, 'tree': list(tree)}])
+
+
+@pytest.mark.parametrize('refused, pointer', [
+    (document(locales=[]), ''),
+    ({**document(), 'styles': {'s': {'citation': {'elements': []}}}}, '/styles/s/citation'),
+    ({**document(), 'bibliography': {'style': 'none'}}, '/bibliography/style'),
+    (document([{'entry': 'none'}]), '/requests/0/items/0/entry'),
+    (with_written(locale=None), '/written/0/task'),
+    (with_written(kind='letter'), '/written/0/task/kind'),
+    (with_written(entry='none'), '/written/0/task/entry'),
+    (with_written(style='none'), '/written/0/task/style'),
+    (with_written({'children': [], 'meta': 'title'}), '/written/0/tree/0/meta'),
+    (document(written=with_written()['written'] + with_written(text('x'))['written']), '/written/1'),
+])
+def test_a_driven_document_is_refused_by_its_place(drives, refused, pointer):
+    """docs/DRIVEN.md: what isn't of the form is refused, and so is a task of what the document doesn't have."""
+    with pytest.raises(gamhilon.DocumentRefused) as refusal:
+        gamhilon.drive(refused)
+    assert refusal.value.pointer == pointer
+
+
+def test_what_is_written_and_not_asked_for_is_no_fault(driver):
+    """docs/DRIVEN.md: a host may hand in more than is asked for, and the same thing twice."""
+    more = with_written()['written']
+    seen = []
+    answer = gamhilon.driven(document([{'entry': 'four'}], written=more * 2), lambda it: seen.append(it) or write(it))
+    assert answer == gamhilon.driven(document([{'entry': 'four'}]), write) and len(seen) == 3
