@@ -1,6 +1,7 @@
 """The Python of the documentation, as it stands there."""
 import contextlib
 import io
+import json
 import re
 
 import pytest
@@ -23,6 +24,21 @@ def printed(code, **known):
     with contextlib.redirect_stdout(out):
         exec(code, {'__name__': 'documented', **known})
     return out.getvalue()
+
+
+def test_the_loop_of_the_driven_document(driver):
+    """docs/DRIVEN.md: a document, and what is missing at first, and then."""
+    with open(f'{ROOT}/docs/DRIVEN.md', encoding='utf-8') as file:
+        section = file.read().split('## The loop')[1].split('\n## ')[0]
+    document, *asked = map(json.loads, re.findall(r'(?:^    .*\n)+', section, re.MULTILINE))
+    texts, seen = ['Doe 1999', 'Doe 1999, 4'], []
+
+    def write(task):
+        seen.append({'missing': [task.data()]})
+        return gamhilon.Written([{'text': texts[len(seen) - 1], 'font_style': 'normal', 'font_weight': 'normal'}])
+
+    answer = gamhilon.driven(document, write)
+    assert seen == asked and [gamhilon.plain(it.content) for it in answer.citations] == ['(Doe 1999, 4)']
 
 
 def test_the_host_of_the_readme(driver):
