@@ -3,8 +3,9 @@
 
 Renders the citations of citations.json, of the works of references.json, in each style (those of styles.json where none is
 named), and prints which of them read as pandoc's do, in the table of docs/STYLES.md; with --texts each text that doesn't, too.
-styles.json has by hand why citations differ, by the names of causes.json. The exit status is 1 where that isn't so: where a
-citation differs and no cause is told, or one is told and nothing differs.
+styles.json has by hand why citations differ, by the names of causes.json. The exit status is 1 where a citation differs and no
+cause is told, where one is told and nothing differs, and, where no style is named, where docs/STYLES.md doesn't have the
+citations, the table and the causes as they are here.
 With --each N nothing is compared: each N-th of the published styles is rendered, and those are told in which citeproc-py ends in an
 error, with Gamhilon and alone.
 It needs Debian's python3-citeproc, citation-style-language-styles and pandoc, and runs by Debian's Python. With --model the
@@ -183,12 +184,23 @@ def unexplained(told, count, driven):
     return sorted(explained ^ (set(range(1, count + 1)) - set(driven)))
 
 
-def print_table(results, all_styles, count):
-    print('| Style | citeproc-py alone | with Gamhilon | Why others differ |\n|---|---|---|---|')
+def table(results, all_styles, count):
+    """The lines of the table."""
+    lines = ['| Style | citeproc-py alone | with Gamhilon | Why others differ |', '|---|---|---|---|']
     for name, (alone, driven) in results.items():
-        print(f'| {name} | {len(alone)}: {runs(alone)} | {len(driven)}: {runs(driven)} | {causes_of(all_styles.get(name, {}))} |')
+        cells = [name, f'{len(alone)}: {runs(alone)}', f'{len(driven)}: {runs(driven)}', causes_of(all_styles.get(name, {}))]
+        lines.append(f'| {" | ".join(cells)} |')
     alone, driven = (sum(len(it[which]) for it in results.values()) for which in (0, 1))
-    print(f'| of {len(results) * count} | {alone} | {driven} | |')
+    return [*lines, f'| of {len(results) * count} | {alone} | {driven} | |']
+
+
+def undocumented(lines, citations):
+    """The lines of the table, of the citations and of the causes that docs/STYLES.md lacks."""
+    with open(f'{ROOT}/docs/STYLES.md', encoding='utf-8') as file:
+        documented = set(file.read().splitlines())
+    wanted = [f'{place + 1}. {it["what"]}: `{markdown(it["cites"])}`' for place, it in enumerate(citations)]
+    wanted += [f'- **{name}**: {cause}' for name, cause in read('causes.json').items()]
+    return [it for it in lines + wanted if it not in documented]
 
 
 def main(words):
@@ -196,18 +208,20 @@ def main(words):
     sys.path.insert(0, PACKAGE)
     if '--model' in words:
         use_model()
-    entries, all_styles = read('references.json'), read('styles.json')
-    citations = [it['cites'] for it in read('citations.json')]
+    entries, all_styles, all_citations = read('references.json'), read('styles.json'), read('citations.json')
+    citations = [it['cites'] for it in all_citations]
     if '--each' in words:
         return try_each(int(words[words.index('--each') + 1]), entries, citations)
-    names = [it for it in words if not it.startswith('--')] or list(all_styles)
-    results = {name: compare(name, entries, citations, '--texts' in words) for name in names}
-    print_table(results, all_styles, len(citations))
+    named = [it for it in words if not it.startswith('--')]
+    results = {it: compare(it, entries, citations, '--texts' in words) for it in named or all_styles}
+    lines = table(results, all_styles, len(citations))
+    print(*lines, sep='\n')
     wrong = {name: unexplained(all_styles.get(name, {}), len(citations), driven) for name, (_, driven) in results.items()}
-    for name, numbers in wrong.items():
-        if numbers:
-            print(f'{name}: not as styles.json says: {runs(numbers)}', file=sys.stderr)
-    return 1 if any(wrong.values()) else 0
+    told = [f'{name}: not as styles.json says: {runs(numbers)}' for name, numbers in wrong.items() if numbers]
+    if not named:
+        told += [f'docs/STYLES.md lacks: {it}' for it in undocumented(lines, all_citations)]
+    print(*told, sep='\n', end='\n' if told else '', file=sys.stderr)
+    return 1 if told else 0
 
 
 if __name__ == '__main__':

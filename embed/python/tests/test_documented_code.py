@@ -62,6 +62,12 @@ def test_published_styles_of_the_documentation(driver):
     assert printed(block('docs/STYLES.md', 'csl.render')) == '(A. Smith, 2010, p. 4)\n(see B. Smith, 2010)\n'
 
 
+def test_the_document_of_the_readme(built, monkeypatch):
+    monkeypatch.chdir(f'{ROOT}/embed/python/example')
+    first, *items = printed(block('README.md', 'gamhilon.render(document)')).splitlines()
+    assert first == '(<a href="#ref-darwin">Darwin 1859, 84</a>)' and '<div id="ref-darwin" class="csl-entry">' in ''.join(items)
+
+
 @pytest.mark.filterwarnings('ignore')
 def test_the_published_style_of_the_readme(driver, monkeypatch):
     needs_published_styles()
