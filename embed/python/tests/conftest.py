@@ -48,6 +48,22 @@ def driver(request, monkeypatch):
 
 
 @pytest.fixture
+def citeproc():
+    """For tests in which citeproc-py writes."""
+    pytest.importorskip('citeproc', reason='there is no citeproc-py (Debian: python3-citeproc)')
+
+
+@pytest.fixture
+def published(citeproc):
+    """For tests of published styles."""
+    from gamhilon.csl import style
+    try:
+        style.find('apa')
+    except style.StyleMissing:
+        pytest.skip('there are no published styles (Debian: citation-style-language-styles)')
+
+
+@pytest.fixture
 def example():
     """The text of a file of examples/."""
     def read(name):

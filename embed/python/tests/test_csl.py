@@ -11,24 +11,16 @@ from conftest import PACKAGE
 
 import gamhilon
 from gamhilon import csl
+from gamhilon.csl.attributes import driven_style, unshrunk
+from gamhilon.csl.given_names import GivenNames
 from gamhilon.csl.marks import Marks, cleaned, closed_up, split
 
-pytest.importorskip('citeproc', reason='there is no citeproc-py (Debian: python3-citeproc)')
 pytestmark = pytest.mark.filterwarnings('ignore')
-
-from gamhilon.csl import style as styles  # noqa: E402
-from gamhilon.csl.attributes import driven_style, unshrunk  # noqa: E402
-from gamhilon.csl.given_names import GivenNames  # noqa: E402
 
 NORMAL = {'font_style': 'normal', 'font_weight': 'normal'}
 NAMES = '<names variable="author"><name form="short"/></names>'
 DATE = '<date variable="issued"><date-part name="year"/></date>'
 BOTH = f'<group delimiter=" ">{NAMES}{DATE}</group>'
-
-
-def published():
-    if not os.path.isdir(styles.STYLES):
-        pytest.skip('there are no published styles (Debian: citation-style-language-styles)')
 
 
 def entry(key, *names, year=None, **more):
@@ -39,7 +31,7 @@ def entry(key, *names, year=None, **more):
 
 
 @pytest.fixture
-def render(tmp_path, driver):
+def render(tmp_path, citeproc, driver):
     """Renders citations in a style of which this is the layout of cites, and what else is given."""
     def rendered(layout, entries, *citations, attributes='', layout_attributes='prefix="(" suffix=")" delimiter="; "',
                  style_class='in-text', before='', sort='', bibliography='', locale=None):
@@ -187,7 +179,7 @@ def test_affixes_and_suppressed_authors_are_of_the_cite(render):
 
 
 def test_nothing_stands_in_for_a_suppressed_author(render):
-    names = f'<names variable="author"><name/><substitute><text variable="title"/></substitute></names>'
+    names = '<names variable="author"><name/><substitute><text variable="title"/></substitute></names>'
     told = render(f'<group delimiter=" ">{names}{DATE}</group>', [entry('one', 'Doe', year=1999), entry('two', year=2000)],
                   [{'id': 'one', 'suppress-author': True}], [{'id': 'two', 'suppress-author': True}])
     assert told.citations == ['(1999)', '(Title two 2000)']
@@ -291,7 +283,7 @@ def test_trees_have_formats_and_metas(render):
 
 
 def test_the_case_of_a_text_with_marks(render):
-    before = f'<macro name="m"><names variable="author"><name/></names><text value=" on order"/></macro>'
+    before = '<macro name="m"><names variable="author"><name/></names><text value=" on order"/></macro>'
     told = render('<text macro="m" text-case="capitalize-first"/>', [entry('one', 'van Doe')], ['one'], before=before)
     assert told.citations == ['(Van Doe on order)']
 
@@ -332,7 +324,8 @@ def test_texts_of_entries_have_no_marks(render):
 
 # Styles
 
-def test_the_attributes_of_a_style_are_those_of_a_driven_style(tmp_path):
+def test_the_attributes_of_a_style_are_those_of_a_driven_style(citeproc, tmp_path):
+    from gamhilon.csl import style as styles
     path = tmp_path / 'style.csl'
     path.write_text('''<style xmlns="http://purl.org/net/xbiblio/csl" version="1.0" class="note">
         <citation disambiguate-add-names="true" disambiguate-add-givenname="false" givenname-disambiguation-rule="primary-name"
@@ -349,14 +342,13 @@ def test_the_attributes_of_a_style_are_those_of_a_driven_style(tmp_path):
     assert unshrunk(made)['citation'] == citation
 
 
-def test_a_dependent_style_is_that_of_its_parent(driver):
-    published()
+def test_a_dependent_style_is_that_of_its_parent(published, driver):
     entries = [entry('one', 'Doe, Jane', year=1999)]
     own, parent = (csl.render(name, entries, [[{'id': 'one'}]]) for name in ('nature-genetics', 'nature'))
     assert own.citations == ['1'] and own.bibliography == parent.bibliography
 
 
-def test_a_style_of_a_file_depends_on_one_beside_it(tmp_path, driver):
+def test_a_style_of_a_file_depends_on_one_beside_it(tmp_path, citeproc, driver):
     head = '<style xmlns="http://purl.org/net/xbiblio/csl" version="1.0" class="in-text"'
     (tmp_path / 'child.csl').write_text(f'''{head} default-locale="de-DE"><info>
         <link href="http://www.zotero.org/styles/parent" rel="independent-parent"/></info></style>''')
@@ -364,8 +356,8 @@ def test_a_style_of_a_file_depends_on_one_beside_it(tmp_path, driver):
     assert csl.render(str(tmp_path / 'child.csl'), [entry('one')], [[{'id': 'one'}]]).citations == ['und']
 
 
-def test_what_is_missing_is_told(driver):
-    with pytest.raises(ValueError, match='no style'):
+def test_what_is_missing_is_told(citeproc):
+    with pytest.raises(csl.StyleMissing, match='no-such-style'):
         csl.render('no-such-style', [], [])
     with pytest.raises(ValueError, match="'two'"):
         csl.render('apa', [entry('one')], [[{'id': 'two'}]])
@@ -391,8 +383,7 @@ PANDOC = {
 
 
 @pytest.mark.parametrize('name', PANDOC)
-def test_published_styles_as_pandoc_prints_them(driver, name):
-    published()
+def test_published_styles_as_pandoc_prints_them(published, driver, name):
     citations = [[{'id': 'watson'}], [{'id': 'watson', 'locator': '737'}], [{'id': 'anna'}, {'id': 'brian'}]]
     told = csl.render(name, [WATSON, *SMITHS], citations)
     assert told.citations == PANDOC[name]

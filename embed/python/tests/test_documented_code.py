@@ -47,18 +47,8 @@ def test_the_host_of_the_readme(driver):
     assert printed(code) == '(Doe 1999a, b, 4; Roe 2003)\n(John Doe 1999)\n'
 
 
-def needs_published_styles():
-    pytest.importorskip('citeproc', reason='there is no citeproc-py (Debian: python3-citeproc)')
-    from gamhilon.csl import style
-    try:
-        style.find('apa')
-    except style.StyleMissing:
-        pytest.skip('there are no published styles (Debian: citation-style-language-styles)')
-
-
 @pytest.mark.filterwarnings('ignore')
-def test_published_styles_of_the_documentation(driver):
-    needs_published_styles()
+def test_published_styles_of_the_documentation(published, driver):
     assert printed(block('docs/STYLES.md', 'csl.render')) == '(A. Smith, 2010, p. 4)\n(see B. Smith, 2010)\n'
 
 
@@ -69,7 +59,6 @@ def test_the_document_of_the_readme(built, monkeypatch):
 
 
 @pytest.mark.filterwarnings('ignore')
-def test_the_published_style_of_the_readme(driver, monkeypatch):
-    needs_published_styles()
+def test_the_published_style_of_the_readme(published, driver, monkeypatch):
     monkeypatch.chdir(f'{ROOT}/embed/python/example')
     assert printed(block('README.md', 'gamhilon.csl.render'), gamhilon=gamhilon) == "['(Darwin 1859, 84)']\n"
