@@ -9,7 +9,7 @@ from . import _deep_json
 from ._library import library
 from .answer import Answer, Tree, answer_of_value
 
-__all__ = ['Missing', 'State', 'Task', 'Writer', 'Written', 'drive_bytes', 'driven_value', 'result_of']
+__all__ = ['Missing', 'State', 'Task', 'Writer', 'Writers', 'Written', 'drive_bytes', 'driven_value', 'result_of']
 
 
 @dataclass(frozen=True)
@@ -145,6 +145,9 @@ class Written:
 Writer = Callable[[Task], Written]
 """The host's function that writes a task."""
 
+Writers = Callable[[List[Task]], List[Written]]
+"""A host's function that writes all tasks that a call asks for."""
+
 
 @dataclass(frozen=True)
 class Missing:
@@ -166,7 +169,7 @@ def drive_bytes(document: bytes) -> Union[Answer, Missing]:
     return result_of(library().drive(document).decode())
 
 
-def driven_value(document: Dict[str, Any], write: Writer) -> Answer:
+def driven_value(document: Dict[str, Any], write_all: Writers) -> Answer:
     """Calls, and has the host write what is missing, until there is an answer. A driver that asks for what was written ends
     it with a RuntimeError."""
     written: List[Any] = list(document.get('written', []))
@@ -179,4 +182,4 @@ def driven_value(document: Dict[str, Any], write: Writer) -> Answer:
         if again or not result.tasks:
             raise RuntimeError(f'the driver asked again for what was written: {sorted(map(repr, again))[:1]}')
         asked.update(result.tasks)
-        written += [write(task).data(task) for task in result.tasks]
+        written += [it.data(task) for task, it in zip(result.tasks, write_all(result.tasks))]

@@ -14,6 +14,7 @@ from gamhilon import csl
 from gamhilon.csl.attributes import driven_style, unshrunk
 from gamhilon.csl.given_names import GivenNames
 from gamhilon.csl.marks import Marks, cleaned, closed_up, split
+from gamhilon.csl.suffixes import YearSuffixes
 
 pytestmark = pytest.mark.filterwarnings('ignore')
 
@@ -117,6 +118,41 @@ def test_the_term_for_no_date_takes_a_suffix(render):
     assert told.citations == ['(Doe n.d.a)', '(Doe n.d.b)']
 
 
+BY_TITLE = f'<bibliography><sort><key variable="title"/></sort><layout>{BOTH}<text variable="title" prefix=". "/></layout></bibliography>'
+
+
+def test_suffixes_follow_the_bibliography(render):
+    """CSL: whichever work is cited first."""
+    entries = [entry(it, 'Doe', year=1999) for it in 'ba']
+    told = render(BOTH, entries, ['b'], ['a'], attributes='disambiguate-add-year-suffix="true"', bibliography=BY_TITLE)
+    assert told.citations == ['(Doe 1999b)', '(Doe 1999a)']
+    assert list(told.bibliography.values()) == ['Doe 1999a. Title a', 'Doe 1999b. Title b']
+
+
+def test_no_two_works_that_read_alike_have_one_suffix(render):
+    """Names tell two pairs of works, in which a suffix takes the place of names (docs/DIFFERENCES.md), so that all four read
+    alike but for it."""
+    others = {'d': 'Tanaka', 'c': 'Olsen', 'b': 'Tanaka', 'a': 'Olsen'}
+    entries = [entry(key, 'Miller', name, 'Kim', year=2018) for key, name in others.items()]
+    attributes = 'disambiguate-add-names="true" disambiguate-add-year-suffix="true" et-al-min="3" et-al-use-first="1"'
+    told = render(BOTH, entries, *[[it] for it in others], attributes=attributes, bibliography=BY_TITLE)
+    assert told.citations == [f'(Miller et al. 2018{it})' for it in others]
+
+
+def test_what_is_compared_has_the_suffixes_of_the_driver():
+    """What is shown of all works settles the suffixes: those of works that read alike, and of no others."""
+    suffixes = YearSuffixes(['one', 'two', 'three', 'four', 'five'])
+    for key, text in {'one': 'Doe', 'two': 'Roe', 'three': 'Doe', 'four': 'Roe', 'five': 'Poe'}.items():
+        suffixes.note(gamhilon.Task('cite', 's', 'en-US', key), text)
+    tasks = [gamhilon.Task('cite', 's', 'en-US', key, state=gamhilon.State(suffix=place))
+             for key, place in (('three', 0), ('one', 1), ('two', 0), ('four', 1), ('five', 0))]
+    suffixes.settle(tasks)
+    assert [suffixes.settled(it) for it in tasks] == tasks
+    shown = [gamhilon.Task('item', 's', 'en-US', it.entry, state=it.state) for it in tasks[:-1]]
+    suffixes.settle([*shown, gamhilon.Task('item', 's', 'en-US', 'five')])
+    assert [suffixes.settled(it).year_suffix for it in shown] == ['b', 'a', 'a', 'b']
+
+
 def test_the_condition_disambiguate_holds_where_the_driver_says_so(render):
     """CSL writes both titles; the driver leaves one of the works as it is (docs/DIFFERENCES.md)."""
     layout = f'{NAMES}<choose><if disambiguate="true"><text variable="title" prefix=", "/></if></choose>'
@@ -208,6 +244,14 @@ def test_years_are_collapsed(render, collapse, text):
     layout = f'<group delimiter=", ">{BOTH}<text variable="locator"/></group>'
     cites = ['one', 'two', {'id': 'three', 'locator': '5'}, 'four']
     assert render(layout, entries, cites, attributes=COLLAPSE.format(collapse)).citations == [text]
+
+
+def test_the_first_suffix_of_the_driver_keeps_its_year(render):
+    """The driver counts suffixes by cites: that of b is its first, which isn't collapsed (docs/STYLES.md)."""
+    attributes = 'disambiguate-add-year-suffix="true" collapse="year-suffix"'
+    told = render(BOTH, [entry(it, 'Doe', year=1999) for it in 'ab'], ['b', 'a'], ['a', 'b'], attributes=attributes,
+                  bibliography=BY_TITLE)
+    assert told.citations == ['(Doe 1999b; a)', '(Doe 1999a, 1999b)']
 
 
 def test_numbers_are_collapsed(render):

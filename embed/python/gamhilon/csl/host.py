@@ -13,8 +13,10 @@ from ..answer import Node, Tree
 from .cites import Cite
 from .errors import CiteprocFailed
 from .given_names import GivenNames, rule_of
+from .marks import without_marks
 from .rendering import Rendering, person
 from .style import writes_suffix_itself
+from .suffixes import YearSuffixes
 
 
 class _Item:
@@ -44,12 +46,17 @@ class Host:
     """Writes the tasks of a document in a style."""
 
     def __init__(self, root: Any, entries: Dict[str, Dict[str, Any]], citations: Sequence[Sequence[Cite]]) -> None:
-        self.root, self.citations = root, citations
+        self.root, self.citations, self.suffixes = root, citations, YearSuffixes([])
         self._references = {key: _reference(entry) for key, entry in entries.items()}
         self._is_implicit = not writes_suffix_itself(root)
         rule = None if root.bibliography is None else root.bibliography.get('subsequent-author-substitute-rule')
         self._replaces_at_once = rule in (None, 'complete-all')
         self._given_names = GivenNames(rule_of(root.citation), map(_persons, self._references.values()))
+
+    def write_all(self, tasks: List[Task]) -> List[Written]:
+        """Writes what one call of the driver asks for."""
+        self.suffixes.settle(tasks)
+        return [self.write(self.suffixes.settled(it)) for it in tasks]
 
     def write(self, task: Task) -> Written:
         """Writes a cite or an item."""
@@ -61,6 +68,7 @@ class Host:
         with _failing(f'{task.kind} of {task.entry}'):
             text = self._text(task, _Item(self._told(task), (task.number or 0) + 1, _locator(cite)))
         tree = rendering.marks.tree(text)
+        self.suffixes.note(task, without_marks(text))
         return rendering.written(tree if cite is None else [*_plain(cite.prefix), *tree, *_plain(cite.suffix)])
 
     def _text(self, task: Task, item: _Item) -> str:
