@@ -14,7 +14,7 @@ from gamhilon import csl
 from gamhilon.csl.attributes import driven_style, unshrunk
 from gamhilon.csl.given_names import GivenNames
 from gamhilon.csl.marks import Marks, cleaned, closed_up, split
-from gamhilon.csl.suffixes import YearSuffixes
+from gamhilon.csl.states import ShownStates
 
 pytestmark = pytest.mark.filterwarnings('ignore')
 
@@ -141,23 +141,35 @@ def test_no_two_works_that_read_alike_have_one_suffix(render):
 
 def test_what_is_compared_has_the_suffixes_of_the_driver():
     """What is shown of all works settles the suffixes: those of works that read alike, and of no others."""
-    suffixes = YearSuffixes(['one', 'two', 'three', 'four', 'five'])
+    states = ShownStates(['one', 'two', 'three', 'four', 'five'])
     for key, text in {'one': 'Doe', 'two': 'Roe', 'three': 'Doe', 'four': 'Roe', 'five': 'Poe'}.items():
-        suffixes.note(gamhilon.Task('cite', 's', 'en-US', key), text)
+        states.note(gamhilon.Task('cite', 's', 'en-US', key), text)
     tasks = [gamhilon.Task('cite', 's', 'en-US', key, state=gamhilon.State(suffix=place))
              for key, place in (('three', 0), ('one', 1), ('two', 0), ('four', 1), ('five', 0))]
-    suffixes.settle(tasks)
-    assert [suffixes.settled(it) for it in tasks] == tasks
-    shown = [gamhilon.Task('item', 's', 'en-US', it.entry, state=it.state) for it in tasks[:-1]]
-    suffixes.settle([*shown, gamhilon.Task('item', 's', 'en-US', 'five')])
-    assert [suffixes.settled(it).year_suffix for it in shown] == ['b', 'a', 'a', 'b']
+    states.settle(tasks)
+    assert [states.shown(it) for it in tasks] == tasks
+    items = [gamhilon.Task('item', 's', 'en-US', it.entry, state=it.state) for it in tasks[:-1]]
+    states.settle([*items, gamhilon.Task('item', 's', 'en-US', 'five')])
+    assert [states.shown(it).year_suffix for it in items] == ['b', 'a', 'a', 'b']
+    assert [states.shown(it) for it in tasks] == tasks
 
 
-def test_the_condition_disambiguate_holds_where_the_driver_says_so(render):
-    """CSL writes both titles; the driver leaves one of the works as it is (docs/DIFFERENCES.md)."""
-    layout = f'{NAMES}<choose><if disambiguate="true"><text variable="title" prefix=", "/></if></choose>'
-    told = render(layout, [entry('one', 'Doe'), entry('two', 'Doe'), entry('three', 'Roe')], ['one'], ['two'], ['three'])
-    assert told.citations == ['(Doe)', '(Doe, Title two)', '(Roe)']
+TITLE_IF_NEEDED = f'{NAMES}<choose><if disambiguate="true"><text variable="title" prefix=", "/></if></choose>'
+
+
+def test_the_condition_disambiguate_holds_for_all_works_that_read_alike(render):
+    """CSL: also for the first of them, which the driver leaves as it is (docs/DIFFERENCES.md)."""
+    works = [entry('one', 'Doe'), entry('two', 'Doe'), entry('three', 'Roe'), entry('four', 'Doe')]
+    told = render(TITLE_IF_NEEDED, works, ['one'], ['two'], ['three'], ['one', 'four'])
+    assert told.citations == ['(Doe, Title one)', '(Doe, Title two)', '(Roe)', '(Doe, Title one; Doe, Title four)']
+
+
+def test_the_condition_disambiguate_does_not_hold_where_names_do(render):
+    """CSL: it is tried where names failed. The third work is told by a name."""
+    works = [entry('one', 'Miller', 'Tanaka', 'Kim'), entry('two', 'Miller', 'Tanaka', 'Kim'), entry('three', 'Miller', 'Olsen', 'Kim')]
+    one, two, three = render(TITLE_IF_NEEDED, works, ['one'], ['two'], ['three'],
+                             attributes='disambiguate-add-names="true" et-al-min="3" et-al-use-first="1"').citations
+    assert three == '(Miller, Olsen, et al.)' and one.endswith('Title one)') and two.endswith('Title two)')
 
 
 def test_disambiguate_beside_other_conditions(render):
@@ -182,6 +194,16 @@ def test_positions_of_csl(render):
         'first Title one.', 'subsequent ibid near-note Title one (n. 1).',
         'subsequent ibid ibid-with-locator near-note Title one (n. 1).', 'first Title two.', 'subsequent Title one (n. 1).']
     assert [it.note_number for it in told.answer.citations] == [1, 2, 3, 4, 5]
+
+
+def test_no_cite_is_ibid_after_a_citation_of_several(render):
+    """CSL: the first cite of a citation is ibid where the citation before has a single cite, of the same work; another cite
+    where the one before it is of the same work."""
+    layout = f'{POSITIONS}<text variable="title"/>'
+    told = render(layout, [entry('one'), entry('two')], ['one', 'two'], ['two'], ['two', 'two'], style_class='note',
+                  layout_attributes='delimiter="; "', attributes='near-note-distance="0"')
+    assert told.citations == ['first Title one; first Title two', 'subsequent Title two',
+                              'subsequent ibid Title two; subsequent ibid Title two']
 
 
 def test_what_reads_ibid_is_not_ambiguous(render):

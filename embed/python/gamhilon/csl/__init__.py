@@ -19,7 +19,7 @@ from ..answer import Answer, plain
 from .cites import Cite, CiteLike, citations_of, note_of
 from .errors import CiteprocFailed, CiteprocMissing, StyleMissing
 from .marks import cleaned
-from .suffixes import YearSuffixes
+from .states import ShownStates
 
 __all__ = ['Cite', 'CiteLike', 'CiteprocFailed', 'CiteprocMissing', 'Rendered', 'StyleMissing', 'document', 'render']
 
@@ -66,7 +66,7 @@ def render(style: str, entries: Sequence[Dict[str, Any]], citations: Sequence[Se
     host = _host.Host(root, {key: known[key] for key in cited}, given)
     order = host.sorted_keys(cited)
     numbers = {key: place + 1 for place, key in enumerate(order)}
-    host.citations, host.suffixes = [host.sorted_cites(it, numbers) for it in given], YearSuffixes(order)
+    host.citations, host.states = [host.sorted_cites(it, numbers) for it in given], ShownStates(order)
     answer = driven_value(document(root, known, host.citations, order), host.write_all)
     return Rendered(_in_given_order(answer, host.citations, given))
 

@@ -3,6 +3,7 @@ from __future__ import annotations
 
 import json
 from contextlib import contextmanager
+from dataclasses import replace
 from typing import Any, Dict, Iterator, List, Optional, Sequence
 
 from citeproc.source import Locator, Reference, VariableError  # type: ignore
@@ -15,8 +16,8 @@ from .errors import CiteprocFailed
 from .given_names import GivenNames, rule_of
 from .marks import without_marks
 from .rendering import Rendering, person
+from .states import ShownStates
 from .style import writes_suffix_itself
-from .suffixes import YearSuffixes
 
 
 class _Item:
@@ -46,7 +47,7 @@ class Host:
     """Writes the tasks of a document in a style."""
 
     def __init__(self, root: Any, entries: Dict[str, Dict[str, Any]], citations: Sequence[Sequence[Cite]]) -> None:
-        self.root, self.citations, self.suffixes = root, citations, YearSuffixes([])
+        self.root, self.citations, self.states = root, citations, ShownStates([])
         self._references = {key: _reference(entry) for key, entry in entries.items()}
         self._is_implicit = not writes_suffix_itself(root)
         rule = None if root.bibliography is None else root.bibliography.get('subsequent-author-substitute-rule')
@@ -55,8 +56,8 @@ class Host:
 
     def write_all(self, tasks: List[Task]) -> List[Written]:
         """Writes what one call of the driver asks for."""
-        self.suffixes.settle(tasks)
-        return [self.write(self.suffixes.settled(it)) for it in tasks]
+        self.states.settle(tasks)
+        return [self.write(self._as_csl_has_it(self.states.shown(it))) for it in tasks]
 
     def write(self, task: Task) -> Written:
         """Writes a cite or an item."""
@@ -68,7 +69,7 @@ class Host:
         with _failing(f'{task.kind} of {task.entry}'):
             text = self._text(task, _Item(self._told(task), (task.number or 0) + 1, _locator(cite)))
         tree = rendering.marks.tree(text)
-        self.suffixes.note(task, without_marks(text))
+        self.states.note(task, without_marks(text))
         return rendering.written(tree if cite is None else [*_plain(cite.prefix), *tree, *_plain(cite.suffix)])
 
     def _text(self, task: Task, item: _Item) -> str:
@@ -98,6 +99,12 @@ class Host:
         with _failing('the keys of sorting'):
             ordered = sort.sort(items, layout)
         return [values[places[id(item)]] for item in ordered]
+
+    def _as_csl_has_it(self, task: Task) -> Task:
+        """The task, in which the first cite of a citation repeats none if the citation before has several."""
+        if task.place is None or task.place[1] > 0 or task.repeats is None or len(self.citations[task.place[0] - 1]) == 1:
+            return task
+        return replace(task, repeats=None)
 
     def _cite(self, task: Task) -> Optional[Cite]:
         return None if task.place is None else self.citations[task.place[0]][task.place[1]]
