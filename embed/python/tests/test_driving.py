@@ -2,6 +2,7 @@
 import json
 
 import pytest
+from conftest import ROOT
 
 import gamhilon
 from gamhilon import _library
@@ -262,23 +263,72 @@ def with_written(*tree, **task):
     return document(written=[{'task': {key: it for key, it in asked.items() if it is not None}, 'tree': list(tree)}])
 
 
-@pytest.mark.parametrize('refused, pointer', [
+OF_NO_FORM = [
     (document(locales=[]), ''),
     ({**document(), 'styles': {'s': {'citation': {'elements': []}}}}, '/styles/s/citation'),
-    ({**document(), 'bibliography': {'style': 'none'}}, '/bibliography/style'),
-    (document([{'entry': 'none'}]), '/requests/0/items/0/entry'),
     (with_written(locale=None), '/written/0/task'),
     (with_written(kind='letter'), '/written/0/task/kind'),
+    (with_written(kind='item', number=0, place=[0, 0]), '/written/0/task'),
+    (with_written(kind='cite', number=0, state={'suffix': 'a'}), '/written/0/task/state/suffix'),
+    (with_written({'children': [], 'meta': 'title'}), '/written/0/tree/0/meta'),
+]
+WITHOUT_SENSE = [
+    ({**document(), 'bibliography': {'style': 'none'}}, '/bibliography/style'),
+    (document([{'entry': 'none'}]), '/requests/0/items/0/entry'),
     (with_written(entry='none'), '/written/0/task/entry'),
     (with_written(style='none'), '/written/0/task/style'),
-    (with_written({'children': [], 'meta': 'title'}), '/written/0/tree/0/meta'),
     (document(written=with_written()['written'] + with_written(text('x'))['written']), '/written/1'),
-])
+]
+
+
+@pytest.mark.parametrize('refused, pointer', OF_NO_FORM + WITHOUT_SENSE)
 def test_a_driven_document_is_refused_by_its_place(drives, refused, pointer):
     """docs/DRIVEN.md: what isn't of the form is refused, and so is a task of what the document doesn't have."""
     with pytest.raises(gamhilon.DocumentRefused) as refusal:
         gamhilon.drive(refused)
     assert refusal.value.pointer == pointer
+
+
+def schema_of(name):
+    with open(f'{ROOT}/docs/{name}.schema.json', encoding='utf-8') as file:
+        return json.load(file)
+
+
+@pytest.fixture
+def schema():
+    """Tells whether docs/driven.schema.json takes a document."""
+    jsonschema = pytest.importorskip('jsonschema', reason='there is no jsonschema (Debian: python3-jsonschema)')
+    return jsonschema.Draft202012Validator(schema_of('driven')).is_valid
+
+
+def test_the_schema_takes_what_a_host_hands_in(schema, handed_in):
+    """Suffixes, given names, locators, cuts of collapsed cites, cites of the year, and notes."""
+    asked = document([{'entry': 'one'}, {'entry': 'two', 'locator': ['page', '4']}], [{'entry': 'three'}],
+                     [{'entry': 'four', 'purpose': 'year'}], offset=3, rounds='full')
+    asked['styles']['n'] = {'class': 'note'}
+    asked['requests'] += [{'style': 'n', 'note': note, 'items': [{'entry': 'one'}]} for note in (1, 2)]
+    gamhilon.driven(asked, write)
+    assert len(handed_in) > 3 and all(map(schema, handed_in))
+
+
+@pytest.mark.parametrize('refused, pointer', OF_NO_FORM)
+def test_the_schema_refuses_what_is_of_no_form(schema, refused, pointer):
+    assert not schema(refused)
+
+
+@pytest.mark.parametrize('refused, pointer', WITHOUT_SENSE)
+def test_the_schema_takes_what_makes_no_sense_alone(schema, refused, pointer):
+    """What docs/DRIVEN.md says that a schema can't say."""
+    assert schema(refused)
+
+
+@pytest.mark.parametrize('other, common', [
+    ('document', ['count', 'short', 'locatorKind', 'persons', 'entry', 'request', 'item', 'bibliographyRequest']),
+    ('answer', ['tree', 'node', 'text', 'element', 'markup', 'cite', 'meta', 'names', 'name', 'variable', 'person']),
+])
+def test_the_schema_has_the_parts_of_the_others(other, common):
+    parts, others = schema_of('driven')['$defs'], schema_of(other)['$defs']
+    assert {it: parts[it] for it in common} == {it: others[it] for it in common}
 
 
 def test_what_is_written_and_not_asked_for_is_no_fault(driver):
