@@ -19,7 +19,6 @@ from ..answer import Answer, plain
 from .cites import Cite, CiteLike, citations_of, note_of
 from .errors import CiteprocFailed, CiteprocMissing, StyleMissing
 from .marks import cleaned
-from .states import ShownStates
 
 __all__ = ['Cite', 'CiteLike', 'CiteprocFailed', 'CiteprocMissing', 'Rendered', 'StyleMissing', 'document', 'render']
 
@@ -64,10 +63,7 @@ def render(style: str, entries: Sequence[Dict[str, Any]], citations: Sequence[Se
         raise ValueError(f'there is no entry {missing[0]!r}')
     root = _style.load(style, locale)
     host = _host.Host(root, {key: known[key] for key in cited}, given)
-    order = host.sorted_keys(cited)
-    numbers = {key: place + 1 for place, key in enumerate(order)}
-    host.citations, host.states = [host.sorted_cites(it, numbers) for it in given], ShownStates(order)
-    answer = driven_value(document(root, known, host.citations, order), host.write_all)
+    answer = driven_value(document(root, known, host.citations, host.order), host.write_all)
     return Rendered(_in_given_order(answer, host.citations, given))
 
 

@@ -44,22 +44,27 @@ class _Item:
 
 
 class Host:
-    """Writes the tasks of a document in a style."""
+    """Writes the tasks of a document in a style. `order` has the entries as the style sorts its bibliography, and `citations`
+    the citations as it sorts their cites."""
 
     def __init__(self, root: Any, entries: Dict[str, Dict[str, Any]], citations: Sequence[Sequence[Cite]]) -> None:
-        self.root, self.citations, self.states = root, citations, ShownStates([])
+        self.root = root
         self._references = {key: _reference(entry) for key, entry in entries.items()}
         self._is_implicit = not writes_suffix_itself(root)
         rule = None if root.bibliography is None else root.bibliography.get('subsequent-author-substitute-rule')
         self._replaces_at_once = rule in (None, 'complete-all')
         self._given_names = GivenNames(rule_of(root.citation), map(_persons, self._references.values()))
+        self.order = self._sorted_keys(list(entries))
+        numbers = {key: place + 1 for place, key in enumerate(self.order)}
+        self.citations = [self._sorted_cites(it, numbers) for it in citations]
+        self._states = ShownStates(self.order)
 
     def write_all(self, tasks: List[Task]) -> List[Written]:
         """Writes what one call of the driver asks for."""
-        self.states.settle(tasks)
-        return [self.write(self._as_csl_has_it(self.states.shown(it))) for it in tasks]
+        self._states.settle(tasks)
+        return [self._write(self._as_csl_has_it(self._states.shown(it))) for it in tasks]
 
-    def write(self, task: Task) -> Written:
+    def _write(self, task: Task) -> Written:
         """Writes a cite or an item."""
         cite = self._cite(task)
         rendering = Rendering(task, writes_suffix_implicitly=self._is_implicit, given_names=self._given_names)
@@ -69,7 +74,7 @@ class Host:
         with _failing(f'{task.kind} of {task.entry}'):
             text = self._text(task, _Item(self._told(task), (task.number or 0) + 1, _locator(cite)))
         tree = rendering.marks.tree(text)
-        self.states.note(task, without_marks(text))
+        self._states.note(task, without_marks(text))
         return rendering.written(tree if cite is None else [*_plain(cite.prefix), *tree, *_plain(cite.suffix)])
 
     def _text(self, task: Task, item: _Item) -> str:
@@ -79,13 +84,13 @@ class Host:
         text = layout.render_children(item) or ''
         return str(layout.format(layout.wrap(text) if task.kind == 'item' else text))
 
-    def sorted_keys(self, keys: List[str]) -> List[str]:
+    def _sorted_keys(self, keys: List[str]) -> List[str]:
         """Keys of entries, in the order that the style gives its bibliography."""
         layout = self.root.bibliography.layout if self.root.bibliography is not None else None
         numbers = {key: place + 1 for place, key in enumerate(keys)}
         return self._sorted(layout, keys, [_Item(self._references[key], numbers[key]) for key in keys])
 
-    def sorted_cites(self, cites: Sequence[Cite], numbers: Dict[str, int]) -> List[Cite]:
+    def _sorted_cites(self, cites: Sequence[Cite], numbers: Dict[str, int]) -> List[Cite]:
         """The cites of a citation, in the order that the style gives them."""
         items = [_Item(self._references[it.id], numbers[it.id], _locator(it)) for it in cites]
         return self._sorted(self.root.citation.layout, list(cites), items)
