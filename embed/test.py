@@ -3,8 +3,8 @@
 would: from C, Python and Rust, on each document of documents/ and examples/; then it runs the tests of the Python package.
 
 It needs the toolchain and a C compiler. What else it would use (c++, cargo, cmake, pkg-config, valgrind, pip, venv, pandoc, pytest,
-mypy, python3-pandocfilters, python3-jsonschema) is left out where it is missing, and a line says so. --many N has valgrind watch N
-calls in four threads, where it is 300 else.
+mypy, python3-pandocfilters, python3-jsonschema, python3-citeproc and its styles) is left out where it is missing, and a line says
+so. --many N has valgrind watch N calls in four threads, where it is 300 else.
 The last line is 'N passed, M failed', and the exit status is 1 where a test failed."""
 import collections
 import glob
@@ -298,6 +298,13 @@ def try_from_python(cases, jsons):
         hold((refusal.request, refusal.macro_place) == (1, 1), 'the place of a ring of a request')
 
 
+def try_driving():
+    """The driven call beside its model, as hosts of ordinary documents make it (model/driven_check.py)."""
+    done = ran(sys.executable, f'{ROOT}/model/driven_check.py', '--library', f'{OUT}/libgamhilon.so', timeout=600)
+    told = done.stdout.decode() + done.stderr.decode()
+    hold(done.returncode == 0 and ' passed, 0 failed' in told, f'the driven call and its model: {told[-1200:]}')
+
+
 def try_package(room):
     """`pip install embed/python`, and then a document in a process that knows nothing of this folder."""
     if ran(sys.executable, '-m', 'pip', '--version').returncode:
@@ -400,7 +407,8 @@ def python_with_pytest():
         return os.path.exists(python) and ran(python, '-c', f'import {module}').returncode == 0
 
     pythons = [it for it in (sys.executable, '/usr/bin/python3') if has(it, 'pytest')]
-    return max(pythons, key=lambda it: sum(has(it, name) for name in ('mypy', 'pandocfilters', 'jsonschema')), default=None)
+    return max(pythons, key=lambda it: sum(has(it, name) for name in ('mypy', 'pandocfilters', 'jsonschema', 'citeproc')),
+               default=None)
 
 
 def try_tests_of_the_package(room):
@@ -515,6 +523,7 @@ def main(words):
                 jsons = try_from_c(room, cases)
                 try_from_python(cases, jsons)
                 try_limits(room, cases)
+                try_driving()
                 try_building()
                 try_about(room)
                 try_package(room)

@@ -5,13 +5,14 @@ that the program has now (`STAGE`) or at another. `form` tells which documents a
 
 The parts: `trees`, `locales`, `states`, `pieces`, `names` and `picking` (elements to pieces), `writing` (pieces to a
 tree), `rendering` (a cite by its purpose), `cites` (first properties), `rounds`, `grouping`, `collapse`,
-`bibliography`, and the document here.
+`bibliography`, the document here, and `data` (answers as values).
 """
 from collections import Counter
 
 from bibliography import first_field, substitute_authors
 from cites import at_last, first_look
 from collapse import collapse
+from data import answer_data
 from grouping import final_numbers, grouped, settle_positions
 from pieces import Properties
 from rendering import Renderer
@@ -73,25 +74,42 @@ class Document:
         self.table = {}
 
     def answer(self):
-        """The exit status and the text: 3 for a ring of macros, 4 for a number out of range, else 0."""
+        """The exit status and the text."""
+        status = self.status()
+        if status:
+            return status, ''
+        citations, items = self.parts()
+        lines = [plain(citation) for citation in citations]
+        if items is not None:
+            lines += [''] + [key + '\t' + plain(([] if field is None else [field]) + item) for key, field, item in items]
+        return 0, ''.join(line + '\n' for line in lines)
+
+    def status(self):
+        """The exit status: 3 for a ring of macros, 4 for a number out of range, else 0."""
         asked = [self.styles[r['style']] for r in self.requests] + [self.styles[self.wanted['style']]]
         if any(map(has_ring, asked)):
-            return 3, ''
-        cited = distinct(item['entry'] for r in self.requests for item in r['items'])
-        offset = self.document.get('offset', 0)
-        if offset + len(cited) > USIZE_MAX:
-            return 4, ''
+            return 3
+        return 4 if self.document.get('offset', 0) + len(self.cited()) > USIZE_MAX else 0
+
+    def data(self):
+        """The answer as the value of docs/ANSWER.md, of a document that isn't refused."""
+        return answer_data(self.document, *self.parts())
+
+    def cited(self):
+        return distinct(item['entry'] for r in self.requests for item in r['items'])
+
+    def parts(self):
+        """The tree of each citation; and, where the style has a bibliography, of each listed entry its key, the first
+        field if any, and the rest."""
         style = self.styles[self.wanted['style']]
         is_ordered = 'order' in self.wanted and 'bibliography' in style
-        listed = cited
+        listed, offset = self.cited(), self.document.get('offset', 0)
         if is_ordered:
-            listed = distinct([key for key in self.wanted['order'] if key in cited] + cited)
+            listed = distinct([key for key in self.wanted['order'] if key in listed] + listed)
         numbers = {key: offset + place for place, key in enumerate(listed)}
         rows = self.settled(numbers, None if is_ordered else offset)
-        lines = [plain(self.citation(request, row)) for request, row in zip(self.requests, rows)]
-        if 'bibliography' in style:
-            lines += [''] + self.bibliography(style, listed, rows)
-        return 0, ''.join(line + '\n' for line in lines)
+        items = self.bibliography(style, listed, rows) if 'bibliography' in style else None
+        return [self.citation(request, row) for request, row in zip(self.requests, rows)], items
 
     # The cites, from their first look to the last
 
@@ -156,7 +174,8 @@ class Document:
         """The shown cites between prefix and suffix, which stand only where no item has a purpose; nothing where the
         request shows no cite."""
         layout = self.styles[request['style']]['citation']
-        shown = [cite for cite in row if not cite.is_hidden and not cite.collapsed]
+        trees = [self.final_cite(cite) for cite in row]
+        shown = [(cite, tree) for cite, tree in zip(row, trees) if not cite.is_hidden and not cite.collapsed]
         if not shown:
             return []
         affixes = all('purpose' not in item for item in request['items'])
@@ -167,10 +186,10 @@ class Document:
                 children.append(Text(text, NORMAL))
         if affixes:
             add(layout.get('prefix'))
-        for i, cite in enumerate(shown):
+        for i, (cite, tree) in enumerate(shown):
             if i:
                 add(layout.get('delimiter') if cite.override is None else cite.override)
-            children.append(Elem(self.final_cite(cite), None, ('entry',)))
+            children.append(Elem(tree, None, ('entry', cite.place)))
         suffix = layout.get('suffix')
         if affixes and suffix:
             last = last_text(children)
@@ -181,7 +200,7 @@ class Document:
         return children
 
     def bibliography(self, style, listed, rows):
-        """A line for each listed entry: its key, a tab, the first field if any, and the rest."""
+        """Of each listed entry its key, the first field if any, and the rest."""
         first_cites = {}
         for row in rows:
             for cite in row:
@@ -189,16 +208,16 @@ class Document:
         items = [simplified(self.item(style, key, first_cites[key])) for key in listed]
         layout = style['bibliography']
         if not reaches(self.stage, 'whole'):
-            return [key + '\t' + plain(item) for key, item in zip(listed, items)]
+            return [(key, None, item) for key, item in zip(listed, items)]
         if 'substitute' in layout:
             rule = layout.get('substitute_rule', 'complete-all')
             substitute_authors(items, layout['substitute'], rule, self.events)
-        lines = []
+        answer = []
         for key, item in zip(listed, items):
             field = first_field(item) if 'second_field_align' in layout else None
             self.events['first field'] += field is not None
-            lines.append(key + '\t' + plain(([] if field is None else [field]) + item))
-        return lines
+            answer.append((key, field, item))
+        return answer
 
     def item(self, style, key, cite):
         """An item has the properties of its entry's first cite in the final order, but for the locator."""

@@ -1,5 +1,4 @@
-"""What the tests share: the library where it is built, and one that is made up."""
-import json
+"""What the tests share: the library where it is built, and what stands in for it."""
 import os
 import sys
 
@@ -12,44 +11,7 @@ sys.path.insert(0, PACKAGE)
 
 from gamhilon import _library  # noqa: E402
 
-
-class MadeUpLibrary:
-    """Stands in for the shared library: ends each call with a status, or with a text as its answer, and counts the calls, those
-    of gamhilon_limits by themselves."""
-
-    def __init__(self, text=b'', status=0, fault=None, fault_status=0, ring=(0, 0, 0), limits_status=0):
-        self.text, self.status, self.ring, self.calls = text, status, ring, []
-        self.limits_status, self.limits_calls = limits_status, []
-        told = fault or {'pointer': '', 'found': 'an object', 'wanted': 'something else'}
-        self.gamhilon_fault = lambda *given: self._put(json.dumps(told).encode(), fault_status, *given)
-
-    def gamhilon_print(self, *given):
-        return self._put(self.text, self.status, *given)
-
-    gamhilon_print_json = gamhilon_print
-
-    def gamhilon_ring(self, document, document_length, ring):
-        self.calls.append((document, 0))
-        if self.status == 3:
-            place = ring._obj
-            place.of_bibliography, place.request, place.macro_place = self.ring
-        return self.status
-
-    def gamhilon_limits(self, document, document_length, depth, elements):
-        assert document_length == len(document)
-        self.limits_calls.append((document, depth, elements))
-        return self.limits_status
-
-    def _put(self, text, status, document, document_length, room, room_length, length):
-        assert document_length == len(document)
-        self.calls.append((document, room_length))
-        length._obj.value = len(text) if status == 0 else 0
-        if status != 0:
-            return status
-        if len(text) > room_length:
-            return 6
-        room[:len(text)] = text
-        return 0
+from stand_ins import MadeUpLibrary, ModelOfTheDriver  # noqa: E402
 
 
 @pytest.fixture
@@ -67,6 +29,38 @@ def built():
     """For tests that call the shared library."""
     if not os.path.exists(_library.path()):
         pytest.skip('the library is not built (embed/build.py)')
+
+
+@pytest.fixture
+def drives(built):
+    """For tests of the driven call of the shared library."""
+    if not hasattr(_library._loaded(), _library.DRIVE):
+        pytest.skip('the library is older than the driven call (embed/build.py)')
+
+
+@pytest.fixture(params=['model', 'library'])
+def driver(request, monkeypatch):
+    """For tests of the driven call: first its model, and then that of the shared library."""
+    if request.param == 'library':
+        request.getfixturevalue('drives')
+    else:
+        monkeypatch.setattr(_library, '_library', _library.Library(ModelOfTheDriver()))
+
+
+@pytest.fixture
+def citeproc():
+    """For tests in which citeproc-py writes."""
+    pytest.importorskip('citeproc', reason='there is no citeproc-py (Debian: python3-citeproc)')
+
+
+@pytest.fixture
+def published(citeproc):
+    """For tests of published styles."""
+    from gamhilon.csl import style
+    try:
+        style.find('apa')
+    except style.StyleMissing:
+        pytest.skip('there are no published styles (Debian: citation-style-language-styles)')
 
 
 @pytest.fixture

@@ -27,6 +27,11 @@ def pages(path: str) -> List[str]:
         gamhilon.check(document, limits=limits)
     except (gamhilon.TooDeep, gamhilon.TooManyElements) as exceeded:
         raise SystemExit(exceeded.status)
+    told = gamhilon.drive(document)
+    if isinstance(told, gamhilon.Missing):
+        for task in told.tasks:
+            suffix: str = task.year_suffix
+        answer = gamhilon.driven(document, lambda it: gamhilon.Written([{'text': it.entry}], first_name=it.name_forms))
     items = answer.bibliography.items if answer.bibliography else []
     return [it.key + gamhilon.to_html(it.content) for it in items] + [str(gamhilon.version())]
 '''

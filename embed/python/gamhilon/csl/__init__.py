@@ -1,0 +1,107 @@
+"""Published styles: .csl files, whose cites citeproc-py writes and Gamhilon drives.
+
+    from gamhilon import csl
+
+    rendered = csl.render('apa', entries, [[{'id': 'doe99', 'locator': '4'}], [{'id': 'roe'}, {'id': 'doe99'}]])
+    print(rendered.citations, rendered.bibliography)
+
+`entries` is CSL-JSON. It needs Debian's python3-citeproc, or `pip install citeproc-py`; names of styles are those of
+citation-style-language-styles. docs/STYLES.md tells what comes out of it.
+"""
+from __future__ import annotations
+
+from dataclasses import dataclass
+from typing import Any, Dict, List, Optional, Sequence
+
+from .. import csl_json
+from .._driving import driven_value
+from ..answer import Answer, plain
+from .cites import Cite, CiteLike, citations_of, note_of
+from .errors import CiteprocFailed, CiteprocMissing, StyleMissing
+from .marks import cleaned
+
+__all__ = ['Cite', 'CiteLike', 'CiteprocFailed', 'CiteprocMissing', 'Rendered', 'StyleMissing', 'document', 'render']
+
+_STYLE, _APART = 'style', 'style, cites apart'
+
+
+@dataclass(frozen=True)
+class Rendered:
+    """The answer, with its trees: a citation for each that was handed in, in that order."""
+
+    answer: Answer
+
+    @property
+    def citations(self) -> List[str]:
+        """The text of each citation."""
+        return [plain(it.content) for it in self.answer.citations]
+
+    @property
+    def bibliography(self) -> Dict[str, str]:
+        """The text of each item, by the id of its entry, in their order; empty where the style has no bibliography."""
+        items = self.answer.bibliography.items if self.answer.bibliography else []
+        return {it.key: (plain(it.first_field) if it.first_field else '') + plain(it.content) for it in items}
+
+
+def render(style: str, entries: Sequence[Dict[str, Any]], citations: Sequence[Sequence[CiteLike]], *,
+           locale: Optional[str] = None) -> Rendered:
+    """Citations and the bibliography in a style: a name (`apa`), or the path of a .csl file. `locale` stands in for the
+    style's own.
+
+    Raises CiteprocMissing where citeproc-py is missing, StyleMissing (a ValueError) where there is no such style, CiteprocFailed
+    where citeproc-py ends in an error, and ValueError where a cite is of an entry that isn't there.
+    """
+    try:
+        from . import host as _host, style as _style
+    except ImportError as error:
+        raise CiteprocMissing(f'{error}: install python3-citeproc (Debian), or citeproc-py by pip') from error
+    known = _by_key(entries)
+    given = citations_of(citations)
+    cited = list(dict.fromkeys(it.id for citation in given for it in citation))
+    missing = [it for it in cited if it not in known]
+    if missing:
+        raise ValueError(f'there is no entry {missing[0]!r}')
+    root = _style.load(style, locale)
+    host = _host.Host(root, {key: known[key] for key in cited}, given)
+    answer = driven_value(document(root, known, host.citations, host.order), host.write_all)
+    return Rendered(_in_given_order(answer, host.citations, given))
+
+
+def document(root: Any, entries: Dict[str, Dict[str, Any]], citations: Sequence[Sequence[Cite]],
+             order: List[str]) -> Dict[str, Any]:
+    """The driven document (docs/DRIVEN.md) of citations in a style, of which this is the root element."""
+    from . import attributes
+    style = attributes.driven_style(root)
+    dated = csl_json.entries([entries[key] for key in order]).entries
+    return {
+        'styles': {_STYLE: style, _APART: attributes.unshrunk(style)},
+        'entries': [{key: it for key, it in entry.items() if key == 'key' or key in csl_json.DATES} for entry in dated],
+        'requests': [_request(place, citation) for place, citation in enumerate(citations)],
+        'bibliography': {'style': _STYLE, 'order': order},
+        'rounds': 'full',
+    }
+
+
+def _request(place: int, citation: Sequence[Cite]) -> Dict[str, Any]:
+    """The request for a citation, which stands in a note of its own where none is told."""
+    note = note_of(citation)
+    style = _STYLE if all(it.is_plain for it in citation) else _APART
+    return {'style': style, 'note': place + 1 if note is None else note, 'items': [it.item() for it in citation]}
+
+
+def _by_key(entries: Sequence[Dict[str, Any]]) -> Dict[str, Dict[str, Any]]:
+    """The first entry of each id."""
+    found: Dict[str, Dict[str, Any]] = {}
+    for entry in cleaned(list(entries)):
+        found.setdefault(str(entry['id']), {'type': 'document', **entry, 'id': str(entry['id'])})
+    return found
+
+
+def _in_given_order(answer: Answer, sorted_citations: Sequence[Sequence[Cite]], given: Sequence[Sequence[Cite]]) -> Answer:
+    """The answer, in which each cite tells its place among the cites as they were handed in."""
+    for citation, ordered, before in zip(answer.citations, sorted_citations, given):
+        places = {id(it): place for place, it in enumerate(before)}
+        for node in citation.content:
+            if isinstance(node.get('meta'), dict) and 'entry' in node['meta']:
+                node['meta'] = {'entry': places[id(ordered[node['meta']['entry']])]}
+    return answer
