@@ -5,7 +5,7 @@ use Rattle.std.specs.Cmp.{IsEquivalence}
 use Rattle.std.specs.HashMap.{HashMap, Updates}
 use Rattle.std.specs.List.{list_all}
 use Rattle.std.specs.Map.{lookup}
-use Rattle.csl_base.specs.SameTree.{same_trees, same_trees-Decides}
+use Rattle.csl_base.specs.SameTree.{same_trees-Decides}
 use Rattle.csl_table.specs.Table.{found, key_eq}
 use Rattle.csl_table.specs.contracts.key.TaskKeyEq.TheImpl.Laws.{laws-law}
 use Rattle.csl_table.specs.declared.key.TaskKey.{TaskKey}

@@ -4,5 +4,6 @@ pub mod Pairs
 pub mod TaskNames
 pub mod TaskData
 pub mod TaskForm
+pub mod Known
 pub mod ReadBack
 pub mod WrittenForm

@@ -1,5 +1,5 @@
 -- Tasks that read as what they were.
-use Rattle.std.specs.Prelude.{◌≡◌, ⊤, Option, Some, None}
+use Rattle.std.specs.Prelude.{◌≡◌, ⊤, Some, None}
 use Rattle.csl_table.specs.declared.key.TaskKey.{TaskKey}
 use Rattle.csl_table.specs.declared.key.TaskPart.{TaskPart}
 use Rattle.csl_writers.specs.Tasks.{LastPlace}

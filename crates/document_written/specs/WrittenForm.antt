@@ -4,14 +4,17 @@ use Rattle.std.specs.List.{list_all}
 use Rattle.std.specs.Option.{option_map_or}
 use Rattle.serde_json.specs.Data.{Data}
 use Rattle.csl_base.specs.SameTree.{same_trees}
+use Rattle.csl_base.specs.declared.entry.PlainEntry.{PlainEntry}
 use Rattle.csl_base.specs.declared.names.NameDisambiguationProperties.{NameDisambiguationProperties}
 use Rattle.csl_lookup.specs.declared.state.IdentifierUsage.{IdentifierUsage}
 use Rattle.csl_table.specs.Table.{key_eq}
 use Rattle.csl_table.specs.declared.key.TaskKey.{TaskKey}
 use Rattle.csl_writers.specs.declared.cite.Cite.{Cite}
+use Rattle.document_reading.specs.Entries.{entry_named}
+use Rattle.document_styles.specs.Styles.{NamedStyle, style_named}
 use Rattle.document_words.specs.Words.{◌>>=◌, first_of, object_with, required, optional, where_present, flag, list_of}
 use Rattle.document_words.specs.Names.{one_of}
-use Rattle.document_written.specs.TaskForm.{key_form}
+use Rattle.document_written.specs.Known.{is_known, task_among}
 use Rattle.document_written.specs.TaskNames.{name_forms, usages}
 use Rattle.document_written.specs.TreeForm.{tree_form}
 
@@ -37,11 +40,11 @@ written_cite o = do
     identifier_usage = usage;
   })
 
--- a task, and what was written for it
-unfoldable pub written_form : Data → Option (TaskKey × Cite)
-written_form d = do
+-- a task, one of these, and what was written for it
+unfoldable pub written_form : (TaskKey → Bool) → Data → Option (TaskKey × Cite)
+written_form known d = do
   o ← object_with written_keys d
-  key ← required key_form (codes "task") o
+  key ← required (task_among known) (codes "task") o
   cite ← written_cite o
   Some (key, cite)
 
@@ -67,8 +70,10 @@ has_one_tree_each ws = list_all (λ w. has_tree (first_written ws w.0) w.1 false
 abbrev pub table_of : Written → Option (TaskKey → Option Cite)
 table_of ws = if has_one_tree_each ws then Some (first_written ws) else None
 
-abbrev pub table_form : Data → Option (TaskKey → Option Cite)
-table_form d = option_and_then table_of (list_of written_form d)
+-- the same of what a document with these styles and entries says
+abbrev pub table_form : List NamedStyle → List PlainEntry → Data → Option (TaskKey → Option Cite)
+table_form styles entries d =
+    option_and_then table_of (list_of (written_form (is_known (style_named styles) (entry_named entries))) d)
 
 -- one more, where nothing is there for its task
 abbrev pub with_first : TaskKey × Cite → (TaskKey → Option Cite) → TaskKey → Option Cite

@@ -1,6 +1,7 @@
 //! Reads what a host has written, and writes what it is asked for.
 #![tactic(auto)]
 
+mod known;
 mod metas;
 mod parts;
 pub mod printing;

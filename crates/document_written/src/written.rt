@@ -4,23 +4,28 @@ ghost use Rattle.serde_json.specs.Data.{array};
 ghost use Rattle.serde_json.specs.View.{view, items_view};
 ghost use Rattle.csl_table.specs.Table.{found};
 ghost use Rattle.document_words.specs.Words.{all_items, required, where_present};
-ghost use Rattle.document_words.specs.Reads.{Faults, Reads};
-ghost use Rattle.document_written.specs.TaskForm.{key_form};
+ghost use Rattle.document_words.specs.Reads.{Faults, IsErrorOf, Reads};
+ghost use Rattle.document_styles.specs.NamedStyleView.{named_styles_view};
+ghost use Rattle.document_written.specs.Known.{knows, task_among};
 ghost use Rattle.document_written.specs.TreeForm.{tree_form};
 ghost use Rattle.document_written.specs.WrittenForm.{first_name_form, has_tree, table_form, table_of, with_first, written_cite, written_form};
 
+use crate::known::Known;
 use crate::task_names::{NAME_FORMS, USAGES};
 use crate::tasks::key_of_task;
 use crate::trees::tree_of;
 use csl_base::elem::ElemChildren;
+use csl_base::entry::PlainEntry;
 use csl_base::names::NameDisambiguationProperties;
 use csl_base::seq::Seq;
 use csl_lookup::state::IdentifierUsage;
 use csl_table::key::TaskKey;
 use csl_table::table::Table;
 use csl_writers::cite::Cite;
+use document_styles::styles::NamedStyle;
 use document_words::error::ReadError;
-use document_words::refusals::{lacking, unnamed};
+use document_words::fault::Wanted;
+use document_words::refusals::{lacking, unlike, unnamed};
 use document_words::words::{all_named, flag, list_of, name_or, object_with};
 use indexmap::IndexMap;
 use serde_json::Value;
@@ -28,14 +33,42 @@ use std::alloc::{AllocError, Global};
 
 // ---- one thing that was written
 
+/// The error of a task whose member of this key names nothing that is known.
+fn unknown_at(alloc: Global, task: &Value, key: &str, wanted: Wanted) -> ReadError
+    ensures { IsErrorOf result (view task.now) }
+{
+    match task.get(key) {
+        Some(member) => unlike(alloc, member, wanted).under(alloc, key),
+        None => lacking(alloc, task, key),
+    }
+}
+
+/// The task that the value is, whose style and entry have to be known.
+fn known_task(alloc: Global, known: &Known<'_>, value: &Value) -> Result<TaskKey, ReadError>
+    ensures read { Reads (λ k. k) result (task_among (knows known.now) (view value.now)) }
+    ensures fault { Faults result (view value.now) }
+{
+    let key = key_of_task(alloc, value)?;
+    if !known.has_style(key.style.as_str()) {
+        return Err(unknown_at(alloc, value, "style", Wanted::Style));
+    }
+    if !known.has_entry(key.entry.as_str()) {
+        return Err(unknown_at(alloc, value, "entry", Wanted::Entry));
+    }
+    Ok(key)
+}
+
 /// The task under the key `task`, which has to be there.
 #[tactic(auto, using(document_words::proofs::Ways::fails_outside))]
-fn task_at(alloc: Global, object: &Value) -> Result<TaskKey, ReadError>
-    ensures read { Reads (λ k. k) result (required key_form (codes "task") (view object.now)) }
+fn task_at(alloc: Global, known: &Known<'_>, object: &Value) -> Result<TaskKey, ReadError>
+    ensures read { Reads (λ k. k) result
+        (required (task_among (knows known.now)) (codes "task") (view object.now)) }
     ensures fault { Faults result (view object.now) }
 {
     match object.get("task") {
-        Some(member) => key_of_task(alloc, member).map_err(|error| error.under(alloc, "task")),
+        Some(member) => known_task(alloc, known, member).map_err(|error| error.under(
+            alloc, "task",
+        )),
         None => Err(lacking(alloc, object, "task")),
     }
 }
@@ -99,10 +132,10 @@ fn written_cite(alloc: Global, object: &Value) -> Result<Cite, ReadError>
     })
 }
 
-/// A task, and what was written for it.
+/// A task, whose style and entry are known, and what was written for it.
 #[tactic(auto, unfolding(crate::specs::WrittenForm::written_form))]
-fn written_of(alloc: Global, value: &Value) -> Result<(TaskKey, Cite), ReadError>
-    ensures read { Reads (λ w. w) result (written_form (view value.now)) }
+fn written_of(alloc: Global, known: &Known<'_>, value: &Value) -> Result<(TaskKey, Cite), ReadError>
+    ensures read { Reads (λ w. w) result (written_form (knows known.now) (view value.now)) }
     ensures fault { Faults result (view value.now) }
 {
     let object = object_with(
@@ -110,7 +143,7 @@ fn written_of(alloc: Global, value: &Value) -> Result<(TaskKey, Cite), ReadError
         &["task", "tree", "disambiguate_tested", "first_name", "usage"],
         value,
     )?;
-    let key = task_at(alloc, object)?;
+    let key = task_at(alloc, known, object)?;
     let cite = written_cite(alloc, object)?;
     Ok((key, cite))
 }
@@ -144,14 +177,14 @@ fn add(table: &mut Table, key: TaskKey, cite: Cite) -> Result<(), AllocError>
 }
 
 #[tactic(auto, using(document_words::proofs::Ways::item_there))]
-fn table_of_items(alloc: Global, items: &[Value]) -> Result<Table, ReadError>
+fn table_of_items(alloc: Global, known: &Known<'_>, items: &[Value]) -> Result<Table, ReadError>
     ensures read { Reads found result
-        (option_and_then table_of (all_items written_form (items_view items.now))) }
+        (option_and_then table_of (all_items (written_form (knows known.now)) (items_view items.now))) }
     ensures fault { Faults result (array (items_view items.now)) }
 {
     let mut table = IndexMap::new(alloc);
     for (place, item) in items.iter().enumerate() {
-        match written_of(alloc, item) {
+        match written_of(alloc, known, item) {
             Ok((key, cite)) => {
                 if !agrees(&table, &key, &cite) {
                     return Err(unnamed(alloc, item, TREES).in_item(place));
@@ -164,16 +197,25 @@ fn table_of_items(alloc: Global, items: &[Value]) -> Result<Table, ReadError>
     Ok(table)
 }
 
-/// What a host has written, as a table: of what is written for the same task the first stands in it.
+/// What a host has written for a document with these styles and entries, as a table: of what is written
+/// for the same task the first stands in it.
 ///
 /// # Errors
 ///
-/// Where the value is of another form, or a task stands twice in it with two different trees, both of
-/// which is refused by its place; and where memory is refused.
-pub fn table_of(alloc: Global, value: &Value) -> Result<Table, ReadError>
-    ensures read { Reads found result (table_form (view value.now)) }
+/// Where the value is of another form, a task names a style or an entry that isn't among these, or a task
+/// stands twice in it with two different trees, each of which is refused by its place; and where memory is
+/// refused.
+pub fn table_of(
+    alloc: Global,
+    value: &Value,
+    styles: &[NamedStyle],
+    entries: &[PlainEntry],
+) -> Result<Table, ReadError>
+    ensures read { Reads found result
+        (table_form (named_styles_view styles.now) entries.now (view value.now)) }
     ensures fault { Faults result (view value.now) }
 {
     let list = list_of(alloc, value)?;
-    table_of_items(alloc, list)
+    let known = Known::new(alloc, styles, entries)?;
+    table_of_items(alloc, &known, list)
 }
