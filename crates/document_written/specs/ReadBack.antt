@@ -1,0 +1,16 @@
+-- Tasks that read as what they were.
+use Rattle.std.specs.Prelude.{◌≡◌, ⊤, Some, None}
+use Rattle.csl_table.specs.declared.key.TaskKey.{TaskKey}
+use Rattle.csl_table.specs.declared.key.TaskPart.{TaskPart}
+use Rattle.csl_writers.specs.Tasks.{LastPlace}
+use Rattle.document_written.specs.TaskData.{task_data}
+use Rattle.document_written.specs.TaskForm.{key_form}
+
+-- an item of the bibliography has no place
+abbrev pub IsPlaced : TaskPart → LastPlace → Type 0
+IsPlaced (TaskPart.Item standing) place = place ≡ None
+IsPlaced _ place = ⊤
+
+-- the data of such a task reads as the task
+abbrev pub TasksReadBack : Type 0
+TasksReadBack = (k : TaskKey) → IsPlaced k.part k.place → key_form (task_data k) ≡ Some k

@@ -1,0 +1,96 @@
+-- The form of a tree.
+use Rattle.std.specs.Prelude.{◌≡◌, ℕ, zero, suc, List, [], ◌∷◌, ◌++◌, Option, Some, None, option_map, is_some, codes, if◌then◌else◌}
+use Rattle.serde_json.specs.Data.{Data, depth}
+use Rattle.serde_json.specs.Find.{get, as_str}
+use Rattle.csl_base.specs.Child.{Child, text, elem, markup, link, transparent, kids_of}
+use Rattle.csl_base.specs.declared.formatting.FontStyle.{FontStyle}
+use Rattle.csl_base.specs.declared.formatting.FontWeight.{FontWeight}
+use Rattle.csl_base.specs.declared.formatting.Formatted.{Formatted}
+use Rattle.csl_base.specs.declared.formatting.Formatting.{Formatting}
+use Rattle.document_words.specs.Words.{◌>>=◌, object_with, required, where_present, items_at, list_of, whole}
+use Rattle.document_words.specs.Names.{one_of}
+use Rattle.document_words.specs.Tables.{Table, displays}
+use Rattle.document_written.specs.MetaForm.{meta_form}
+
+-- how letters slant
+abbrev pub font_styles : Table FontStyle
+font_styles = (codes "normal", FontStyle.Normal) ∷ (codes "italic", FontStyle.Italic) ∷ []
+
+-- how heavy letters are
+abbrev pub font_weights : Table FontWeight
+font_weights = (codes "normal", FontWeight.Normal) ∷ (codes "bold", FontWeight.Bold) ∷ []
+
+-- the formatting of an object, which says both of it
+unfoldable pub formatting_form : Data → Option Formatting
+formatting_form o = do
+  slant ← required (one_of font_styles) (codes "font_style") o
+  weight ← required (one_of font_weights) (codes "font_weight") o
+  Some (record { font_style = slant; font_weight = weight })
+
+abbrev pub formatting_keys : List (List ℕ)
+formatting_keys = codes "font_style" ∷ codes "font_weight" ∷ []
+
+-- a text, or where there is a url, a link
+abbrev pub text_or_link : Formatted → Option (List ℕ) → Child
+text_or_link f None = text f
+text_or_link f (Some url) = link f url
+
+unfoldable pub text_form : Data → Option Child
+text_form d = do
+  o ← object_with (formatting_keys ++ codes "text" ∷ codes "url" ∷ []) d
+  formatting ← formatting_form o
+  s ← required as_str (codes "text") o
+  url ← where_present as_str (codes "url") o
+  Some (text_or_link (record { text = s; formatting = formatting }) url)
+
+-- a text in markup of its own
+unfoldable pub markup_form : Data → Option Child
+markup_form d = do
+  o ← object_with (codes "markup" ∷ []) d
+  option_map markup (required as_str (codes "markup") o)
+
+-- a place for a cite
+unfoldable pub cite_form : Data → Option Child
+cite_form d = do
+  o ← object_with (formatting_keys ++ codes "cite" ∷ []) d
+  formatting ← formatting_form o
+  cite ← required whole (codes "cite") o
+  Some (transparent cite formatting)
+
+-- ---- nodes in which nodes of the form `inner` stand
+
+abbrev pub element_keys : List (List ℕ)
+element_keys = codes "children" ∷ codes "display" ∷ codes "meta" ∷ []
+
+-- an element
+unfoldable pub element_form : (Data → Option Child) → Data → Option Child
+element_form inner d = do
+  o ← object_with element_keys d
+  children ← items_at inner (codes "children") o
+  display ← where_present (one_of displays) (codes "display") o
+  meta ← where_present meta_form (codes "meta") o
+  Some (elem (kids_of children) display meta)
+
+-- a node, of the kind that its keys say
+abbrev pub node_over : (Data → Option Child) → Data → Option Child
+node_over inner d =
+    if is_some (get (codes "children") d) then element_form inner d else
+    (if is_some (get (codes "markup") d) then markup_form d else
+    (if is_some (get (codes "cite") d) then cite_form d else text_form d))
+
+-- a node in which nodes nest less than n deep
+abbrev pub node_within : ℕ → Data → Option Child
+node_within zero d = None
+node_within (suc n) d = node_over (node_within n) d
+
+-- a node, however deep nodes nest in it: no deeper than the value itself
+unfoldable pub node_form : Data → Option Child
+node_form d = node_within (suc (depth d)) d
+
+-- nodes are made of nodes: no bound on their nesting matters
+abbrev pub NodesNest : Type 0
+NodesNest = (d : Data) → node_form d ≡ node_over node_form d
+
+-- a tree: a list of nodes
+abbrev pub tree_form : Data → Option (List Child)
+tree_form = list_of node_form

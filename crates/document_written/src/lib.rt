@@ -1,0 +1,11 @@
+//! Reads what a host has written, and writes what it is asked for.
+#![tactic(auto)]
+
+mod known;
+mod metas;
+mod parts;
+pub mod printing;
+mod task_names;
+pub mod tasks;
+pub mod trees;
+pub mod written;
