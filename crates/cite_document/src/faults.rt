@@ -163,7 +163,10 @@ fn pointer_of(alloc: Global, way: &[Step]) -> Result<String, AllocError>
 }
 
 /// The fault as JSON: its JSON Pointer (RFC 6901), what was found there, and what is asked for.
-fn print_fault(alloc: Global, fault: &Fault) -> Result<String, AllocError>
+///
+/// # Errors
+/// Where memory is refused.
+pub fn print_fault(alloc: Global, fault: &Fault) -> Result<String, AllocError>
     ensures { IfOk result (λ s. string_bytes s ≡ fault_text fault.now) }
 {
     let found = Value::String(found_in_words(alloc, &fault.found)?);

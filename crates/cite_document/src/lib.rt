@@ -7,6 +7,7 @@
 
 pub mod error;
 pub mod faults;
+pub mod filling;
 pub mod input;
 pub mod limits;
 mod printing;

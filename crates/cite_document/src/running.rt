@@ -1,5 +1,5 @@
 //! The program's work, over any writer.
-ghost use Rattle.std.specs.Prelude.{◌≡◌, ◌++◌, ℕ, None, Some, map, option_map, OnOk, IfOk, IfErr, IsErrOf};
+ghost use Rattle.std.specs.Prelude.{◌≡◌, ℕ, None, Some, map, OnOk, IfErr, IsErrOf};
 ghost use Rattle.std.specs.Io.KnownBytes.{Appends, Keeps};
 ghost use Rattle.serde_json.specs.View.{view};
 ghost use Rattle.csl_base.specs.PlainEntry.{plain_answers};
@@ -7,21 +7,18 @@ ghost use Rattle.csl_base.specs.StyleView.{locale_view};
 ghost use Rattle.csl_writing.specs.LayoutWriting.{layout_writing};
 ghost use Rattle.csl_driver.specs.Answer.{rendered};
 ghost use Rattle.csl_driver.specs.AskedView.{asked_of};
-ghost use Rattle.csl_driver.specs.DriverView.{driver_view};
 ghost use Rattle.csl_driver.specs.Promised.{Finishes};
-ghost use Rattle.csl_passes.specs.RequestView.{entries_view, order_view, wanted_view};
 ghost use Rattle.csl_driver.specs.declared.error.RingPlace.{RingPlace};
-ghost use Rattle.csl_styles.specs.TablesView.{locales_of};
-ghost use Rattle.document_reading.specs.AskedView.{asked_requests_view};
 ghost use Rattle.document_reading.specs.DocumentView.{document_view};
 ghost use Rattle.document_reading.specs.Form.{asked_form, form, document_form};
 ghost use Rattle.document_reading.specs.Entries.{entry_named};
 ghost use Rattle.document_styles.specs.NamedStyleView.{named_styles_view};
 ghost use Rattle.cite_document.specs.Print.{json_text, print};
 ghost use Rattle.document_styles.specs.Styles.{style_named};
-ghost use Rattle.cite_document.specs.Run.{accepted, answer, wanted_of, Answers, HasAnswer, HasFirstRing, HasTooLargeNumbers, IsDocumentThat, Prints, same_entry, same_payload};
+ghost use Rattle.cite_document.specs.Run.{answer, Answers, HasAnswer, HasFirstRing, HasTooLargeNumbers, IsDocumentThat, Prints, same_entry, same_payload};
 
 use crate::error::RunError;
+use crate::filling::{bibliography_request, filled_driver};
 use crate::printing::print_rendered;
 use answer_json::printing::print_json;
 use csl_base::entry::PlainEntry;
@@ -29,91 +26,18 @@ use csl_base::locale::Locale;
 use csl_driver::driver::BibliographyDriver;
 use csl_driver::error::DriverError;
 use csl_driver::rendered::Rendered;
-use csl_driver::request::{BibliographyRequest, Order};
+use csl_driver::request::BibliographyRequest;
 use csl_driver::terms::TermTables;
 use csl_round_laws::mode::RoundMode;
 use document_reading::document::{Asked, asked_in, top_of, utf8_text, value_of};
 use document_reading::entries::entries_of;
 use document_reading::finders::found_styles;
-use document_reading::requests::{AskedRequest, copied_code, driver_request};
 use document_styles::locales::locales_at;
 use document_styles::styles::{NamedStyle, styles_of};
 use serde_json::Value;
-use std::alloc::{AllocError, Global};
+use std::alloc::Global;
 use std::convert::Infallible;
 use std::io::Write;
-
-fn add_all<'e, 'f: 'e>(
-    alloc: Global,
-    driver: &mut BibliographyDriver<'e, PlainEntry, Infallible>,
-    requests: &'e [AskedRequest<'f>],
-    files: &'e TermTables<'f>,
-) -> Result<(), RunError>
-    ensures added { OnOk result (driver_view driver.new
-        ≡ record (driver_view driver.old) {
-          requests = (driver_view driver.old).requests
-              ++ accepted (asked_requests_view (map locale_view (locales_of files.now)) requests.now);
-        }) }
-    ensures memory { IfErr result (λ e. e ≡ RunError.OutOfMemory) }
-{
-    for request in requests {
-        if driver
-            .citation(driver_request(alloc, request, files)?)
-            .is_err()
-        {
-            return Err(RunError::OutOfMemory);
-        }
-    }
-    Ok(())
-}
-
-/// A driver that has taken these requests, in their order.
-fn filled_driver<'e, 'f: 'e>(
-    alloc: Global,
-    requests: &'e [AskedRequest<'f>],
-    files: &'e TermTables<'f>,
-    offset: usize,
-) -> Result<BibliographyDriver<'e, PlainEntry, Infallible>, RunError>
-    ensures filled { IfOk result (λ d. driver_view d
-        ≡ record {
-          requests = accepted
-              (asked_requests_view (map locale_view (locales_of files.now)) requests.now);
-          offset = offset;
-        }) }
-    ensures memory { IfErr result (λ e. e ≡ RunError.OutOfMemory) }
-{
-    let mut driver = BibliographyDriver::new(alloc).with_citation_number_offset(offset);
-    add_all(alloc, &mut driver, requests, files)?;
-    Ok(driver)
-}
-
-fn order_of<'o, 'e>(entries: &'o Option<Vec<&'e PlainEntry>>) -> Option<Order<'o, 'e, PlainEntry>>
-    ensures { order_view result ≡ option_map (λ v. entries_view v.items) entries.now }
-{
-    match entries {
-        Some(entries) => Some(Order(entries.as_slice())),
-        None => None,
-    }
-}
-
-/// What the driver is asked of the bibliography, with the locales of these tables.
-fn bibliography_request<'o, 'e>(
-    alloc: Global,
-    asked: &'o Asked<'e>,
-    files: &'o TermTables<'e>,
-) -> Result<BibliographyRequest<'o, 'e, PlainEntry>, AllocError>
-    ensures { IfOk result (λ request. wanted_view request
-        ≡ record (wanted_of (document_view asked.now)) { locales = map locale_view (locales_of files.now) }) }
-{
-    let locale = copied_code(alloc, &asked.wanted.locale)?;
-    let order = order_of(&asked.wanted.order);
-    let locales = files.locales();
-    let found = asked.wanted.style;
-    match found.sound() {
-        Some(sound) => Ok(BibliographyRequest::of_sound(sound, locale, files, order)),
-        None => Ok(BibliographyRequest::ordered(found.style, locale, locales, order)),
-    }
-}
 
 /// What the driver answers in these rounds: `finish` in three, and `finish_full` in as many as mark.
 fn answer_in<'e>(

@@ -5,7 +5,7 @@ use Rattle.csl_driver.specs.DriverView.{driver_view}
 use Rattle.csl_styles.specs.TablesView.{locales_of}
 use Rattle.document_reading.specs.AskedView.{asked_requests_view}
 use Rattle.cite_document.specs.Run.{accepted}
-use Rattle.cite_document.proofs.running.add_all.Given as goal
+use Rattle.cite_document.proofs.filling.add_all.Given as goal
 
 abbrev pub invariant-loop-request : goal.invariant-loop-request
 invariant-loop-request l =
