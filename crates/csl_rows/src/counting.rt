@@ -222,50 +222,90 @@ fn asked_by_purposes(alloc: Global, style: &IndependentStyle) -> Result<u64, Fai
     Ok(asked)
 }
 
+/// Entries of these keys and titles.
+fn all_titled(alloc: Global, titles: &[(&str, &str)]) -> Result<Vec<Counting>, AllocError> {
+    let mut entries = Vec::new(alloc);
+    for (key, title) in titles {
+        entries.push(titled(alloc, *key, *title)?)?;
+    }
+    Ok(entries)
+}
+
+/// How often the entries were asked, all together.
+fn asked_of(entries: &[Counting]) -> u64 {
+    let mut asked = 0u64;
+    for each in entries {
+        asked = asked.wrapping_add(each.titles.get());
+    }
+    asked
+}
+
+/// The renders of three cites of two entries.
+fn renders_of_cites(
+    alloc: Global,
+    style: &IndependentStyle,
+    entries: &[Counting],
+) -> Result<u128, Fail> {
+    let [a, b] = entries else {
+        return Err(Fail::new("there are other entries"));
+    };
+    let driver = cited_thrice(alloc, style, a, b)?;
+    let (_answer, account) = driver.finish_counted(BibliographyRequest::new(style, None, &[]))?;
+    Ok(account.renders)
+}
+
 /// Whether three cites of two entries that read alike are rendered nine times: at first, once more where
 /// a letter was added to each, and at last.
 fn counts_cites(alloc: Global, style: &IndependentStyle) -> Result<bool, Fail> {
     let cite = asked_by(alloc, style, Part::Cite(None))?;
-    let a = titled(alloc, "a", "X")?;
-    let b = titled(alloc, "b", "X")?;
-    let driver = cited_thrice(alloc, style, &a, &b)?;
-    let (_answer, account) = driver.finish_counted(BibliographyRequest::new(style, None, &[]))?;
-    let asked = a.titles.get().wrapping_add(b.titles.get());
-    Ok(cite > 0 && account.renders == 9 && asked == cite.wrapping_mul(9))
+    let entries = all_titled(alloc, &[("a", "X"), ("b", "X")])?;
+    let renders = renders_of_cites(alloc, style, &entries)?;
+    Ok(cite > 0 && renders == 9 && asked_of(&entries) == cite.wrapping_mul(9))
 }
 
-/// The renders of those cites, and of one for each purpose of a third entry, in rounds until none marks.
-fn renders_of_all<'a>(
+/// A driver of those cites, and of one for each purpose of a third entry.
+fn cited_for_purposes<'a>(
     alloc: Global,
     style: &'a IndependentStyle,
-    a: &'a Counting,
-    b: &'a Counting,
-    c: &'a Counting,
-) -> Result<u128, Fail> {
+    entries: &'a [Counting],
+) -> Result<Driver<'a>, Fail> {
+    let [a, b, c] = entries else {
+        return Err(Fail::new("there are other entries"));
+    };
     let mut driver = cited_thrice(alloc, style, a, b)?;
     take(&mut driver, style, each_purpose(alloc, c)?)?;
+    Ok(driver)
+}
+
+/// The renders of all these, in rounds until none marks.
+fn renders_of_all(
+    alloc: Global,
+    style: &IndependentStyle,
+    entries: &[Counting],
+) -> Result<u128, Fail> {
+    let driver = cited_for_purposes(alloc, style, entries)?;
     let (_answer, account) = driver.finish_full(BibliographyRequest::new(style, None, &[]))?;
     Ok(account.renders)
 }
 
-/// Whether those are nine, two for each purpose, and one for each item of the bibliography.
-fn counts_all(alloc: Global, style: &IndependentStyle) -> Result<bool, Fail> {
+/// How often these are to ask: nine renderings of cites, two for each purpose, and one for each item of the
+/// bibliography.
+fn asked_by_all(alloc: Global, style: &IndependentStyle) -> Result<u64, Fail> {
     let cite = asked_by(alloc, style, Part::Cite(None))?;
     let item = asked_by(alloc, style, Part::Item)?;
-    let a = titled(alloc, "a", "X")?;
-    let b = titled(alloc, "b", "X")?;
-    let c = titled(alloc, "c", "Y")?;
-    let renders = renders_of_all(alloc, style, &a, &b, &c)?;
-    let asked = a
-        .titles
-        .get()
-        .wrapping_add(b.titles.get())
-        .wrapping_add(c.titles.get());
-    let wanted = cite
-        .wrapping_mul(9)
-        .wrapping_add(item.wrapping_mul(3))
-        .wrapping_add(asked_by_purposes(alloc, style)?);
-    Ok(cite > 0 && item > 0 && renders == 20 && asked == wanted)
+    if cite == 0 || item == 0 {
+        return Err(Fail::new("the title isn't asked for"));
+    }
+    let asked = cite.wrapping_mul(9).wrapping_add(item.wrapping_mul(3));
+    Ok(asked.wrapping_add(asked_by_purposes(alloc, style)?))
+}
+
+/// Whether they ask so often.
+fn counts_all(alloc: Global, style: &IndependentStyle) -> Result<bool, Fail> {
+    let wanted = asked_by_all(alloc, style)?;
+    let entries = all_titled(alloc, &[("a", "X"), ("b", "X"), ("c", "Y")])?;
+    let renders = renders_of_all(alloc, style, &entries)?;
+    Ok(renders == 20 && asked_of(&entries) == wanted)
 }
 
 #[test]

@@ -86,9 +86,14 @@ fn answers_alike_in(alloc: Global, sound: &SoundStyle<'_>) -> Result<bool, Fail>
     answers_alike(alloc, sound, &entry(alloc, "a")?)
 }
 
+/// Whether they are in this style.
+fn answers_alike_of(alloc: Global, style: &IndependentStyle) -> Result<bool, Fail> {
+    answers_alike_in(alloc, &prepared(alloc, style)?)
+}
+
 #[test]
 fn prepared_answers_alike(rt: HostRuntime) -> Result<(), Fail> {
     let style = numeric(rt.alloc())?;
-    assert!(rt; answers_alike_in(rt.alloc(), &prepared(rt.alloc(), &style)?)?);
+    assert!(rt; answers_alike_of(rt.alloc(), &style)?);
     Ok(())
 }
