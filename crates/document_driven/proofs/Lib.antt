@@ -1,0 +1,4 @@
+pub mod DrivenMembers
+pub mod Absent
+pub mod AskedBy
+pub mod Tasks

@@ -1,0 +1,55 @@
+-- What comes of the table, or why the driver refuses, is of the document.
+use Rattle.std.proofs.Common.{◌≡◌, map, refl, subst, ◌∙◌}
+use Rattle.csl_base.specs.StyleView.{locale_view}
+use Rattle.csl_driver.specs.DriverView.{driver_view}
+use Rattle.csl_driver.specs.Rings.{Refuses}
+use Rattle.csl_passes.specs.RequestView.{wanted_view}
+use Rattle.csl_table.specs.Table.{found}
+use Rattle.document_reading.specs.AskedView.{asked_requests_view}
+use Rattle.document_reading.specs.DocumentView.{document_view}
+use Rattle.cite_document.specs.Run.{accepted, same_entry, wanted_of}
+use Rattle.cite_document.proofs.Refusals.{first_ring, too_large}
+use Rattle.document_driven.specs.DrivenForm.{DrivenDocument}
+use Rattle.document_driven.proofs.AskedBy.{comes}
+use Rattle.document_driven.proofs.driving.drive_asked.Goals as goal
+
+pub returns-in-Ok : goal.returns-in-Ok
+returns-in-Ok c =
+    let v = driver_view c.in_ok-driver.driver in
+    let w = wanted_view c.in_ok-request.request in
+    let asked = c.args.asked.now in
+    let d = document_view asked in
+    let made : v ≡ record { requests = accepted d.requests; offset = d.offset } =
+    c.in_ok-driver.ensures.filled
+    ∙ (λ i. record { requests = accepted (asked_requests_view (map locale_view (c.in_ok-files.ensures i)) (c.deref.ensures.value i)); offset = asked.offset }) in
+    let wanted : w ≡ wanted_of d = c.in_ok-request.ensures ∙ (λ i. record (wanted_of d) { locales = map locale_view (c.in_ok-files.ensures i) }) in
+    let x : DrivenDocument = record { asked = d; table = found c.args.table.now } in
+    (x, refl, (c.in-Ok.driven, comes v w d made wanted (found c.args.table.now) asked.rounds c.in-Ok.driven c.in-Ok.ensures.driven, c.in_ok-driven_text-in-Ok.ensures))
+
+pub returns-in-Err-MacroRing : goal.returns-in-Err-MacroRing
+returns-in-Err-MacroRing c =
+    let v = driver_view c.in_ok-driver.driver in
+    let w = wanted_view c.in_ok-request.request in
+    let asked = c.args.asked.now in
+    let d = document_view asked in
+    let made : v ≡ record { requests = accepted d.requests; offset = d.offset } =
+    c.in_ok-driver.ensures.filled
+    ∙ (λ i. record { requests = accepted (asked_requests_view (map locale_view (c.in_ok-files.ensures i)) (c.deref.ensures.value i)); offset = asked.offset }) in
+    let wanted : w ≡ wanted_of d = c.in_ok-request.ensures ∙ (λ i. record (wanted_of d) { locales = map locale_view (c.in_ok-files.ensures i) }) in
+    let e = c.in-Err-MacroRing in
+    let x : DrivenDocument = record { asked = d; table = found c.args.table.now } in
+    (x, refl, rw e.field-0-is (first_ring v w d made wanted e.place e.macro_idx (subst (Refuses same_entry v.requests w.style v.offset) e.field-0-is e.ensures.refused)))
+
+pub returns-in-Err-NumberOverflow : goal.returns-in-Err-NumberOverflow
+returns-in-Err-NumberOverflow c =
+    let v = driver_view c.in_ok-driver.driver in
+    let w = wanted_view c.in_ok-request.request in
+    let asked = c.args.asked.now in
+    let d = document_view asked in
+    let made : v ≡ record { requests = accepted d.requests; offset = d.offset } =
+    c.in_ok-driver.ensures.filled
+    ∙ (λ i. record { requests = accepted (asked_requests_view (map locale_view (c.in_ok-files.ensures i)) (c.deref.ensures.value i)); offset = asked.offset }) in
+    let wanted : w ≡ wanted_of d = c.in_ok-request.ensures ∙ (λ i. record (wanted_of d) { locales = map locale_view (c.in_ok-files.ensures i) }) in
+    let e = c.in-Err-NumberOverflow in
+    let x : DrivenDocument = record { asked = d; table = found c.args.table.now } in
+    (x, refl, too_large v w d made wanted e.field-0 e.field-0-is e.ensures.refused)

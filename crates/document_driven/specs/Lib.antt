@@ -1,0 +1,3 @@
+pub mod DrivenStyles
+pub mod DrivenForm
+pub mod Drive
