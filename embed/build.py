@@ -24,6 +24,8 @@ CRATE = f'{ROOT}/crates/gamhilon_c'
 ARCHIVE = f'{CRATE}/out/libgamhilon_c.a'
 NOTE = 'gamhilon_build.json'
 EXPORTS = [
+    'gamhilon_drive',
+    'gamhilon_drive_fault',
     'gamhilon_fault',
     'gamhilon_limits',
     'gamhilon_print',

@@ -1,6 +1,6 @@
 /* Gamhilon: citations and bibliographies. C99 and C++17.
  *
- * A call is given a document, which is JSON (docs/DOCUMENT.md), and room that the caller owns, and puts the answer
+ * A call is given a document, which is JSON (docs/DOCUMENT.md; docs/DRIVEN.md), and room that the caller owns, and puts the answer
  * there: as text, a line for each citation and for each item of the bibliography, or as JSON (docs/ANSWER.md), with
  * formatting, links, keys, note numbers and settings. Both are UTF-8 with no NUL at the end.
  *
@@ -71,7 +71,8 @@ extern "C" {
  * and the rest of it is as it was. `*length` is the length of the whole answer at GAMHILON_OK and at
  * GAMHILON_ROOM_TOO_SMALL, and else 0. There is no status 1: that is the program's, where reading or writing fails. */
 #define GAMHILON_OK 0u
-#define GAMHILON_DOCUMENT_REFUSED 2u  /* not JSON, or not of the form of a document: gamhilon_fault tells where */
+#define GAMHILON_DOCUMENT_REFUSED 2u  /* not JSON, or not of the form of a document: gamhilon_fault tells where, and
+                                         of a driven document gamhilon_drive_fault */
 #define GAMHILON_MACRO_RING 3u        /* the macros of a style call each other in a ring: gamhilon_ring tells where */
 #define GAMHILON_NUMBER_OVERFLOW 4u   /* the citation numbers don't fit 64 bits */
 #define GAMHILON_OUT_OF_MEMORY 5u     /* memory was refused */
@@ -97,6 +98,32 @@ uint32_t gamhilon_print_json(const uint8_t *document, size_t document_length,
  * It reads the document, and renders nothing. */
 uint32_t gamhilon_fault(const uint8_t *document, size_t document_length,
                         uint8_t *room, size_t room_length, size_t *length);
+
+/* For a host that writes the cites itself, such as a reference manager with a CSL processor: it hands in a driven document
+ * (docs/DRIVEN.md), which has no layouts. Puts what comes of it into the room, as JSON: where the host has written all that is
+ * asked for, the answer, and else what is missing, of which there is something, each task once:
+ *
+ *     {"answer":{"citations":[..],"bibliography":{..}}}
+ *     {"missing":[{"entry":"darwin","first":true,"kind":"cite","locale":"en-US","number":0,"style":"apa"},..]}
+ *
+ * The host starts with a document that has nothing under `written`, writes each task that is missing, adds it there and calls
+ * again, until an answer comes. What is missing now may depend on what was written before, so that takes three calls or a few
+ * more (docs/DRIVEN.md, "The loop"); nothing is kept between them:
+ *
+ *     status = gamhilon_drive(document, document_length, room, room_length, &length);
+ *     while (status == GAMHILON_OK && memcmp(room, "{\"missing\":", 11) == 0) {
+ *         ...                                  (write each task, and add it to the document)
+ *         status = gamhilon_drive(document, document_length, room, room_length, &length);
+ *     }
+ *
+ * Treats room and `*length` as gamhilon_print does, and ends with the same statuses but GAMHILON_MACRO_RING, since a driven
+ * style has no macros (this alone isn't proved). At GAMHILON_DOCUMENT_REFUSED gamhilon_drive_fault tells where the driven document is wrong. */
+uint32_t gamhilon_drive(const uint8_t *document, size_t document_length,
+                        uint8_t *room, size_t room_length, size_t *length);
+
+/* Tells where a driven document is wrong, as gamhilon_fault does for the documents of the other calls. */
+uint32_t gamhilon_drive_fault(const uint8_t *document, size_t document_length,
+                              uint8_t *room, size_t room_length, size_t *length);
 
 /* Where the first ring of macros is. */
 typedef struct {

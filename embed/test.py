@@ -90,8 +90,8 @@ def compile_all(room):
     compiler = os.environ.get('CC', 'cc').split()
     strict = ['-Wall', '-Wextra', '-pedantic', '-Werror', f'-I{HERE}']
     wraps = ['-Wl,--wrap=malloc,--wrap=realloc,--wrap=free']
-    sources = {'calls': [], 'stack': [], 'threads': [], 'many': [], 'about': [], 'limits': [], 'failing': wraps,
-               '../c/print': []}
+    sources = {'calls': [], 'stack': [], 'threads': [], 'many': [], 'about': [], 'limits': [], 'driven': [],
+               'failing': wraps, '../c/print': []}
     for name, more in sources.items():
         standard = '-std=c99' if name.startswith('..') else '-std=gnu11'
         made = ran(*compiler, standard, '-O1', '-g', '-pthread', *strict, *more, '-o', f'{room}/{os.path.basename(name)}',
@@ -119,19 +119,22 @@ def answers_of(room, form, length, cases):
     return answers
 
 
-def validator():
+def validator(name):
+    """What holds values to a schema of docs/, or none where the library is missing."""
     try:
         import jsonschema
     except ImportError:
-        left_out.append('answers against docs/answer.schema.json: there is no jsonschema (Debian: python3-jsonschema)')
+        left_out.append(f'JSON against docs/{name}.schema.json: there is no jsonschema (Debian: python3-jsonschema)')
         return None
-    return jsonschema.Draft202012Validator(json.loads(read(f'{ROOT}/docs/answer.schema.json')))
+    schema = json.loads(read(f'{ROOT}/docs/{name}.schema.json'))
+    jsonschema.Draft202012Validator.check_schema(schema)
+    return jsonschema.Draft202012Validator(schema)
 
 
 def try_from_c(room, cases):
     """Both texts, in a room that fits and in one of one byte. Gives the answers in JSON."""
     big = 1 << 21
-    schema, texts = validator(), {}
+    schema, texts = validator('answer'), {}
     for form in FORMS:
         texts[form] = answers_of(room, form, big, cases)
         for one, other, case in zip(texts[form], answers_of(room, form, 1, cases), cases):
@@ -258,6 +261,71 @@ def is_rebuilt(gamhilon, case, value):
     if answer.bibliography:
         found['bibliography'] = {**members(answer.bibliography), 'items': [members(it) for it in answer.bibliography.items]}
     return found == value and all(gamhilon.plain(it.content) == plain(it.content) for it in answer.citations)
+
+
+def holds_shared_parts():
+    """Whether each part of docs/driven.schema.json that another schema names too is as it stands there."""
+    own, *others = [json.loads(read(f'{ROOT}/docs/{it}.schema.json'))['$defs'] for it in ('driven', 'document', 'answer')]
+    named = [(part, [it[name] for it in others if name in it]) for name, part in own.items()]
+    return all(part in elsewhere for part, elsewhere in named if elsewhere)
+
+
+def with_written(document, lines):
+    """The driven documents that the host of tests/driven.c hands in one after the other, by what it prints."""
+    written = []
+    yield document
+    for line in lines[:-1]:
+        written += [{'task': task, 'tree': [{'text': task['entry'], 'font_style': 'normal', 'font_weight': 'normal'}]}
+                    for task in json.loads(line.partition(' ')[2])['missing']]
+        yield {**document, 'written': list(written)}
+
+
+def try_driven(room):
+    """A host that writes what is missing until there is an answer; rooms that are too small; refused memory; and where a driven
+    document is wrong."""
+    document = json.loads(read(f'{HERE}/tests/driven.json'))
+    done = ran(f'{room}/driven', f'{HERE}/tests/driven.json')
+    lines = done.stdout.decode().splitlines()
+    hold(done.returncode == 0 and done.stdout == read(f'{HERE}/tests/driven.txt'), f'a host that writes what is missing: {lines}')
+    handed_in = list(with_written(document, lines))
+    schema = validator('driven')
+    hold(not schema or all(schema.is_valid(it) for it in handed_in), 'driven documents against docs/driven.schema.json')
+    hold(holds_shared_parts(), 'the parts of docs/driven.schema.json that the other schemas have too')
+    cases = [Case(put(room, f'driven {k}', it)) for k, it in enumerate(handed_in)]
+    for length in (1 << 16, 1):
+        told = [f'{status} {text.decode()}' for status, text in answers_of(room, 'drive', length, cases)]
+        hold(told == lines, f'driven documents in a room of {length}: {told}')
+        hold(all(it == (0, b'') for it in answers_of(room, 'drive_fault', length, cases)), 'driven documents have no fault')
+    hold(ran(f'{room}/failing', *[it.path for it in cases]).returncode == 0, 'each allocation refused in turn, driven')
+    hold_stack(room, [it.path for it in cases])
+    try_driven_faults(room, schema, handed_in[-1])
+
+
+def try_driven_faults(room, schema, whole):
+    """The faults of driven documents that are wrong in one place each."""
+    one = whole['written'][0]
+    rows = [
+        ({**whole, 'styles': {'house': {'elements': []}}}, '/styles/house', 'unknown key elements'),
+        ({**whole, 'locales': []}, '', 'unknown key locales'),
+        ({**whole, 'written': {}}, '/written', 'an object'),
+        ({**whole, 'written': [{'task': one['task']}]}, '/written/0', 'missing key tree'),
+        ({**whole, 'written': [one, {**one, 'tree': [{'text': 'a', 'font_style': 'normal'}]}]},
+         '/written/1/tree/0', 'missing key font_weight'),
+        ({**whole, 'written': [{**one, 'task': {**one['task'], 'kind': 'note'}}]}, '/written/0/task/kind', 'a text'),
+        ({**whole, 'written': [{**one, 'task': {**one['task'], 'place': [0]}}]}, '/written/0/task/place', 'a list'),
+    ]
+    cases = [Case(put(room, f'driven and wrong {k}', it)) for k, (it, *_) in enumerate(rows)]
+    for (document, pointer, found), (status, _), (judged, fault) in zip(
+            rows, answers_of(room, 'drive', 1 << 16, cases), answers_of(room, 'drive_fault', 1 << 16, cases)):
+        told = json.loads(fault or '{}')
+        hold(status == 2 and judged == 0 and (told.get('pointer'), told.get('found')) == (pointer, found),
+             f'a driven document with {found} at {pointer}: status {status}, {told}')
+        hold(not schema or not schema.is_valid(document), f'docs/driven.schema.json refuses {found} at {pointer}')
+    for key, value, pointer in (('entry', 'eve', '/written/0/task/entry'), ('style', 'cottage', '/written/0/task/style')):
+        unknown = {**whole, 'written': [{**one, 'task': {**one['task'], key: value}}]}
+        (status, _), = answers_of(room, 'drive', 1 << 16, [Case(put(room, 'driven and unknown', unknown))])
+        (_, fault), = answers_of(room, 'drive_fault', 1 << 16, [Case(put(room, 'driven and unknown', unknown))])
+        hold(status == 2 and json.loads(fault or '{}').get('pointer') == pointer, f'a task of an unknown {key}: {status}, {fault!r}')
 
 
 def try_from_python(cases, jsons):
@@ -523,6 +591,7 @@ def main(words):
                 jsons = try_from_c(room, cases)
                 try_from_python(cases, jsons)
                 try_limits(room, cases)
+                try_driven(room)
                 try_driving()
                 try_building()
                 try_about(room)

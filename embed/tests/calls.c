@@ -1,6 +1,6 @@
 /* calls FORM ROOM FILE..: answers each document in a room of ROOM bytes, and where that is too small in one that fits, and
  * holds each call to what gamhilon.h says of the room and of the length. Writes of each a line "STATUS LENGTH", and the
- * answer. FORM is text, json or fault. */
+ * answer. FORM is text, json, fault, drive or drive_fault. */
 #include "gamhilon.h"
 
 #include <stdio.h>
@@ -9,7 +9,10 @@
 
 typedef uint32_t call(const uint8_t *, size_t, uint8_t *, size_t, size_t *);
 
-enum { GUARD = 64 };
+enum { GUARD = 64, FORMS = 5 };
+
+static const char *const forms[FORMS] = {"text", "json", "fault", "drive", "drive_fault"};
+static call *const calls[FORMS] = {gamhilon_print, gamhilon_print_json, gamhilon_fault, gamhilon_drive, gamhilon_drive_fault};
 
 static int failed;
 
@@ -43,7 +46,10 @@ static uint32_t tried(call *f, const char *file, const uint8_t *document, size_t
 }
 
 int main(int argc, char **argv) {
-    call *f = strcmp(argv[1], "json") == 0 ? gamhilon_print_json : strcmp(argv[1], "fault") == 0 ? gamhilon_fault : gamhilon_print;
+    int form = 0;
+    while (form < FORMS && strcmp(argv[1], forms[form]) != 0) form++;
+    if (form == FORMS) return 2;
+    call *f = calls[form];
     size_t given_room = strtoul(argv[2], NULL, 10);
     for (int i = 3; i < argc; i++) {
         FILE *file = fopen(argv[i], "rb");

@@ -1,5 +1,5 @@
 /* failing FILE..: each allocation of a call refused in turn, and each refused with all that come after it; of both texts, of
- * the fault, of the place of a ring and of the limits. Linked with --wrap=malloc,--wrap=realloc,--wrap=free. */
+ * the fault, of the place of a ring, of the limits, and of a driven document and its fault. Linked with --wrap=malloc,--wrap=realloc,--wrap=free. */
 #include "gamhilon.h"
 
 #include <stdio.h>
@@ -54,7 +54,9 @@ static uint32_t called(int form, uint8_t *into, size_t *length) {
     if (form == 1) return gamhilon_print_json(document, n, into, ROOM, length);
     if (form == 2) return gamhilon_fault(document, n, into, ROOM, length);
     if (form == 3) return gamhilon_ring(document, n, &ring);
-    return gamhilon_limits(document, n, 100, 100000);
+    if (form == 4) return gamhilon_limits(document, n, 100, 100000);
+    if (form == 5) return gamhilon_drive(document, n, into, ROOM, length);
+    return gamhilon_drive_fault(document, n, into, ROOM, length);
 }
 
 /* Whether a call of which some allocation was refused is right: refused itself, or the answer all the same. */
@@ -70,7 +72,7 @@ int main(int argc, char **argv) {
         FILE *file = fopen(argv[i], "rb");
         n = fread(document, 1, sizeof document, file);
         fclose(file);
-        for (int form = 0; form < 5; form++) {
+        for (int form = 0; form < 7; form++) {
             size_t whole_length, length;
             left = -1, made = open_blocks = 0;
             uint32_t whole_status = called(form, answer, &whole_length);

@@ -1,5 +1,5 @@
-/* stack FILE..: how much stack the deepest call takes, of both forms, of the fault, of the place of a ring and of the limits:
- * the mark that it leaves in a stack that was filled before. Writes a line for each form: the bytes and the document. */
+/* stack FILE..: how much stack the deepest call takes, of both forms, of the fault, of the place of a ring, of the limits, and of
+ * a driven document and its fault: the mark that it leaves in a stack that was filled before. Writes a line for each form: the bytes and the document. */
 #include "gamhilon.h"
 
 #include <pthread.h>
@@ -20,7 +20,9 @@ static void *worker(void *unused) {
     else if (form == 1) gamhilon_print_json(document, n, room, ROOM, &length);
     else if (form == 2) gamhilon_fault(document, n, room, ROOM, &length);
     else if (form == 3) gamhilon_ring(document, n, &ring);
-    else gamhilon_limits(document, n, 100, 100000);
+    else if (form == 4) gamhilon_limits(document, n, 100, 100000);
+    else if (form == 5) gamhilon_drive(document, n, room, ROOM, &length);
+    else gamhilon_drive_fault(document, n, room, ROOM, &length);
     return unused;
 }
 
@@ -39,20 +41,20 @@ static size_t taken(void) {
 }
 
 int main(int argc, char **argv) {
-    static const char *const forms[] = {"text", "json", "fault", "ring", "limits"};
-    size_t most[5] = {0, 0, 0, 0, 0};
-    int of[5] = {1, 1, 1, 1, 1};
+    static const char *const forms[] = {"text", "json", "fault", "ring", "limits", "drive", "drive_fault"};
+    size_t most[7] = {0, 0, 0, 0, 0, 0, 0};
+    int of[7] = {1, 1, 1, 1, 1, 1, 1};
     if (posix_memalign((void **)&stack, 4096, STACK) != 0) return 1;
     memset(stack, 0xA5, STACK);
     for (int i = 1; i < argc; i++) {
         FILE *file = fopen(argv[i], "rb");
         n = fread(document, 1, sizeof document, file);
         fclose(file);
-        for (form = 0; form < 5; form++) {
+        for (form = 0; form < 7; form++) {
             size_t bytes = taken();
             if (bytes > most[form]) most[form] = bytes, of[form] = i;
         }
     }
-    for (form = 0; form < 5; form++) printf("%s %zu %s\n", forms[form], most[form], argc > 1 ? argv[of[form]] : "");
+    for (form = 0; form < 7; form++) printf("%s %zu %s\n", forms[form], most[form], argc > 1 ? argv[of[form]] : "");
     return 0;
 }

@@ -3,7 +3,6 @@ use Rattle.std.proofs.Common.{◌≡◌, inl, inr, ℕ, ◌<◌, ◌⊎◌, List
 use Rattle.std.specs.Prelude.{IsSome, None}
 use Rattle.serde_json.specs.Data.{Data}
 use Rattle.document_words.specs.declared.fault.Fault.{Fault}
-use Rattle.document_reading.specs.Form.{Document}
 use Rattle.cite_document.specs.FaultText.{fault_text}
 use Rattle.cite_document.specs.Status.{status}
 use Rattle.cite_document.specs.TellsFault.{IsFaultText, TellsFault}
@@ -11,7 +10,7 @@ use Rattle.cite_document.specs.declared.error.RunError.{RunError}
 use Rattle.gamhilon_c.specs.Called.{Fills, HandsOut, Places}
 use Rattle.gamhilon_c.specs.FindsFault.{FindsFault}
 
-module _ (read : Option Document) (value : Option Data) (code : ℕ) (before after : List ℕ) (needed : ℕ) where
+module _ {D : Type 0} (read : Option D) (value : Option Data) (code : ℕ) (before after : List ℕ) (needed : ℕ) where
   -- an empty text stands in every room
   sound : (text : List ℕ) → IsSome read → text ≡ [] → Places text code before after needed → FindsFault read value code before after needed
   sound text is none h = elim h.1 [

@@ -2,3 +2,4 @@ pub mod Calls
 pub mod Rings
 pub mod Faults
 pub mod Limited
+pub mod DrivenCalls

@@ -3,17 +3,17 @@ use Rattle.std.specs.Prelude.{◌≡◌, ◌≢◌, ℕ, ◌<◌, ◌⊎◌, Lis
 use Rattle.serde_json.specs.Data.{Data}
 use Rattle.document_words.specs.declared.fault.Fault.{Fault}
 use Rattle.document_reading.specs.Faults.{IsFaultIn}
-use Rattle.document_reading.specs.Form.{Document}
 use Rattle.cite_document.specs.FaultText.{fault_text}
 use Rattle.gamhilon_c.specs.Called.{Fills}
 
 -- there is no document, but a fault of the value, or of the text that is none, that is such
-abbrev pub IsFaultThat : Option Document → Option Data → (Fault → Type 0) → Type 0
+abbrev pub IsFaultThat : {D : Type 0} → Option D → Option Data → (Fault → Type 0) → Type 0
 IsFaultThat read value Such = (read ≡ None) × ((f : Fault) × IsFaultIn f value × Such f)
 
 -- A call that ended with the status `code` and told the length `needed`. The bytes that it was given are the
--- value of `value` and the document of `read`, or none; and the room held `before` and then `after`.
-pub record FindsFault (read : Option Document) (value : Option Data) (code : ℕ) (before after : List ℕ)
+-- value of `value` and the document of `read`, of either form, or none; and the room held `before` and then
+-- `after`.
+pub record FindsFault {D : Type 0} (read : Option D) (value : Option Data) (code : ℕ) (before after : List ℕ)
     (needed : ℕ) : Type 0 where
   pub answered : code ≡ 0 → (IsSome read × (needed ≡ 0) × (after ≡ before))
       ⊎ IsFaultThat read value (λ f. Fills (fault_text f) before after × (needed ≡ length (fault_text f)))

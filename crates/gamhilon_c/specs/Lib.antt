@@ -2,3 +2,4 @@ pub mod Called
 pub mod Ring
 pub mod FindsFault
 pub mod KeepsLimits
+pub mod CalledDriven

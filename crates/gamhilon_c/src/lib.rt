@@ -10,7 +10,9 @@ ghost use Rattle.document_reading.specs.Faults.{value_in};
 ghost use Rattle.document_reading.specs.Form.{form};
 ghost use Rattle.cite_document.specs.Limited.{styles_in};
 ghost use Rattle.cite_document.specs.Print.{json_text, print};
+ghost use Rattle.document_driven.specs.DrivenForm.{driven_form};
 ghost use Rattle.gamhilon_c.specs.Called.{Called};
+ghost use Rattle.gamhilon_c.specs.CalledDriven.{CalledDriven};
 ghost use Rattle.gamhilon_c.specs.FindsFault.{FindsFault};
 ghost use Rattle.gamhilon_c.specs.KeepsLimits.{KeepsLimits};
 ghost use Rattle.gamhilon_c.specs.Ring.{FindsRing};
@@ -21,6 +23,8 @@ use cite_document::faults::print_fault_bytes;
 use cite_document::limits::check_limits;
 use cite_document::running::{answer_bytes, print_bytes, print_json_bytes};
 use csl_limits::limits::Limits;
+use document_driven::driving::drive_bytes;
+use document_driven::faults::print_driven_fault_bytes;
 use std::alloc::Global;
 
 /// Puts what the document prints into the room, and tells how many bytes that takes. Gives the status.
@@ -90,4 +94,35 @@ pub extern "C" fn gamhilon_ring(alloc: Global, document: &[u8], ring: &mut Gamhi
 {
     let answer = answer_bytes(alloc, document);
     hand_out_ring(&answer, ring)
+}
+
+/// Puts what comes of the driven document, as JSON, into the room, and tells how many bytes that takes: the
+/// answer with what its host has written, or what is missing of that. Gives the status.
+#[unsafe(no_mangle)]
+pub extern "C" fn gamhilon_drive(
+    alloc: Global,
+    document: &[u8],
+    room: &mut [u8],
+    needed: &mut usize,
+) -> u32
+    ensures { CalledDriven (driven_form document.now) result room.old room.new needed.new }
+{
+    let text = drive_bytes(alloc, document);
+    hand_out(&text, room, needed)
+}
+
+/// Puts the first fault of the driven document, as JSON, into the room, and tells how many bytes that takes:
+/// none where it has no fault. Gives the status.
+#[unsafe(no_mangle)]
+pub extern "C" fn gamhilon_drive_fault(
+    alloc: Global,
+    document: &[u8],
+    room: &mut [u8],
+    needed: &mut usize,
+) -> u32
+    ensures { FindsFault (driven_form document.now) (value_in document.now) result room.old room.new
+        needed.new }
+{
+    let text = print_driven_fault_bytes(alloc, document);
+    hand_out(&text, room, needed)
 }
