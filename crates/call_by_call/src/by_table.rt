@@ -107,7 +107,13 @@ fn by_layouts(
     way: TableWay,
 ) -> Result<Seen, RunError> {
     let found = found_styles(rt.alloc(), parts.styles, parts.object)?;
-    let asked = asked_in(rt.alloc(), &found, parts.entries, parts.locales, parts.object)?;
+    let asked = asked_in(
+        rt.alloc(),
+        &found,
+        parts.entries,
+        parts.locales,
+        parts.object,
+    )?;
     let files = TermTables::new(rt.alloc(), asked.locales)?;
     let asking = Asking {
         alloc: rt.alloc(),
@@ -176,7 +182,13 @@ fn by_hosts(
 ) -> Result<Seen, RunError> {
     let _ = eprintln!(rt; "prepare");
     let found = found_styles(rt.alloc(), parts.hosts, parts.object)?;
-    let asked = asked_in(rt.alloc(), &found, parts.entries, parts.locales, parts.object)?;
+    let asked = asked_in(
+        rt.alloc(),
+        &found,
+        parts.entries,
+        parts.locales,
+        parts.object,
+    )?;
     let files = TermTables::new(rt.alloc(), asked.locales)?;
     let asking = Asking {
         alloc: rt.alloc(),

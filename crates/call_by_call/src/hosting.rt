@@ -8,11 +8,7 @@ use serde_json::Value;
 use std::alloc::{AllocError, Global};
 
 /// Puts the name in the place of the elements of the layouts.
-fn hide_layouts(
-    alloc: Global,
-    style: &mut IndependentStyle,
-    name: &str,
-) -> Result<(), AllocError> {
+fn hide_layouts(alloc: Global, style: &mut IndependentStyle, name: &str) -> Result<(), AllocError> {
     style.citation.layout.elements = named(alloc, name)?;
     if let Some(Bibliography { layout, .. }) = &mut style.bibliography {
         layout.elements = named(alloc, name)?;

@@ -109,7 +109,12 @@ impl<'s, T: EntryLike, P> CiteWriter<T, P> for Recorder<'s> {
     ) -> Result<Option<ElemChildren>, AllocError> {
         let kept = CiteWriter::<T, P>::write_item(&mut self.layouts, alloc, task)?;
         if let Some(children) = kept {
-            self.put(alloc, item_key(alloc, task)?, task.source.style, tree_alone(children))?;
+            self.put(
+                alloc,
+                item_key(alloc, task)?,
+                task.source.style,
+                tree_alone(children),
+            )?;
         }
         self.layouts.write_item(alloc, task)
     }
@@ -120,7 +125,12 @@ impl<'s, T: EntryLike, P> CiteWriter<T, P> for Recorder<'s> {
         task: &DateTask<'_, T>,
     ) -> Result<ElemChildren, AllocError> {
         let kept = CiteWriter::<T, P>::write_date(&mut self.layouts, alloc, task)?;
-        self.put(alloc, date_key(alloc, task)?, task.source.style, tree_alone(kept))?;
+        self.put(
+            alloc,
+            date_key(alloc, task)?,
+            task.source.style,
+            tree_alone(kept),
+        )?;
         CiteWriter::<T, P>::write_date(&mut self.layouts, alloc, task)
     }
 

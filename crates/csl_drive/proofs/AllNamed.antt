@@ -104,8 +104,10 @@ module _ {E P : Type 0} (table : TaskKey → Option Cite) (answers : E → Answe
       where
         key : TaskKey
         key = task_key answers task
+
         here : (b : Bool) → is_later notes key ≡ b → noting task notes ≡ noted_if b key notes
         here b e = ap (λ o. noted_if (is_some o || is_later notes key) key notes) lacked ∙ ap (λ l. noted_if l key notes) e
+
         by : (b : Bool) → is_later notes key ≡ b → Contains (noted_all noting asked (noting task notes)) key
         by true e =
             let kept = all-later-stay asked (noting task notes) key (subst (λ ns. is_later ns key ≡ true) (sym (here true e)) e) in
