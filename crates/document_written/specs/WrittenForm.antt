@@ -60,7 +60,8 @@ first_written (w ∷ ws) key = if key_eq key w.0 then Some w.1 else first_writte
 
 -- the tree that was found is that of the cite; where none was found, otherwise
 abbrev pub has_tree : Option Cite → Cite → Bool → Bool
-has_tree found cite otherwise = option_map_or (λ first. same_trees first.children cite.children) found otherwise
+has_tree found cite otherwise =
+    option_map_or (λ first. same_trees first.children cite.children) found otherwise
 
 -- what is written for a task always has the tree that was written first for it
 abbrev pub has_one_tree_each : Written → Bool
