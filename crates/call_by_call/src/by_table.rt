@@ -195,14 +195,29 @@ fn by_hosts(
         asked: &asked,
         files: &files,
     };
+    from_table(rt, &asking, answer, table, way)
+}
+
+fn from_table(
+    rt: &(impl Print + Eprint),
+    asking: &Asking<'_, '_>,
+    answer: &Answer<'_>,
+    table: &mut Table,
+    way: TableWay,
+) -> Result<Seen, RunError> {
     let _ = eprintln!(rt; "drive");
     match way {
-        TableWay::Driven(times) => drive_often(&asking, table, times),
-        _ if !agrees(rt, &asking, table, answer)? => Ok(Seen::Amiss("another answer, or none")),
-        _ => {
-            let calls = (answer.1.rounds as usize).wrapping_add(3);
-            take_out_and_fill(&asking, table, calls)
-        }
+        TableWay::Driven(times) => drive_often(asking, table, times),
+        _ if !agrees(rt, asking, table, answer)? => Ok(Seen::Amiss("another answer, or none")),
+        _ => take_out_and_fill(asking, table, calls_at_most(answer.1.rounds)),
+    }
+}
+
+/// How often a host calls at most where so many rounds mark.
+fn calls_at_most(rounds: u128) -> usize {
+    match usize::try_from(rounds) {
+        Ok(rounds) => rounds.saturating_add(3),
+        Err(_) => usize::MAX,
     }
 }
 

@@ -124,24 +124,34 @@ fn make(
     }
 }
 
-/// The calls that leave the heights as they were in any case.
+/// A call that leaves the heights as they were in any case.
+fn text(
+    rt: &impl Eprint,
+    asked: Asked<'_>,
+    context: &mut Writing<'_>,
+    (name, call): (&str, Call),
+) -> Result<(), Ended> {
+    let url = String::from_str(asked.alloc, "u")?;
+    let before = context.writing.heights();
+    named(rt, name);
+    let outcome = make(context, call, asked.formula, url);
+    given(before, &context.writing, outcome)?;
+    if context.writing.heights() == before {
+        Ok(())
+    } else {
+        Err(Ended::OtherHeights)
+    }
+}
+
 fn texts(rt: &impl Eprint, asked: Asked<'_>) -> Result<(), Ended> {
-    for (name, call) in CALLS {
+    for call in CALLS {
         let mut context = filled(rt, asked)?;
-        let url = String::from_str(asked.alloc, "u")?;
-        let before = context.writing.heights();
-        named(rt, name);
-        let outcome = make(&mut context, call, asked.formula, url);
-        given(before, &context.writing, outcome)?;
-        if context.writing.heights() != before {
-            return Err(Ended::OtherHeights);
-        }
+        text(rt, asked, &mut context, call)?;
     }
     Ok(())
 }
 
-fn push_format(rt: &impl Eprint, asked: Asked<'_>) -> Result<(), Ended> {
-    let mut context = filled(rt, asked)?;
+fn push_format(rt: &impl Eprint, context: &mut Writing<'_>) -> Result<(), Ended> {
     let before = context.writing.heights();
     named(rt, "push_format");
     let outcome = context.writing.push_format(italic());
@@ -149,8 +159,7 @@ fn push_format(rt: &impl Eprint, asked: Asked<'_>) -> Result<(), Ended> {
     Ok(())
 }
 
-fn pop_format(rt: &impl Eprint, asked: Asked<'_>) -> Result<(), Ended> {
-    let mut context = filled(rt, asked)?;
+fn pop_format(rt: &impl Eprint, context: &mut Writing<'_>) -> Result<(), Ended> {
     let format = context.writing.push_format(italic())?;
     context.push_str(FULL)?;
     let before = context.writing.heights();
@@ -159,8 +168,7 @@ fn pop_format(rt: &impl Eprint, asked: Asked<'_>) -> Result<(), Ended> {
     given(before, &context.writing, outcome)
 }
 
-fn push_elem(rt: &impl Eprint, asked: Asked<'_>) -> Result<(), Ended> {
-    let mut context = filled(rt, asked)?;
+fn push_elem(rt: &impl Eprint, context: &mut Writing<'_>) -> Result<(), Ended> {
     let before = context.writing.heights();
     named(rt, "push_elem");
     let outcome = context.writing.push_elem(italic());
@@ -168,8 +176,7 @@ fn push_elem(rt: &impl Eprint, asked: Asked<'_>) -> Result<(), Ended> {
     Ok(())
 }
 
-fn commit_elem(rt: &impl Eprint, asked: Asked<'_>) -> Result<(), Ended> {
-    let mut context = filled(rt, asked)?;
+fn commit_elem(rt: &impl Eprint, context: &mut Writing<'_>) -> Result<(), Ended> {
     let loc = context.writing.push_elem(italic())?;
     context.push_str(FULL)?;
     let before = context.writing.heights();
@@ -178,8 +185,7 @@ fn commit_elem(rt: &impl Eprint, asked: Asked<'_>) -> Result<(), Ended> {
     given(before, &context.writing, outcome)
 }
 
-fn discard_elem(rt: &impl Eprint, asked: Asked<'_>) -> Result<(), Ended> {
-    let mut context = filled(rt, asked)?;
+fn discard_elem(rt: &impl Eprint, context: &mut Writing<'_>) -> Result<(), Ended> {
     let loc = context.writing.push_elem(italic())?;
     context.push_str(FULL)?;
     let before = context.writing.heights();
@@ -189,8 +195,11 @@ fn discard_elem(rt: &impl Eprint, asked: Asked<'_>) -> Result<(), Ended> {
 }
 
 /// A delimiter and name options upon those before.
-fn push_settings(rt: &impl Eprint, asked: Asked<'_>) -> Result<(), Ended> {
-    let mut context = filled(rt, asked)?;
+fn push_settings<'a>(
+    rt: &impl Eprint,
+    asked: Asked<'a>,
+    context: &mut Writing<'a>,
+) -> Result<(), Ended> {
     let before = context.writing.heights();
     named(rt, "push_delimiter");
     let outcome = context.writing.push_delimiter(Some("; "));
@@ -203,8 +212,11 @@ fn push_settings(rt: &impl Eprint, asked: Asked<'_>) -> Result<(), Ended> {
     given(before, &context.writing, outcome)
 }
 
-fn apply_prefix(rt: &impl Eprint, asked: Asked<'_>) -> Result<(), Ended> {
-    let mut context = filled(rt, asked)?;
+fn apply_prefix(
+    rt: &impl Eprint,
+    asked: Asked<'_>,
+    context: &mut Writing<'_>,
+) -> Result<(), Ended> {
     let before = context.writing.heights();
     named(rt, "apply_prefix");
     let outcome = context.writing.apply_prefix(asked.affixes);
@@ -212,21 +224,21 @@ fn apply_prefix(rt: &impl Eprint, asked: Asked<'_>) -> Result<(), Ended> {
     Ok(())
 }
 
-/// A context whose text fills its room behind a prefix, and the prefix.
-fn prefixed<'a>(
-    rt: &impl Eprint,
-    asked: Asked<'a>,
-) -> Result<(Writing<'a>, (DisplayLoc, usize)), AllocError>
-    ensures { IfOk result (λ made. made.1.0.frames + 1 ≡ length (state made.0.writing).frames) }
+/// A prefix, behind which the text fills its room.
+fn prefixed(asked: Asked<'_>, context: &mut Writing<'_>) -> Result<(DisplayLoc, usize), AllocError>
+    ensures { IfOk result (λ prefix. prefix.0.frames + 1 ≡ length (state context.new.writing).frames) }
 {
-    let mut context = filled(rt, asked)?;
     let prefix = context.writing.apply_prefix(asked.affixes)?;
     context.push_str(FULL)?;
-    Ok((context, prefix))
+    Ok(prefix)
 }
 
-fn has_content_since(rt: &impl Eprint, asked: Asked<'_>) -> Result<(), Ended> {
-    let (mut context, prefix) = prefixed(rt, asked)?;
+fn has_content_since(
+    rt: &impl Eprint,
+    asked: Asked<'_>,
+    context: &mut Writing<'_>,
+) -> Result<(), Ended> {
+    let prefix = prefixed(asked, context)?;
     let before = context.writing.heights();
     named(rt, "has_content_since");
     let outcome = context.writing.has_content_since(&prefix);
@@ -234,12 +246,69 @@ fn has_content_since(rt: &impl Eprint, asked: Asked<'_>) -> Result<(), Ended> {
     Ok(())
 }
 
-fn apply_suffix(rt: &impl Eprint, asked: Asked<'_>) -> Result<(), Ended> {
-    let (mut context, prefix) = prefixed(rt, asked)?;
+fn apply_suffix(
+    rt: &impl Eprint,
+    asked: Asked<'_>,
+    context: &mut Writing<'_>,
+) -> Result<(), Ended> {
+    let prefix = prefixed(asked, context)?;
     let before = context.writing.heights();
     named(rt, "apply_suffix");
     let outcome = context.apply_suffix(asked.affixes, prefix);
     given(before, &context.writing, outcome)
+}
+
+/// Calls that change the heights.
+#[derive(Clone, Copy)]
+enum Change {
+    PushFormat,
+    PopFormat,
+    PushElem,
+    CommitElem,
+    DiscardElem,
+    Settings,
+    ApplyPrefix,
+    HasContentSince,
+    ApplySuffix,
+}
+
+const CHANGES: [Change; 9] = [
+    Change::PushFormat,
+    Change::PopFormat,
+    Change::PushElem,
+    Change::CommitElem,
+    Change::DiscardElem,
+    Change::Settings,
+    Change::ApplyPrefix,
+    Change::HasContentSince,
+    Change::ApplySuffix,
+];
+
+fn make_change<'a>(
+    rt: &impl Eprint,
+    asked: Asked<'a>,
+    context: &mut Writing<'a>,
+    change: Change,
+) -> Result<(), Ended> {
+    match change {
+        Change::PushFormat => push_format(rt, context),
+        Change::PopFormat => pop_format(rt, context),
+        Change::PushElem => push_elem(rt, context),
+        Change::CommitElem => commit_elem(rt, context),
+        Change::DiscardElem => discard_elem(rt, context),
+        Change::Settings => push_settings(rt, asked, context),
+        Change::ApplyPrefix => apply_prefix(rt, asked, context),
+        Change::HasContentSince => has_content_since(rt, asked, context),
+        Change::ApplySuffix => apply_suffix(rt, asked, context),
+    }
+}
+
+fn changes(rt: &impl Eprint, asked: Asked<'_>) -> Result<(), Ended> {
+    for each in CHANGES {
+        let mut context = filled(rt, asked)?;
+        make_change(rt, asked, &mut context, each)?;
+    }
+    Ok(())
 }
 
 fn flush(rt: &impl Eprint, asked: Asked<'_>) -> Result<(), Ended> {
@@ -249,21 +318,9 @@ fn flush(rt: &impl Eprint, asked: Asked<'_>) -> Result<(), Ended> {
     Ok(())
 }
 
-fn elements_and_formats(rt: &impl Eprint, asked: Asked<'_>) -> Result<(), Ended> {
-    push_format(rt, asked)?;
-    pop_format(rt, asked)?;
-    push_elem(rt, asked)?;
-    commit_elem(rt, asked)?;
-    discard_elem(rt, asked)
-}
-
 fn all(rt: &impl Eprint, asked: Asked<'_>) -> Result<(), Ended> {
     texts(rt, asked)?;
-    elements_and_formats(rt, asked)?;
-    push_settings(rt, asked)?;
-    apply_prefix(rt, asked)?;
-    has_content_since(rt, asked)?;
-    apply_suffix(rt, asked)?;
+    changes(rt, asked)?;
     flush(rt, asked)
 }
 

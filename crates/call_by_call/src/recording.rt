@@ -62,19 +62,9 @@ impl<'s> Recorder<'s> {
         style: &IndependentStyle,
         written: Cite,
     ) -> Result<(), AllocError> {
-        let TaskKey {
-            style: _,
-            locale,
-            entry,
-            place,
-            part,
-        } = key;
         let key = TaskKey {
             style: Text::copied(alloc, name_of(self.styles, style))?,
-            locale,
-            entry,
-            place,
-            part,
+            ..key
         };
         match self.table.insert(key, written) {
             Ok(_) => Ok(()),
