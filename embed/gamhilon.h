@@ -117,7 +117,8 @@ uint32_t gamhilon_fault(const uint8_t *document, size_t document_length,
  *     }
  *
  * Treats room and `*length` as gamhilon_print does, and ends with the same statuses but GAMHILON_MACRO_RING, since a driven
- * style has no macros (this alone isn't proved). At GAMHILON_DOCUMENT_REFUSED gamhilon_drive_fault tells where the driven document is wrong. */
+ * style has no macros (this alone isn't proved). At GAMHILON_DOCUMENT_REFUSED gamhilon_drive_fault tells where the driven document is
+ * wrong. */
 uint32_t gamhilon_drive(const uint8_t *document, size_t document_length,
                         uint8_t *room, size_t room_length, size_t *length);
 
