@@ -1,6 +1,6 @@
 #!/usr/bin/env python3
 """test.py [--many N] [--after-ci | --archive FILE]: builds the library (build.py, with these words), and tries it as its users
-would: from C, Python and Rust, on each document of documents/ and examples/; then it runs the tests of the Python package.
+would: from C, Python and Rust, on each document of tests/documents/ and examples/; then it runs the tests of the Python package.
 
 It needs the toolchain and a C compiler. What else it would use (c++, cargo, cmake, pkg-config, valgrind, pip, venv, pandoc, pytest,
 mypy, python3-pandocfilters, python3-jsonschema, python3-citeproc and its styles) is left out where it is missing, and a line says
@@ -156,13 +156,13 @@ def try_from_c(room, cases):
 
 
 def faults():
-    """The faults of documents/faults.txt, by the names of the documents."""
-    rows = [it.split(' | ') for it in read(f'{ROOT}/documents/faults.txt').decode().splitlines() if it and it[0] != '#']
-    return {f'documents/{base}.json': dict(zip(('pointer', 'found', 'wanted'), row)) for base, *row in rows}
+    """The faults of tests/documents/faults.txt, by the names of the documents."""
+    rows = [it.split(' | ') for it in read(f'{ROOT}/tests/documents/faults.txt').decode().splitlines() if it and it[0] != '#']
+    return {f'tests/documents/{base}.json': dict(zip(('pointer', 'found', 'wanted'), row)) for base, *row in rows}
 
 
 def try_faults(room, cases):
-    """The first fault of each refused document, which is the one of documents/faults.txt where that has it; of others none."""
+    """The first fault of each refused document, which is the one of tests/documents/faults.txt where that has it; of others none."""
     must = faults()
     for length in (1 << 12, 1):
         for case, (status, told) in zip(cases, answers_of(room, 'fault', length, cases)):
@@ -222,7 +222,7 @@ def try_limits(room, cases):
     hold_limits(room, 1 << 26, [row for it in chains for row in borders(*it)])
     try_much_work(room, layouts)
     try_allowed(room, [(path, text) for (path, *_), (*_, text) in zip(allowed, layouts.ALLOWED)])
-    exceeding = [chains[0][0], f'{ROOT}/documents/hostile/macros_that_give_nothing_40_deep.json']
+    exceeding = [chains[0][0], f'{ROOT}/tests/documents/hostile/macros_that_give_nothing_40_deep.json']
     hold(ran(f'{room}/failing', *exceeding).returncode == 0, 'each allocation refused in turn, beyond the limits')
 
 
@@ -367,8 +367,8 @@ def try_from_python(cases, jsons):
 
 
 def try_driving():
-    """The driven call beside its model, as hosts of ordinary documents make it (model/driven_check.py)."""
-    done = ran(sys.executable, f'{ROOT}/model/driven_check.py', '--library', f'{OUT}/libgamhilon.so', timeout=600)
+    """The driven call beside its model, as hosts of ordinary documents make it (tests/model/driven_check.py)."""
+    done = ran(sys.executable, f'{ROOT}/tests/model/driven_check.py', '--library', f'{OUT}/libgamhilon.so', timeout=600)
     told = done.stdout.decode() + done.stderr.decode()
     hold(done.returncode == 0 and ' passed, 0 failed' in told, f'the driven call and its model: {told[-1200:]}')
 
@@ -538,7 +538,7 @@ def try_callers(room):
 
 def ten(cases):
     """A document of each of ten folders."""
-    paths = [sorted(glob.glob(f'{ROOT}/documents/{it}'), key=os.path.getsize) for it in TEN]
+    paths = [sorted(glob.glob(f'{ROOT}/tests/documents/{it}'), key=os.path.getsize) for it in TEN]
     chosen = {it[len(it) // 2] for it in paths if it}
     return [it for it in cases if it.path in chosen]
 
@@ -584,7 +584,7 @@ def main(words):
     if built == 0:
         print(f'built in {time.time() - began:.0f} s')
         began = time.time()
-        cases = [Case(it) for it in sorted(glob.glob(f'{ROOT}/documents/*/*.json') + glob.glob(f'{ROOT}/examples/*.json'))]
+        cases = [Case(it) for it in sorted(glob.glob(f'{ROOT}/tests/documents/*/*.json') + glob.glob(f'{ROOT}/examples/*.json'))]
         with tempfile.TemporaryDirectory() as room:
             compile_all(room)
             if not failures:

@@ -2,7 +2,7 @@
 use csl_driver::element::LayoutRenderingElement;
 use csl_driver::style::IndependentStyle;
 use csl_driver::taxonomy::DateVariable;
-use row_styles::styles::{self, authors, bibliography_of, group, layout_of};
+use test_styles::styles::{self, authors, bibliography_of, group, layout_of};
 use std::alloc::{AllocError, Global};
 
 /// The authors and the year of issue.

@@ -4,11 +4,11 @@ import json
 import os
 import sys
 
-MODEL = os.path.normpath(f'{os.path.dirname(os.path.abspath(__file__))}/../../../model')
+MODEL = os.path.normpath(f'{os.path.dirname(os.path.abspath(__file__))}/../../../tests/model')
 
 
 def driven():
-    """model/driven.py, which finds its neighbours beside it."""
+    """tests/model/driven.py, which finds its neighbours beside it."""
     sys.path.insert(0, MODEL)
     try:
         return importlib.import_module('driven')

@@ -1,0 +1,82 @@
+//! What callers get from the laws of an answer, each once at a concrete type.
+use crate::clients::{entry_of_number, hidden_between, letters_of_two};
+use csl_base::entry::{Date, PlainEntry};
+use csl_base::seq::Seq;
+use csl_base::style::IndependentStyle;
+use csl_base::taxonomy::DateVariable;
+use csl_driver::account::Account;
+use csl_driver::driver::BibliographyDriver;
+use csl_driver::item::CitationItem;
+use csl_driver::request::{BibliographyRequest, CitationRequest};
+use test_styles::styles::{author_date, entry, numeric};
+use std::alloc::{AllocError, Global};
+use std::convert::Infallible;
+use std::test::Fail;
+
+/// The account of requests that cite the entries one by one, with numbers from 2 on.
+fn account_of<'a>(
+    alloc: Global,
+    style: &'a IndependentStyle,
+    entries: &'a [PlainEntry],
+) -> Result<Account<'a, PlainEntry>, Fail> {
+    let mut driver = BibliographyDriver::new(alloc).with_citation_number_offset(2);
+    for cited in entries {
+        let items: Vec<CitationItem<'a, PlainEntry, Infallible>> = vec![in alloc;
+            CitationItem::with_entry(cited),
+        ]?;
+        if let Err(_refused) = driver.citation(CitationRequest::from_items(items, style, &[])) {
+            return Err(Fail::new("the request was refused"));
+        }
+    }
+    let (_rendered, account) = driver.finish_counted(BibliographyRequest::new(style, None, &[]))?;
+    Ok(account)
+}
+
+/// Entries of these keys, issued in 1999.
+fn issued(alloc: Global, keys: &[&str]) -> Result<Vec<PlainEntry>, AllocError> {
+    let mut entries = Vec::new(alloc);
+    for key in keys {
+        let mut plain = entry(alloc, *key)?;
+        plain.dates = Seq::new(vec![in alloc; (DateVariable::Issued, Date { year: 1999 })]?);
+        entries.push(plain)?;
+    }
+    Ok(entries)
+}
+
+/// A style of years and their letters.
+fn lettered(alloc: Global) -> Result<IndependentStyle, AllocError> {
+    let mut style = author_date(alloc)?;
+    style.citation.disambiguate_add_year_suffix = true;
+    Ok(style)
+}
+
+#[test]
+fn numbers_have_entries(rt: HostRuntime) -> Result<(), Fail> {
+    let entries = issued(rt.alloc(), &["a", "b", "c"])?;
+    let style = numeric(rt.alloc())?;
+    let account = account_of(rt.alloc(), &style, &entries)?;
+    for (number, key) in [(2, "a"), (3, "b"), (4, "c")] {
+        let found = entry_of_number(&account, number).ok_or("no entry has the number")?;
+        assert!(rt; found.key.as_str() == key);
+    }
+    assert!(rt; entry_of_number(&account, 1).is_none());
+    Ok(())
+}
+
+#[test]
+fn hidden_numbers_are_read(rt: HostRuntime) -> Result<(), Fail> {
+    let hidden = hidden_between::<PlainEntry, Infallible>(rt.alloc(), 1, 4)?;
+    assert!(rt; hidden.as_slice() == [2, 3].as_slice());
+    Ok(())
+}
+
+#[test]
+fn suffixes_have_letters(rt: HostRuntime) -> Result<(), Fail> {
+    let entries = issued(rt.alloc(), &["a", "b"])?;
+    let style = lettered(rt.alloc())?;
+    let account = account_of(rt.alloc(), &style, &entries)?;
+    let letters = letters_of_two::<PlainEntry, Infallible>(rt.alloc(), &account, 0, 1)?;
+    let (one, other) = letters.ok_or("no suffixes")?;
+    assert!(rt; one.as_str() == "a" && other.as_str() == "b");
+    Ok(())
+}

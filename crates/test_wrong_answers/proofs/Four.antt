@@ -1,0 +1,18 @@
+-- Two requests of one cite each, in an empty layout, cost four renderings.
+use Rattle.std.proofs.Common.{◌≡◌, refl}
+use Rattle.std.specs.Prelude.{nat_eq}
+use Rattle.csl_context.specs.WritingState.{flushed, formatted, saved, unformatted}
+use Rattle.csl_driver.specs.Account.{cost}
+use Rattle.csl_name_marks.specs.NameMarks.{name_marks}
+use Rattle.csl_name_marks.specs.Steps.{step, steps}
+use Rattle.csl_round_laws.specs.RoundMarks.{round_marks}
+use Rattle.csl_round_laws.specs.Tables.{tables_from}
+use Rattle.csl_round_laws.specs.declared.mode.RoundMode.{RoundMode}
+use Rattle.csl_writing.specs.CiteText.{cite}
+use Rattle.csl_writing.specs.PartsWritten.{parts_written}
+use Rattle.test_wrong_answers.specs.Counts.{asked}
+use Rattle.test_wrong_answers.specs.Silent.{same_sample, writing}
+
+pub four : cost same_sample nat_eq writing RoundMode.Three asked ≡ 4
+unfolding cite parts_written formatted unformatted flushed saved name_marks steps step round_marks tables_from
+four = refl

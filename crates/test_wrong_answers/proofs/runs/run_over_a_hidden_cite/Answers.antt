@@ -1,0 +1,10 @@
+use Rattle.test_wrong_answers.proofs.Drawn.{over-a-hidden-cite}
+use Rattle.test_wrong_answers.specs.Runs.{with_a_hidden_cite}
+use Rattle.test_wrong_answers.specs.Samples.{request_of}
+use Rattle.test_wrong_answers.proofs.runs.run_over_a_hidden_cite.Goals as goal
+
+pub returns-clause-refuted : goal.returns-clause-refuted
+returns-clause-refuted c = over-a-hidden-cite
+
+pub returns-clause-right : goal.returns-clause-right
+returns-clause-right c = c.collapsed_can_be_read_back.ensures (request_of with_a_hidden_cite)

@@ -1,0 +1,124 @@
+-- Small requests and cites, on which answers are tried.
+use Rattle.std.specs.Prelude.{ℕ, Bool, true, false, List, [], ◌∷◌, Option, None, Some, codes}
+use Rattle.csl_base.specs.Child.{Child, elem, kid, no_kids, text}
+use Rattle.csl_base.specs.Element.{NameOptions, no_elements}
+use Rattle.csl_base.specs.Formatting.{normal}
+use Rattle.csl_base.specs.Style.{StyleValue}
+use Rattle.csl_base.specs.declared.elem.Elem.{Elem}
+use Rattle.csl_base.specs.declared.elem.ElemMeta.{ElemMeta}
+use Rattle.csl_base.specs.declared.entry.Person.{Person}
+use Rattle.csl_base.specs.declared.formatting.StyleFormatting.{StyleFormatting}
+use Rattle.csl_base.specs.declared.style.Collapse.{Collapse}
+use Rattle.csl_base.specs.declared.style.DisambiguationRule.{DisambiguationRule}
+use Rattle.csl_base.specs.declared.style.StyleClass.{StyleClass}
+use Rattle.csl_base.specs.declared.taxonomy.NameVariable.{NameVariable}
+use Rattle.csl_lookup.specs.declared.state.DisambiguateState.{DisambiguateState}
+use Rattle.csl_lookup.specs.declared.state.IbidState.{IbidState}
+use Rattle.csl_lookup.specs.declared.state.IdentifierUsage.{IdentifierUsage}
+use Rattle.csl_passes.specs.Renders.{CiteRender, ItemRender}
+use Rattle.csl_passes.specs.Request.{Request}
+use Rattle.test_wrong_answers.specs.declared.sample.Sample.{Sample}
+
+-- the entry of this number
+abbrev pub entry : ℕ → Sample
+entry n = record { number = n }
+
+abbrev pub no_options : NameOptions
+no_options = record {
+  and = None;
+  name_delimiter = None;
+  names_delimiter = None;
+  et_al_min = None;
+  et_al_use_first = None;
+  name_form = None;
+  initialize_with = None;
+}
+
+-- a style that groups cites, collapses numbers, adds names and adds suffixes
+abbrev pub style : StyleValue
+style = record {
+  categories = [];
+  class = StyleClass.InText;
+  options = no_options;
+  default_locale = None;
+  locale = [];
+  macros = [];
+  citation = record {
+    layout = record {
+      elements = no_elements;
+      formatting = record { font_style = None; font_weight = None };
+      prefix = None;
+      suffix = None;
+      delimiter = Some (codes "; ");
+    };
+    disambiguate_add_givenname = false;
+    givenname_disambiguation_rule = DisambiguationRule.ByCite;
+    disambiguate_add_names = true;
+    disambiguate_add_year_suffix = true;
+    cite_group_delimiter = Some (codes ", ");
+    year_suffix_delimiter = None;
+    after_collapse_delimiter = None;
+    collapse = Some Collapse.CitationNumber;
+    near_note_distance = 0;
+    name_options = no_options;
+  };
+  bibliography = None;
+}
+
+-- these cites of one request
+abbrev pub request_of : List (ItemRender Sample ℕ) → CiteRender Sample ℕ
+request_of cites = record {
+  items = cites;
+  request = record { cites = []; style = style; locale = None; locales = []; note_number = None };
+}
+
+-- a cite of an entry, with this number, that was rendered so
+abbrev pub cite : ℕ → ℕ → List Child → ItemRender Sample ℕ
+cite n number tree = record {
+  rendered = tree;
+  entry = entry n;
+  properties = record {
+    certain = record {
+      note_number = None;
+      first_note_number = None;
+      is_near_note = false;
+      is_first = false;
+      initial_idx = 0;
+    };
+    speculative = record {
+      locator = None;
+      citation_number = number;
+      ibid = IbidState.Different;
+      disambiguation = DisambiguateState.None;
+      identifier_usage = IdentifierUsage.None;
+    };
+  };
+  checked_disambiguate = false;
+  first_name = None;
+  delimiter_override = None;
+  group = None;
+  locator = None;
+  hidden = false;
+  locale = None;
+  purpose = None;
+  verdict = None;
+}
+
+abbrev pub words : List ℕ → Child
+words bytes = text (record { text = bytes; formatting = normal })
+
+abbrev pub person : List ℕ → Person
+person family = record { name = family; given_name = None }
+
+-- an element for these authors, in which this text stands
+abbrev pub by_authors : List Person → List ℕ → Child
+by_authors authors shown =
+    elem (kid (words shown) no_kids) None (Some (ElemMeta.Names ((authors, NameVariable.Author) ∷ [])))
+
+-- a year, as an element for a date
+abbrev pub in_year : List ℕ → Child
+in_year shown = elem (kid (words shown) no_kids) None (Some ElemMeta.Date)
+
+-- an element for a citation number
+abbrev pub with_number : List ℕ → Child
+with_number shown = elem (kid (words shown) no_kids) None (Some ElemMeta.CitationNumber)
