@@ -15,25 +15,25 @@ use Rattle.csl_driver.specs.declared.error.DriverError.TheVariants.{NumberOverfl
 use Rattle.csl_driver.specs.declared.error.RingPlace.{RingPlace}
 use Rattle.csl_assembly.specs.declared.rendered.Rendered.{Rendered}
 use Rattle.document_reading.specs.Form.{Document}
-use Rattle.cite_document.specs.Run.{same_entry, same_payload, accepted, wanted_of, answer, HasAnswer, HasFirstRing, HasTooLargeNumbers}
+use Rattle.cite_document.specs.Run.{same_plain_entry, same_own_payload, accepted, wanted_of, answer, HasAnswer, HasFirstRing, HasTooLargeNumbers}
 
 module _ (v : Driver PlainEntry Infallible) (w : Wanted PlainEntry) (d : Document) (p : v ≡ record { requests = accepted d.requests; offset = d.offset }) (q : w ≡ wanted_of d) where
-  pub has_answer : NoRingAtAll v.requests w.style → v.offset + length (distinct same_entry (cited v.requests)) < 2 ^ 64 → HasAnswer d
+  pub has_answer : NoRingAtAll v.requests w.style → v.offset + length (distinct same_plain_entry (cited v.requests)) < 2 ^ 64 → HasAnswer d
   has_answer a b =
-      subst (λ x. NoRingAtAll x.requests d.style × (x.offset + length (distinct same_entry (cited x.requests)) < 2 ^ 64)) p
+      subst (λ x. NoRingAtAll x.requests d.style × (x.offset + length (distinct same_plain_entry (cited x.requests)) < 2 ^ 64)) p
       (subst (λ (x : Wanted PlainEntry). NoRingAtAll v.requests x.style) q a, b)
 
-  pub is_answer : (mode : RoundMode) (r : Rendered) → mode ≡ d.rounds → r ≡ rendered same_entry same_payload (layout_writing plain_answers) mode (record { wanted = w; requests = v.requests; offset = v.offset }) → r ≡ answer d
+  pub is_answer : (mode : RoundMode) (r : Rendered) → mode ≡ d.rounds → r ≡ rendered same_plain_entry same_own_payload (layout_writing plain_answers) mode (record { wanted = w; requests = v.requests; offset = v.offset }) → r ≡ answer d
   is_answer mode r m e =
-      e ∙ ap (λ x. rendered same_entry same_payload (layout_writing plain_answers) x (record { wanted = w; requests = v.requests; offset = v.offset })) m
-      ∙ ap (λ x. rendered same_entry same_payload (layout_writing plain_answers) d.rounds (record { wanted = x; requests = v.requests; offset = v.offset })) q
-      ∙ ap (λ x. rendered same_entry same_payload (layout_writing plain_answers) d.rounds (record { wanted = wanted_of d; requests = x.requests; offset = x.offset })) p
+      e ∙ ap (λ x. rendered same_plain_entry same_own_payload (layout_writing plain_answers) x (record { wanted = w; requests = v.requests; offset = v.offset })) m
+      ∙ ap (λ x. rendered same_plain_entry same_own_payload (layout_writing plain_answers) d.rounds (record { wanted = x; requests = v.requests; offset = v.offset })) q
+      ∙ ap (λ x. rendered same_plain_entry same_own_payload (layout_writing plain_answers) d.rounds (record { wanted = wanted_of d; requests = x.requests; offset = x.offset })) p
 
   pub first_ring : (place : RingPlace) (i : ℕ) → IsFirstRingOf v.requests w.style place i → HasFirstRing place i d
   first_ring place i h =
       subst (λ x. IsFirstRingOf x.requests d.style place i) p (subst (λ (x : Wanted PlainEntry). IsFirstRingOf v.requests x.style place i) q h)
 
-  pub too_large : (e : DriverError) → e ≡ NumberOverflow → Refuses same_entry v.requests w.style v.offset e → HasTooLargeNumbers d
+  pub too_large : (e : DriverError) → e ≡ NumberOverflow → Refuses same_plain_entry v.requests w.style v.offset e → HasTooLargeNumbers d
   too_large e n h =
-      subst (λ x. NoRingAtAll x.requests d.style × Overflows same_entry x.requests x.offset) p
-      (subst (λ (x : Wanted PlainEntry). NoRingAtAll v.requests x.style × Overflows same_entry v.requests v.offset) q (subst (Refuses same_entry v.requests w.style v.offset) n h))
+      subst (λ x. NoRingAtAll x.requests d.style × Overflows same_plain_entry x.requests x.offset) p
+      (subst (λ (x : Wanted PlainEntry). NoRingAtAll v.requests x.style × Overflows same_plain_entry v.requests v.offset) q (subst (Refuses same_plain_entry v.requests w.style v.offset) n h))

@@ -18,12 +18,12 @@ use Rattle.cite_document.specs.declared.error.RunError.{RunError}
 use Rattle.cite_document.specs.declared.error.RunError.TheVariants as errors
 
 -- whether two entries are equal, by their derived test
-abbrev pub same_entry : PlainEntry → PlainEntry → Bool
-same_entry = (plain_entry_eq.ghosts).eq
+abbrev pub same_plain_entry : PlainEntry → PlainEntry → Bool
+same_plain_entry = (plain_entry_eq.ghosts).eq
 
 -- whether two payloads of a caller's own are equal; a document's locators are texts, so it has none
-abbrev pub same_payload : Infallible → Infallible → Bool
-same_payload = (infallible_eq.ghosts).eq
+abbrev pub same_own_payload : Infallible → Infallible → Bool
+same_own_payload = (infallible_eq.ghosts).eq
 
 -- requests as the driver keeps them
 abbrev pub accepted : List (Request PlainEntry Infallible) → List (Request PlainEntry Infallible)
@@ -39,7 +39,7 @@ asked_by d = record { wanted = wanted_of d; requests = accepted d.requests; offs
 
 -- the whole answer to a document: that of as many rounds as it says
 abbrev pub answer : Document → Rendered
-answer d = rendered same_entry same_payload (layout_writing plain_answers) d.rounds (asked_by d)
+answer d = rendered same_plain_entry same_own_payload (layout_writing plain_answers) d.rounds (asked_by d)
 
 -- the first ring of a document's styles: the style's place, and that of its first macro on a ring
 abbrev pub HasFirstRing : RingPlace → ℕ → Document → Type 0
@@ -48,12 +48,12 @@ HasFirstRing place i d = IsFirstRingOf (accepted d.requests) d.style place i
 -- no style of a document has a ring, and its numbers are not above the greatest usize
 abbrev pub HasAnswer : Document → Type 0
 HasAnswer d = NoRingAtAll (accepted d.requests) d.style
-    × (d.offset + length (distinct same_entry (cited (accepted d.requests))) < 2 ^ 64)
+    × (d.offset + length (distinct same_plain_entry (cited (accepted d.requests))) < 2 ^ 64)
 
 -- no style of a document has a ring, and its numbers are above the greatest usize
 abbrev pub HasTooLargeNumbers : Document → Type 0
 HasTooLargeNumbers d = NoRingAtAll (accepted d.requests) d.style
-    × Overflows same_entry (accepted d.requests) d.offset
+    × Overflows same_plain_entry (accepted d.requests) d.offset
 
 -- there is a document, and it is such
 abbrev pub IsDocumentThat : Option Document → (Document → Type 0) → Type 0
@@ -68,9 +68,9 @@ IsRefused errors.OutOfMemory read = Unit {0}
 IsRefused errors.Output read = ⊥
 
 -- the answer, or why there is none
-abbrev pub Answers : Result Rendered RunError → Option Document → Type 0
-Answers (Ok r) read = IsDocumentThat read (λ d. HasAnswer d × (r ≡ answer d))
-Answers (Err e) read = IsRefused e read
+abbrev pub IsRunAnswer : Result Rendered RunError → Option Document → Type 0
+IsRunAnswer (Ok r) read = IsDocumentThat read (λ d. HasAnswer d × (r ≡ answer d))
+IsRunAnswer (Err e) read = IsRefused e read
 
 -- the text that is made of the answer, or why there is none
 abbrev pub Prints : (Rendered → List ℕ) → Result (String Global) RunError → Option Document → Type 0

@@ -90,8 +90,8 @@ pub fn bibliography_request<'o, 'e>(
     let order = order_of(&asked.wanted.order);
     let locales = files.locales();
     let found = asked.wanted.style;
-    match found.sound() {
-        Some(sound) => Ok(BibliographyRequest::of_sound(sound, locale, files, order)),
+    match found.prepared() {
+        Some(prepared) => Ok(BibliographyRequest::of_prepared(prepared, locale, files, order)),
         None => Ok(BibliographyRequest::ordered(found.style, locale, locales, order)),
     }
 }

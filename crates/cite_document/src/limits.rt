@@ -7,7 +7,7 @@ ghost use Rattle.cite_document.specs.Limited.{ChecksEach, ChecksStyles, limit_st
 
 use csl_base::style::IndependentStyle;
 use csl_limits::limits::{Excess, Limits};
-use csl_styles::sound::SoundStyle;
+use csl_styles::prepared::PreparedStyle;
 use document_reading::document::{top_of, utf8_text, value_of};
 use document_styles::styles::{NamedStyle, styles_of};
 use document_words::error::ReadError;
@@ -101,10 +101,10 @@ fn check_styles(alloc: Global, styles: &[NamedStyle], limits: &Limits) -> Result
 fn check_style(alloc: Global, style: &IndependentStyle, limits: &Limits) -> Result<(), LimitError>
     ensures { ChecksEach limits.now (style_view style.now ∷ []) result }
 {
-    match SoundStyle::new(alloc, style)? {
+    match PreparedStyle::new(alloc, style)? {
         // a style with a ring
         Err(_) => Ok(()),
-        Ok(sound) => match limits.check(&sound) {
+        Ok(prepared) => match limits.check(&prepared) {
             Ok(()) => Ok(()),
             Err(which) => Err(LimitError::Exceeded(which)),
         },

@@ -15,7 +15,7 @@ ghost use Rattle.document_reading.specs.Entries.{entry_named};
 ghost use Rattle.document_styles.specs.NamedStyleView.{named_styles_view};
 ghost use Rattle.cite_document.specs.Print.{json_text, print};
 ghost use Rattle.document_styles.specs.Styles.{style_named};
-ghost use Rattle.cite_document.specs.Run.{answer, Answers, HasAnswer, HasFirstRing, HasTooLargeNumbers, IsDocumentThat, Prints, same_entry, same_payload};
+ghost use Rattle.cite_document.specs.Run.{answer, IsRunAnswer, HasAnswer, HasFirstRing, HasTooLargeNumbers, IsDocumentThat, Prints, same_plain_entry, same_own_payload};
 
 use crate::error::RunError;
 use crate::filling::{bibliography_request, filled_driver};
@@ -46,9 +46,9 @@ fn answer_in<'e>(
     rounds: RoundMode,
 ) -> Result<Rendered, DriverError>
     ensures { Finishes
-        (λ r. r ≡ rendered same_entry same_payload (layout_writing plain_answers) rounds
+        (λ r. r ≡ rendered same_plain_entry same_own_payload (layout_writing plain_answers) rounds
         (asked_of driver.entry request.entry))
-        same_entry (asked_of driver.entry request.entry) result }
+        same_plain_entry (asked_of driver.entry request.entry) result }
 {
     match rounds {
         RoundMode::Three => driver.finish(request),
@@ -61,7 +61,7 @@ fn answer_in<'e>(
 
 /// The answer to what a document asks for.
 fn answer_asked<'r>(alloc: Global, asked: &'r Asked<'_>) -> Result<Rendered, RunError>
-    ensures { Answers result (Some (document_view asked.now)) }
+    ensures { IsRunAnswer result (Some (document_view asked.now)) }
 {
     let files = TermTables::new(alloc, asked.locales)?;
     let driver = filled_driver(alloc, &asked.requests, &files, asked.offset)?;
@@ -85,7 +85,7 @@ fn answer_of<'e>(
     entries: &'e [PlainEntry],
     locales: &'e [Locale],
 ) -> Result<Rendered, RunError>
-    ensures { Answers result (asked_form (style_named (named_styles_view styles.now))
+    ensures { IsRunAnswer result (asked_form (style_named (named_styles_view styles.now))
         (entry_named entries.now) (map locale_view locales.now) (view value)) }
 {
     let found = found_styles(alloc, styles, &value)?;
@@ -96,7 +96,7 @@ fn answer_of<'e>(
 
 #[tactic(auto, unfolding(document_reading::specs::Form::document_form))]
 fn answer_value(alloc: Global, value: Value) -> Result<Rendered, RunError>
-    ensures { Answers result (document_form (view value)) }
+    ensures { IsRunAnswer result (document_form (view value)) }
 {
     let object = top_of(alloc, &value)?;
     let styles = styles_of(alloc, object)?;
@@ -111,7 +111,7 @@ fn answer_value(alloc: Global, value: Value) -> Result<Rendered, RunError>
 /// As those of `run`, and never `Output`.
 #[tactic(auto, unfolding(document_reading::specs::Form::form))]
 pub fn answer_bytes(alloc: Global, bytes: &[u8]) -> Result<Rendered, RunError>
-    ensures { Answers result (form bytes.now) }
+    ensures { IsRunAnswer result (form bytes.now) }
 {
     let text = utf8_text(alloc, bytes)?;
     let value = value_of(alloc, text)?;

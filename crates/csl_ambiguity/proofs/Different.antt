@@ -3,15 +3,11 @@ use Rattle.std.proofs.Common.{◌≡◌, Bool, true, false, not, ◌||◌, Some,
 use Rattle.std.specs.Prelude.{option_map, slice_get}
 use Rattle.std.specs.List.{list_any}
 use Rattle.std.specs.Cmp.{IsEquivalence}
+use Rattle.std.proofs.lemmas.Bool.{or_parts, not-false}
 use Rattle.csl_passes.specs.Renders.{CiteRender, ItemRender, Place}
 use Rattle.csl_ambiguity.specs.Ambiguity.{cite_different}
 use Rattle.csl_ambiguity.specs.Members.{Member, entry_of, member_at, members}
-use Rattle.csl_ambiguity.proofs.Seconds.{neither}
 use Rattle.csl_ambiguity.proofs.Walks.{IsNext, next}
-
-not-false : (b : Bool) → not b ≡ false → b ≡ true
-not-false true h = refl
-not-false false h = cc
 
 module _ {E P : Type 0} (eq : E → E → Bool) (laws : IsEquivalence eq) where
   abbrev differs : E → List (Member E P) → Bool
@@ -27,7 +23,7 @@ module _ {E P : Type 0} (eq : E → E → Bool) (laws : IsEquivalence eq) where
   none-differs : (d : E) (all cites : List (Member E P)) → differs d all ≡ false → differs d cites ≡ false → list_any (λ m. differs (entry_of m) all) cites ≡ false
   none-differs d all [] none h = refl
   none-differs d all (m ∷ ms) none h =
-      let n : (not (eq d (entry_of m)) ≡ false) × (differs d ms ≡ false) = neither (not (eq d (entry_of m))) (differs d ms) h in
+      let n : (not (eq d (entry_of m)) ≡ false) × (differs d ms ≡ false) = or_parts (not (eq d (entry_of m))) (differs d ms) h in
       ap (λ b. b || list_any (λ x. differs (entry_of x) all) ms) (differs-equal d (entry_of m) all (not-false (eq d (entry_of m)) n.0) ∙ none)
       ∙ none-differs d all ms none n.1
 
@@ -37,7 +33,7 @@ module _ {E P : Type 0} (eq : E → E → Bool) (laws : IsEquivalence eq) where
     where
       by : (b : Bool) → differs (entry_of m) (m ∷ ms) ≡ b → b ≡ (b || list_any (λ x. differs (entry_of x) (m ∷ ms)) ms)
       by true h = refl
-      by false h = sym (none-differs (entry_of m) (m ∷ ms) ms h ((neither (not (eq (entry_of m) (entry_of m))) (differs (entry_of m) ms) h).1))
+      by false h = sym (none-differs (entry_of m) (m ∷ ms) ms h ((or_parts (not (eq (entry_of m) (entry_of m))) (differs (entry_of m) ms) h).1))
 
   pub different : (renders : List (CiteRender E P)) (ps : List Place) (p : Place) (i : ItemRender E P) (b : Bool) → Some p ≡ slice_get ps 0 → option_map (λ m. m.item) (member_at renders p) ≡ Some i
       → b ≡ differs i.entry (members renders ps) → b ≡ cite_different eq (members renders ps)

@@ -20,48 +20,9 @@ use Rattle.csl_ambiguity.proofs.Distinct.{all-filter, distinct-map}
 use Rattle.csl_ambiguity.proofs.FirstOnes.{enumerate-map, numbered-firsts}
 use Rattle.csl_ambiguity.proofs.Seconds.{are-texts, are_two}
 use Rattle.csl_ambiguity.proofs.Sifted.{StandsThere, document-stands, members-there}
-
--- what stands in a list
-behind : {X : Type 0} (x y : X) (xs : List X) → Contains xs y → Contains (x ∷ xs) y
-behind x y xs h = (suc h.0, omega (arith, h.1), h.2)
+use Rattle.csl_ambiguity.proofs.Contained.{in-filter, in-map, any-in, some-in}
 
 module _ {X : Type 0} where
-  in-filter : (p : X → Bool) (xs : List X) (x : X) → Contains xs x → p x ≡ true → Contains (filter p xs) x
-  in-filter p [] x (k, w, e) h = absurd (omega (arith, w))
-  in-filter p (y ∷ ys) x (zero, w, e) h = by (p y) (ap p e ∙ h)
-    where
-      by : (b : Bool) → b ≡ true → Contains (cond b (y ∷ filter p ys) (filter p ys)) x
-      by true q = (zero, omega arith, e)
-      by false q = absurd (true≢false (sym q))
-  in-filter p (y ∷ ys) x (suc k, w, e) h = by (p y) (in-filter p ys x (k, omega (arith, w), e) h)
-    where
-      by : (b : Bool) → Contains (filter p ys) x → Contains (cond b (y ∷ filter p ys) (filter p ys)) x
-      by true q = behind y x (filter p ys) q
-      by false q = q
-
-  in-map : {Y : Type 0} (f : X → Y) (xs : List X) (x : X) → Contains xs x → Contains (map f xs) (f x)
-  in-map f [] x (k, w, e) = absurd (omega (arith, w))
-  in-map f (y ∷ ys) x (zero, w, e) = (zero, omega arith, ap f e)
-  in-map f (y ∷ ys) x (suc k, w, e) = behind (f y) (f x) (map f ys) (in-map f ys x (k, omega (arith, w), e))
-
-  any-in : (p : X → Bool) (xs : List X) (x : X) → Contains xs x → p x ≡ true → list_any p xs ≡ true
-  any-in p [] x (k, w, e) h = absurd (omega (arith, w))
-  any-in p (y ∷ ys) x (zero, w, e) h = ap (λ b. b || list_any p ys) (ap p e ∙ h)
-  any-in p (y ∷ ys) x (suc k, w, e) h = by (p y) (any-in p ys x (k, omega (arith, w), e) h)
-    where
-      by : (b : Bool) → list_any p ys ≡ true → b || list_any p ys ≡ true
-      by true q = refl
-      by false q = q
-
-  -- one of a list that passes a test
-  some-in : (p : X → Bool) (xs : List X) → list_any p xs ≡ true → (x : X) × Contains xs x × (p x ≡ true)
-  some-in p [] h = absurd (true≢false (sym h))
-  some-in p (y ∷ ys) h = by (p y) refl h (some-in p ys)
-    where
-      by : (b : Bool) → p y ≡ b → b || list_any p ys ≡ true → (list_any p ys ≡ true → (x : X) × Contains ys x × (p x ≡ true)) → (x : X) × Contains (y ∷ ys) x × (p x ≡ true)
-      by true e q more = (y, (zero, omega arith, refl), e)
-      by false e q more = let r = more q in (r.0, behind y r.0 ys r.1, r.2)
-
   distinct-part : (P : X → Type 0) (eq : X → X → Bool) (xs : List X) → All P xs → All P (distinct eq xs)
   distinct-part P eq [] all = All-nil P
   distinct-part P eq (x ∷ xs) all = first (All-filter (λ y. not (eq x y)) P (distinct eq xs) (distinct-part P eq xs (λ k d w. all (suc k) d (omega (arith, w)))))

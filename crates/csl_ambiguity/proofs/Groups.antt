@@ -3,8 +3,9 @@ use Rattle.std.proofs.Common.{◌≡◌, ℕ, suc, ◌+◌, Bool, true, false, c
 use Rattle.std.specs.Prelude.{bytes_eq}
 use Rattle.std.specs.List.{AllByRecursion, list_any, position_or_len}
 use Rattle.std.proofs.Math.ListN.{set}
+use Rattle.std.proofs.lemmas.Bool.{or_parts}
 use Rattle.csl_ambiguity.proofs.Distinct.{NoTwoEqual}
-use Rattle.csl_ambiguity.proofs.Seconds.{bytes_laws, neither}
+use Rattle.csl_ambiguity.proofs.Seconds.{bytes_laws}
 
 -- the place of a text
 abbrev pub at : List ℕ → List (List ℕ) → ℕ
@@ -27,7 +28,7 @@ at-append t (s ∷ ts) us h = by (bytes_eq t s) h (at-append t ts us)
 pub at-new : (t : List ℕ) (ts : List (List ℕ)) → is_listed t ts ≡ false → at t (ts ++ t ∷ []) ≡ length ts
 at-new t [] h = rw (bytes_laws.refl t) refl
 at-new t (s ∷ ts) h =
-    let n : (bytes_eq t s ≡ false) × (is_listed t ts ≡ false) = neither (bytes_eq t s) (is_listed t ts) h in
+    let n : (bytes_eq t s ≡ false) × (is_listed t ts ≡ false) = or_parts (bytes_eq t s) (is_listed t ts) h in
     ap (λ b. cond (not b) (1 + at t (ts ++ t ∷ [])) 0) n.0 ∙ ap (λ k. 1 + k) (at-new t ts n.1) ∙ one-plus (length ts)
 
 module _ {A : Type 0} (f g : List ℕ → List A) (t : List ℕ) (p : A) (grows : (u : List ℕ) → g u ≡ f u ++ cond (bytes_eq u t) (p ∷ []) []) where
@@ -37,7 +38,7 @@ module _ {A : Type 0} (f g : List ℕ → List A) (t : List ℕ) (p : A) (grows 
   pub unlisted : (ts : List (List ℕ)) → is_listed t ts ≡ false → map g ts ≡ map f ts
   unlisted [] h = refl
   unlisted (s ∷ ts) h =
-      let n : (bytes_eq t s ≡ false) × (is_listed t ts ≡ false) = neither (bytes_eq t s) (is_listed t ts) h in
+      let n : (bytes_eq t s ≡ false) × (is_listed t ts ≡ false) = or_parts (bytes_eq t s) (is_listed t ts) h in
       λ i. stays s n.0 i ∷ unlisted ts n.1 i
 
   none-listed : (s : List ℕ) (ts : List (List ℕ)) → bytes_eq t s ≡ true → AllByRecursion (λ u. bytes_eq s u ≡ false) ts → is_listed t ts ≡ false

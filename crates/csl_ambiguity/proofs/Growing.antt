@@ -9,7 +9,7 @@ use Rattle.csl_base.specs.Tree.{plain}
 use Rattle.csl_lookup.specs.States.{may_get_suffix}
 use Rattle.csl_passes.specs.Renders.{ItemRender, Place}
 use Rattle.csl_ambiguity.specs.Ambiguity.{class_of, classes, seconds, without_suffix}
-use Rattle.csl_ambiguity.specs.ClassesSoFar.{Adds, AddsTo, AreClassesOf, JoinsGroup, MakesGroup, StartsClass, class_at, class_found, found, groups_in, texts}
+use Rattle.csl_ambiguity.specs.ClassesSoFar.{Adds, AddsTo, AreClassesOf, JoinsGroup, MakesGroup, StartsClass, class_at, class_found, class_of_text, groups_in, texts}
 use Rattle.csl_ambiguity.specs.InRange.{HeapText}
 use Rattle.csl_ambiguity.specs.Members.{Member, place_of, state_of, shown_text}
 use Rattle.csl_ambiguity.specs.declared.classes.Class.{Class}
@@ -57,7 +57,7 @@ module _ {E P : Type 0} (cites : List (Member E P)) (m : Member E P) (text : Hea
       by false = refl
 
   -- other texts are found as before
-  found-same : (u : List ℕ) → bytes_eq t u ≡ false → found more u ≡ found cites u
+  found-same : (u : List ℕ) → bytes_eq t u ≡ false → class_of_text more u ≡ class_of_text cites u
   found-same u h =
       ap (λ c. class_found c (at u (texts more))) (class-more u ∙ ap (λ b. class_of cites u ++ cond b (m ∷ []) []) (bytes_laws.symm u t ∙ h) ∙ append-nil (class_of cites u))
       ∙ ap (λ ts. class_found (class_of cites u) (at u ts)) texts-more
@@ -69,10 +69,10 @@ module _ {E P : Type 0} (cites : List (Member E P)) (m : Member E P) (text : Hea
       by false l = found-anywhere (class_of cites u) _ _ (sym ((are-texts cites).listed u) ∙ l)
 
   -- the own text is found with one cite more
-  found-own : (u : List ℕ) → bytes_eq t u ≡ true → found more u ≡ class_found (class_of cites t ++ m ∷ []) (at t (texts cites ++ cond (is_one (class_of cites t)) (t ∷ []) []))
+  found-own : (u : List ℕ) → bytes_eq t u ≡ true → class_of_text more u ≡ class_found (class_of cites t ++ m ∷ []) (at t (texts cites ++ cond (is_one (class_of cites t)) (t ∷ []) []))
   found-own u h =
       let same : t ≡ u = (bytes_eq-Decides t u).0 h in
-      ap (found more) (sym same)
+      ap (class_of_text more) (sym same)
       ∙ ap (λ c. class_found c (at t (texts more))) (class-more t ∙ ap (λ b. class_of cites t ++ cond b (m ∷ []) []) (bytes_laws.refl t))
       ∙ ap (λ ts. class_found (class_of cites t ++ m ∷ []) (at t ts)) texts-more
 
@@ -90,10 +90,10 @@ module _ {E P : Type 0} (cites : List (Member E P)) (m : Member E P) (text : Hea
     -- what is found of each text, where a class is set
     sets : (class : Class) → ((q : HeapText) → class_at new q ≡ cond (bytes_eq t (string_bytes q)) (Some class) (class_at old q))
         → Some class ≡ class_found (class_of cites t ++ m ∷ []) (at t (texts cites ++ cond (is_one (class_of cites t)) (t ∷ []) []))
-        → (q : HeapText) → class_at new q ≡ found more (string_bytes q)
+        → (q : HeapText) → class_at new q ≡ class_of_text more (string_bytes q)
     sets class is own q = is q ∙ by (bytes_eq t (string_bytes q)) refl
       where
-        by : (b : Bool) → bytes_eq t (string_bytes q) ≡ b → cond b (Some class) (class_at old q) ≡ found more (string_bytes q)
+        by : (b : Bool) → bytes_eq t (string_bytes q) ≡ b → cond b (Some class) (class_at old q) ≡ class_of_text more (string_bytes q)
         by true l = own ∙ sym (found-own (string_bytes q) l)
         by false l = h.at q ∙ sym (found-same (string_bytes q) l)
 
@@ -131,11 +131,11 @@ module _ {E P : Type 0} (cites : List (Member E P)) (m : Member E P) (text : Hea
           at = λ u. s.at u ∙ h.at u ∙ by (string_bytes u) (bytes_eq t (string_bytes u)) refl no_text;
         }
       where
-        by : (u : List ℕ) (c : Bool) → bytes_eq t u ≡ c → cond (is_one (class_of cites t)) (t ∷ []) [] ≡ [] → found cites u ≡ found more u
+        by : (u : List ℕ) (c : Bool) → bytes_eq t u ≡ c → cond (is_one (class_of cites t)) (t ∷ []) [] ≡ [] → class_of_text cites u ≡ class_of_text more u
         by u false l no_text = sym (found-same u l)
         by u true l no_text =
             let same : t ≡ u = (bytes_eq-Decides t u).0 l in
-            ap (found cites) (sym same) ∙ ap (λ c. class_found c (at t (texts cites))) q
+            ap (class_of_text cites) (sym same) ∙ ap (λ c. class_found c (at t (texts cites))) q
             ∙ sym (found-own u l ∙ ap (λ c. class_found (c ++ m ∷ []) (at t (texts cites ++ cond (is_one (class_of cites t)) (t ∷ []) []))) q
             ∙ ap (λ us. Some (Group (at t us))) (ap (λ us. texts cites ++ us) no_text ∙ append-nil (texts cites)))
 

@@ -2,6 +2,7 @@ pub mod Joined
 pub mod Walks
 pub mod Chosen
 pub mod Enumerated
+pub mod Contained
 pub mod Distinct
 pub mod FirstOnes
 pub mod Seconds

@@ -1,4 +1,5 @@
 -- The second cites of their texts, as cites are added one by one.
+use mathlib.Core.Bool.{or-false}
 use Rattle.std.proofs.Common.{◌≡◌, ℕ, suc, ◌+◌, Bool, true, false, cond, ◌||◌, List, [], ◌∷◌, ◌++◌, length, map, filter, take, nat_eq, refl, ap, sym, subst, ◌∙◌, append-nil, append_assoc, arith}
 use Rattle.std.specs.Prelude.{bytes_eq}
 use Rattle.std.specs.Cmp.{IsEquivalence}
@@ -10,6 +11,7 @@ use Rattle.std.proofs.lemmas.List.Elements.{filter-append}
 use Rattle.std.proofs.lemmas.Bool.Decides.{nat_tests}
 use Rattle.std.proofs.lemmas.List.Folds.{list_any-append}
 use Rattle.std.proofs.lemmas.Slice.Eq.{bytes_eq-Decides}
+use Rattle.std.proofs.lemmas.Bool.{or_parts}
 use Rattle.csl_ambiguity.specs.Ambiguity.{class_of, is_second, seconds}
 use Rattle.csl_ambiguity.specs.ClassesSoFar.{texts}
 use Rattle.csl_ambiguity.specs.Members.{Member, shown_text}
@@ -21,10 +23,6 @@ bytes_laws = nat_list_eq_equiv
 two-not-one : (n : ℕ) → nat_eq (suc (suc n)) 1 ≡ true → ⊥
 two-not-one n h = grind (arith, nat_tests)
 
-pub neither : (a b : Bool) → (a || b) ≡ false → (a ≡ false) × (b ≡ false)
-neither false b h = (refl, h)
-neither true b h = cc
-
 all-push : (Q : List ℕ → Type 0) (ts : List (List ℕ)) (t : List ℕ) → AllByRecursion Q ts → Q t → AllByRecursion Q (ts ++ t ∷ [])
 all-push Q [] t h q = (q, tt)
 all-push Q (s ∷ ts) t h q = (h.0, all-push Q ts t h.1 q)
@@ -32,7 +30,7 @@ all-push Q (s ∷ ts) t h q = (h.0, all-push Q ts t h.1 q)
 once-push : (ts : List (List ℕ)) (t : List ℕ) → NoTwoEqual bytes_eq ts → list_any (bytes_eq t) ts ≡ false → NoTwoEqual bytes_eq (ts ++ t ∷ [])
 once-push [] t h none = (tt, tt)
 once-push (s ∷ ts) t h none =
-    let n : (bytes_eq t s ≡ false) × (list_any (bytes_eq t) ts ≡ false) = neither (bytes_eq t s) (list_any (bytes_eq t) ts) none in
+    let n : (bytes_eq t s ≡ false) × (list_any (bytes_eq t) ts ≡ false) = or_parts (bytes_eq t s) (list_any (bytes_eq t) ts) none in
     (all-push (λ u. bytes_eq s u ≡ false) ts t h.0 (bytes_laws.symm s t ∙ n.0), once-push ts t h.1 n.1)
 
 module _ {E P : Type 0} where
@@ -139,14 +137,10 @@ module _ {E P : Type 0} where
           listed-one true e = rw e refl
           listed-one false e = refl
 
-          or_false : (a : Bool) → (a || false) ≡ a
-          or_false true = refl
-          or_false false = refl
-
           by : (b : Bool) → bytes_eq u (shown_text y) ≡ b
               → (are_two (class_of xs u) || list_any (bytes_eq u) (cond (is_one (class_of xs (shown_text y))) (shown_text y ∷ []) [])) ≡ are_two (class_of xs u ++ cond b (y ∷ []) [])
           by false e =
-              ap (λ b. are_two (class_of xs u) || b) (unlisted (is_one (class_of xs (shown_text y))) e) ∙ or_false (are_two (class_of xs u))
+              ap (λ b. are_two (class_of xs u) || b) (unlisted (is_one (class_of xs (shown_text y))) e) ∙ or-false (are_two (class_of xs u))
               ∙ ap are_two (sym (append-nil (class_of xs u)))
           by true e =
               let same : shown_text y ≡ u = sym ((bytes_eq-Decides u (shown_text y)).0 e) in

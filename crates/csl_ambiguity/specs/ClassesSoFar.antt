@@ -32,13 +32,13 @@ module _ {E P : Type 0} (cites : List (Member E P)) where
   texts = map shown_text (seconds cites)
 
   -- where the cites of this text are found
-  abbrev pub found : List ℕ → Option Class
-  found text = class_found (class_of cites text) (position_or_len (bytes_eq text) texts)
+  abbrev pub class_of_text : List ℕ → Option Class
+  class_of_text text = class_found (class_of cites text) (position_or_len (bytes_eq text) texts)
 
   -- they are the classes of these cites
   pub record AreClassesOf (c : Classes) : Type 0 where
     pub groups : groups_in c ≡ map (map place_of) (classes cites)
-    pub at : (text : HeapText) → class_at c text ≡ found (string_bytes text)
+    pub at : (text : HeapText) → class_at c text ≡ class_of_text (string_bytes text)
 
 -- this class is found of the text from now on, and of other texts what was found before
 abbrev pub SetsClass : Class → HeapText → Classes → Classes → Type 0

@@ -3,7 +3,7 @@ use Rattle.std.proofs.Common.{◌≡◌, Bool, true, false, cond, List, [], ◌�
 use Rattle.std.specs.List.{flat_map}
 use Rattle.std.proofs.lemmas.Grind.{flat_map-append}
 use Rattle.csl_base.specs.declared.formatting.Formatting.{Formatting}
-use Rattle.csl_assembly.specs.Assembly.{Shown, delimited, joined_cites}
+use Rattle.csl_assembly.specs.Assembly.{Shown, behind_delimiter, joined_cites}
 
 -- there is no cite yet
 abbrev pub is_none_yet : List Shown → Bool
@@ -15,8 +15,8 @@ is_none_yet-push [] c = refl
 is_none_yet-push (d ∷ ds) c = refl
 
 pub joined-push : (f : Formatting) (cs : List Shown) (c : Shown)
-    → joined_cites f (cs ++ c ∷ []) ≡ joined_cites f cs ++ cond (is_none_yet cs) c.tree (delimited f c)
+    → joined_cites f (cs ++ c ∷ []) ≡ joined_cites f cs ++ cond (is_none_yet cs) c.tree (behind_delimiter f c)
 joined-push f [] c = append-nil c.tree
 joined-push f (d ∷ ds) c =
-    ap (λ t. d.tree ++ t) (flat_map-append (delimited f) ds (c ∷ []) ∙ ap (λ t. flat_map (delimited f) ds ++ t) (append-nil (delimited f c)))
-    ∙ sym (append_assoc d.tree (flat_map (delimited f) ds) (delimited f c))
+    ap (λ t. d.tree ++ t) (flat_map-append (behind_delimiter f) ds (c ∷ []) ∙ ap (λ t. flat_map (behind_delimiter f) ds ++ t) (append-nil (behind_delimiter f c)))
+    ∙ sym (append_assoc d.tree (flat_map (behind_delimiter f) ds) (behind_delimiter f c))

@@ -25,32 +25,32 @@ text_child f (Some []) = []
 text_child f (Some (b ∷ bs)) = text (record { text = b ∷ bs; formatting = f }) ∷ []
 
 -- a cite behind its delimiter
-abbrev pub delimited : Formatting → Shown → List Child
-delimited f c = text_child f c.delimiter ++ c.tree
+abbrev pub behind_delimiter : Formatting → Shown → List Child
+behind_delimiter f c = text_child f c.delimiter ++ c.tree
 
 -- cites one after another, each but the first behind its delimiter
 abbrev pub joined_cites : Formatting → List Shown → List Child
 joined_cites f [] = []
-joined_cites f (c ∷ cs) = c.tree ++ flat_map (delimited f) cs
+joined_cites f (c ∷ cs) = c.tree ++ flat_map (behind_delimiter f) cs
 
 -- the text ends with the suffix
 abbrev pub text_ends_with : List ℕ → Option Formatted → Bool
 text_ends_with suffix last = elim last [ None ↦ false | Some f ↦ ends_with nat_eq f.text suffix ]
 
 -- the suffix behind a tree, unless its last text ends with it
-abbrev pub with_suffix : Formatting → Option (List ℕ) → List Child → List Child
-with_suffix f None cs = cs
-with_suffix f (Some suffix) cs = if text_ends_with suffix (last_text cs) then cs
+abbrev pub with_layout_suffix : Formatting → Option (List ℕ) → List Child → List Child
+with_layout_suffix f None cs = cs
+with_layout_suffix f (Some suffix) cs = if text_ends_with suffix (last_text cs) then cs
     else cs ++ text_child f (Some suffix)
 
 -- cites joined, and between the layout's prefix and suffix where it encloses them
-abbrev pub enclosed : Bool → LayoutValue → List Shown → List Child
-enclosed encloses layout cites =
+abbrev pub enclosed_cites : Bool → LayoutValue → List Shown → List Child
+enclosed_cites encloses layout cites =
     let f = layout_formatting layout in
-    if encloses then with_suffix f layout.suffix (text_child f layout.prefix ++ joined_cites f cites)
+    if encloses then with_layout_suffix f layout.suffix (text_child f layout.prefix ++ joined_cites f cites)
     else joined_cites f cites
 
 -- the tree of a citation from its shown cites: nothing where there is none
 abbrev pub assembled : Bool → LayoutValue → List Shown → List Child
 assembled encloses layout [] = []
-assembled encloses layout (c ∷ cs) = simplified (enclosed encloses layout (c ∷ cs))
+assembled encloses layout (c ∷ cs) = simplified (enclosed_cites encloses layout (c ∷ cs))

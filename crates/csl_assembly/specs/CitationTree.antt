@@ -30,20 +30,20 @@ module _ {E P : Type 0} where
   marked_cite i tree = elem (kids_of tree) None (Some (Entry i.properties.certain.initial_idx)) ∷ []
 
   -- where a cite stands: the index of its request, and its own in the items of the request
-  abbrev pub place_of : ℕ → ItemRender E P → LastPlace
-  place_of r i = Some (r, i.properties.certain.initial_idx)
+  abbrev pub last_place_of : ℕ → ItemRender E P → LastPlace
+  last_place_of r i = Some (r, i.properties.certain.initial_idx)
 
   -- what is asked for where the r-th citation is written: each cite, also those that aren't shown
   abbrev pub citation_tasks : ℕ → CiteRender E P → List (TaskValue E P)
   citation_tasks r c =
-      map (λ i. task_by_purpose (last_task (source_of c.request) (place_of r i) i)) c.items
+      map (λ i. task_by_purpose (last_task (source_of c.request) (last_place_of r i) i)) c.items
 
   module _ (writing : Writing E P) (r : ℕ) where
     -- a cite of the r-th request as it is put into its citation
     abbrev pub shown_cite : Source → LayoutValue → ItemRender E P → Shown
     shown_cite source layout i = record {
       delimiter = delimiter_before layout i;
-      tree = marked_cite i (tree_by_purpose writing (last_task source (place_of r i) i));
+      tree = marked_cite i (tree_by_purpose writing (last_task source (last_place_of r i) i));
     }
 
     -- the r-th citation; the layout encloses it where no cite has a purpose

@@ -3,7 +3,7 @@ ghost use Rattle.std.specs.Prelude.{◌≡◌, ◌++◌, Some, IfOk, OnOk, if◌
 ghost use Rattle.csl_base.specs.ElementView.{text_view};
 ghost use Rattle.csl_base.specs.StyleView.{layout_view};
 ghost use Rattle.csl_base.specs.Tree.{last_text};
-ghost use Rattle.csl_assembly.specs.Assembly.{assembled, delimited, enclosed, joined_cites, layout_formatting, text_child, text_ends_with, with_suffix};
+ghost use Rattle.csl_assembly.specs.Assembly.{assembled, behind_delimiter, enclosed_cites, joined_cites, layout_formatting, text_child, text_ends_with, with_layout_suffix};
 ghost use Rattle.csl_assembly.specs.ShownView.{shown_view, shown_views};
 
 use csl_base::elem::{ElemChild, ElemChildren};
@@ -77,7 +77,7 @@ fn push_cite(
 ) -> Result<(), AllocError>
     ensures { OnOk result (tree.new
         ≡ tree.old ++ (if is_first then (shown_view cite.entry).tree
-        else delimited formatting (shown_view cite.entry))) }
+        else behind_delimiter formatting (shown_view cite.entry))) }
 {
     if !is_first {
         push_optional_text(alloc, tree, cite.delimiter, formatting)?;
@@ -119,7 +119,7 @@ fn push_suffix(
     suffix: &Option<String>,
     formatting: Formatting,
 ) -> Result<(), AllocError>
-    ensures { OnOk result (tree.new ≡ with_suffix formatting (text_view suffix.now) tree.old) }
+    ensures { OnOk result (tree.new ≡ with_layout_suffix formatting (text_view suffix.now) tree.old) }
 {
     match suffix {
         Some(suffix) => {
@@ -148,7 +148,7 @@ fn enclosed(
     encloses: bool,
 ) -> Result<ElemChildren, AllocError>
     ensures { IfOk result (λ tree. tree
-        ≡ enclosed encloses (layout_view layout.now) (shown_views cites.entry.items)) }
+        ≡ enclosed_cites encloses (layout_view layout.now) (shown_views cites.entry.items)) }
 {
     let formatting = layout_formatting(layout);
     let mut tree = room_for(alloc, cites.len())?;

@@ -5,7 +5,7 @@ ghost use Rattle.csl_passes.specs.Request.{source_of};
 ghost use Rattle.csl_passes.specs.RequestView.{request_view};
 ghost use Rattle.csl_passes.specs.Renders.{CiteRender};
 ghost use Rattle.csl_passes.specs.RendersView.{item_view, items_view};
-ghost use Rattle.csl_assembly.specs.CitationTree.{citation_tasks, citation_tree, delimiter_before, has_no_purpose, marked_cite, place_of, shown, shown_cite};
+ghost use Rattle.csl_assembly.specs.CitationTree.{citation_tasks, citation_tree, delimiter_before, has_no_purpose, marked_cite, last_place_of, shown, shown_cite};
 ghost use Rattle.csl_assembly.specs.LastTree.{last_task, task_by_purpose, tree_by_purpose};
 ghost use Rattle.csl_assembly.specs.ShownView.{shown_views};
 ghost use Rattle.csl_writers.specs.Desk.{after, desk};
@@ -56,11 +56,11 @@ fn marked_cite<T: EntryLike, P: Drop, W: CiteWriter<T, P>>(
     counter: &mut Renders,
 ) -> Result<ElemChildren, W::Error>
     ensures tree { let task = last_task (source_of (request_view request.entry.request.now))
-        (place_of index (item_view item.now)) (item_view item.now) in
+        (last_place_of index (item_view item.now)) (item_view item.now) in
         IfOk result (λ tree. tree ≡ marked_cite (item_view item.now)
         (tree_by_purpose (writing_of T.answers (W.state writer.old)) task)) }
     ensures asked { let task = last_task (source_of (request_view request.entry.request.now))
-        (place_of index (item_view item.now)) (item_view item.now) in
+        (last_place_of index (item_view item.now)) (item_view item.now) in
         OnOk result (desk (W.state writer.new) counter.new
         ≡ after (task_by_purpose task ∷ []) (desk (W.state writer.old) counter.old)) }
 {

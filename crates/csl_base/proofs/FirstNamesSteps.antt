@@ -2,7 +2,7 @@
 use Rattle.std.proofs.Common.{◌≡◌, ℕ, suc, ◌+◌, ◌<◌, ◌≤◌, List, [], ◌∷◌, length, get_or, Option, None, Some, Bool, true, false, not, cond, is_some, refl, sym, ap, ◌∙◌, arith, inl, inr, true≢false}
 use Rattle.std.proofs.Math.ListN.{set}
 use Rattle.std.specs.Option.{option_or, option_and_then, option_map_or, unwrap_or}
-use Rattle.std.proofs.lemmas.Bool.{cases_Bool, cases_lt}
+use Rattle.std.proofs.lemmas.Bool.{cases_Bool, cases_lt, not-true, not-false}
 use Rattle.std.proofs.lemmas.List.{map-set, set-get_or}
 use Rattle.std.proofs.lemmas.List.Folds.{find_at}
 use Rattle.std.proofs.lemmas.Option.{get_or_from_slice_get}
@@ -18,15 +18,6 @@ use Rattle.csl_base.specs.declared.elem.ElemChild.TheVariants as v
 use Rattle.csl_base.proofs.FirstPlace.{seen, found_none, found_at}
 use Rattle.csl_base.proofs.Nested.{with_children-view, put_inner-same, inner_falls, one_before}
 
--- ---- of one child
-not_true : (b : Bool) → not b ≡ true → b ≡ false
-not_true true e = cc
-not_true false e = refl
-
-not_false : (b : Bool) → not b ≡ false → b ≡ true
-not_false true e = refl
-not_false false e = cc
-
 pub without_names-is_elem : (c : Child) → elem_without_names c ≡ true → child_is_elem c ≡ true
 without_names-is_elem (elem ks d m) e = refl
 without_names-is_elem (text f) e = cc
@@ -35,7 +26,7 @@ without_names-is_elem (link f s) e = cc
 without_names-is_elem (transparent i f) e = cc
 
 child_find-down : (c : Child) → elem_without_names c ≡ true → find_elem has_names (inner c) ≡ child_find has_names c
-child_find-down (elem ks d m) e = ap (kids_find has_names) (kids_of-list_of ks) ∙ sym (ap (λ b. cond b (Some (elem_of ks d m)) (kids_find has_names ks)) (not_true (has_names (elem_of ks d m)) e))
+child_find-down (elem ks d m) e = ap (kids_find has_names) (kids_of-list_of ks) ∙ sym (ap (λ b. cond b (Some (elem_of ks d m)) (kids_find has_names ks)) (not-true (has_names (elem_of ks d m)) e))
 child_find-down (text f) e = cc
 child_find-down (markup s) e = cc
 child_find-down (link f s) e = cc
@@ -44,21 +35,21 @@ child_find-down (transparent i f) e = cc
 child_put-down : (c : Child) (w : Elem) → elem_without_names c ≡ true → put_inner c (put_names (inner c) w) ≡ child_put_names c w
 child_put-down (elem ks d m) w e =
     ap (λ ls. elem ls d m) (kids_of-list_of (kids_put_names (kids_of (list_of ks)) w) ∙ ap (λ ls. kids_put_names ls w) (kids_of-list_of ks))
-    ∙ sym (ap (λ b. cond b (as_child w) (elem (kids_put_names ks w) d m)) (not_true (has_names (elem_of ks d m)) e))
+    ∙ sym (ap (λ b. cond b (as_child w) (elem (kids_put_names ks w) d m)) (not-true (has_names (elem_of ks d m)) e))
 child_put-down (text f) w e = cc
 child_put-down (markup s) w e = cc
 child_put-down (link f s) w e = cc
 child_put-down (transparent i f) w e = cc
 
 child_find-here : (c : Child) → holds_names c ≡ true → elem_without_names c ≡ false → own_elem c ≡ child_find has_names c
-child_find-here (elem ks d m) h e = sym (ap (λ b. cond b (Some (elem_of ks d m)) (kids_find has_names ks)) (not_false (has_names (elem_of ks d m)) e))
+child_find-here (elem ks d m) h e = sym (ap (λ b. cond b (Some (elem_of ks d m)) (kids_find has_names ks)) (not-false (has_names (elem_of ks d m)) e))
 child_find-here (text f) h e = cc
 child_find-here (markup s) h e = cc
 child_find-here (link f s) h e = cc
 child_find-here (transparent i f) h e = cc
 
 child_put-here : (c : Child) (w : Elem) → elem_without_names c ≡ false → put_own_elem c w ≡ child_put_names c w
-child_put-here (elem ks d m) w e = sym (ap (λ b. cond b (as_child w) (elem (kids_put_names ks w) d m)) (not_false (has_names (elem_of ks d m)) e))
+child_put-here (elem ks d m) w e = sym (ap (λ b. cond b (as_child w) (elem (kids_put_names ks w) d m)) (not-false (has_names (elem_of ks d m)) e))
 child_put-here (text f) w e = refl
 child_put-here (markup s) w e = refl
 child_put-here (link f s) w e = refl

@@ -6,14 +6,14 @@ use Rattle.std.specs.Cmp.Lexicographic.{same_text}
 use Rattle.csl_base.specs.Element.{Name, Macro}
 use Rattle.csl_base.specs.ElementView.{macro_view, macros_view}
 use Rattle.csl_base.specs.declared.element.CslMacro.{CslMacro}
-use Rattle.csl_base.specs.Ring.{place_of}
+use Rattle.csl_base.specs.Ring.{place_of_macro}
 use Rattle.csl_base.proofs.FirstPlaces.{next_place}
 
 abbrev by_name : Name → Macro → Bool
 by_name name m = bytes_eq m.name name
 
 -- a macro put under its name, at the place that is there already or else at its own
-pub next_name : (named more : Name → Option ℕ) (ms : List Macro) (m : Macro) → ((name : Name) → named name ≡ place_of name ms) → ((name : Name) → more name ≡ cond (bytes_eq m.name name) (Some (unwrap_or (named m.name) (length ms))) (named name)) → (name : Name) → more name ≡ place_of name (ms ++ m ∷ [])
+pub next_name : (named more : Name → Option ℕ) (ms : List Macro) (m : Macro) → ((name : Name) → named name ≡ place_of_macro name ms) → ((name : Name) → more name ≡ cond (bytes_eq m.name name) (Some (unwrap_or (named m.name) (length ms))) (named name)) → (name : Name) → more name ≡ place_of_macro name (ms ++ m ∷ [])
 next_name named more ms m = next_place by_name m m.name (λ name e. ap by_name (same_text m.name name e)) named more ms
 
 -- the macros up to the next one

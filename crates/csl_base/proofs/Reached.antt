@@ -1,43 +1,31 @@
 -- The places to which a place leads, as they are found.
 use Rattle.std.proofs.Common.{◌≡◌, ℕ, zero, suc, ◌+◌, ◌-◌, ◌<◌, ◌≤◌, List, [], ◌∷◌, ◌++◌, length, take, drop, get_or, set, replicate, cond, ◌||◌, eqb, append_assoc, length-append, Bool, true, false, ◌⊎◌, inl, inr, sym, ap, ◌∙◌, refl, subst, arith}
-use Rattle.std.proofs.lemmas.Bool.{eqb-true, eq-eqb, ne_eqb, cases_eq}
+use Rattle.std.proofs.lemmas.Bool.{eqb-true, eq-eqb, ne_eqb, cases_eq, or_left, or_right, or_cases}
 use Rattle.std.proofs.lemmas.List.{append-nil, take_all, take_more, take-append-le, get_or_default, get_or-set_same, get_or-set_other, length-set, at_drop_more}
 use Rattle.csl_base.specs.Places.{Places, has_place, steps_from, IsPath, IsOnRound, IsWithin, IsClosed, IsMarked, add_new, add_each}
-
-pub or-left : (b c : Bool) → b ≡ true → (b || c) ≡ true
-or-left true c e = refl
-or-left false c e = cc
-
-pub or-right : (b c : Bool) → c ≡ true → (b || c) ≡ true
-or-right true c e = refl
-or-right false c e = e
-
-pub or-either : (b c : Bool) → (b || c) ≡ true → (b ≡ true) ⊎ (c ≡ true)
-or-either true c e = inl refl
-or-either false c e = inr e
 
 pub has-left : (a : ℕ) (xs ys : Places) → has_place a xs ≡ true → has_place a (xs ++ ys) ≡ true
 has-left a [] ys e = cc
 has-left a (x ∷ xs) ys e =
-    elim (or-either (eqb x a) _ e) [ inl h ↦ or-left _ _ h | inr h ↦ or-right (eqb x a) _ (has-left a xs ys h) ]
+    elim (or_cases (eqb x a) _ e) [ inl h ↦ or_left _ _ h | inr h ↦ or_right (eqb x a) _ (has-left a xs ys h) ]
 
 pub has-right : (a : ℕ) (xs ys : Places) → has_place a ys ≡ true → has_place a (xs ++ ys) ≡ true
 has-right a [] ys e = e
-has-right a (x ∷ xs) ys e = or-right (eqb x a) _ (has-right a xs ys e)
+has-right a (x ∷ xs) ys e = or_right (eqb x a) _ (has-right a xs ys e)
 
 pub has-either : (a : ℕ) (xs ys : Places) → has_place a (xs ++ ys) ≡ true → (has_place a xs ≡ true) ⊎ (has_place a ys ≡ true)
 has-either a [] ys e = inr e
 has-either a (x ∷ xs) ys e =
-    elim (or-either (eqb x a) _ e) [
-      | inl h ↦ inl (or-left _ _ h)
-      | inr h ↦ elim (has-either a xs ys h) [ inl k ↦ inl (or-right (eqb x a) _ k) | inr k ↦ inr k ]
+    elim (or_cases (eqb x a) _ e) [
+      | inl h ↦ inl (or_left _ _ h)
+      | inr h ↦ elim (has-either a xs ys h) [ inl k ↦ inl (or_right (eqb x a) _ k) | inr k ↦ inr k ]
     ]
 
 pub has-one : (a : ℕ) → has_place a (a ∷ []) ≡ true
-has-one a = or-left (eqb a a) false (eq-eqb a a refl)
+has-one a = or_left (eqb a a) false (eq-eqb a a refl)
 
 pub has-same : (a b : ℕ) → has_place a (b ∷ []) ≡ true → b ≡ a
-has-same a b e = elim (or-either (eqb b a) false e) [ inl h ↦ eqb-true b a h | inr h ↦ cc ]
+has-same a b e = elim (or_cases (eqb b a) false e) [ inl h ↦ eqb-true b a h | inr h ↦ cc ]
 
 pub has-at : (x : ℕ) (ns : Places) (i : ℕ) → i < length ns → x ≡ get_or ns i x → has_place x ns ≡ true
 has-at x [] i lt e = absurd (omega arith)

@@ -10,15 +10,15 @@ abbrev pub Forms : Type 0
 Forms = List DisambiguatedNameForm
 
 -- a form with the name written: where it only counts, the short form
-abbrev pub written : DisambiguatedNameForm → DisambiguatedNameForm
-written DisambiguatedNameForm.Count = DisambiguatedNameForm.Short
-written form = form
+abbrev pub form_written : DisambiguatedNameForm → DisambiguatedNameForm
+form_written DisambiguatedNameForm.Count = DisambiguatedNameForm.Short
+form_written form = form
 
 -- the forms with name i, counted from one, written, if there is such a name
 abbrev pub add_name : ℕ → Forms → Forms
 add_name zero forms = forms
 add_name (suc i) forms = unwrap_or
-    (option_map (λ form. slice_set forms i (written form)) (slice_get forms i)) forms
+    (option_map (λ form. slice_set forms i (form_written form)) (slice_get forms i)) forms
 
 -- the forms end as they were, with form i set to the last value behind r
 abbrev pub LendsForm : MutBor NameDisambiguationProperties → ℕ → Option (MutBor DisambiguatedNameForm) → Fml

@@ -8,6 +8,7 @@ pub mod Finds
 pub mod Tells
 pub mod EqualEntries
 pub mod Element
+pub mod PlainLook
 pub mod ElementView
 pub mod Style
 pub mod StyleView

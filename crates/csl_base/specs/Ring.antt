@@ -51,12 +51,12 @@ IsFirstRing macros None = (i : ℕ) → IsRingAt macros i → ⊥
 IsFirstRing macros (Some i) = IsRingAt macros i × ((k : ℕ) → k < i → IsRingAt macros k → ⊥)
 
 -- the place of the first macro of a name
-abbrev pub place_of : Name → List Macro → Option ℕ
-place_of name = first_at (λ m. bytes_eq m.name name)
+abbrev pub place_of_macro : Name → List Macro → Option ℕ
+place_of_macro name = first_at (λ m. bytes_eq m.name name)
 
 -- the places of the macros of these names, without the names that have none
 abbrev pub places_of : List Macro → Names → Places
-places_of macros = filter_map (λ name. place_of name macros)
+places_of macros = filter_map (λ name. place_of_macro name macros)
 
 -- for each macro the places of those that it calls
 abbrev pub call_places : List Macro → List Places

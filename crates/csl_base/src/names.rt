@@ -1,7 +1,7 @@
 //! How far the names of a cite are written, to tell cites apart (CSL 1.0.2, disambiguation).
 ghost use Rattle.std.specs.Prelude.{◌≡◌, option_map, slice_get};
 ghost use Rattle.std.specs.Borrow.{sem};
-ghost use Rattle.csl_base.specs.Forms.{written, add_name, LendsForm};
+ghost use Rattle.csl_base.specs.Forms.{form_written, add_name, LendsForm};
 ghost use Rattle.std.specs.Cmp.Lexicographic.{slice_cmp};
 ghost use Rattle.std.specs.Ordering.{nat_cmp};
 ghost use Rattle.csl_base.specs.Ordered.{IsValueOrder, extent, form_cmp, properties_cmp};
@@ -26,7 +26,7 @@ pub enum DisambiguatedNameForm {
 impl DisambiguatedNameForm {
     // The form of a name that is to be written.
     fn written(self) -> DisambiguatedNameForm
-        ensures { result ≡ written self }
+        ensures { result ≡ form_written self }
     {
         match self {
             DisambiguatedNameForm::Count => DisambiguatedNameForm::Short,

@@ -3,7 +3,7 @@ ghost use Rattle.std.specs.Prelude.{◌≡◌, ◌+◌, ℕ, IfOk, None, map, ta
 ghost use Rattle.std.specs.List.{filter_map};
 ghost use Rattle.csl_base.specs.Element.{Name};
 ghost use Rattle.csl_base.specs.NamedPlaces.{place_named};
-ghost use Rattle.csl_base.specs.Ring.{has_name, body_of, place_of, call_places, IsFirstRing, HasNoRing};
+ghost use Rattle.csl_base.specs.Ring.{has_name, body_of, place_of_macro, call_places, IsFirstRing, HasNoRing};
 ghost use Rattle.csl_base.specs.Calls.{calls_of_all};
 ghost use Rattle.csl_base.specs.ElementView.{elements_view, macros_view};
 
@@ -38,7 +38,7 @@ pub fn first_places<'a>(
     macros: &'a Vec<CslMacro>,
 ) -> Result<HashMap<&'a str, usize>, AllocError>
     ensures { IfOk result (λ places. (name : Name)
-        → place_named places name ≡ place_of name (macros_view macros.now.items)) }
+        → place_named places name ≡ place_of_macro name (macros_view macros.now.items)) }
 {
     let mut places = HashMap::new(alloc);
     for i in 0..macros.len() {

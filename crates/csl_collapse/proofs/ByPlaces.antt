@@ -3,29 +3,14 @@ use Rattle.std.proofs.Common.{◌≡◌, ℕ, zero, suc, ◌+◌, ◌<◌, ◌�
 use Rattle.std.proofs.Math.ListN.{get_or-map, length-map, set}
 use Rattle.std.proofs.lemmas.List.{map-set}
 use Rattle.std.specs.List.{enumerate_from}
-use Rattle.csl_collapse.specs.Stretches.{by_places}
+use Rattle.csl_passes.proofs.Halves.{half, half_from, here-from, more-from}
 
 module _ {X : Type 0} (f : ℕ → X → X) where
-  abbrev pub changed_from : ℕ → List X → List X
-  changed_from b xs = map (λ p. f p.0 p.1) (enumerate_from b xs)
+  -- one more is changed
+  pub more : (n : ℕ) (xs : List X) (d y : X) → n < length xs → y ≡ f n (get_or xs n d) → set (half f n xs) n y ≡ half f (n + 1) xs
+  more n xs d y h q = rw add-one (more-from f 0 n n xs d y (omega arith) h (q ∙ ap (f n) (sym (here-from f 0 n xs d))))
 
-  -- the first n are changed
-  abbrev pub half_from : ℕ → ℕ → List X → List X
-  half_from b n xs = changed_from b (take n xs) ++ drop n xs
-
-  abbrev pub half : ℕ → List X → List X
-  half = half_from 0
-
-  more-from : (b c n : ℕ) (xs : List X) (d y : X) → c ≡ b + n → n < length xs → y ≡ f c (get_or xs n d) → set (half_from b n xs) n y ≡ half_from b (suc n) xs
-  more-from b c n [] d y e h q = absurd (omega arith)
-  more-from b c zero (x ∷ xs) d y e h q = let w : c ≡ b = omega arith in ap (λ z. z ∷ xs) (q ∙ ap (λ m. f m x) w)
-  more-from b c (suc n) (x ∷ xs) d y e h q = ap (λ ys. f b x ∷ ys) (more-from (b + 1) c n xs d y (omega arith) (omega arith) q)
-
-  -- one more is
-  pub more : (n : ℕ) (xs : List X) (d y : X) → n < length xs → y ≡ f n (get_or xs n d) → set (half n xs) n y ≡ half (n + 1) xs
-  more n xs d y h q = rw add-one (more-from 0 n n xs d y (omega arith) h q)
-
-  kept-from : {Y : Type 0} (g : X → Y) (b n k : ℕ) (xs : List X) (e : Y) → n ≤ k → get_or (map g (half_from b n xs)) k e ≡ get_or (map g xs) k e
+  kept-from : {Y : Type 0} (g : X → Y) (b n k : ℕ) (xs : List X) (e : Y) → n ≤ k → get_or (map g (half_from f b n xs)) k e ≡ get_or (map g xs) k e
   kept-from g b zero k [] e h = refl
   kept-from g b (suc n) k [] e h = refl
   kept-from g b zero k (x ∷ xs) e h = refl
@@ -33,36 +18,12 @@ module _ {X : Type 0} (f : ℕ → X → X) where
   kept-from g b (suc n) (suc k) (x ∷ xs) e h = kept-from g (b + 1) n k xs e (omega arith)
 
   -- the others are as they were
-  pub kept : {Y : Type 0} (g : X → Y) (n k : ℕ) (xs : List X) (e : Y) → n ≤ k → get_or (map g (half n xs)) k e ≡ get_or (map g xs) k e
+  pub kept : {Y : Type 0} (g : X → Y) (n k : ℕ) (xs : List X) (e : Y) → n ≤ k → get_or (map g (half f n xs)) k e ≡ get_or (map g xs) k e
   kept g = kept-from g 0
 
-  here-from : (b n : ℕ) (xs : List X) (d : X) → get_or (half_from b n xs) n d ≡ get_or xs n d
-  here-from b zero [] d = refl
-  here-from b (suc n) [] d = refl
-  here-from b zero (x ∷ xs) d = refl
-  here-from b (suc n) (x ∷ xs) d = here-from (b + 1) n xs d
-
   -- a member of a list whose first n are changed, and that stands at n, stood there before
-  pub stood : (n : ℕ) (xs ys : List X) (x : X) → ys ≡ half n xs → x ≡ get_or ys n x → x ≡ get_or xs n x
-  stood n xs ys x e h = h ∙ ap (λ zs. get_or zs n x) e ∙ here-from 0 n xs x
-
-  length-from : (b n : ℕ) (xs : List X) → length (half_from b n xs) ≡ length xs
-  length-from b zero xs = refl
-  length-from b (suc n) [] = refl
-  length-from b (suc n) (x ∷ xs) = ap suc (length-from (b + 1) n xs)
-
-  pub length-half : (n : ℕ) (xs : List X) → length (half n xs) ≡ length xs
-  length-half = length-from 0
-
-  whole-from : (b n : ℕ) (xs : List X) → length xs ≤ n → half_from b n xs ≡ changed_from b xs
-  whole-from b zero [] h = refl
-  whole-from b zero (x ∷ xs) h = absurd (omega arith)
-  whole-from b (suc n) [] h = refl
-  whole-from b (suc n) (x ∷ xs) h = ap (λ ys. f b x ∷ ys) (whole-from (b + 1) n xs (omega arith))
-
-  -- and in the end all are changed
-  pub whole : (n : ℕ) (xs : List X) → length xs ≤ n → half n xs ≡ by_places f xs
-  whole = whole-from 0
+  pub stood : (n : ℕ) (xs ys : List X) (x : X) → ys ≡ half f n xs → x ≡ get_or ys n x → x ≡ get_or xs n x
+  stood n xs ys x e h = h ∙ ap (λ zs. get_or zs n x) e ∙ here-from f 0 n xs x
 
 pub at-map : {X Y : Type 0} (g : X → Y) (xs : List X) (k : ℕ) (d : X) (e : Y) → k < length xs → get_or (map g xs) k e ≡ g (get_or xs k d)
 at-map g [] k d e h = absurd (omega arith)

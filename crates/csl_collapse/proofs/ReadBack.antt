@@ -6,6 +6,7 @@ use Rattle.std.specs.List.{enumerate_from, list_any, range_with_len}
 use Rattle.std.specs.Option.{option_and_then, option_eq, option_map_or}
 use Rattle.std.proofs.Math.Seq.{drop-cons}
 use Rattle.std.proofs.Math.ListN.{length-map}
+use Rattle.std.proofs.lemmas.Bool.{and_parts}
 use Rattle.csl_base.specs.Style.{CitationValue}
 use Rattle.csl_base.specs.declared.style.Collapse.{Collapse}
 use Rattle.csl_base.specs.declared.style.Collapse.TheVariants.{CitationNumber, Year, YearSuffix, YearSuffixRanged}
@@ -16,11 +17,12 @@ use Rattle.csl_passes.specs.Renders.{ItemRender}
 use Rattle.csl_collapse.specs.Collapsed.{collapsed_cites}
 use Rattle.csl_collapse.specs.NumberLaws.{AreDrawnTogether, AreNextShown, CanBeReadBack, IsInnerToOneRun, WasHid, between, is_hidden, numbers_of, override_at}
 use Rattle.csl_collapse.specs.NumberRuns.{en_dash, ends_collapsed, follows_collapsed, is_inner, is_run, number_at, number_collapsed, shown_number}
-use Rattle.csl_collapse.specs.Stretches.{after_collapse, by_places, places}
-use Rattle.csl_collapse.specs.YearStretches.{cut_to_date, cut_to_suffix, has_later_suffix, is_later, follows_stretch, year_collapsed}
+use Rattle.csl_collapse.specs.Stretches.{after_collapse, places}
+use Rattle.csl_collapse.specs.YearStretches.{cut_to_date, cut_to_suffix, has_later_suffix, is_later_in_stretch, follows_stretch, year_collapsed}
 use Rattle.csl_collapse.proofs.RunLemmas.{ends, goes_up, inner, of-next, rises_to, rose_to, runs, shows, up-from, up-to}
-use Rattle.csl_collapse.proofs.Tests.{both, clash, some}
+use Rattle.csl_collapse.proofs.Tests.{clash, some}
 use Rattle.csl_collapse.proofs.Wholes.{Whole, linked-before, whole}
+use Rattle.csl_passes.specs.ByPlaces.{by_places}
 
 -- a member changed by its place
 module _ {X : Type 0} (f : ℕ → X → X) where
@@ -151,17 +153,17 @@ module _ {E P : Type 0} (after : Option (List ℕ)) (cites : List (ItemRender E 
 
     -- the numbers go up from p on to the last before q
     climb : (n i : ℕ) → i ≡ k + n → i < q → goes_up ns i ≡ true
-    climb zero i e w = let s : k ≡ i = omega arith in subst (λ j. goes_up ns j ≡ true) s (both (rises_to ns k) (goes_up ns k) here).1
+    climb zero i e w = let s : k ≡ i = omega arith in subst (λ j. goes_up ns j ≡ true) s (and_parts (rises_to ns k) (goes_up ns k) here).1
     climb (suc n) zero e w = absurd (omega arith)
     climb (suc n) (suc i) e w =
         let up = climb n i (omega arith) (omega arith) in
-        (both (rises_to ns (suc i)) (goes_up ns (suc i)) (inside (suc i) (up-to ns i up) (around.between_hidden (suc i) (omega arith) w))).1
+        (and_parts (rises_to ns (suc i)) (goes_up ns (suc i)) (inside (suc i) (up-to ns i up) (around.between_hidden (suc i) (omega arith) w))).1
 
     descend : (n i : ℕ) → i + n ≡ k → p ≤ i → goes_up ns i ≡ true
     descend zero i e w = climb zero i (omega arith) (omega arith)
     descend (suc n) i e w =
         let up = descend n (suc i) (omega arith) (omega arith) in
-        (both (rises_to ns (suc i)) (goes_up ns (suc i)) (inside (suc i) (up-from ns (suc i) up) (around.between_hidden (suc i) (omega arith) (omega arith)))).0
+        (and_parts (rises_to ns (suc i)) (goes_up ns (suc i)) (inside (suc i) (up-from ns (suc i) up) (around.between_hidden (suc i) (omega arith) (omega arith)))).0
 
     below-or : (i : ℕ) → (i ≤ k) ⊎ (k < i)
     below-or i = grind arith
@@ -280,7 +282,7 @@ module _ {E P : Type 0} (citation : CitationValue) (to_suffixes : Bool) (cites :
     number : d.properties.speculative.citation_number ≡ c.properties.speculative.citation_number
 
   year-keeps : (k : ℕ) (c : ItemRender E P) → YearKeeps c (year_collapsed citation to_suffixes cites k c)
-  year-keeps k c = by (is_later (map (λ d. d.group) cites) k) (to_suffixes && has_later_suffix c) (follows_stretch (map (λ d. d.group) cites) k)
+  year-keeps k c = by (is_later_in_stretch (map (λ d. d.group) cites) k) (to_suffixes && has_later_suffix c) (follows_stretch (map (λ d. d.group) cites) k)
     where
       by : (l s f : Bool) → YearKeeps c (if l then (if s then cut_to_suffix citation c else cut_to_date citation c) else if f then record c { delimiter_override = after_collapse citation } else c)
       by true true f = record { hidden = refl; number = refl }

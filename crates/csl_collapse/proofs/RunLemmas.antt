@@ -3,13 +3,14 @@ use Rattle.std.proofs.Common.{◌≡◌, ℕ, zero, suc, ◌+◌, ◌<◌, ◌�
 use Rattle.std.specs.Prelude.{Option, None, Some, if◌then◌else◌, is_some, nat_eq, option_map, slice_index_or}
 use Rattle.std.specs.List.{list_all, list_any}
 use Rattle.std.specs.Option.{option_eq}
+use Rattle.std.proofs.lemmas.Bool.{and_parts, and_from}
 use Rattle.csl_passes.specs.Renders.{ItemRender}
 use Rattle.csl_collapse.specs.NumberRuns.{en_dash, shown_number, number_collapsed, number_at, rises, is_run, is_inner, ends_collapsed, follows_collapsed}
 use Rattle.csl_collapse.specs.Steps.{is_next, next_rises, number_step}
 use Rattle.csl_collapse.specs.Stretches.{places}
 use Rattle.csl_collapse.specs.declared.numbers.Rises.{Rises}
 use Rattle.csl_collapse.proofs.ByPlaces.{at-map}
-use Rattle.csl_collapse.proofs.Tests.{behind-first, one-less, both, and-true, le-true, true-le, each, of-each}
+use Rattle.csl_collapse.proofs.Tests.{behind-first, one-less, le-true, true-le, each, of-each}
 use Rattle.csl_collapse.proofs.Wholes.{Chain, IsOfChains, before, passes, ends-three, begins}
 
 pub some-within : (xs : List (Option ℕ)) (k : ℕ) → is_some (slice_index_or xs k None) ≡ true → k < length xs
@@ -53,8 +54,8 @@ module _ (numbers : List (Option ℕ)) where
     where
       opens : (a b : ℕ) → rises numbers a b ≡ true → Chain shows goes_up a b
       opens a b h =
-          let p = both (nat_le a b && list_all shows (places a (b + 1))) (list_all (λ k. option_eq nat_eq (number_at numbers (k + 1)) (option_map (λ n. n + 1) (number_at numbers k))) (places a b)) h in
-          let q = both (nat_le a b) (list_all shows (places a (b + 1))) p.0 in
+          let p = and_parts (nat_le a b && list_all shows (places a (b + 1))) (list_all (λ k. option_eq nat_eq (number_at numbers (k + 1)) (option_map (λ n. n + 1) (number_at numbers k))) (places a b)) h in
+          let q = and_parts (nat_le a b) (list_all shows (places a (b + 1))) p.0 in
           let o = true-le a b q.0 in
           record {
             order = o;
@@ -66,8 +67,8 @@ module _ (numbers : List (Option ℕ)) where
 
       closes : (a b : ℕ) → Chain shows goes_up a b → rises numbers a b ≡ true
       closes a b c =
-          and-true _ _
-          (and-true _ _ (le-true a b c.order) (of-each shows a (b + 1) (λ k u v. all-show a b k c u v)))
+          and_from _ _
+          (and_from _ _ (le-true a b c.order) (of-each shows a (b + 1) (λ k u v. all-show a b k c u v)))
           (of-each (λ k. option_eq nat_eq (number_at numbers (k + 1)) (option_map (λ n. n + 1) (number_at numbers k))) a b
           (λ k u v. subst (λ j. option_eq nat_eq (number_at numbers j) (option_map (λ n. n + 1) (number_at numbers k)) ≡ true) (sym (add-one k)) (of-next (number_at numbers k) (number_at numbers (suc k)) (c.steps k u v)).2))
 

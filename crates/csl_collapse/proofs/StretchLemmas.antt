@@ -4,13 +4,14 @@ use Rattle.std.specs.Prelude.{Option, None, Some, is_some, nat_eq}
 use Rattle.std.specs.List.{list_all, list_any}
 use Rattle.std.specs.Option.{option_eq}
 use Rattle.std.specs.Cmp.{unsigned_Decides}
+use Rattle.std.proofs.lemmas.Bool.{and_parts, and_from}
 use Rattle.csl_base.specs.Style.{CitationValue}
 use Rattle.csl_passes.specs.Renders.{ItemRender}
-use Rattle.csl_collapse.specs.YearStretches.{year_collapsed, group_at, shares, is_stretch, is_later, follows_stretch}
+use Rattle.csl_collapse.specs.YearStretches.{year_collapsed, group_at, shares, is_stretch, is_later_in_stretch, follows_stretch}
 use Rattle.csl_collapse.specs.Steps.{is_same, year_step}
 use Rattle.csl_collapse.specs.Stretches.{places}
 use Rattle.csl_collapse.proofs.RunLemmas.{some-within}
-use Rattle.csl_collapse.proofs.Tests.{behind-first, one-less, both, and-true, le-true, true-le, each, of-each}
+use Rattle.csl_collapse.proofs.Tests.{behind-first, one-less, le-true, true-le, each, of-each}
 use Rattle.csl_collapse.proofs.Wholes.{Chain, IsOfChains, before, reaches, ends-two}
 
 equal-of : (x y : Option ℕ) → option_eq nat_eq x y ≡ true → x ≡ y
@@ -63,9 +64,9 @@ module _ (groups : List (Option ℕ)) where
       opens : (a b : ℕ) → shares groups a b ≡ true → Chain grouped goes_on a b
       opens a b h =
           let alike = λ (k : ℕ). grouped k && option_eq nat_eq (group_at groups k) (group_at groups a) in
-          let p = both (nat_le a b) (list_all alike (places a (b + 1))) h in
+          let p = and_parts (nat_le a b) (list_all alike (places a (b + 1))) h in
           let o = true-le a b p.0 in
-          let at = λ (k : ℕ) (u : a ≤ k) (v : k < b + 1). both (grouped k) (option_eq nat_eq (group_at groups k) (group_at groups a)) (each alike a (b + 1) k p.1 u v) in
+          let at = λ (k : ℕ) (u : a ≤ k) (v : k < b + 1). and_parts (grouped k) (option_eq nat_eq (group_at groups k) (group_at groups a)) (each alike a (b + 1) k p.1 u v) in
           record {
             order = o;
             start = (at a (omega arith) (omega arith)).0;
@@ -75,9 +76,9 @@ module _ (groups : List (Option ℕ)) where
 
       closes : (a b : ℕ) → Chain grouped goes_on a b → shares groups a b ≡ true
       closes a b c =
-          and-true _ _ (le-true a b c.order)
+          and_from _ _ (le-true a b c.order)
           (of-each (λ k. grouped k && option_eq nat_eq (group_at groups k) (group_at groups a)) a (b + 1)
-          (λ k u v. let e = all-alike a b k c u v in and-true _ _ (ap is_some e ∙ c.start) (of-equal _ _ e)))
+          (λ k u v. let e = all-alike a b k c u v in and_from _ _ (ap is_some e ∙ c.start) (of-equal _ _ e)))
 
   -- whether a cite is of the group of the one before, and the one before is of the group of the one before that
   abbrev pub later_at : ℕ → Bool
@@ -86,7 +87,7 @@ module _ (groups : List (Option ℕ)) where
   abbrev pub was_later_at : ℕ → Bool
   was_later_at = before later_at false
 
-  pub later : (k : ℕ) → is_later groups k ≡ later_at k
+  pub later : (k : ℕ) → is_later_in_stretch groups k ≡ later_at k
   later = reaches stretches
 
   pub follows : (k : ℕ) → follows_stretch groups k ≡ was_later_at k && not (later_at k)

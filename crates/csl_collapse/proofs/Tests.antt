@@ -2,26 +2,13 @@
 use Rattle.std.proofs.Common.{◌≡◌, ℕ, zero, suc, ◌+◌, ◌-◌, ◌<◌, ◌≤◌, ◌⊎◌, inl, inr, Bool, true, false, not, ◌&&◌, ◌||◌, nat_le, nat_lt, refl, ap, sym, ◌∙◌, true≢false, arith}
 use Rattle.std.specs.List.{list_all, list_any, range_with_len}
 use Rattle.std.proofs.lemmas.Bool.Decides.{nat_tests}
+use Rattle.std.proofs.lemmas.Bool.{and_parts, and_from}
 use Rattle.csl_collapse.specs.Stretches.{places}
 
 pub same_test : (a b : Bool) → (a ≡ true → b ≡ true) → (b ≡ true → a ≡ true) → a ≡ b
 same_test true b f g = sym (f refl)
 same_test false true f g = g refl
 same_test false false f g = refl
-
-pub both : (a b : Bool) → a && b ≡ true → (a ≡ true) × (b ≡ true)
-both true b e = (refl, e)
-both false b e = absurd (true≢false (sym e))
-
-pub and-true : (a b : Bool) → a ≡ true → b ≡ true → a && b ≡ true
-and-true a b p q = rw (p, q)
-
-pub not-true : (a : Bool) → not a ≡ true → a ≡ false
-not-true true e = absurd (true≢false (sym e))
-not-true false e = refl
-
-pub not-false : (a : Bool) → a ≡ false → not a ≡ true
-not-false a e = rw e
 
 -- a test that cannot pass
 pub fails : (a : Bool) → (a ≡ true → ⊥) → a ≡ false
@@ -50,11 +37,11 @@ module _ (p : ℕ → Bool) where
   all-of : (a n k : ℕ) → list_all p (range_with_len a n) ≡ true → a ≤ k → k < a + n → p k ≡ true
   all-of a zero k h u v = absurd (omega arith)
   all-of a (suc n) k h u v =
-      elim (first-or a k u) [ inl e ↦ ap p e ∙ (both _ _ h).0 | inr w ↦ all-of (a + 1) n k (both _ _ h).1 w (omega arith) ]
+      elim (first-or a k u) [ inl e ↦ ap p e ∙ (and_parts _ _ h).0 | inr w ↦ all-of (a + 1) n k (and_parts _ _ h).1 w (omega arith) ]
 
   of-all : (a n : ℕ) → ((k : ℕ) → a ≤ k → k < a + n → p k ≡ true) → list_all p (range_with_len a n) ≡ true
   of-all a zero h = refl
-  of-all a (suc n) h = and-true _ _ (h a (omega arith) (omega arith)) (of-all (a + 1) n (λ k u v. h k (omega arith) (omega arith)))
+  of-all a (suc n) h = and_from _ _ (h a (omega arith) (omega arith)) (of-all (a + 1) n (λ k u v. h k (omega arith) (omega arith)))
 
   any-of : (a n : ℕ) → list_any p (range_with_len a n) ≡ true → (k : ℕ) × (a ≤ k) × (k < a + n) × (p k ≡ true)
   any-of a zero h = absurd (true≢false (sym h))

@@ -2,8 +2,9 @@
 use Rattle.std.proofs.Common.{◌≡◌, ℕ, zero, suc, ◌+◌, ◌-◌, ◌<◌, ◌≤◌, ◌⊎◌, inl, inr, Bool, true, false, not, ◌&&◌, nat_lt, refl, ap, sym, ◌∙◌, subst, true≢false, arith, add-one}
 use Rattle.std.specs.List.{list_any}
 use Rattle.std.proofs.lemmas.Bool.Decides.{nat_tests}
+use Rattle.std.proofs.lemmas.Bool.{not-true, and_parts, and_from, not_from_false}
 use Rattle.csl_collapse.specs.Stretches.{places, is_maximal}
-use Rattle.csl_collapse.proofs.Tests.{same_test, both, and-true, not-true, not-false, fails, clash, some, of-some}
+use Rattle.csl_collapse.proofs.Tests.{same_test, fails, clash, some, of-some}
 
 -- what f gives one place before; d before the first place
 abbrev pub before : {X : Type 0} → (ℕ → X) → X → ℕ → X
@@ -84,17 +85,17 @@ module _ {holds : ℕ → ℕ → Bool} {first link : ℕ → Bool} {n : ℕ} (i
   left-fails : (a b : ℕ) → Chain first link a b → before link false a ≡ false → nat_lt 0 a && holds (a - 1) b ≡ false
   left-fails zero b c e = refl
   left-fails (suc a) b c e =
-      fails _ (λ h. let o = c.order in clash (link a) ((is.opens a b (subst (λ x. holds x b ≡ true) (omega arith) (both (nat_lt 0 (suc a)) _ h).1)).steps a (omega arith) (omega arith)) e)
+      fails _ (λ h. let o = c.order in clash (link a) ((is.opens a b (subst (λ x. holds x b ≡ true) (omega arith) (and_parts (nat_lt 0 (suc a)) _ h).1)).steps a (omega arith) (omega arith)) e)
 
   left-unlinked : (a b : ℕ) → Chain first link a b → nat_lt 0 a && holds (a - 1) b ≡ false → before link false a ≡ false
   left-unlinked zero b c e = refl
   left-unlinked (suc a) b c e =
-      fails _ (λ h. clash _ (and-true (nat_lt 0 (suc a)) (holds (suc a - 1) b) (grind (arith, nat_tests)) (subst (λ x. holds x b ≡ true) (omega arith) (is.closes a b (earlier a b c h)))) e)
+      fails _ (λ h. clash _ (and_from (nat_lt 0 (suc a)) (holds (suc a - 1) b) (grind (arith, nat_tests)) (subst (λ x. holds x b ≡ true) (omega arith) (is.closes a b (earlier a b c h)))) e)
 
   pub whole : (a b : ℕ) → is_maximal holds a b ≡ true → Whole first link a b
   whole a b h =
-      let p = both (holds a b && not (nat_lt 0 a && holds (a - 1) b)) (not (holds a (b + 1))) h in
-      let q = both (holds a b) (not (nat_lt 0 a && holds (a - 1) b)) p.0 in
+      let p = and_parts (holds a b && not (nat_lt 0 a && holds (a - 1) b)) (not (holds a (b + 1))) h in
+      let q = and_parts (holds a b) (not (nat_lt 0 a && holds (a - 1) b)) p.0 in
       let c = is.opens a b q.0 in
       record {
         chain = c;
@@ -105,7 +106,7 @@ module _ {holds : ℕ → ℕ → Bool} {first link : ℕ → Bool} {n : ℕ} (i
   pub maximal : (a b : ℕ) → Whole first link a b → is_maximal holds a b ≡ true
   maximal a b w =
       let behind : holds a (b + 1) ≡ false = fails _ (λ h. let o = w.chain.order in clash (link b) ((is.opens a (b + 1) h).steps b o (omega arith)) w.right) in
-      and-true _ _ (and-true _ _ (is.closes a b w.chain) (not-false _ (left-fails a b w.chain w.left))) (not-false _ behind)
+      and_from _ _ (and_from _ _ (is.closes a b w.chain) (not_from_false _ (left-fails a b w.chain w.left))) (not_from_false _ behind)
 
   -- that which a chain is part of
   around : (a b : ℕ) → Chain first link a b → (c : ℕ) × (d : ℕ) × (c ≤ a) × (b ≤ d) × Whole first link c d
@@ -136,11 +137,11 @@ module _ {holds : ℕ → ℕ → Bool} {first link : ℕ → Bool} {n : ℕ} (i
           let a = some (λ a. list_any (λ b. is_maximal holds a b) (places (k + 1) n)) 0 k h in
           let b = some (λ b. is_maximal holds a.0 b) (k + 1) n a.3 in
           let c = (whole a.0 b.0 b.3).chain in
-          and-true _ _ (linked-before k a.0 b.0 c a.2 (omega arith)) (c.steps k (omega arith) (omega arith))
+          and_from _ _ (linked-before k a.0 b.0 c a.2 (omega arith)) (c.steps k (omega arith) (omega arith))
 
       back : before link false k && link k ≡ true → list_any (λ a. list_any (λ b. is_maximal holds a b) (places (k + 1) n)) (places 0 k) ≡ true
       back h =
-          let p = both (before link false k) (link k) h in
+          let p = and_parts (before link false k) (link k) h in
           let t = two k p.0 in
           let w = around t.0 (suc k) (longer t.0 k t.2 p.1) in
           of-some (λ a. list_any (λ b. is_maximal holds a b) (places (k + 1) n)) 0 k w.0 (omega arith) (omega arith)
@@ -171,11 +172,11 @@ module _ {holds : ℕ → ℕ → Bool} {first link : ℕ → Bool} {n : ℕ} (i
       there h =
           let a = some (λ a. is_maximal holds a k) 0 k h in
           let w = whole a.0 k a.3 in
-          and-true _ _ (linked-before k a.0 k w.chain a.2 (omega arith)) (not-false _ w.right)
+          and_from _ _ (linked-before k a.0 k w.chain a.2 (omega arith)) (not_from_false _ w.right)
 
       back : before link false k && not (link k) ≡ true → list_any (λ a. is_maximal holds a k) (places 0 k) ≡ true
       back h =
-          let p = both (before link false k) (not (link k)) h in
+          let p = and_parts (before link false k) (not (link k)) h in
           let t = two k p.0 in
           let l = to-left t.0 k t.2 in
           of-some (λ a. is_maximal holds a k) 0 k l.0 (omega arith) (omega arith) (maximal l.0 k (record { chain = l.2; left = l.3; right = not-true _ p.1 }))
@@ -192,12 +193,12 @@ module _ {holds : ℕ → ℕ → Bool} {first link : ℕ → Bool} {n : ℕ} (i
       there h =
           let a = some (λ a. is_maximal holds a k) 0 (k - 1) h in
           let w = whole a.0 k a.3 in
-          and-true _ _ (and-true _ _ (linked-twice k a.0 w.chain a.2) (linked-before k a.0 k w.chain (omega arith) (omega arith))) (not-false _ w.right)
+          and_from _ _ (and_from _ _ (linked-twice k a.0 w.chain a.2) (linked-before k a.0 k w.chain (omega arith) (omega arith))) (not_from_false _ w.right)
 
       back : before (before link false) false k && before link false k && not (link k) ≡ true → list_any (λ a. is_maximal holds a k) (places 0 (k - 1)) ≡ true
       back h =
-          let p = both (before (before link false) false k && before link false k) (not (link k)) h in
-          let q = both (before (before link false) false k) (before link false k) p.0 in
+          let p = and_parts (before (before link false) false k && before link false k) (not (link k)) h in
+          let q = and_parts (before (before link false) false k) (before link false k) p.0 in
           let t = three k q.0 q.1 in
           let l = to-left t.0 k t.2 in
           of-some (λ a. is_maximal holds a k) 0 (k - 1) l.0 (omega arith) (omega arith) (maximal l.0 k (record { chain = l.2; left = l.3; right = not-true _ p.1 }))
@@ -210,10 +211,10 @@ module _ {holds : ℕ → ℕ → Bool} {first link : ℕ → Bool} {n : ℕ} (i
       there h =
           let b = some (λ b. is_maximal holds k b) k n h in
           let w = whole k b.0 b.3 in
-          and-true _ _ w.chain.start (not-false _ w.left)
+          and_from _ _ w.chain.start (not_from_false _ w.left)
 
       back : first k && not (before link false k) ≡ true → list_any (λ b. is_maximal holds k b) (places k n) ≡ true
       back h =
-          let p = both (first k) (not (before link false k)) h in
+          let p = and_parts (first k) (not (before link false k)) h in
           let r = to-right n k k (omega arith) (one k p.0) in
           of-some (λ b. is_maximal holds k b) k n r.0 r.1 (is.within r.0 (last k r.0 r.2)) (maximal k r.0 (record { chain = r.2; left = not-true _ p.1; right = r.3 }))

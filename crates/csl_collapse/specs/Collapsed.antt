@@ -5,8 +5,9 @@ use Rattle.csl_base.specs.declared.style.Collapse.{Collapse}
 use Rattle.csl_base.specs.declared.style.Collapse.TheVariants.{CitationNumber, Year, YearSuffix, YearSuffixRanged}
 use Rattle.csl_passes.specs.Renders.{ItemRender, CiteRender}
 use Rattle.csl_collapse.specs.NumberRuns.{number_collapsed}
-use Rattle.csl_collapse.specs.Stretches.{after_collapse, by_places}
+use Rattle.csl_collapse.specs.Stretches.{after_collapse}
 use Rattle.csl_collapse.specs.YearStretches.{year_collapsed}
+use Rattle.csl_passes.specs.ByPlaces.{by_places}
 
 module _ {E P : Type 0} where
   -- what a kind of collapsing makes of the cite at a place

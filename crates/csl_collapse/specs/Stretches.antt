@@ -1,6 +1,6 @@
 -- Places in a list, from 0, and stretches of them.
-use Rattle.std.specs.Prelude.{ℕ, ◌+◌, ◌-◌, Bool, not, ◌&&◌, List, Option, map, nat_lt}
-use Rattle.std.specs.List.{enumerate_from, range_with_len}
+use Rattle.std.specs.Prelude.{ℕ, ◌+◌, ◌-◌, Bool, not, ◌&&◌, List, Option, nat_lt}
+use Rattle.std.specs.List.{range_with_len}
 use Rattle.std.specs.Option.{option_or}
 use Rattle.csl_base.specs.Style.{CitationValue}
 
@@ -12,10 +12,6 @@ places a b = range_with_len a (b - a)
 -- place behind b
 abbrev pub is_maximal : (ℕ → ℕ → Bool) → ℕ → ℕ → Bool
 is_maximal holds a b = holds a b && not (nat_lt 0 a && holds (a - 1) b) && not (holds a (b + 1))
-
--- each member changed by its place
-abbrev pub by_places : {X : Type 0} → (ℕ → X → X) → List X → List X
-by_places change xs = map (λ p. change p.0 p.1) (enumerate_from 0 xs)
 
 -- what stands before a cite that follows collapsed ones
 abbrev pub after_collapse : CitationValue → Option (List ℕ)

@@ -23,8 +23,8 @@ module _ (groups : List (Option ℕ)) where
   is_stretch = is_maximal shares
 
   -- the cite at k stands in a stretch that begins before it
-  abbrev pub is_later : ℕ → Bool
-  is_later k = list_any (λ a. list_any (λ b. is_stretch a b) (places k (length groups))) (places 0 k)
+  abbrev pub is_later_in_stretch : ℕ → Bool
+  is_later_in_stretch k = list_any (λ a. list_any (λ b. is_stretch a b) (places k (length groups))) (places 0 k)
 
   -- a stretch of two or more cites ends right before k
   abbrev pub follows_stretch : ℕ → Bool
@@ -55,7 +55,7 @@ module _ {E P : Type 0} where
       → ItemRender E P
   year_collapsed citation to_suffixes cites k c =
       let groups = map (λ d. d.group) cites in
-      if is_later groups k then (if to_suffixes && has_later_suffix c then cut_to_suffix citation c
+      if is_later_in_stretch groups k then (if to_suffixes && has_later_suffix c then cut_to_suffix citation c
       else cut_to_date citation c)
       else if follows_stretch groups k then record c { delimiter_override = after_collapse citation }
       else c

@@ -3,7 +3,7 @@ ghost use Rattle.std.specs.Prelude.{◌≡◌, ◌<◌, length, map, option_map}
 ghost use Rattle.csl_passes.specs.RendersView.{item_view, items_view};
 ghost use Rattle.csl_collapse.specs.NumberRuns.{number_at, number_collapsed, shown_number};
 ghost use Rattle.csl_collapse.specs.Steps.{is_next, next_rises, number_step};
-ghost use Rattle.csl_collapse.specs.Stretches.{by_places};
+ghost use Rattle.csl_passes.specs.ByPlaces.{by_places};
 
 use csl_base::elem::ElemMeta;
 use csl_passes::renders::SpeculativeItemRender;

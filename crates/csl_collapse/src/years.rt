@@ -3,8 +3,8 @@ ghost use Rattle.std.specs.Prelude.{◌≡◌};
 ghost use Rattle.csl_base.specs.StyleView.{citation_view};
 ghost use Rattle.csl_passes.specs.RendersView.{item_view, items_view};
 ghost use Rattle.csl_collapse.specs.Steps.{is_same, year_step};
-ghost use Rattle.csl_collapse.specs.Stretches.{by_places};
 ghost use Rattle.csl_collapse.specs.YearStretches.{has_later_suffix, year_collapsed};
+ghost use Rattle.csl_passes.specs.ByPlaces.{by_places};
 
 use crate::collapse::after_collapse;
 use csl_base::style::Citation;

@@ -15,7 +15,7 @@ use Rattle.csl_base.specs.Child.{Child, kids_of}
 use Rattle.csl_base.specs.ChildView.{child_view}
 use Rattle.csl_base.specs.LastTextStep.{last_child, put_last}
 use Rattle.csl_base.specs.declared.elem.ElemChild.{ElemChild}
-use Rattle.csl_context.specs.OpenFrames.{sole_text, on_sole_text, kids_sole_text, kids_on_sole_text, end_sole_text, on_end_sole_text, on_last_child, child_shows, shows}
+use Rattle.csl_context.specs.OpenFrames.{sole_text, on_sole_text, kids_sole_text, kids_on_sole_text, end_sole_text, on_end_sole_text, on_last_child, child_shows, shows_behind}
 
 -- a tree that has not one child alone has no sole text
 pub no_sole_text : (q : List ℕ → Bool) (cs : List Child) → (length cs ≡ 1 → ⊥) → false ≡ option_map_or q (kids_sole_text (kids_of cs)) false
@@ -72,8 +72,8 @@ has_content_along [] = refl
 has_content_along (x ∷ xs) = ap (λ b. child_has_content (child_view x) || b) (has_content_along xs)
 
 -- where the first child shows nothing, the others decide
-pub shows_later : (n : ℕ) (xs : List ElemChild) (cs : List Child) (x : ElemChild) (r : Bool) → map child_view xs ≡ cs → 0 < length xs → x ≡ get_or xs 0 x → child_shows n (child_view x) ≡ false → r ≡ list_any (λ c. child_has_content (child_view c)) (drop 1 xs) → r ≡ shows n cs
+pub shows_later : (n : ℕ) (xs : List ElemChild) (cs : List Child) (x : ElemChild) (r : Bool) → map child_view xs ≡ cs → 0 < length xs → x ≡ get_or xs 0 x → child_shows n (child_view x) ≡ false → r ≡ list_any (λ c. child_has_content (child_view c)) (drop 1 xs) → r ≡ shows_behind n cs
 shows_later n [] cs x r v l g f h = absurd (omega (arith, l))
 shows_later n (y ∷ xs) cs x r v l g f h =
     let here : child_shows n (child_view y) ≡ false = ap (λ z. child_shows n (child_view z)) (sym g) ∙ f in
-    h ∙ has_content_along xs ∙ ap (λ b. b || has_content (map child_view xs)) (sym here) ∙ ap (shows n) v
+    h ∙ has_content_along xs ∙ ap (λ b. b || has_content (map child_view xs)) (sym here) ∙ ap (shows_behind n) v

@@ -1,8 +1,8 @@
 -- What is done to the text before.
 use Rattle.std.specs.Prelude.{ℕ, List}
 use Rattle.std.specs.Str.{trim_end}
-use Rattle.csl_context.specs.declared.frames.Edit.{Edit}
-use Rattle.csl_context.specs.declared.frames.Edit.TheVariants as v
+use Rattle.csl_context.specs.declared.tree_end.Edit.{Edit}
+use Rattle.csl_context.specs.declared.tree_end.Edit.TheVariants as v
 use Rattle.csl_context.specs.Steps.{without_ending}
 
 abbrev pub edited : Edit → List ℕ → List ℕ

@@ -116,6 +116,6 @@ child_shows n (text t) = visible_from n (chars t.text)
 child_shows n c = child_has_content c
 
 -- some child does, the first one behind a prefix of n bytes
-abbrev pub shows : ℕ → List Child → Bool
-shows n [] = false
-shows n (c ∷ cs) = child_shows n c || has_content cs
+abbrev pub shows_behind : ℕ → List Child → Bool
+shows_behind n [] = false
+shows_behind n (c ∷ cs) = child_shows n c || has_content cs

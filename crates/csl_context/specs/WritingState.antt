@@ -18,7 +18,7 @@ use Rattle.csl_base.specs.declared.formatting.Display.{Display}
 use Rattle.csl_base.specs.declared.elem.ElemMeta.{ElemMeta}
 use Rattle.csl_context.specs.declared.writing.WritingContext.{WritingContext}
 use Rattle.csl_context.specs.Steps.{ClosingQuotes, opens_tight, opens_with_mark, has_letter, without_ending, without_periods, spaced, term_text, ends_quoted, pulled}
-use Rattle.csl_context.specs.OpenFrames.{Frames, on_last_text, end_sole_text, on_end_sole_text, filled, on_filled, top, on_top, below, committed, shows}
+use Rattle.csl_context.specs.OpenFrames.{Frames, on_last_text, end_sole_text, on_end_sole_text, filled, on_filled, top, on_top, below, committed, shows_behind}
 
 pub record State : Type 0 where
   -- the text that is not yet in a frame
@@ -196,7 +196,7 @@ prefixed prefix a = let b = opened nothing_asked a in record b { buffer = b.buff
 
 -- the top frame shows something behind a prefix of n bytes, once the buffer is saved
 unfoldable pub has_content_since : ℕ → State → Bool
-has_content_since n a = option_map_or (shows n) (top (saved a).frames) false
+has_content_since n a = option_map_or (shows_behind n) (top (saved a).frames) false
 
 -- the last text of the top frame ends with s
 unfoldable pub ends_so : List ℕ → State → Bool

@@ -7,11 +7,11 @@ ghost use Rattle.csl_base.specs.Simplify.{join_last};
 ghost use Rattle.csl_base.specs.Tree.{last_text};
 ghost use Rattle.csl_context.specs.Cuts.{cut};
 ghost use Rattle.csl_context.specs.Edits.{edited};
-ghost use Rattle.csl_context.specs.OpenFrames.{on_last_text, end_sole_text, on_end_sole_text, filled, on_filled, top, on_top, below, committed, shows};
+ghost use Rattle.csl_context.specs.OpenFrames.{on_last_text, end_sole_text, on_end_sole_text, filled, on_filled, top, on_top, below, committed, shows_behind};
 ghost use Rattle.csl_context.specs.Quotes.{quotes_view};
 ghost use Rattle.csl_context.specs.Steps.{ends_quoted, pulled, spaced};
 
-use crate::frames::{
+use crate::tree_end::{
     Edit, add_space_to_tree, children_from, count, edit_last_text, ends_in, extend_last,
     pull_in_tree, push_child, shows, split_off, truncate, wrap,
 };
@@ -239,7 +239,7 @@ impl FlatFrames {
 
     /// Whether the top frame shows something, its first child behind `offset` bytes of its text.
     pub(crate) fn top_shows(&self, offset: usize) -> bool
-        ensures { result ≡ option_map_or (shows offset) (top self.now) false }
+        ensures { result ≡ option_map_or (shows_behind offset) (top self.now) false }
     {
         shows(self.top(), offset)
     }

@@ -3,7 +3,7 @@
 
 pub mod context;
 mod flat;
-mod frames;
+mod tree_end;
 mod pile;
 pub mod room;
 mod text;

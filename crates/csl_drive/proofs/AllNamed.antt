@@ -5,10 +5,10 @@ use Rattle.std.specs.Bool.{if◌then◌else◌}
 use Rattle.std.specs.List.{list_any}
 use Rattle.std.proofs.lemmas.Bool.{le-ltb}
 use Rattle.std.proofs.lemmas.List.Elements.{All-append, All-cons, All-nil, Contains-append_left, Contains-push}
+use Rattle.csl_ambiguity.proofs.Contained.{some-in}
 use Rattle.indexmap.specs.IndexSet.{insert_key}
 use Rattle.csl_base.specs.Answers.{Answers}
 use Rattle.csl_base.specs.Tells.{TellsEqual}
-use Rattle.csl_round_laws.proofs.Numbered.{some-in}
 use Rattle.csl_table.specs.Keys.{stage, task_key}
 use Rattle.csl_table.specs.Table.{IsMissingOf, is_later, key_eq, note_once}
 use Rattle.csl_table.specs.declared.key.TaskKey.{TaskKey}

@@ -7,6 +7,7 @@ use Rattle.std.specs.List.Sorted.{IsPermutation}
 use Rattle.std.proofs.lemmas.List.Elements.{All-cons, All-nil}
 use Rattle.std.proofs.lemmas.List.Sorted.{length_permutation}
 use Rattle.std.proofs.Math.ListN.{length-map}
+use Rattle.std.proofs.lemmas.Bool.{or_left, or_right}
 use Rattle.csl_assembly.specs.CitationTree.{has_no_purpose}
 use Rattle.csl_assembly.specs.declared.rendered.Rendered.{Rendered}
 use Rattle.csl_writers.specs.Writing.{Writing}
@@ -75,14 +76,6 @@ begins mode eq writing firsts (suc n) t = by (has_any (marks_at mode eq writing 
     by true = refl
     by false = refl
 
-or-first : (a b : Bool) → a ≡ true → (a || b) ≡ true
-or-first true b h = refl
-or-first false b h = absurd (true≢false (sym h))
-
-or-second : (a b : Bool) → b ≡ true → (a || b) ≡ true
-or-second true b h = refl
-or-second false b h = h
-
 -- the entries that are cited, in an order that has each of them once
 module _ {E : Type 0} (eq : E → E → Bool) (laws : IsEquivalence eq) where
   numbered-once : (offset : ℕ) (ordered entries : List E) → NoTwoEqual eq ordered → NoTwoEqual eq entries → ((e : E) → is_in eq e ordered ≡ is_in eq e entries) → NumbersWithoutGaps eq offset ordered
@@ -112,7 +105,7 @@ module _ {E P : Type 0} (eq : E → E → Bool) (laws : IsEquivalence eq) (each_
     each-in : (Q : E → Type 0) (es : List E) → ((e : E) → is_in eq e es ≡ true → Q e) → All Q es
     each-in Q [] h = All-nil Q
     each-in Q (x ∷ xs) h =
-        All-cons Q x xs (h x (or-first (eq x x) (is_in eq x xs) (laws.refl x))) (each-in Q xs (λ e within. h e (or-second (eq e x) (is_in eq e xs) within)))
+        All-cons Q x xs (h x (or_left (eq x x) (is_in eq x xs) (laws.refl x))) (each-in Q xs (λ e within. h e (or_right (eq e x) (is_in eq e xs) within)))
 
     -- where no order is used, numbers go by the cites in their final order
     module _ (offset : ℕ) where

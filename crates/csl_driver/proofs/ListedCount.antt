@@ -5,7 +5,6 @@ use Rattle.std.specs.Cmp.{IsEquivalence}
 use Rattle.std.specs.List.{cons_option, filter_map}
 use Rattle.std.proofs.lemmas.List.{map-append}
 use Rattle.std.proofs.lemmas.List.Elements.{All-cons, All-head, All-nil, All-tail}
-use Rattle.csl_assembly.specs.BibliographyItems.{cites_at}
 use Rattle.csl_driver.specs.AreCitesOf.{AreCitesOf}
 use Rattle.csl_entries.specs.Entries.{bibliography_order, is_in}
 use Rattle.csl_entries.specs.Table.{Table, table_of}
@@ -13,8 +12,7 @@ use Rattle.csl_entries.proofs.Distinct.{is_in-distinct}
 use Rattle.csl_entries.proofs.ListedPlaces.{all-cited}
 use Rattle.csl_entries.proofs.Once.{holds_each_once}
 use Rattle.csl_entries.proofs.Placing.{all_in, left, right}
-use Rattle.csl_passes.specs.Places.{IsPlace, cite_at}
-use Rattle.csl_passes.specs.Renders.{CiteRender, ItemRender, Place}
+use Rattle.csl_passes.specs.Renders.{CiteRender, ItemRender}
 use Rattle.csl_passes.specs.Request.{Request, cited}
 use Rattle.csl_positions.specs.FinalProperties.{cited_finally, first_item, items_finally}
 
@@ -26,21 +24,6 @@ all-found {A} {B} f (x ∷ xs) h = by (f x) (All-head (λ x. is_some (f x) ≡ t
     by : (o : Option B) → is_some o ≡ true → length (filter_map f xs) ≡ length xs → length (cons_option o (filter_map f xs)) ≡ suc (length xs)
     by None e more = cc
     by (Some y) e more = ap suc more
-
-module _ {E P : Type 0} (renders : List (CiteRender E P)) where
-  some-mapped : {A B : Type 0} (f : A → B) (o : Option A) → is_some o ≡ true → is_some (option_map f o) ≡ true
-  some-mapped f None h = cc
-  some-mapped f (Some x) h = refl
-
-  places-found : (places : List Place) → All (IsPlace renders) places → All (λ p. is_some (option_map (λ (c : Request E P × ItemRender E P). c.1) (cite_at renders p)) ≡ true) places
-  places-found [] h = All-nil (λ p. is_some (option_map (λ (c : Request E P × ItemRender E P). c.1) (cite_at renders p)) ≡ true)
-  places-found (p ∷ ps) h =
-      All-cons (λ p. is_some (option_map (λ (c : Request E P × ItemRender E P). c.1) (cite_at renders p)) ≡ true) p ps
-      (some-mapped (λ c. c.1) (cite_at renders p) (All-head (IsPlace renders) p ps h)) (places-found ps (All-tail (IsPlace renders) p ps h))
-
-  -- there are as many cites as places
-  pub cites-counted : (places : List Place) → All (IsPlace renders) places → length (cites_at renders places) ≡ length places
-  cites-counted places h = all-found (λ p. option_map (λ (c : Request E P × ItemRender E P). c.1) (cite_at renders p)) places (places-found places h)
 
 module _ {E P : Type 0} (eq : E → E → Bool) where
   find-in : (e : E) (items : List (ItemRender E P)) → is_some (find (λ i. eq e i.entry) items) ≡ is_in eq e (map (λ i. i.entry) items)

@@ -9,7 +9,7 @@ use Rattle.std.proofs.lemmas.List.Elements.{filter-append}
 use Rattle.std.proofs.lemmas.List.Sums.{sum_by-cons}
 use Rattle.csl_assembly.specs.CitationTree.{citation_tasks}
 use Rattle.csl_driver.specs.Account.{cost, listed_count, rerendered, where_listed}
-use Rattle.csl_driver.specs.Answer.{Asked, drawn_together, entries_listed, first_cites, in_final_order, in_the_end, order_in_use, rendered_first}
+use Rattle.csl_driver.specs.Answer.{Asked, drawn_together, entries_listed, listed_first_cites, in_final_order, in_the_end, order_in_use, rendered_first}
 use Rattle.csl_driver.specs.WriterTasks.{begun_tasks, last_tasks, listed_tasks, tasks, where_wanted}
 use Rattle.csl_driver.proofs.FirstPlaced.{first-cited}
 use Rattle.csl_driver.proofs.ListedCount.{firsts-counted}
@@ -109,7 +109,7 @@ module _ {E P : Type 0} (eq : E → E → Bool) (laws : IsEquivalence eq) (paylo
       let ordered = ordered-stand laws writing payload_eq asked {table = table} refl {begun = firsts} refl mode {told = _} {ordered = in_final_order eq payload_eq writing mode asked} refl refl in
       let stand = final-stand eq laws writing table asked.requests (in_final_order eq payload_eq writing mode asked) ordered payload_eq _ in
       wanted-count asked.wanted.style.bibliography _ _
-      (length-map (first_cites eq payload_eq writing mode asked) _ ∙ firsts-counted eq laws in_end asked.requests (order_in_use asked.wanted) table refl stand)
+      (length-map (listed_first_cites eq payload_eq writing mode asked) _ ∙ firsts-counted eq laws in_end asked.requests (order_in_use asked.wanted) table refl stand)
 
   -- as much as the account says
   pub task-count : length (tasks eq payload_eq writing mode asked) ≡ cost eq payload_eq writing mode asked

@@ -76,14 +76,14 @@ module _ {E P : Type 0} (eq : E → E → Bool) (payload_eq : P → P → Bool) 
     in_the_end = with_final_properties eq payload_eq final_number in_final_order
 
     -- the first cites, in the final order, of the bibliography's entries
-    abbrev pub first_cites : List (ItemRender E P)
-    first_cites = filter_map (first_item eq in_the_end) (entries_listed eq asked.wanted asked.requests)
+    abbrev pub listed_first_cites : List (ItemRender E P)
+    listed_first_cites = filter_map (first_item eq in_the_end) (entries_listed eq asked.wanted asked.requests)
 
     -- the whole answer: one citation for each request, and the bibliography where the style that was asked
     -- for has one
     abbrev pub rendered : Rendered
     rendered = record {
-      bibliography = option_map (λ b. bibliography_of writing (wanted_source asked.wanted) b first_cites)
+      bibliography = option_map (λ b. bibliography_of writing (wanted_source asked.wanted) b listed_first_cites)
           asked.wanted.style.bibliography;
       citations = citations_of writing (map drawn_together in_the_end);
     }

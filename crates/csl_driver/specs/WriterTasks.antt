@@ -3,7 +3,7 @@ use Rattle.std.specs.Prelude.{Bool, List, [], ◌++◌, Option, None, Some, map}
 use Rattle.std.specs.List.{enumerate_from, flat_map}
 use Rattle.csl_assembly.specs.BibliographyItems.{bibliography_tasks}
 use Rattle.csl_assembly.specs.CitationTree.{citation_tasks}
-use Rattle.csl_driver.specs.Answer.{Asked, drawn_together, entries_listed, first_cites, in_the_end, rendered_first}
+use Rattle.csl_driver.specs.Answer.{Asked, drawn_together, entries_listed, listed_first_cites, in_the_end, rendered_first}
 use Rattle.csl_entries.specs.Entries.{number}
 use Rattle.csl_passes.specs.Renders.{CiteRender}
 use Rattle.csl_passes.specs.Request.{wanted_source}
@@ -33,7 +33,7 @@ module _ {E P : Type 0} (eq : E → E → Bool) (payload_eq : P → P → Bool) 
     -- where the bibliography is written
     abbrev pub listed_tasks : List (TaskValue E P)
     listed_tasks = where_wanted asked.wanted.style.bibliography
-        (bibliography_tasks (wanted_source asked.wanted) (first_cites eq payload_eq writing mode asked))
+        (bibliography_tasks (wanted_source asked.wanted) (listed_first_cites eq payload_eq writing mode asked))
 
     -- all that is asked for: the first renders, those of the rounds, the bibliography, the citations
     abbrev pub tasks : List (TaskValue E P)

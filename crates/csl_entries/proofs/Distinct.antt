@@ -1,4 +1,5 @@
 -- `distinct` as the code makes it, member by member.
+use mathlib.Core.Bool.{or-false, or-true}
 use Rattle.std.proofs.Common.{◌≡◌, Bool, true, false, cond, not, ◌||◌, Some, List, [], ◌∷◌, ◌++◌, filter, refl, ap, ◌∙◌, sym, append-nil, append_assoc}
 use Rattle.std.specs.Cmp.{IsEquivalence}
 use Rattle.std.proofs.lemmas.List.Elements.{filter-append, filter_agree}
@@ -8,14 +9,6 @@ use Rattle.csl_entries.specs.Entries.{distinct, bibliography_order, is_in, with_
 or_assoc : (a b c : Bool) → (a || (b || c)) ≡ ((a || b) || c)
 or_assoc true b c = refl
 or_assoc false b c = refl
-
-or_false : (a : Bool) → (a || false) ≡ a
-or_false true = refl
-or_false false = refl
-
-pub or_true : (a : Bool) → (a || true) ≡ true
-or_true true = refl
-or_true false = refl
 
 module _ {E : Type 0} (eq : E → E → Bool) where
   abbrev pub others : E → List E → List E
@@ -77,12 +70,12 @@ module _ {E : Type 0} (eq : E → E → Bool) where
     is_in-with_new y d xs = by (is_in eq d xs) (eq y d) refl refl
       where
         by : (a b : Bool) → is_in eq d xs ≡ a → eq y d ≡ b → is_in eq y (cond a xs (xs ++ d ∷ [])) ≡ (is_in eq y xs || b)
-        by false b p q = is_in-append y xs (d ∷ []) ∙ ap (λ t. is_in eq y xs || t) (or_false (eq y d) ∙ q)
-        by true false p q = sym (or_false (is_in eq y xs))
+        by false b p q = is_in-append y xs (d ∷ []) ∙ ap (λ t. is_in eq y xs || t) (or-false (eq y d) ∙ q)
+        by true false p q = sym (or-false (is_in eq y xs))
         by true true p q = rw (is_in-equal y d xs q ∙ p) refl
 
     is_in-all_new : (y : E) (xs ds : List E) → is_in eq y (with_all_new eq xs ds) ≡ (is_in eq y xs || is_in eq y ds)
-    is_in-all_new y xs [] = sym (or_false (is_in eq y xs))
+    is_in-all_new y xs [] = sym (or-false (is_in eq y xs))
     is_in-all_new y xs (d ∷ ds) =
         is_in-all_new y (with_new eq xs d) ds ∙ ap (λ t. t || is_in eq y ds) (is_in-with_new y d xs) ∙ sym (or_assoc (is_in eq y xs) (eq y d) (is_in eq y ds))
 
@@ -94,7 +87,7 @@ module _ {E : Type 0} (eq : E → E → Bool) where
       where
         by : (a : Bool) → is_in eq y ds ≡ a → with_all_new eq zs (cond a ds (ds ++ y ∷ [])) ≡ with_new eq (with_all_new eq zs ds) y
         by false p = fold_push (with_new eq) zs ds y
-        by true p = rw (is_in-all_new y zs ds, p, or_true (is_in eq y zs)) refl
+        by true p = rw (is_in-all_new y zs ds, p, or-true (is_in eq y zs)) refl
 
     pub all_new-all_new : (zs ds xs : List E) → with_all_new eq zs (with_all_new eq ds xs) ≡ with_all_new eq (with_all_new eq zs ds) xs
     all_new-all_new zs ds [] = refl

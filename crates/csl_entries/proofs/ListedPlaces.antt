@@ -4,6 +4,7 @@ use Rattle.std.specs.Prelude.{slice_get, unwrap_or}
 use Rattle.std.specs.Cmp.{IsEquivalence, nat_eq_equiv}
 use Rattle.std.specs.List.{range_with_len}
 use Rattle.std.proofs.Math.ListN.{length-map}
+use Rattle.std.proofs.lemmas.Bool.{or_right}
 use Rattle.csl_entries.specs.Entries.{distinct, is_in, place, with_all_new}
 use Rattle.csl_entries.specs.Laws.{NoTwoEqual}
 use Rattle.csl_entries.specs.Listed.{IsListingOf, Listed, listed_places}
@@ -33,16 +34,12 @@ module _ {E : Type 0} (eq : E → E → Bool) (laws : IsEquivalence eq) where
       let rest : length xs ≤ length (others eq x ys) = no-longer xs (others eq x ys) once.1 (NoTwoEqual-filter eq laws _ ys more) left in
       omega (arith, one, rest)
     where
-      or-right : (a b : Bool) → b ≡ true → (a || b) ≡ true
-      or-right true b q = refl
-      or-right false b q = q
-
       left : (e : E) → is_in eq e xs ≡ true → is_in eq e (others eq x ys) ≡ true
       left e inside = by (eq e x) refl
         where
           by : (b : Bool) → eq e x ≡ b → is_in eq e (others eq x ys) ≡ true
           by true q = let out : is_in eq e xs ≡ false = is_in-equal eq laws e x xs q ∙ once.0 in cc
-          by false q = is_in-others eq laws x e ys q ∙ h e (or-right (eq e x) (is_in eq e xs) inside)
+          by false q = is_in-others eq laws x e ys q ∙ h e (or_right (eq e x) (is_in eq e xs) inside)
 
   -- what is in one of two lists with the same members is in the other
   pub all-cited : (es cited : List E) → ((e : E) → is_in eq e cited ≡ is_in eq e es) → all_in eq laws es cited ≡ true

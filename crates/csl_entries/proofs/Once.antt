@@ -1,11 +1,12 @@
 -- Lists with no two equal members.
+use mathlib.Core.Bool.{or-true}
 use Rattle.std.proofs.Common.{◌≡◌, ℕ, suc, ◌+◌, length, map, Bool, true, false, cond, not, ◌||◌, Option, Some, None, List, [], ◌∷◌, ◌++◌, refl, ap, ◌∙◌, sym, arith}
 use Rattle.std.specs.List.{filter, range_with_len}
 use Rattle.std.specs.Cmp.{IsEquivalence}
 use Rattle.std.proofs.Math.ListN.{length-map}
 use Rattle.csl_entries.specs.Entries.{distinct, bibliography_order, is_in, place}
 use Rattle.csl_entries.specs.Laws.{NoTwoEqual, HoldsEachOnce, NumbersWithoutGaps}
-use Rattle.csl_entries.proofs.Distinct.{others, is_in-distinct, is_in-append, is_in-equal, or_true}
+use Rattle.csl_entries.proofs.Distinct.{others, is_in-distinct, is_in-append, is_in-equal}
 
 module _ {E : Type 0} (eq : E → E → Bool) (laws : IsEquivalence eq) where
   -- leaving out changes nothing where no member is left out
@@ -30,7 +31,7 @@ module _ {E : Type 0} (eq : E → E → Bool) (laws : IsEquivalence eq) where
           omega (arith, ap length same)
 
   -- what leaves out some of a list has no more in it
-  kept_out : (p : E → Bool) (y : E) (xs : List E) → is_in eq y xs ≡ false → is_in eq y (filter p xs) ≡ false
+  pub kept_out : (p : E → Bool) (y : E) (xs : List E) → is_in eq y xs ≡ false → is_in eq y (filter p xs) ≡ false
   kept_out p y [] h = refl
   kept_out p y (x ∷ xs) h = by (eq y x) (p x) refl h (kept_out p y xs)
     where
@@ -71,7 +72,7 @@ module _ {E : Type 0} (eq : E → E → Bool) (laws : IsEquivalence eq) where
       by false e k = k
       by true e k =
           let there : is_in eq x (distinct eq (filter p xs ++ ys)) ≡ true =
-          is_in-distinct eq laws x (filter p xs ++ ys) ∙ is_in-append eq laws x (filter p xs) ys ∙ ap (λ t. is_in eq x (filter p xs) || t) (h x e) ∙ or_true (is_in eq x (filter p xs)) in
+          is_in-distinct eq laws x (filter p xs ++ ys) ∙ is_in-append eq laws x (filter p xs) ys ∙ ap (λ t. is_in eq x (filter p xs) || t) (h x e) ∙ or-true (is_in eq x (filter p xs)) in
           omega (arith, one_out x (distinct eq (filter p xs ++ ys)) (NoTwoEqual-distinct (filter p xs ++ ys)) there, k)
 
   pub length-bibliography_order : (order : Option (List E)) (xs : List E) → length (bibliography_order eq order xs) ≡ length (distinct eq xs)

@@ -1,10 +1,11 @@
 -- Where entries stand among the cited ones, as these grow.
+use mathlib.Core.Bool.{or-true}
 use Rattle.std.proofs.Common.{◌≡◌, ℕ, ◌+◌, Bool, true, false, cond, not, ◌||◌, List, [], ◌∷◌, ◌++◌, map, refl, ap, sym, subst, ◌∙◌}
 use Rattle.std.specs.List.{list_any, position_or_len}
 use Rattle.std.specs.Cmp.{IsEquivalence}
 use Rattle.csl_entries.specs.Entries.{is_in, place, with_new, with_all_new}
 use Rattle.csl_entries.specs.StandsAt.{StandsAt}
-use Rattle.csl_entries.proofs.Distinct.{is_in-append, or_true}
+use Rattle.csl_entries.proofs.Distinct.{is_in-append}
 use Rattle.csl_entries.proofs.Sets.{insert-view, place-view}
 
 module _ {E : Type 0} (eq : E → E → Bool) where
@@ -34,7 +35,7 @@ module _ {E : Type 0} (eq : E → E → Bool) where
         by : (b : Bool) → is_in eq e xs ≡ b → StandsAt eq (cond b xs (xs ++ e ∷ [])) e (place eq e xs)
         by true h = record { listed = h; at = refl }
         by false h = record {
-          listed = is_in-append eq laws e xs (e ∷ []) ∙ rw (laws.refl e) (or_true (is_in eq e xs));
+          listed = is_in-append eq laws e xs (e ∷ []) ∙ rw (laws.refl e) (or-true (is_in eq e xs));
           at = sym (place-new e xs h);
         }
 

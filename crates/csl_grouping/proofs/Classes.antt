@@ -7,7 +7,9 @@ use Rattle.std.proofs.lemmas.List.{map-append}
 use Rattle.std.proofs.lemmas.List.Elements.{filter-append}
 use Rattle.std.proofs.lemmas.List.Sorted.{IsPermutation-refl, IsPermutation-trans, IsPermutation-append_comm, IsPermutation-append_left, IsPermutation-append_right}
 use Rattle.csl_entries.specs.Entries.{distinct, is_in}
-use Rattle.csl_grouping.proofs.DistinctKeys.{NoTwoEqual, NoTwoEqual-distinct, distinct-push, is_in-distinct, is_in-equal}
+use Rattle.csl_entries.specs.Laws.{NoTwoEqual}
+use Rattle.csl_entries.proofs.Once.{NoTwoEqual-distinct}
+use Rattle.csl_entries.proofs.Distinct.{distinct-push, is_in-distinct, is_in-equal}
 
 module _ {K : Type 0} (eq : K → K → Bool) where
   -- a number added to the class of its key, which comes last where there is none

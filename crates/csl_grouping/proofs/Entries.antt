@@ -10,7 +10,7 @@ use Rattle.std.proofs.Math.ListN.{length-map}
 use Rattle.indexmap.specs.IndexMap.{insert_entry, set_value_at}
 use Rattle.csl_passes.specs.Renders.{ItemRender}
 use Rattle.csl_grouping.specs.BlockKeys.{BlockKey, key_of, same_key}
-use Rattle.csl_grouping.specs.Steps.{blocks_of, entries_view, key_view, with_place}
+use Rattle.csl_grouping.specs.Steps.{blocks_of, blocks_view, key_view, with_place}
 use Rattle.csl_grouping.specs.declared.blocks.Key.{Key}
 use Rattle.csl_grouping.proofs.Classes.{added, classes, classes-push}
 use Rattle.csl_grouping.specs.KeyLaws.{key_laws, same}
@@ -18,7 +18,7 @@ use Rattle.csl_grouping.specs.KeyLaws.{key_laws, same}
 module _ {A : Type 0} (key : Key) (k : ℕ) where
   -- a place is pushed in the block at i, which is that of the key
   pub pushed : (es : List (Key × Vec ℕ A)) (i : ℕ) (v w : Vec ℕ A) → i ≡ position_or_len (same key) (keys_of es) → slice_get (map (λ e. e.1) es) i ≡ Some v
-      → w.items ≡ v.items ++ k ∷ [] → entries_view (set_value_at es i w) ≡ with_place (entries_view es) (key_view key) k
+      → w.items ≡ v.items ++ k ∷ [] → blocks_view (set_value_at es i w) ≡ with_place (blocks_view es) (key_view key) k
   pushed [] i v w p at e = cc
   pushed (x ∷ es) zero v w p at e = by (same key x.0) refl p
     where
@@ -26,26 +26,26 @@ module _ {A : Type 0} (key : Key) (k : ℕ) where
       held a b q = cc
 
       by : (b : Bool) → same key x.0 ≡ b → zero ≡ cond (not b) (1 + position_or_len (same key) (keys_of es)) 0
-          → ((key_view x.0, w.items) ∷ entries_view es) ≡ with_place (entries_view (x ∷ es)) (key_view key) k
-      by true q p = rw (q) (ap (λ ps. (key_view x.0, ps) ∷ entries_view es) (e ∙ ap (λ u. u.items ++ k ∷ []) (sym (held x.1 v at))))
+          → ((key_view x.0, w.items) ∷ blocks_view es) ≡ with_place (blocks_view (x ∷ es)) (key_view key) k
+      by true q p = rw (q) (ap (λ ps. (key_view x.0, ps) ∷ blocks_view es) (e ∙ ap (λ u. u.items ++ k ∷ []) (sym (held x.1 v at))))
       by false q p = absurd (omega arith)
   pushed (x ∷ es) (suc i) v w p at e = by (same key x.0) refl p (pushed es i v w)
     where
       by : (b : Bool) → same key x.0 ≡ b → suc i ≡ cond (not b) (1 + position_or_len (same key) (keys_of es)) 0
-          → (i ≡ position_or_len (same key) (keys_of es) → slice_get (map (λ e. e.1) es) i ≡ Some v → w.items ≡ v.items ++ k ∷ [] → entries_view (set_value_at es i w) ≡ with_place (entries_view es) (key_view key) k)
-          → ((key_view x.0, x.1.items) ∷ entries_view (set_value_at es i w)) ≡ with_place (entries_view (x ∷ es)) (key_view key) k
+          → (i ≡ position_or_len (same key) (keys_of es) → slice_get (map (λ e. e.1) es) i ≡ Some v → w.items ≡ v.items ++ k ∷ [] → blocks_view (set_value_at es i w) ≡ with_place (blocks_view es) (key_view key) k)
+          → ((key_view x.0, x.1.items) ∷ blocks_view (set_value_at es i w)) ≡ with_place (blocks_view (x ∷ es)) (key_view key) k
       by true q p r = absurd (omega arith)
       by false q p r = rw (q) (ap (λ bs. (key_view x.0, x.1.items) ∷ bs) (r (omega arith) at e))
 
   -- a new block comes last
   pub inserted : (es : List (Key × Vec ℕ A)) (v : Vec ℕ A) → length (keys_of es) ≤ position_or_len (same key) (keys_of es) → v.items ≡ k ∷ []
-      → entries_view (insert_entry same es key v) ≡ with_place (entries_view es) (key_view key) k
+      → blocks_view (insert_entry same es key v) ≡ with_place (blocks_view es) (key_view key) k
   inserted [] v h e = ap (λ ps. (key_view key, ps) ∷ []) e
   inserted (x ∷ es) v h e = by (same key x.0) refl h (inserted es v)
     where
       by : (b : Bool) → same key x.0 ≡ b → suc (length (keys_of es)) ≤ cond (not b) (1 + position_or_len (same key) (keys_of es)) 0
-          → (length (keys_of es) ≤ position_or_len (same key) (keys_of es) → v.items ≡ k ∷ [] → entries_view (insert_entry same es key v) ≡ with_place (entries_view es) (key_view key) k)
-          → entries_view (cond b ((x.0, v) ∷ es) (x ∷ insert_entry same es key v)) ≡ with_place (entries_view (x ∷ es)) (key_view key) k
+          → (length (keys_of es) ≤ position_or_len (same key) (keys_of es) → v.items ≡ k ∷ [] → blocks_view (insert_entry same es key v) ≡ with_place (blocks_view es) (key_view key) k)
+          → blocks_view (cond b ((x.0, v) ∷ es) (x ∷ insert_entry same es key v)) ≡ with_place (blocks_view (x ∷ es)) (key_view key) k
       by true q h r = absurd (omega arith)
       by false q h r = rw (q) (ap (λ bs. (key_view x.0, x.1.items) ∷ bs) (r (omega arith) e))
 

@@ -1,5 +1,4 @@
 pub mod Classes
-pub mod DistinctKeys
 pub mod Entries
 pub mod Marks
 pub mod OrderLaws

@@ -9,13 +9,13 @@ use Rattle.csl_base.specs.EqualTrees.{same_elem}
 use Rattle.csl_base.specs.Tree.{find_elem, has_names}
 use Rattle.csl_base.specs.declared.elem.Elem.{Elem}
 use Rattle.csl_entries.specs.Entries.{is_in}
+use Rattle.csl_entries.proofs.Distinct.{is_in-distinct}
 use Rattle.csl_passes.specs.Renders.{ItemRender}
 use Rattle.csl_grouping.specs.BlockKeys.{BlockKey, named, alone, key_of, same_key}
-use Rattle.csl_grouping.specs.Blocks.{block, block_index, block_keys, final_order, grouped_cites, in_block, with_group}
+use Rattle.csl_grouping.specs.Blocks.{block, block_index, block_keys, final_order, grouped_cites, in_block, with_block}
 use Rattle.csl_grouping.specs.KeyLaws.{equal, key_laws}
 use Rattle.csl_grouping.specs.Laws.{IsInFinalOrder, StandsTogether, bare, places_with}
 use Rattle.csl_grouping.proofs.Classes.{no-members}
-use Rattle.csl_grouping.proofs.DistinctKeys.{is_in-distinct}
 use Rattle.csl_grouping.proofs.Whole.{Every, every-filter, every-flat}
 
 -- where a key stands among keys
@@ -70,7 +70,7 @@ module _ {E P : Type 0} (cites : List (ItemRender E P)) where
           ([], final_order cites, ap (λ xs. xs ++ final_order cites) (sym none))
 
   bare-rest : (delimiter : Option (List ℕ)) (group : Option ℕ) (ws : List (ℕ × ItemRender E P))
-      → map (λ c. Some (bare c)) (map (with_group delimiter group) (map (λ w. w.1) ws)) ≡ map (λ w. Some (bare w.1)) ws
+      → map (λ c. Some (bare c)) (map (with_block delimiter group) (map (λ w. w.1) ws)) ≡ map (λ w. Some (bare w.1)) ws
   bare-rest delimiter group [] = refl
   bare-rest delimiter group (w ∷ ws) = ap (λ xs. Some (bare w.1) ∷ xs) (bare-rest delimiter group ws)
 

@@ -2,7 +2,7 @@
 use Rattle.std.proofs.Common.{◌≡◌, ℕ, ◌+◌, ◌<◌, ◌≤◌, Bool, true, false, List, [], ◌∷◌, ◌++◌, drop, zero, suc, take, length, Some, None, slice_get, arith, get_or, refl, ap, ◌∙◌, sym, append_assoc}
 use Rattle.std.specs.Prelude.{Option, Vec, if◌then◌else◌}
 use Rattle.std.proofs.lemmas.List.{take_more, map-append}
-use Rattle.csl_grouping.specs.Steps.{entries_view, key_view, placed_block, placed_blocks}
+use Rattle.csl_grouping.specs.Steps.{blocks_view, key_view, placed_block, placed_blocks}
 use Rattle.csl_grouping.specs.BlockKeys.{is_named}
 use Rattle.csl_grouping.specs.declared.blocks.Key.{Key}
 use Rattle.csl_grouping.specs.declared.blocks.Placed.{Placed}
@@ -38,13 +38,13 @@ drop-at (y ∷ ys) (suc b) x h = let e : suc (b + 1) ≡ suc b + 1 = omega arith
 
 -- one more block
 pub blocks-more : {A : Type 0} (es : List (Key × Vec ℕ A)) (b next n : ℕ) (e : Key × Vec ℕ A) (order more all : List Placed) → Some e ≡ slice_get es b
-    → order ++ placed_blocks next (entries_view (drop b es)) ≡ all
+    → order ++ placed_blocks next (blocks_view (drop b es)) ≡ all
     → more ≡ order ++ placed_block (if is_named (key_view e.0) then Some next else None) e.1.items → n ≡ (if is_named (key_view e.0) then next + 1 else next)
-    → more ++ placed_blocks n (entries_view (drop (b + 1) es)) ≡ all
+    → more ++ placed_blocks n (blocks_view (drop (b + 1) es)) ≡ all
 blocks-more es b next n e order more all at h m q =
-    (λ i. m i ++ placed_blocks (q i) (entries_view (drop (b + 1) es)))
-    ∙ append_assoc order (placed_block (if is_named (key_view e.0) then Some next else None) e.1.items) (placed_blocks (if is_named (key_view e.0) then next + 1 else next) (entries_view (drop (b + 1) es)))
-    ∙ ap (λ xs. order ++ placed_blocks next (entries_view xs)) (sym (drop-at es b e at)) ∙ h
+    (λ i. m i ++ placed_blocks (q i) (blocks_view (drop (b + 1) es)))
+    ∙ append_assoc order (placed_block (if is_named (key_view e.0) then Some next else None) e.1.items) (placed_blocks (if is_named (key_view e.0) then next + 1 else next) (blocks_view (drop (b + 1) es)))
+    ∙ ap (λ xs. order ++ placed_blocks next (blocks_view xs)) (sym (drop-at es b e at)) ∙ h
 
 pub next-bound : (t : Bool) (next b n : ℕ) → n ≡ (if t then next + 1 else next) → next ≤ b → n ≤ b + 1
 next-bound true next b n e h = omega arith

@@ -7,14 +7,15 @@ use Rattle.std.proofs.Math.ListN.{length-map}
 use Rattle.std.proofs.lemmas.List.{length-append, map-append}
 use Rattle.std.proofs.lemmas.List.Elements.{filter-append}
 use Rattle.csl_entries.specs.Entries.{is_in, place}
+use Rattle.csl_entries.specs.Laws.{NoTwoEqual}
+use Rattle.csl_entries.proofs.Once.{NoTwoEqual-distinct, kept_out}
 use Rattle.csl_passes.specs.Renders.{ItemRender}
 use Rattle.csl_grouping.specs.BlockKeys.{BlockKey, is_named, key_of, same_key}
-use Rattle.csl_grouping.specs.Blocks.{block, block_index, block_keys, final_order, grouped_cites, in_block, with_group}
+use Rattle.csl_grouping.specs.Blocks.{block, block_index, block_keys, final_order, grouped_cites, in_block, with_block}
 use Rattle.csl_grouping.specs.Moves.{IsPicked}
 use Rattle.csl_grouping.specs.Steps.{all_marked, blocks_of, marked_in_block, placed_block, placed_blocks}
 use Rattle.csl_grouping.specs.declared.blocks.Placed.{Placed}
 use Rattle.csl_grouping.proofs.Classes.{classes-permuted, numbers}
-use Rattle.csl_grouping.proofs.DistinctKeys.{NoTwoEqual, NoTwoEqual-distinct, kept_out}
 use Rattle.csl_grouping.specs.KeyLaws.{key_laws}
 
 -- of each member
@@ -131,14 +132,14 @@ length-placed group (p ∷ ps) = ap suc (length-map ps (λ q. record { place = q
 
 module _ {E P : Type 0} (delimiter : Option (List ℕ)) where
   marked-rest : (group : Option ℕ) (ws : List (ℕ × ItemRender E P))
-      → all_marked delimiter (map (λ q. record { place = q; group = group; follows = true }) (map (λ w. w.0) ws)) (map (λ w. w.1) ws) ≡ map (with_group delimiter group) (map (λ w. w.1) ws)
+      → all_marked delimiter (map (λ q. record { place = q; group = group; follows = true }) (map (λ w. w.0) ws)) (map (λ w. w.1) ws) ≡ map (with_block delimiter group) (map (λ w. w.1) ws)
   marked-rest group [] = refl
-  marked-rest group (w ∷ ws) = ap (λ cs. with_group delimiter group w.1 ∷ cs) (marked-rest group ws)
+  marked-rest group (w ∷ ws) = ap (λ cs. with_block delimiter group w.1 ∷ cs) (marked-rest group ws)
 
   marked-block : (group : Option ℕ) (ws : List (ℕ × ItemRender E P))
       → all_marked delimiter (placed_block group (map (λ w. w.0) ws)) (map (λ w. w.1) ws) ≡ in_block delimiter group (map (λ w. w.1) ws)
   marked-block group [] = refl
-  marked-block group (w ∷ ws) = ap (λ cs. with_group None group w.1 ∷ cs) (marked-rest group ws)
+  marked-block group (w ∷ ws) = ap (λ cs. with_block None group w.1 ∷ cs) (marked-rest group ws)
 
   marked-append : (os more : List Placed) (cs rest : List (ItemRender E P)) → length os ≡ length cs
       → all_marked delimiter (os ++ more) (cs ++ rest) ≡ all_marked delimiter os cs ++ all_marked delimiter more rest

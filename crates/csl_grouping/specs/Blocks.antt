@@ -35,13 +35,13 @@ module _ {E P : Type 0} where
   final_order cites = map (λ p. p.0) (flat_map (block cites) (block_keys cites))
 
   -- a cite with this override and this index
-  abbrev pub with_group : Option (List ℕ) → Option ℕ → ItemRender E P → ItemRender E P
-  with_group delimiter index c = record c { delimiter_override = delimiter; group = index }
+  abbrev pub with_block : Option (List ℕ) → Option ℕ → ItemRender E P → ItemRender E P
+  with_block delimiter index c = record c { delimiter_override = delimiter; group = index }
 
   -- the cites of a block with its index, and with the delimiter as the override of each but the first
   abbrev pub in_block : Option (List ℕ) → Option ℕ → List (ItemRender E P) → List (ItemRender E P)
   in_block delimiter index [] = []
-  in_block delimiter index (c ∷ cs) = with_group None index c ∷ map (with_group delimiter index) cs
+  in_block delimiter index (c ∷ cs) = with_block None index c ∷ map (with_block delimiter index) cs
 
   abbrev pub grouped_cites : Option (List ℕ) → List (ItemRender E P) → List (ItemRender E P)
   grouped_cites delimiter cites =

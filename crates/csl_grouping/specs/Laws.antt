@@ -6,7 +6,7 @@ use Rattle.csl_base.specs.EqualTrees.{same_elem}
 use Rattle.csl_base.specs.Tree.{find_elem, has_names}
 use Rattle.csl_base.specs.declared.elem.Elem.{Elem}
 use Rattle.csl_passes.specs.Renders.{ItemRender}
-use Rattle.csl_grouping.specs.Blocks.{final_order, with_group}
+use Rattle.csl_grouping.specs.Blocks.{final_order, with_block}
 
 -- the part stands in the order without gaps
 abbrev pub StandsTogether : List ℕ → List ℕ → Type 0
@@ -21,7 +21,7 @@ module _ {E P : Type 0} where
 
   -- a cite but for its override and its index
   abbrev pub bare : ItemRender E P → ItemRender E P
-  bare = with_group None None
+  bare = with_block None None
 
   -- but for these, the grouped cites are those at the places of the final order
   abbrev pub IsInFinalOrder : List (ItemRender E P) → List (ItemRender E P) → Type 0

@@ -2,7 +2,7 @@
 use Rattle.std.specs.Prelude.{ℕ, ◌+◌, true, false, List, [], ◌∷◌, ◌++◌, Option, None, Some, if◌then◌else◌, map}
 use Rattle.csl_passes.specs.Renders.{ItemRender}
 use Rattle.csl_grouping.specs.BlockKeys.{BlockKey, named, alone, is_named, same_key}
-use Rattle.csl_grouping.specs.Blocks.{block, block_keys, with_group}
+use Rattle.csl_grouping.specs.Blocks.{block, block_keys, with_block}
 use Rattle.csl_grouping.specs.declared.blocks.Key.{Key}
 use Rattle.csl_grouping.specs.declared.blocks.Key.TheVariants as key
 use Rattle.csl_grouping.specs.declared.blocks.Placed.{Placed}
@@ -16,8 +16,8 @@ module _ {A : Type 0} where
   abbrev pub entry_view : Key × Vec ℕ A → BlockKey × List ℕ
   entry_view e = (key_view e.0, e.1.items)
 
-  abbrev pub entries_view : List (Key × Vec ℕ A) → List (BlockKey × List ℕ)
-  entries_view = map entry_view
+  abbrev pub blocks_view : List (Key × Vec ℕ A) → List (BlockKey × List ℕ)
+  blocks_view = map entry_view
 
 -- a place added to the block of its key, which comes last where there is none
 abbrev pub with_place : List (BlockKey × List ℕ) → BlockKey → ℕ → List (BlockKey × List ℕ)
@@ -39,7 +39,7 @@ placed_blocks g (b ∷ bs) = placed_block (if is_named b.0 then Some g else None
 
 -- a cite marked as one of its block
 abbrev pub marked_in_block : {E P : Type 0} → Option (List ℕ) → Placed → ItemRender E P → ItemRender E P
-marked_in_block delimiter placed c = with_group (if placed.follows then delimiter else None) placed.group c
+marked_in_block delimiter placed c = with_block (if placed.follows then delimiter else None) placed.group c
 
 -- cites marked one by one, as far as the list goes
 abbrev pub all_marked : {E P : Type 0} → Option (List ℕ) → List Placed → List (ItemRender E P)

@@ -2,7 +2,7 @@
 ghost use Rattle.std.specs.Prelude.{◌≡◌, ◌+◌, ◌<◌, ◌++◌, None, Some, if◌then◌else◌, OnOk, IfOk};
 ghost use Rattle.csl_passes.specs.RendersView.{item_view, items_view};
 ghost use Rattle.csl_grouping.specs.BlockKeys.{is_named, key_of};
-ghost use Rattle.csl_grouping.specs.Steps.{blocks_of, entries_view, key_view, placed_block, placed_blocks, with_place};
+ghost use Rattle.csl_grouping.specs.Steps.{blocks_of, blocks_view, key_view, placed_block, placed_blocks, with_place};
 
 use csl_base::elem::Elem;
 use csl_passes::renders::SpeculativeItemRender;
@@ -85,8 +85,8 @@ fn add_place<'r>(
     key: Key<'r>,
     k: usize,
 ) -> Result<(), AllocError>
-    ensures { OnOk result (entries_view blocks.new.entries
-        ≡ with_place (entries_view blocks.old.entries) (key_view key.entry) k) }
+    ensures { OnOk result (blocks_view blocks.new.entries
+        ≡ with_place (blocks_view blocks.old.entries) (key_view key.entry) k) }
 {
     match blocks.get_index_of(&key) {
         Some(i) => {
@@ -108,7 +108,7 @@ fn blocks_of<'r, T, P>(
     alloc: Global,
     items: &'r [SpeculativeItemRender<'_, T, P>],
 ) -> Result<IndexMap<Key<'r>, Vec<usize>>, AllocError>
-    ensures { IfOk result (λ blocks. entries_view blocks.entries ≡ blocks_of (items_view items.now)) }
+    ensures { IfOk result (λ blocks. blocks_view blocks.entries ≡ blocks_of (items_view items.now)) }
 {
     let mut blocks = IndexMap::new(alloc);
     for (k, cite) in items.iter().enumerate() {
@@ -169,7 +169,7 @@ fn order_of(
     blocks: &IndexMap<Key<'_>, Vec<usize>>,
     count: usize,
 ) -> Result<Vec<Placed>, AllocError>
-    ensures { IfOk result (λ order. order.items ≡ placed_blocks 0 (entries_view blocks.now.entries)) }
+    ensures { IfOk result (λ order. order.items ≡ placed_blocks 0 (blocks_view blocks.now.entries)) }
 {
     let mut order = Vec::with_capacity(alloc, count)?;
     let mut next = 0;

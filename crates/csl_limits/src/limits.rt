@@ -1,12 +1,12 @@
 //! How deep the elements of a layout may nest, and how many there may be, with macros written out.
 ghost use Rattle.std.specs.Prelude.{[], ◌∷◌, IfErr, OnOk};
 ghost use Rattle.csl_base.specs.ElementView.{branches_view, element_view, elements_view, target_view};
-ghost use Rattle.csl_styles.specs.SoundView.{sound_view};
+ghost use Rattle.csl_styles.specs.PreparedView.{prepared_view};
 ghost use Rattle.csl_limits.specs.Limited.{ChecksLayout, Counted, Exceeds, IsWithinLimits};
 ghost use Rattle.csl_limits.specs.Nesting.{branch_items, called, children_of, items};
 
 use csl_base::element::{ChooseBranch, LayoutRenderingElement, TextTarget};
-use csl_styles::sound::SoundStyle;
+use csl_styles::prepared::PreparedStyle;
 
 /// What a layout may hold, where each call of a macro stands for the macro's children. An element of a
 /// group, of a branch of a choice or of a macro stands one deeper than the group, the choice or the call.
@@ -37,9 +37,9 @@ impl Limits {
     /// # Errors
     ///
     /// Which limit a layout exceeds: the first that is found from left to right.
-    pub fn check(&self, style: &SoundStyle<'_>) -> Result<(), Excess>
-        ensures within { OnOk result (IsWithinLimits self.now (sound_view style.now)) }
-        ensures exceeded { IfErr result (λ which. Exceeds which self.now (sound_view style.now)) }
+    pub fn check(&self, style: &PreparedStyle<'_>) -> Result<(), Excess>
+        ensures within { OnOk result (IsWithinLimits self.now (prepared_view style.now)) }
+        ensures exceeded { IfErr result (λ which. Exceeds which self.now (prepared_view style.now)) }
     {
         let sheet = style.style();
         self.check_layout(style, &sheet.citation.layout.elements)?;
@@ -51,10 +51,10 @@ impl Limits {
 
     fn check_layout(
         &self,
-        style: &SoundStyle<'_>,
+        style: &PreparedStyle<'_>,
         elements: &[LayoutRenderingElement],
     ) -> Result<(), Excess>
-        ensures { ChecksLayout self.now (sound_view style.now).macros
+        ensures { ChecksLayout self.now (prepared_view style.now).macros
             (items (elements_view elements.now)) result }
     {
         count_all(style, elements, self.depth, self.elements)?;
@@ -65,12 +65,12 @@ impl Limits {
 /// How many elements may still come after these and those in them.
 #[cycle(counting)]
 fn count_all(
-    style: &SoundStyle<'_>,
+    style: &PreparedStyle<'_>,
     elements: &[LayoutRenderingElement],
     depth: usize,
     left: usize,
 ) -> Result<usize, Excess>
-    ensures { Counted (sound_view style.now).macros depth (items (elements_view elements.now)) left result }
+    ensures { Counted (prepared_view style.now).macros depth (items (elements_view elements.now)) left result }
 {
     let mut left = left;
     for element in elements {
@@ -82,12 +82,12 @@ fn count_all(
 /// How many elements may still come after this one and those in it.
 #[cycle(counting)]
 fn count_one(
-    style: &SoundStyle<'_>,
+    style: &PreparedStyle<'_>,
     element: &LayoutRenderingElement,
     depth: usize,
     left: usize,
 ) -> Result<usize, Excess>
-    ensures { Counted (sound_view style.now).macros depth (element_view element.now ∷ []) left result }
+    ensures { Counted (prepared_view style.now).macros depth (element_view element.now ∷ []) left result }
 {
     if depth == 0 {
         return Err(Excess::Depth);
@@ -101,12 +101,12 @@ fn count_one(
 /// How many elements may still come after those in this one.
 #[cycle(counting)]
 fn count_inside(
-    style: &SoundStyle<'_>,
+    style: &PreparedStyle<'_>,
     element: &LayoutRenderingElement,
     depth: usize,
     left: usize,
 ) -> Result<usize, Excess>
-    ensures { let macros = (sound_view style.now).macros in
+    ensures { let macros = (prepared_view style.now).macros in
         Counted macros depth (children_of macros (element_view element.now)) left result }
 {
     match element {
@@ -125,12 +125,12 @@ fn count_inside(
 /// How many elements may still come after those of the macro that a text calls, if it calls one.
 #[cycle(counting)]
 fn count_called(
-    style: &SoundStyle<'_>,
+    style: &PreparedStyle<'_>,
     target: &TextTarget,
     depth: usize,
     left: usize,
 ) -> Result<usize, Excess>
-    ensures { let macros = (sound_view style.now).macros in
+    ensures { let macros = (prepared_view style.now).macros in
         Counted macros depth (called macros (target_view target.now)) left result }
 {
     match target {
@@ -147,13 +147,13 @@ fn count_called(
 /// How many elements may still come after those of these branches.
 #[cycle(counting)]
 fn count_branches(
-    style: &SoundStyle<'_>,
+    style: &PreparedStyle<'_>,
     branches: &[ChooseBranch],
     otherwise: &[LayoutRenderingElement],
     depth: usize,
     left: usize,
 ) -> Result<usize, Excess>
-    ensures { Counted (sound_view style.now).macros depth
+    ensures { Counted (prepared_view style.now).macros depth
         (branch_items (branches_view branches.now otherwise.now)) left result }
 {
     let mut left = left;

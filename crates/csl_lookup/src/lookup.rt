@@ -7,7 +7,7 @@ ghost use Rattle.csl_base.specs.StyleView.{code_view, locale_view, style_view, t
 ghost use Rattle.csl_lookup.specs.Lookup as found;
 ghost use Rattle.csl_lookup.specs.FirstAnswer.{Gives, FirstAnswer};
 ghost use Rattle.csl_styles.specs.MadeOf.{IsOf, IsOf-prop};
-ghost use Rattle.csl_styles.specs.SoundView.{sound_view};
+ghost use Rattle.csl_styles.specs.PreparedView.{prepared_view};
 ghost use Rattle.csl_styles.specs.SuffixText.{explicit_suffix};
 ghost use Rattle.csl_styles.specs.TablesView.{locales_of};
 ghost use Rattle.csl_styles.specs.Terms.{locale_of, term_in};
@@ -19,7 +19,7 @@ use csl_base::ring::body_of;
 use csl_base::style::IndependentStyle;
 use csl_base::taxonomy::{Locator, NumberVariable, Term, TermForm};
 use csl_styles::locales::locale_of;
-use csl_styles::sound::{Prepared, SoundStyle};
+use csl_styles::prepared::{PreparedSource, PreparedStyle};
 use csl_styles::suffix_text::explicit_suffix;
 use csl_styles::terms::TermTables;
 use std::alloc::{AllocError, Global};
@@ -28,7 +28,7 @@ use std::alloc::{AllocError, Global};
 #[derive(Clone, Copy)]
 pub struct StyleLocales<'a> {
     pub style: &'a IndependentStyle,
-    prepared: Option<Prepared<'a>>,
+    prepared: Option<PreparedSource<'a>>,
     locale: Option<&'a LocaleCode>,
     files: &'a [Locale],
     ghost same: { IsOf prepared style.now files.now } by { IsOf-prop prepared style.now files.now },
@@ -60,22 +60,22 @@ impl<'a> StyleLocales<'a> {
     }
 
     /// As `new` makes it, of a prepared style and the tables of the files: they are what is asked.
-    pub fn of_sound<'s: 'a>(
-        sound: &'a SoundStyle<'s>,
+    pub fn of_prepared<'s: 'a>(
+        prepared: &'a PreparedStyle<'s>,
         locale: Option<&'a LocaleCode>,
         files: &'a TermTables<'s>,
     ) -> StyleLocales<'a>
         ensures { source_view result
             ≡ record {
-              style = sound_view sound.now;
+              style = prepared_view prepared.now;
               locale = option_map (λ code. code_view code.now) locale.entry;
               files = map locale_view (locales_of files.now);
             } }
     {
         StyleLocales {
-            style: sound.style(),
-            prepared: Some(Prepared {
-                style: sound,
+            style: prepared.style(),
+            prepared: Some(PreparedSource {
+                style: prepared,
                 files,
             }),
             locale,

@@ -8,11 +8,11 @@ ghost use Rattle.csl_styles.specs.Terms.{term_in};
 use crate::lookup::{base_language, primary_dialect};
 use csl_base::locale::LocalizedTerm;
 use csl_base::taxonomy::{Term, TermForm};
-use csl_styles::sound::Prepared;
+use csl_styles::prepared::PreparedSource;
 
 // The first term of this name and form, of the locales that are asked where a code is in use.
 pub(crate) fn term_by_tables<'a>(
-    prepared: Prepared<'a>,
+    prepared: PreparedSource<'a>,
     code: &str,
     name: Term,
     form: TermForm,
@@ -28,7 +28,7 @@ pub(crate) fn term_by_tables<'a>(
 
 // The first of the style's own locales, of which most styles have none.
 fn own_term<'a>(
-    prepared: Prepared<'a>,
+    prepared: PreparedSource<'a>,
     code: &str,
     name: Term,
     form: TermForm,
@@ -51,7 +51,7 @@ fn own_term<'a>(
 
 // The first of the files.
 fn file_term<'a>(
-    prepared: Prepared<'a>,
+    prepared: PreparedSource<'a>,
     code: &str,
     name: Term,
     form: TermForm,

@@ -8,7 +8,7 @@ use Rattle.csl_base.specs.Finds.{lists_find}
 use Rattle.csl_base.specs.declared.entry.Person.{Person}
 use Rattle.csl_base.specs.declared.style.DisambiguationRule.{DisambiguationRule}
 use Rattle.csl_name_marks.specs.Classes.{kept_at}
-use Rattle.csl_name_marks.specs.Cut.{cut, kept}
+use Rattle.csl_name_marks.specs.Cut.{cut_by_rule, kept}
 use Rattle.csl_name_marks.specs.Persons.{same_person}
 use Rattle.csl_name_marks.specs.Steps.{same_persons}
 
@@ -41,8 +41,8 @@ more f (suc i) (p ∷ ps) [] = refl
 more f (suc i) (p ∷ ps) (q ∷ qs) = both (same_person (f p) (f q)) _ _ _ (more f i ps qs)
 
 alike-next : (rule : Option DisambiguationRule) (i : ℕ) (ps qs : List Person)
-    → same_persons (cut rule (take (suc i) ps)) (cut rule (take (suc i) qs))
-    ≡ (same_persons (cut rule (take i ps)) (cut rule (take i qs)) && option_eq same_person (kept_at rule i ps) (kept_at rule i qs))
+    → same_persons (cut_by_rule rule (take (suc i) ps)) (cut_by_rule rule (take (suc i) qs))
+    ≡ (same_persons (cut_by_rule rule (take i ps)) (cut_by_rule rule (take i qs)) && option_eq same_person (kept_at rule i ps) (kept_at rule i qs))
 alike-next rule zero [] [] = refl
 alike-next rule zero [] (q ∷ qs) = refl
 alike-next rule zero (p ∷ ps) [] = refl
@@ -52,14 +52,14 @@ alike-next rule (suc i) [] (q ∷ qs) = refl
 alike-next rule (suc i) (p ∷ ps) [] = refl
 alike-next rule (suc i) (p ∷ ps) (q ∷ qs) =
     both (same_person (kept rule true p) (kept rule true q)) _ _ _ (more (kept rule false) i ps qs)
-    ∙ ap (λ b. same_persons (cut rule (take (suc i) (p ∷ ps))) (cut rule (take (suc i) (q ∷ qs)))
+    ∙ ap (λ b. same_persons (cut_by_rule rule (take (suc i) (p ∷ ps))) (cut_by_rule rule (take (suc i) (q ∷ qs)))
     && option_eq same_person (option_map (kept rule b) (slice_get ps i)) (option_map (kept rule b) (slice_get qs i))) (sym (not-first i))
 
 pub alike-more : (rule : Option DisambiguationRule) (i : ℕ) (ps qs : List Person)
-    → same_persons (cut rule (take (i + 1) ps)) (cut rule (take (i + 1) qs))
-    ≡ (same_persons (cut rule (take i ps)) (cut rule (take i qs)) && option_eq same_person (kept_at rule i ps) (kept_at rule i qs))
-alike-more rule i ps qs = ap (λ n. same_persons (cut rule (take n ps)) (cut rule (take n qs))) (add-one i) ∙ alike-next rule i ps qs
+    → same_persons (cut_by_rule rule (take (i + 1) ps)) (cut_by_rule rule (take (i + 1) qs))
+    ≡ (same_persons (cut_by_rule rule (take i ps)) (cut_by_rule rule (take i qs)) && option_eq same_person (kept_at rule i ps) (kept_at rule i qs))
+alike-more rule i ps qs = ap (λ n. same_persons (cut_by_rule rule (take n ps)) (cut_by_rule rule (take n qs))) (add-one i) ∙ alike-next rule i ps qs
 
 -- reading alike is being equal, as cut
-pub alike-self : (rule : Option DisambiguationRule) (i : ℕ) (ps : List Person) → same_persons (cut rule (take i ps)) (cut rule (take i ps)) ≡ true
-alike-self rule i ps = (lists_find persons_find).self (cut rule (take i ps))
+pub alike-self : (rule : Option DisambiguationRule) (i : ℕ) (ps : List Person) → same_persons (cut_by_rule rule (take i ps)) (cut_by_rule rule (take i ps)) ≡ true
+alike-self rule i ps = (lists_find persons_find).self (cut_by_rule rule (take i ps))

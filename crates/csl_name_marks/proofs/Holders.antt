@@ -1,4 +1,5 @@
 -- Those who are held for one name, as one more comes in.
+use mathlib.Core.Bool.{or-true, or-false}
 use Rattle.std.proofs.Common.{◌≡◌, ◌+◌, ◌<◌, ℕ, append-nil, append_assoc, get_or, length, take, Bool, true, false, cond, not, ◌&&◌, ◌||◌, Some, slice_get, List, [], ◌∷◌, ◌++◌, refl, ap, sym, subst, ◌∙◌, arith}
 use Rattle.std.specs.Prelude.{Vec}
 use Rattle.std.specs.HashMap.{HashMap, get}
@@ -21,14 +22,6 @@ use Rattle.csl_name_marks.specs.declared.by_name.Holder.{Holder}
 use Rattle.csl_name_marks.specs.declared.by_name.SharedName.{SharedName}
 use Rattle.csl_name_marks.specs.declared.named_cite.NamedCite.{NamedCite}
 use Rattle.csl_name_marks.proofs.Apart.{places_find}
-
-or-true : (b : Bool) → (b || true) ≡ true
-or-true true = refl
-or-true false = refl
-
-or-false : (b : Bool) → (b || false) ≡ b
-or-false true = refl
-or-false false = refl
 
 names_find : Finds same_name
 names_find = record {

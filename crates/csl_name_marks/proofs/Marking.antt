@@ -19,7 +19,7 @@ use Rattle.csl_passes.specs.declared.renders.SpeculativeItemRender.{SpeculativeI
 use Rattle.csl_passes.specs.Places.{IsPlace, cite_at}
 use Rattle.csl_name_marks.specs.NamedCites.{first_adds_names, greatest_step, named_cite, named_cite_at, named_cites}
 use Rattle.csl_name_marks.specs.NameMarks.{mark, marks_after, name_marks}
-use Rattle.csl_name_marks.specs.Steps.{is_at, step, steps}
+use Rattle.csl_name_marks.specs.Steps.{is_own_step, step, steps}
 use Rattle.csl_name_marks.specs.declared.named_cite.NamedCite.{NamedCite}
 
 -- within a list no default is read
@@ -110,13 +110,13 @@ list_any-map p f (x ∷ xs) = ap (λ b. p (f x) || b) (list_any-map p f xs)
 
 -- the marks of members, from the steps that the code has found
 module _ (group : List NamedCite) (greatest : ℕ) (own : List (Option ℕ)) (taken : List ℕ) where
-  steps-are : own ≡ map (step group greatest) group → taken ≡ filter (λ i. list_any (is_at i) own) (range_with_len 1 greatest) → taken ≡ steps group greatest
+  steps-are : own ≡ map (step group greatest) group → taken ≡ filter (λ i. list_any (is_own_step i) own) (range_with_len 1 greatest) → taken ≡ steps group greatest
   unfolding steps
   steps-are o t =
-      t ∙ ap (λ l. filter (λ i. list_any (is_at i) l) (range_with_len 1 greatest)) o
-      ∙ filter-same _ (λ i. list_any (λ x. is_at i (step group greatest x)) group) (range_with_len 1 greatest) (λ i. list_any-map (is_at i) (step group greatest) group)
+      t ∙ ap (λ l. filter (λ i. list_any (is_own_step i) l) (range_with_len 1 greatest)) o
+      ∙ filter-same _ (λ i. list_any (λ x. is_own_step i (step group greatest x)) group) (range_with_len 1 greatest) (λ i. list_any-map (is_own_step i) (step group greatest) group)
 
-  module _ (o : own ≡ map (step group greatest) group) (t : taken ≡ filter (λ i. list_any (is_at i) own) (range_with_len 1 greatest)) where
+  module _ (o : own ≡ map (step group greatest) group) (t : taken ≡ filter (λ i. list_any (is_own_step i) own) (range_with_len 1 greatest)) where
     -- without steps there are no marks
     pub marks-none : taken ≡ [] → [] ≡ marks_after group (steps group greatest) (step group greatest)
     marks-none e = no-marks group taken (step group greatest) e ∙ ap (λ l. marks_after group l (step group greatest)) (steps-are o t)

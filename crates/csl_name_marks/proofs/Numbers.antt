@@ -1,4 +1,5 @@
 -- Numbers of keys, by first occurrence: those of equal keys are the same.
+use mathlib.Core.Bool.{or-true}
 use Rattle.std.proofs.Common.{◌≡◌, ℕ, ◌+◌, ◌<◌, ◌≤◌, Bool, true, false, cond, not, ◌||◌, Some, List, [], ◌∷◌, ◌++◌, length, map, refl, ap, sym, ◌∙◌, suc, zero, arith, length-append}
 use Rattle.std.specs.Prelude.{nat_eq, slice_get}
 use Rattle.std.specs.List.{list_any, position_or_len}
@@ -63,10 +64,6 @@ module _ {K : Type 0} (E : K → K → Bool) where
     listed-own : (set : List K) (x : K) → is_listed (with_key set x) x ≡ true
     listed-own set x = by (is_listed set x) refl
       where
-        or-true : (b : Bool) → (b || true) ≡ true
-        or-true true = refl
-        or-true false = refl
-
         by : (b : Bool) → is_listed set x ≡ b → is_listed (cond b set (set ++ x ∷ [])) x ≡ true
         by true h = h
         by false h =

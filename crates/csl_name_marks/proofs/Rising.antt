@@ -3,7 +3,7 @@ use Rattle.std.proofs.Common.{◌≡◌, ℕ, zero, suc, ◌≤◌, Bool, true, 
 use Rattle.std.specs.Prelude.{All, Contains, fold, if◌then◌else◌, unwrap_or, slice_get, slice_set}
 use Rattle.std.specs.List.{cons_option, filter_map, flat_map, list_any}
 use Rattle.std.proofs.lemmas.List.Elements.{All-cons, All-contains_itself, All-nil}
-use Rattle.csl_base.specs.Forms.{Forms, add_name, written}
+use Rattle.csl_base.specs.Forms.{Forms, add_name, form_written}
 use Rattle.csl_base.specs.Ordered.{extent}
 use Rattle.csl_base.specs.declared.entry.Person.{Person}
 use Rattle.csl_base.specs.declared.names.DisambiguatedNameForm.{DisambiguatedNameForm}
@@ -18,10 +18,10 @@ use Rattle.csl_name_marks.specs.MarkLaws.{IsNameMark, NameMarksGoOn}
 use Rattle.csl_name_marks.specs.NamedCites.{first_adds_names, greatest_step, named_cite, named_cite_at, named_cites, start}
 use Rattle.csl_name_marks.specs.NameMarks.{after_step, is_by_cite, mark, marks_after, name_marks}
 use Rattle.csl_name_marks.specs.Raising.{fuller, is_namesake, raise, raised, raised_at, same_initials}
-use Rattle.csl_name_marks.specs.Steps.{is_at, others, step, steps}
+use Rattle.csl_name_marks.specs.Steps.{is_own_step, others, step, steps}
 use Rattle.csl_name_marks.specs.declared.named_cite.NamedCite.{NamedCite}
 
-written-rises : (f : DisambiguatedNameForm) → extent f ≤ extent (written f)
+written-rises : (f : DisambiguatedNameForm) → extent f ≤ extent (form_written f)
 written-rises DisambiguatedNameForm.Count = omega arith
 written-rises DisambiguatedNameForm.Short = omega arith
 written-rises DisambiguatedNameForm.LongInitialized = omega arith
@@ -61,7 +61,7 @@ one-rises change h fs i = by (slice_get fs i) refl
 
 add-rises : (i : ℕ) (fs : Forms) → NoFormFalls fs (add_name i fs)
 add-rises zero fs = stays fs
-add-rises (suc i) fs = one-rises written written-rises fs i
+add-rises (suc i) fs = one-rises form_written written-rises fs i
 
 raise-rises : (group : List NamedCite) (x : NamedCite) (i : ℕ) (fs : Forms) → NoFormFalls fs (raise group x i fs)
 raise-rises group x zero fs = stays fs
@@ -80,7 +80,7 @@ module _ (law : GoesOn) where
 
   module _ (group : List NamedCite) (x : NamedCite) (own : Option ℕ) where
     step-rises : (fs : Forms) (i : ℕ) → NoFormFalls fs (after_step group x own fs i)
-    step-rises fs i = by (is_by_cite x.rule && is_at i own)
+    step-rises fs i = by (is_by_cite x.rule && is_own_step i own)
       where
         by : (b : Bool) → NoFormFalls fs (add_name i (if b then raise group x i fs else fs))
         by true = on fs (raise group x i fs) (add_name i (raise group x i fs)) (raise-rises group x i fs) (add-rises i (raise group x i fs))

@@ -5,8 +5,9 @@ use Rattle.std.specs.Option.{is_none, option_or}
 use Rattle.std.proofs.Math.ListN.{length-map}
 use Rattle.std.proofs.lemmas.List.Folds.{find-append}
 use Rattle.std.proofs.lemmas.Slice.Zip.{length-zip}
+use Rattle.std.proofs.lemmas.Bool.{or_parts}
 use Rattle.csl_base.specs.declared.style.DisambiguationRule.{DisambiguationRule}
-use Rattle.csl_name_marks.specs.Classes.{first_step, is_alone, same_rule, step_after, waits}
+use Rattle.csl_name_marks.specs.Classes.{first_step, is_alone, same_rule, step_after, waits_for_step}
 use Rattle.csl_name_marks.specs.declared.named_cite.NamedCite.{NamedCite}
 use Rattle.csl_name_marks.proofs.Telling.{range-more}
 use Rattle.csl_name_marks.proofs.Zipped.{map-same, twice, zip-mapped, zip-seconds}
@@ -26,10 +27,6 @@ table None None true true true n = refl
 table None None true false true n = refl
 table None None false true true n = refl
 table None None false false true n = refl
-
-neither : (a b : Bool) → (a || b) ≡ false → (a ≡ false) × (b ≡ false)
-neither true b h = cc
-neither false b h = (refl, h)
 
 stays : (alone waiting : Bool) (n : ℕ) (own : Option ℕ) → waiting ≡ false → cond (alone && waiting) (Some n) own ≡ own
 stays true waiting n own h = ap (λ b. cond b (Some n) own) h
@@ -52,12 +49,12 @@ module _ (rule : Option DisambiguationRule) (group : List NamedCite) where
       ∙ ap (λ o. option_or p.1 (cond (same_rule x.rule rule) o None)) (sym more)
 
   -- who does not wait keeps its step
-  kept-step : (i d : ℕ) (p : NamedCite × Option ℕ) → waits rule p.0 (so_far i p) ≡ false → so_far i p ≡ so_far (i + d) p
+  kept-step : (i d : ℕ) (p : NamedCite × Option ℕ) → waits_for_step rule p.0 (so_far i p) ≡ false → so_far i p ≡ so_far (i + d) p
   kept-step i zero p h = let e : i + 0 ≡ i = omega arith in ap (λ n. so_far n p) (sym e)
   kept-step i (suc d) p h =
       let before = kept-step i d p h in
       let e : i + d + 1 ≡ i + suc d = omega arith in
-      before ∙ sym (stays (is_alone rule group (i + d + 1) p.0) (waits rule p.0 (so_far (i + d) p)) (i + d + 1) (so_far (i + d) p) (ap (waits rule p.0) (sym before) ∙ h))
+      before ∙ sym (stays (is_alone rule group (i + d + 1) p.0) (waits_for_step rule p.0 (so_far (i + d) p)) (i + d + 1) (so_far (i + d) p) (ap (waits_for_step rule p.0) (sym before) ∙ h))
       ∙ next-step (i + d) p ∙ ap (λ n. so_far n p) e
 
   module _ (old : List (Option ℕ)) (long : length old ≡ length group) where
@@ -82,20 +79,20 @@ module _ (rule : Option DisambiguationRule) (group : List NamedCite) where
         m ∙ ap (λ l. map after (zip group l)) s ∙ ap (map after) (zip-mapped group old (so_far i) long)
         ∙ twice after (λ p. (p.0, so_far i p)) (zip group old) ∙ map-same _ (so_far (i + 1)) (zip group old) (next-step i)
 
-    none-waits : (i d : ℕ) (ps : List (NamedCite × Option ℕ)) → list_any (λ (p : NamedCite × Option ℕ). waits rule p.0 p.1) (map (λ p. (p.0, so_far i p)) ps) ≡ false
+    none-waits : (i d : ℕ) (ps : List (NamedCite × Option ℕ)) → list_any (λ (p : NamedCite × Option ℕ). waits_for_step rule p.0 p.1) (map (λ p. (p.0, so_far i p)) ps) ≡ false
         → map (so_far i) ps ≡ map (so_far (i + d)) ps
     none-waits i d [] h = refl
     none-waits i d (p ∷ ps) h =
-        let n = neither (waits rule p.0 (so_far i p)) _ h in
+        let n = or_parts (waits_for_step rule p.0 (so_far i p)) _ h in
         let first = kept-step i d p n.0 in
         let rest = none-waits i d ps n.1 in
         λ j. first j ∷ rest j
 
     -- where none waits, all steps are found
-    pub steps-all : (i greatest : ℕ) (steps : List (Option ℕ)) → i ≤ greatest → steps ≡ steps_to i → list_any (λ p. waits rule p.0 p.1) (zip group steps) ≡ false
+    pub steps-all : (i greatest : ℕ) (steps : List (Option ℕ)) → i ≤ greatest → steps ≡ steps_to i → list_any (λ p. waits_for_step rule p.0 p.1) (zip group steps) ≡ false
         → steps ≡ steps_to greatest
     steps-all i greatest steps h s none =
         let e : i + (greatest - i) ≡ greatest = omega arith in
         s ∙ none-waits i (greatest - i) (zip group old)
-        (ap (list_any (λ (p : NamedCite × Option ℕ). waits rule p.0 p.1)) (sym (ap (zip group) s ∙ zip-mapped group old (so_far i) long)) ∙ none)
+        (ap (list_any (λ (p : NamedCite × Option ℕ). waits_for_step rule p.0 p.1)) (sym (ap (zip group) s ∙ zip-mapped group old (so_far i) long)) ∙ none)
         ∙ ap steps_to e

@@ -81,9 +81,9 @@ module _ {S : Type 0} where
         → is_other_held p place (holders by_name name) ≡ is_other_named name p place shown
 
   -- what was told by these names is now told by more
-  abbrev pub Adds : HashMap SharedName (Vec Holder Global) S → HashMap SharedName (Vec Holder Global) S
+  abbrev pub TellsMore : HashMap SharedName (Vec Holder Global) S → HashMap SharedName (Vec Holder Global) S
       → List (SharedName × Holder) → Type 0
-  Adds old new more = (shown : List (SharedName × Holder)) → AreByName old shown
+  TellsMore old new more = (shown : List (SharedName × Holder)) → AreByName old shown
       → AreByName new (shown ++ more)
 
 -- the form of a person: full where another one has its initials, else with initials where another one has its

@@ -5,7 +5,7 @@ use Rattle.std.specs.Option.{is_none, option_eq}
 use Rattle.csl_base.specs.contracts.style.DisambiguationRulePartialEq.TheImpl as rule_eq
 use Rattle.csl_base.specs.declared.entry.Person.{Person}
 use Rattle.csl_base.specs.declared.style.DisambiguationRule.{DisambiguationRule}
-use Rattle.csl_name_marks.specs.Cut.{cut, kept}
+use Rattle.csl_name_marks.specs.Cut.{cut_by_rule, kept}
 use Rattle.csl_name_marks.specs.Steps.{others, same_persons, same_place, step}
 use Rattle.csl_name_marks.specs.declared.named_cite.NamedCite.{NamedCite}
 
@@ -17,12 +17,12 @@ abbrev pub StandApart : List NamedCite → Type 0
 StandApart group = IsDistinct (λ x y. same_place x.place y.place) group
 
 -- a member of this rule that may be named has no step yet
-abbrev pub waits : Option DisambiguationRule → NamedCite → Option ℕ → Bool
-waits rule x own = is_none own && x.may_be_named && same_rule x.rule rule
+abbrev pub waits_for_step : Option DisambiguationRule → NamedCite → Option ℕ → Bool
+waits_for_step rule x own = is_none own && x.may_be_named && same_rule x.rule rule
 
 -- the step of a member after its group was disambiguated by i names, where it is alone then
 abbrev pub step_after : Option DisambiguationRule → ℕ → NamedCite → Option ℕ → Bool → Option ℕ
-step_after rule i x own is_alone = if is_alone && waits rule x own then Some i else own
+step_after rule i x own is_alone = if is_alone && waits_for_step rule x own then Some i else own
 
 module _ (rule : Option DisambiguationRule) where
   -- what the rule keeps of the person at a place of a cite, if there is one
@@ -31,7 +31,7 @@ module _ (rule : Option DisambiguationRule) where
 
   -- the first i persons of both are the same, cut by this rule
   abbrev pub alike_by : ℕ → NamedCite → NamedCite → Bool
-  alike_by i x y = same_persons (cut rule (take i x.persons)) (cut rule (take i y.persons))
+  alike_by i x y = same_persons (cut_by_rule rule (take i x.persons)) (cut_by_rule rule (take i y.persons))
 
   module _ (group : List NamedCite) where
     -- no other member is like this one

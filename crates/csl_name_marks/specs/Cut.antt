@@ -24,6 +24,6 @@ kept (Some DisambiguationRule.PrimaryNameWithInitials) is_first p = if is_first 
     else without_given p
 
 -- the persons of a cite, cut by a rule
-abbrev pub cut : Option DisambiguationRule → List Person → List Person
-cut rule [] = []
-cut rule (p ∷ ps) = kept rule true p ∷ map (kept rule false) ps
+abbrev pub cut_by_rule : Option DisambiguationRule → List Person → List Person
+cut_by_rule rule [] = []
+cut_by_rule rule (p ∷ ps) = kept rule true p ∷ map (kept rule false) ps

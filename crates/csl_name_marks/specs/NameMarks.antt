@@ -7,7 +7,7 @@ use Rattle.csl_lookup.specs.declared.state.DisambiguateState.{DisambiguateState}
 use Rattle.csl_passes.specs.Renders.{CiteRender, Place}
 use Rattle.csl_name_marks.specs.NamedCites.{first_adds_names, greatest_step, named_cites}
 use Rattle.csl_name_marks.specs.Raising.{raise}
-use Rattle.csl_name_marks.specs.Steps.{is_at, step, steps}
+use Rattle.csl_name_marks.specs.Steps.{is_own_step, step, steps}
 use Rattle.csl_name_marks.specs.declared.named_cite.NamedCite.{NamedCite}
 
 -- given names are added cite by cite
@@ -18,7 +18,7 @@ is_by_cite _ = false
 -- the forms of a member, whose own step this is, after a step of its group
 abbrev pub after_step : List NamedCite → NamedCite → Option ℕ → Forms → ℕ → Forms
 after_step group x own forms i =
-    add_name i (if is_by_cite x.rule && is_at i own then raise group x i forms else forms)
+    add_name i (if is_by_cite x.rule && is_own_step i own then raise group x i forms else forms)
 
 -- the mark of a member that has forms to start from: those that it has after all steps of its group
 abbrev pub mark : List NamedCite → List ℕ → NamedCite → Option ℕ → Option (Place × DisambiguateState)

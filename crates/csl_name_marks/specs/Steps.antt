@@ -5,7 +5,7 @@ use Rattle.std.specs.Option.{option_eq}
 use Rattle.std.specs.Cmp.Lexicographic.{pointwise}
 use Rattle.csl_base.specs.declared.entry.Person.{Person}
 use Rattle.csl_passes.specs.Renders.{Place}
-use Rattle.csl_name_marks.specs.Cut.{cut}
+use Rattle.csl_name_marks.specs.Cut.{cut_by_rule}
 use Rattle.csl_name_marks.specs.Persons.{same_person}
 use Rattle.csl_name_marks.specs.declared.named_cite.NamedCite.{NamedCite}
 
@@ -17,11 +17,11 @@ same_persons = pointwise same_person
 
 -- the first i persons of both, cut by the rule of the first member, are the same
 abbrev pub reads_alike : ℕ → NamedCite → NamedCite → Bool
-reads_alike i x y = same_persons (cut x.rule (take i x.persons)) (cut x.rule (take i y.persons))
+reads_alike i x y = same_persons (cut_by_rule x.rule (take i x.persons)) (cut_by_rule x.rule (take i y.persons))
 
 -- this is the step of a member, if it has one
-abbrev pub is_at : ℕ → Option ℕ → Bool
-is_at i step = option_eq nat_eq step (Some i)
+abbrev pub is_own_step : ℕ → Option ℕ → Bool
+is_own_step i step = option_eq nat_eq step (Some i)
 
 module _ (group : List NamedCite) where
   -- all other members, those of the same entry too
@@ -39,4 +39,4 @@ module _ (group : List NamedCite) where
 
     -- the numbers of names by which some member is disambiguated first, in order
     unfoldable pub steps : List ℕ
-    steps = filter (λ i. list_any (λ x. is_at i (step x)) group) (range_with_len 1 greatest)
+    steps = filter (λ i. list_any (λ x. is_own_step i (step x)) group) (range_with_len 1 greatest)

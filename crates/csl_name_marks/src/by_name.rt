@@ -1,6 +1,6 @@
 //! Who is named by a family name in a group, and who by it and by initials.
 ghost use Rattle.std.specs.Prelude.{◌≡◌, ◌∷◌, [], true, IfOk, OnOk, if◌then◌else◌};
-ghost use Rattle.csl_name_marks.specs.ByName.{Adds, AreByName, Grows, IsTold, TellElsewhere, TellWithout, by_family, by_initials, holders, is_other_held, names_of, same_name, shown_by_all, shown_by};
+ghost use Rattle.csl_name_marks.specs.ByName.{TellsMore, AreByName, Grows, IsTold, TellElsewhere, TellWithout, by_family, by_initials, holders, is_other_held, names_of, same_name, shown_by_all, shown_by};
 ghost use Rattle.csl_name_marks.specs.declared.by_name.SharedName.{SharedName as SharedNameValue};
 
 use crate::named_cite::NamedCite;
@@ -125,7 +125,7 @@ fn add_named(
     person: &Person,
     place: (usize, usize),
 ) -> Result<(), AllocError>
-    ensures { OnOk result (Adds by_name.old by_name.new
+    ensures { OnOk result (TellsMore by_name.old by_name.new
         ((name, record { person = person.now; place = place }) ∷ [])) }
 {
     let mut holders = take_holders(alloc, by_name, &name);
@@ -160,14 +160,14 @@ fn add_person(
     person: &Person,
     place: (usize, usize),
 ) -> Result<(), AllocError>
-    ensures { OnOk result (Adds by_name.old by_name.new (names_of place person.now)) }
+    ensures { OnOk result (TellsMore by_name.old by_name.new (names_of place person.now)) }
 {
     add_named(alloc, by_name, by_family(person)?, person, place)?;
     add_named(alloc, by_name, by_initials(alloc, person)?, person, place)
 }
 
 fn add_member(alloc: Global, by_name: &mut ByName, member: &NamedCite) -> Result<(), AllocError>
-    ensures { OnOk result (Adds by_name.old by_name.new (shown_by member.now)) }
+    ensures { OnOk result (TellsMore by_name.old by_name.new (shown_by member.now)) }
 {
     for person in member.persons.as_slice() {
         add_person(alloc, by_name, person, member.place)?;

@@ -2,8 +2,8 @@
 ghost use Rattle.std.specs.Prelude.{◌≡◌, ◌+◌, filter, length, map, zip, IfOk};
 ghost use Rattle.std.specs.List.{list_any, range_with_len};
 ghost use Rattle.std.specs.Option.{option_or};
-ghost use Rattle.csl_name_marks.specs.Classes.{AreClasses, StandApart, first_step, is_alone, step_after, step_by, waits};
-ghost use Rattle.csl_name_marks.specs.Steps.{is_at, same_place, step};
+ghost use Rattle.csl_name_marks.specs.Classes.{AreClasses, StandApart, first_step, is_alone, step_after, step_by, waits_for_step};
+ghost use Rattle.csl_name_marks.specs.Steps.{is_own_step, same_place, step};
 
 use crate::classes::{class_sizes, next_classes};
 use crate::named_cite::NamedCite;
@@ -28,7 +28,7 @@ pub(crate) fn same_place(a: (usize, usize), b: (usize, usize)) -> bool
 
 /// Whether a member of this rule has no step yet, and may have one.
 fn waits(rule: Option<DisambiguationRule>, member: &NamedCite, own: Option<usize>) -> bool
-    ensures { result ≡ waits rule member.now own }
+    ensures { result ≡ waits_for_step rule member.now own }
 {
     own.is_none() && member.may_be_named && member.rule == rule
 }
@@ -39,7 +39,7 @@ fn some_waits(
     steps: &[Option<usize>],
 ) -> bool
     requires { length steps.now ≡ length group.now }
-    ensures { result ≡ list_any (λ p. waits rule p.0 p.1) (zip group.now steps.now) }
+    ensures { result ≡ list_any (λ p. waits_for_step rule p.0 p.1) (zip group.now steps.now) }
 {
     for (k, member) in group.iter().enumerate() {
         if waits(rule, member, steps[k]) {
@@ -145,7 +145,7 @@ pub(crate) fn own_steps(
 }
 
 fn is_step(i: usize, own_steps: &[Option<usize>]) -> bool
-    ensures { result ≡ list_any (is_at i) own_steps.now }
+    ensures { result ≡ list_any (is_own_step i) own_steps.now }
 {
     for own in own_steps {
         if *own == Some(i) {
@@ -162,7 +162,7 @@ pub(crate) fn group_steps(
     greatest: usize,
 ) -> Result<Vec<usize>, AllocError>
     ensures { IfOk result (λ v. v.items
-        ≡ filter (λ i. list_any (is_at i) own_steps.now) (range_with_len 1 greatest)) }
+        ≡ filter (λ i. list_any (is_own_step i) own_steps.now) (range_with_len 1 greatest)) }
 {
     let mut found = Vec::new(alloc);
     for k in 0..greatest {

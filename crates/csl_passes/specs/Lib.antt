@@ -4,6 +4,7 @@ pub mod RequestView
 pub mod Renders
 pub mod RendersView
 pub mod Places
+pub mod ByPlaces
 pub mod Positions
 pub mod Same
 pub mod Unprepared

@@ -1,5 +1,6 @@
 -- The plain data that renders of cites stand for.
 use Rattle.std.specs.Prelude.{List, map, option_map}
+use Rattle.std.specs.Borrow.{Bor}
 use Rattle.csl_base.specs.StyleView.{code_view}
 use Rattle.csl_lookup.specs.PropertiesView.{locator_view, properties_view}
 use Rattle.csl_passes.specs.Renders.{ItemRender, CiteRender}
@@ -26,6 +27,10 @@ module _ {T P : Type 0} where
 
   abbrev pub items_view : List (SpeculativeItemRender T P) → List (ItemRender T P)
   items_view = map item_view
+
+  -- of cites that are lent one by one
+  abbrev pub lent_items_view : List (Bor (SpeculativeItemRender T P)) → List (ItemRender T P)
+  lent_items_view = map (λ i. item_view i.now)
 
   abbrev pub render_view : SpeculativeCiteRender T P → CiteRender T P
   render_view r = record { items = items_view r.items.items; request = request_view r.request.now }

@@ -4,14 +4,14 @@ ghost use Rattle.csl_base.specs.StyleView.{code_view, locale_view, style_view};
 ghost use Rattle.csl_lookup.specs.SourceView.{source_view};
 ghost use Rattle.csl_passes.specs.Class.{is_note};
 ghost use Rattle.csl_styles.specs.MadeOf.{IsOf, IsOf-prop};
-ghost use Rattle.csl_styles.specs.SoundView.{made_of, sound_view};
+ghost use Rattle.csl_styles.specs.PreparedView.{made_of, prepared_view};
 ghost use Rattle.csl_styles.specs.TablesView.{locales_of};
 
 use crate::item::CitationItem;
 use csl_base::locale::{Locale, LocaleCode};
 use csl_base::style::{IndependentStyle, StyleClass};
 use csl_lookup::lookup::StyleLocales;
-use csl_styles::sound::{Prepared, SoundStyle};
+use csl_styles::prepared::{PreparedSource, PreparedStyle};
 use csl_styles::terms::TermTables;
 
 /// A citation: the entries that one place in a text cites. Requests that differ in nothing else are
@@ -23,7 +23,7 @@ pub struct CitationRequest<'a, T, P> {
     pub items: Vec<CitationItem<'a, T, P>>,
     pub(crate) style: &'a IndependentStyle,
     #[derive_where(skip)]
-    prepared: Option<Prepared<'a>>,
+    prepared: Option<PreparedSource<'a>>,
     /// The locale of the style's terms; the style's own where there is none.
     pub locale: Option<LocaleCode>,
     /// The locales that are asked for terms that the style doesn't have.
@@ -78,9 +78,9 @@ impl<'a, T, P> CitationRequest<'a, T, P> {
 
     /// The request that `new` makes of the same style and files, which were prepared. Its files may be
     /// written once it is `unprepared`.
-    pub fn of_sound<'s: 'a>(
+    pub fn of_prepared<'s: 'a>(
         items: Vec<CitationItem<'a, T, P>>,
-        sound: &'a SoundStyle<'s>,
+        prepared: &'a PreparedStyle<'s>,
         locale: Option<LocaleCode>,
         files: &'a TermTables<'s>,
         note_number: Option<usize>,
@@ -88,22 +88,22 @@ impl<'a, T, P> CitationRequest<'a, T, P> {
         ensures { request_view result
             ≡ record {
               cites = cites_view items.entry.items;
-              style = sound_view sound.now;
+              style = prepared_view prepared.now;
               locale = option_map code_view locale;
               locales = map locale_view (locales_of files.now);
-              note_number = (if is_note (made_of sound.now).settings.class then note_number else None);
+              note_number = (if is_note (made_of prepared.now).settings.class then note_number else None);
             } }
     {
         CitationRequest {
             items,
-            style: sound.style(),
-            prepared: Some(Prepared {
-                style: sound,
+            style: prepared.style(),
+            prepared: Some(PreparedSource {
+                style: prepared,
                 files,
             }),
             locale,
             locale_files: files.locales(),
-            note_number: noted(sound.style(), note_number),
+            note_number: noted(prepared.style(), note_number),
         }
     }
 
@@ -136,7 +136,7 @@ impl<'a, T, P> CitationRequest<'a, T, P> {
     {
         match self.prepared {
             Some(prepared) => {
-                StyleLocales::of_sound(prepared.style, self.locale.as_ref(), prepared.files)
+                StyleLocales::of_prepared(prepared.style, self.locale.as_ref(), prepared.files)
             }
             None => StyleLocales::new(self.style, self.locale.as_ref(), self.locale_files),
         }
@@ -181,7 +181,7 @@ pub struct BibliographyRequest<'o, 'a, T> {
     /// The style of the bibliography. Some styles have none; then none is answered.
     pub style: &'o IndependentStyle,
     #[derive_where(skip)]
-    prepared: Option<Prepared<'o>>,
+    prepared: Option<PreparedSource<'o>>,
     /// The locale of the style's terms; the style's own where there is none.
     pub locale: Option<LocaleCode>,
     /// The locales that are asked for terms that the style doesn't have.
@@ -243,21 +243,21 @@ impl<'o, 'a, T> BibliographyRequest<'o, 'a, T> {
 
     /// The request that `ordered` makes of the same style and files, which were prepared. These two may be
     /// written once it is `unprepared`.
-    pub fn of_sound<'s: 'o>(
-        sound: &'o SoundStyle<'s>,
+    pub fn of_prepared<'s: 'o>(
+        prepared: &'o PreparedStyle<'s>,
         locale: Option<LocaleCode>,
         files: &'o TermTables<'s>,
         order: Option<Order<'o, 'a, T>>,
     ) -> BibliographyRequest<'o, 'a, T>
-        ensures style { result.style.now ≡ made_of sound.now }
+        ensures style { result.style.now ≡ made_of prepared.now }
         ensures locale { result.locale ≡ locale }
         ensures files { result.locale_files.now ≡ locales_of files.now }
         ensures order { result.order ≡ order.entry }
     {
         BibliographyRequest {
-            style: sound.style(),
-            prepared: Some(Prepared {
-                style: sound,
+            style: prepared.style(),
+            prepared: Some(PreparedSource {
+                style: prepared,
                 files,
             }),
             locale,
@@ -287,7 +287,7 @@ impl<'o, 'a, T> BibliographyRequest<'o, 'a, T> {
     {
         match self.prepared {
             Some(prepared) => {
-                StyleLocales::of_sound(prepared.style, self.locale.as_ref(), prepared.files)
+                StyleLocales::of_prepared(prepared.style, self.locale.as_ref(), prepared.files)
             }
             None => StyleLocales::new(self.style, self.locale.as_ref(), self.locale_files),
         }

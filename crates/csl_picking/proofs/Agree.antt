@@ -2,14 +2,15 @@
 use Rattle.std.proofs.Common.{◌≡◌, ◌++◌, None, Bool, true, false, cond, refl}
 use Rattle.std.specs.Prelude.{bytes_eq}
 use Rattle.std.proofs.lemmas.Cmp.{nat_list_eq_equiv}
+use Rattle.std.proofs.lemmas.Bool.{or_left}
 use Rattle.csl_base.specs.Element.{Name, Look, Target, value_target, standard_target, macro_target, term_target, Element, text_element, number_element, date_element, names_element, group_element, choose_element, Elements, no_elements, element, Branches, otherwise, branch}
 use Rattle.csl_base.specs.Calls.{Names, target_calls, calls, calls_of_all, calls_of_branches}
 use Rattle.csl_base.specs.Ring.{has_name}
-use Rattle.csl_styles.proofs.NameLists.{or-left, has_name-left, has_name-right}
+use Rattle.csl_styles.proofs.NameLists.{has_name-left, has_name-right}
 use Rattle.csl_picking.specs.Env.{Env}
 use Rattle.csl_picking.specs.Conditions.{passes, tested}
 use Rattle.csl_picking.specs.Pieces.{plain_node}
-use Rattle.csl_picking.specs.Picked.{followed, grouped}
+use Rattle.csl_picking.specs.Picked.{followed, picked_group}
 use Rattle.csl_picking.specs.Pick.{Call, group_node, pick_text, pick_with, pick_all_with, pick_first_with}
 
 -- two ways to call macros agree on these names
@@ -27,7 +28,7 @@ module _ (env : Env) (f g : Call) where
   text_agrees (value_target t) look quotes strip h = refl
   text_agrees (standard_target v) look quotes strip h = refl
   text_agrees (macro_target name) look quotes strip h =
-      let e = h name (or-left (bytes_eq name name) false (nat_list_eq_equiv.refl name)) in
+      let e = h name (or_left (bytes_eq name name) false (nat_list_eq_equiv.refl name)) in
       λ i n. e i (plain_node look quotes strip None) n
   text_agrees (term_target t form plural) look quotes strip h = refl
 
@@ -40,7 +41,7 @@ module _ (env : Env) (f g : Call) where
     agrees (names_element variables substitute options look) h = refl
     agrees (group_element children delimiter look) h =
         let e = agrees_all children h in
-        λ i n. grouped (group_node look delimiter) (e i n)
+        λ i n. picked_group (group_node look delimiter) (e i n)
     agrees (choose_element branches) h = agrees_first branches h
 
     pub agrees_all : (es : Elements) → AgreeOn f g (calls_of_all es) → pick_all_with env f es ≡ pick_all_with env g es

@@ -1,4 +1,3 @@
-pub mod InitialsLeft
 pub mod WrittenNames
 pub mod NameParts
 pub mod FormsLength

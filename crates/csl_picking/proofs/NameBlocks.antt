@@ -7,7 +7,7 @@ use Rattle.csl_base.specs.declared.taxonomy.NameVariable.{NameVariable}
 use Rattle.csl_base.specs.Element.{NameOptions, Look}
 use Rattle.csl_picking.specs.declared.notes.Called.{Called}
 use Rattle.csl_picking.specs.declared.notes.Notes.{Notes}
-use Rattle.csl_picking.specs.Notes.{joined}
+use Rattle.csl_picking.specs.Notes.{called_by_both}
 use Rattle.csl_picking.specs.Env.{Env}
 use Rattle.csl_picking.specs.Options.{applied_options}
 use Rattle.csl_picking.specs.NameRules.{Rules, rules_of}
@@ -78,14 +78,14 @@ pub names_picked : (env : Env) (variables substitute : List NameVariable) (o : N
     → st ≡ stand_in env.answers n variables substitute
     → given ≡ gives (blocks_parts env r n vs)
     → closed ≡ old ++ tokens (node_of (names_node env.answers look vs) (blocks_parts env r n vs))
-    → called_before ≡ called → called_now ≡ joined called_before (called_with given)
+    → called_before ≡ called → called_now ≡ called_by_both called_before (called_with given)
     → noted_before ≡ noted_forms env.answers r vs n → noted_now ≡ noted_stand_in given st noted_before
     → (let h : Held = record { tokens = closed; called = called_now; noted = noted_now } in h) ≡ added (pick_names env variables substitute o look n) (record { tokens = old; called = called; noted = n })
 names_picked env variables substitute o look n old called r vs st given closed called_before called_now noted_before noted_now er ev es g t cb cn nb nn =
     let before : Held = record { tokens = old; called = called; noted = n } in
     let is : given ≡ gives (node_of (names_node env.answers look vs) (blocks_parts env r n vs)) = g ∙ gives-node_of (names_node env.answers look vs) (blocks_parts env r n vs) in
-    let c : called_now ≡ joined called (called_with (gives (node_of (names_node env.answers look vs) (blocks_parts env r n vs))))
-    = cn ∙ ap (λ x. joined x (called_with given)) cb ∙ ap (λ b. joined called (called_with b)) is in
+    let c : called_now ≡ called_by_both called (called_with (gives (node_of (names_node env.answers look vs) (blocks_parts env r n vs))))
+    = cn ∙ ap (λ x. called_by_both x (called_with given)) cb ∙ ap (λ b. called_by_both called (called_with b)) is in
     let m : noted_now ≡ noted_stand_in (gives (node_of (names_node env.answers look vs) (blocks_parts env r n vs))) st (noted_forms env.answers r vs n)
     = nn ∙ ap (λ x. noted_stand_in given st x) nb ∙ ap (λ b. noted_stand_in b st (noted_forms env.answers r vs n)) is in
     (λ i. record { tokens = t i; called = c i; noted = m i })

@@ -6,21 +6,21 @@ use Rattle.std.proofs.lemmas.Bool.Decides.{nat_tests}
 use Rattle.csl_picking.specs.declared.notes.Called.{Called}
 use Rattle.csl_picking.specs.declared.notes.Notes.{Notes}
 use Rattle.csl_picking.specs.declared.held.Opened.{Opened}
-use Rattle.csl_picking.specs.Notes.{joined}
+use Rattle.csl_picking.specs.Notes.{called_by_both}
 use Rattle.csl_picking.specs.Pieces.{NodeValue, Part, leaf_part, node_part, Token, opening, closing, part_tokens, tokens, node_of}
-use Rattle.csl_picking.specs.Picked.{Picked, Held, nothing, followed, added, grouped, in_macro}
+use Rattle.csl_picking.specs.Picked.{Picked, Held, nothing, followed, added, picked_group, in_macro}
 use Rattle.csl_picking.specs.Nodes.{inside, remembered, cut_back, closed_as, macro_closed, group_closed}
 
 pub tokens-append : (xs ys : List Part) → tokens (xs ++ ys) ≡ tokens xs ++ tokens ys
 tokens-append [] ys = refl
 tokens-append (x ∷ xs) ys = ap (λ ts. part_tokens x ++ ts) (tokens-append xs ys) ∙ sym (append_assoc (part_tokens x) (tokens xs) (tokens ys))
 
-pub joined-none : (c : Called) → joined c Called.None ≡ c
+pub joined-none : (c : Called) → called_by_both c Called.None ≡ c
 joined-none Called.None = refl
 joined-none Called.Empty = refl
 joined-none Called.Filled = refl
 
-pub joined-joined : (a b c : Called) → joined (joined a b) c ≡ joined a (joined b c)
+pub joined-joined : (a b c : Called) → called_by_both (called_by_both a b) c ≡ called_by_both a (called_by_both b c)
 joined-joined Called.Filled b c = refl
 joined-joined Called.None b c = refl
 joined-joined Called.Empty Called.None c = refl
@@ -73,13 +73,13 @@ is_filled ts node p ps =
 
 -- nothing in a node
 emptied : (node : NodeValue) (c : Called) (n : Notes) (s : Held) → cut_back (remembered s) (added (record { parts = []; called = c; noted = n }) (inside node s)) ≡ added (record { parts = []; called = c; noted = n }) s
-emptied node c n s = λ i. record { tokens = (cut s.tokens node [] ∙ sym (append-nil s.tokens)) i; called = joined s.called c; noted = n }
+emptied node c n s = λ i. record { tokens = (cut s.tokens node [] ∙ sym (append-nil s.tokens)) i; called = called_by_both s.called c; noted = n }
 
 -- the parts of a node, of which some are there
 filled : (node : NodeValue) (p : Part) (ps : List Part) (c d : Called) (n : Notes) (s : Held)
     → closed_as c (remembered s) (added (record { parts = p ∷ ps; called = d; noted = n }) (inside node s))
     ≡ added (record { parts = node_of node (p ∷ ps); called = c; noted = n }) s
-filled node p ps c d n s = λ i. record { tokens = close s.tokens node p ps i; called = joined s.called c; noted = n }
+filled node p ps c d n s = λ i. record { tokens = close s.tokens node p ps i; called = called_by_both s.called c; noted = n }
 
 pub macro-closed : (node : NodeValue) (inner : Picked) (s : Held) → macro_closed (remembered s) (added inner (inside node s)) ≡ added (in_macro node inner) s
 macro-closed node inner s =
@@ -94,7 +94,7 @@ macro-closed node inner s =
     ] in
     by inner.parts
 
-pub group-closed : (node : NodeValue) (inner : Picked) (s : Held) → group_closed (remembered s) (added inner (inside node s)) ≡ added (grouped node inner) s
+pub group-closed : (node : NodeValue) (inner : Picked) (s : Held) → group_closed (remembered s) (added inner (inside node s)) ≡ added (picked_group node inner) s
 group-closed node inner s =
     by inner.called inner.parts where
       n : Notes
@@ -108,8 +108,8 @@ group-closed node inner s =
           let h = added (all c ps) (inside node s) in
           cond b (cut_back (remembered s) h) (closed_as Called.Filled (remembered s) h)
 
-      by : (c : Called) (ps : List Part) → group_closed (remembered s) (added (all c ps) (inside node s)) ≡ added (grouped node (all c ps)) s
-      by Called.Empty ps = λ i. record { tokens = (cut s.tokens node (tokens ps) ∙ sym (append-nil s.tokens)) i; called = joined s.called Called.Empty; noted = n }
+      by : (c : Called) (ps : List Part) → group_closed (remembered s) (added (all c ps) (inside node s)) ≡ added (picked_group node (all c ps)) s
+      by Called.Empty ps = λ i. record { tokens = (cut s.tokens node (tokens ps) ∙ sym (append-nil s.tokens)) i; called = called_by_both s.called Called.Empty; noted = n }
       by Called.None [] = ap (chosen Called.None []) (is_empty s.tokens node) ∙ emptied node Called.None n s
       by Called.Filled [] = ap (chosen Called.Filled []) (is_empty s.tokens node) ∙ emptied node Called.Filled n s
       by Called.None (p ∷ ps) = ap (chosen Called.None (p ∷ ps)) (is_filled s.tokens node p ps) ∙ filled node p ps Called.Filled Called.None n s
@@ -118,7 +118,7 @@ group-closed node inner s =
 -- a node, and what is picked inside it, where `picks` says what that is
 pub group_step : (picks : Notes → Picked) (node seen : NodeValue) (s now then after : Held) (o : Opened)
     → seen ≡ node → now ≡ inside seen s → o ≡ remembered s → then ≡ added (picks now.noted) now → after ≡ group_closed o then
-    → after ≡ added (grouped node (picks s.noted)) s
+    → after ≡ added (picked_group node (picks s.noted)) s
 group_step picks node seen s now then after o v a b c d =
     let at : now ≡ inside node s = a ∙ ap (λ n. inside n s) v in
     d ∙ (λ i. group_closed (b i) (c i)) ∙ ap (λ h. group_closed (remembered s) (added (picks h.noted) h)) at ∙ group-closed node (picks s.noted) s

@@ -17,13 +17,13 @@ use Rattle.csl_picking.specs.declared.picking.Step.TheVariants as steps
 use Rattle.csl_picking.specs.Env.{Env}
 use Rattle.csl_picking.specs.Conditions.{passes, tested}
 use Rattle.csl_picking.specs.Pieces.{NodeValue}
-use Rattle.csl_picking.specs.Notes.{joined}
-use Rattle.csl_picking.specs.Picked.{Picked, Held, added, grouped}
+use Rattle.csl_picking.specs.Notes.{called_by_both}
+use Rattle.csl_picking.specs.Picked.{Picked, Held, added, picked_group}
 use Rattle.csl_picking.specs.Nodes.{inside, remembered, group_closed, macro_closed}
 use Rattle.csl_picking.specs.Quiet.{seen, IsOpened}
 use Rattle.csl_picking.specs.Pick.{Call, pick_all_with, pick_first_with, body_picked, called_macro, picks, picks_all}
 use Rattle.csl_picking.specs.Work.{StepValue, step_view, steps_view, done, all_done, element_done, Fits, AllFit, body_weight, macro_weight, weight, weight_all, step_work, work}
-use Rattle.csl_picking.specs.Walk.{Walk, walk, GoesOn, TakesElement}
+use Rattle.csl_picking.specs.Walk.{Walk, walk, WalkGoesOn, TakesElement}
 use Rattle.csl_picking.proofs.Tokens.{group_step, macro_step, added-nothing, added-followed}
 use Rattle.csl_picking.proofs.MacroCalls.{macro_called}
 use Rattle.csl_picking.proofs.Noted.{picks-kept}
@@ -68,11 +68,11 @@ fits_popped env ms new old x h e f =
     fit-last env ms (steps_view new) (step_view x) h (subst (λ xs. AllFit env ms xs h) (ap steps_view e ∙ map-append step_view new (x ∷ [])) f)
 
 -- a macro that is passed over
-pub passed_over : (p : Picked) (c : Called) (s now : Held) → p ≡ record { parts = []; called = c; noted = s.noted } → now ≡ record s { called = joined s.called c } → now ≡ added p s
-passed_over p c s now e f = f ∙ (λ i. record { tokens = sym (append-nil s.tokens) i; called = joined s.called c; noted = s.noted }) ∙ ap (λ q. added q s) (sym e)
+pub passed_over : (p : Picked) (c : Called) (s now : Held) → p ≡ record { parts = []; called = c; noted = s.noted } → now ≡ record s { called = called_by_both s.called c } → now ≡ added p s
+passed_over p c s now e f = f ∙ (λ i. record { tokens = sym (append-nil s.tokens) i; called = called_by_both s.called c; noted = s.noted }) ∙ ap (λ q. added q s) (sym e)
 
 -- a walk that goes on with the same steps
-pub goes_on : (env : Env) (ms : List Macro) (limit : ℕ) (a : List Step) (h now : Held) → now ≡ h → 0 < limit → GoesOn env ms limit (walk a h) (walk a now)
+pub goes_on : (env : Env) (ms : List Macro) (limit : ℕ) (a : List Step) (h now : Held) → now ≡ h → 0 < limit → WalkGoesOn env ms limit (walk a h) (walk a now)
 goes_on env ms limit a h now is more = record {
   done = ap (all_done env ms (steps_view a)) is;
   fit = subst (AllFit env ms (steps_view a)) (sym is);
@@ -94,16 +94,16 @@ module _ (env : Env) (ms : List Macro) (depth : ℕ) where
   -- a group, which is opened
   module _ (a b c : List Step) (slice : Bor (List LayoutRenderingElement)) (items : List LayoutRenderingElement) (o : Opened) (node seen : NodeValue) (s now : Held)
       (e : b ≡ a ++ steps.CloseGroup o ∷ []) (f : c ≡ b ++ steps.Elements slice depth ∷ []) (v : slice.now ≡ items) (w : seen ≡ node) (x : now ≡ inside seen s) (y : o ≡ remembered s) where
-    group_is : group_closed o (done env ms (step_view (steps.Elements slice depth)) now) ≡ added (grouped node (picks_all env ms depth (elements_view items) s.noted)) s
+    group_is : group_closed o (done env ms (step_view (steps.Elements slice depth)) now) ≡ added (picked_group node (picks_all env ms depth (elements_view items) s.noted)) s
     group_is =
         ap (λ xs. group_closed o (added (picks_all env ms depth (elements_view xs) now.noted) now)) v
         ∙ group_step (λ n. picks_all env ms depth (elements_view items) n) node seen s now _ _ o w x y refl refl
 
-    pub group_pushed : all_done env ms (steps_view c) now ≡ all_done env ms (steps_view a) (added (grouped node (picks_all env ms depth (elements_view items) s.noted)) s)
+    pub group_pushed : all_done env ms (steps_view c) now ≡ all_done env ms (steps_view a) (added (picked_group node (picks_all env ms depth (elements_view items) s.noted)) s)
     group_pushed =
         pushed env ms b c (steps.Elements slice depth) now f ∙ pushed env ms a b (steps.CloseGroup o) _ e ∙ ap (all_done env ms (steps_view a)) group_is
 
-    pub group_fits : AllFit env ms (steps_view a) (added (grouped node (picks_all env ms depth (elements_view items) s.noted)) s) → AllFit env ms (steps_view c) now
+    pub group_fits : AllFit env ms (steps_view a) (added (picked_group node (picks_all env ms depth (elements_view items) s.noted)) s) → AllFit env ms (steps_view c) now
     group_fits all =
         fits_more env ms b c (steps.Elements slice depth) now f
         (fits_more env ms a b (steps.CloseGroup o) (done env ms (step_view (steps.Elements slice depth)) now) e (subst (AllFit env ms (steps_view a)) (sym group_is) all) tt) tt
@@ -145,7 +145,7 @@ module _ (env : Env) (ms : List Macro) (depth : ℕ) where
   -- and then those behind it
   pub elements_taken : (a b : List Step) (slice : Bor (List LayoutRenderingElement)) (e : Element) (s : Held) (new : Walk)
       → b ≡ a ++ steps.Elements slice depth ∷ [] → TakesElement env ms depth e (walk b s) new
-      → GoesOn env ms (2 * weight_all ms depth (element e (elements_view slice.now)))
+      → WalkGoesOn env ms (2 * weight_all ms depth (element e (elements_view slice.now)))
       (walk a (added (picks_all env ms depth (element e (elements_view slice.now)) s.noted) s)) new
   elements_taken a b slice e s new p k =
       let one = picks env ms depth e s.noted in

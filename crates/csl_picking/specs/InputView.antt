@@ -38,5 +38,5 @@ env_of answers s =
     (options_view s.context.style.now.settings.options) (options_view s.layout_options.now) s.form
     s.explicit_suffix s.is_bibliography
 
-abbrev pub macros_of : Setting → List Macro
-macros_of s = macros_view s.context.style.now.macros.items
+abbrev pub macros_in : Setting → List Macro
+macros_in s = macros_view s.context.style.now.macros.items

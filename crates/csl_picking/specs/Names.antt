@@ -13,6 +13,7 @@ use Rattle.csl_base.specs.declared.names.DisambiguatedNameForm.{DisambiguatedNam
 use Rattle.csl_base.specs.Answers.{Answers}
 use Rattle.csl_base.specs.Element.{NameOptions, Look}
 use Rattle.csl_base.specs.Forms.{Forms}
+use Rattle.csl_base.specs.PlainLook.{no_affix, no_look}
 use Rattle.csl_picking.specs.declared.notes.Form.{Form}
 use Rattle.csl_picking.specs.declared.notes.Notes.{Notes}
 use Rattle.csl_lookup.specs.declared.state.DisambiguateState.{DisambiguateState}
@@ -23,7 +24,6 @@ use Rattle.csl_picking.specs.Options.{applied_options}
 use Rattle.csl_picking.specs.NameRules.{Rules, rules_of, forms_by, forms_in}
 use Rattle.csl_picking.specs.NameText.{name_leaf}
 use Rattle.csl_picking.specs.Pieces.{LeafValue, text_leaf, NodeValue, Part, leaf_part, node_part, no_parts, part, node_of, plain_node}
-use Rattle.csl_picking.specs.PiecesView.{no_affix}
 use Rattle.csl_picking.specs.Variables.{same_variable, words_for}
 use Rattle.csl_picking.specs.Picked.{Picked, gives, called_with}
 
@@ -74,14 +74,6 @@ abbrev pub written_names : List ℕ → Forms → List Person → List (ℕ × L
 written_names end forms persons =
     filter_map (λ x. option_map (λ leaf. (x.0, leaf)) (name_leaf end x.1.0 x.1.1))
     (enumerate_from 0 (zip forms persons))
-
--- a name has no look of its own
-abbrev pub no_look : Look
-no_look = record {
-  affixes = no_affix;
-  formatting = record { font_style = None; font_weight = None };
-  display = None;
-}
 
 -- a name's node
 abbrev pub name_part : NameVariable → ℕ × LeafValue → Part

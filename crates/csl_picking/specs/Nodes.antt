@@ -3,7 +3,7 @@ use Rattle.std.specs.Prelude.{◌+◌, [], ◌∷◌, ◌++◌, take, length, na
 use Rattle.std.specs.Bool.{if◌then◌else◌}
 use Rattle.csl_picking.specs.declared.notes.Called.{Called}
 use Rattle.csl_picking.specs.declared.held.Opened.{Opened}
-use Rattle.csl_picking.specs.Notes.{joined}
+use Rattle.csl_picking.specs.Notes.{called_by_both}
 use Rattle.csl_picking.specs.Pieces.{NodeValue, opening, closing}
 use Rattle.csl_picking.specs.Picked.{Held}
 
@@ -21,12 +21,12 @@ is_empty_node o h = nat_le (length h.tokens) o.inside
 
 -- the node is taken out again; what was called and noted in it stays
 abbrev pub cut_back : Opened → Held → Held
-cut_back o h = record { tokens = take o.before h.tokens; called = joined o.called h.called; noted = h.noted }
+cut_back o h = record { tokens = take o.before h.tokens; called = called_by_both o.called h.called; noted = h.noted }
 
 abbrev pub closed_as : Called → Opened → Held → Held
 closed_as called o h = record {
   tokens = h.tokens ++ closing ∷ [];
-  called = joined o.called called;
+  called = called_by_both o.called called;
   noted = h.noted;
 }
 

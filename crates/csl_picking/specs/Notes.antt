@@ -7,12 +7,12 @@ use Rattle.csl_picking.specs.declared.notes.Suppressed.{Suppressed}
 use Rattle.csl_lookup.specs.declared.state.IdentifierUsage.{IdentifierUsage}
 
 -- what two parts called, one after the other
-abbrev pub joined : Called → Called → Called
-joined Called.Filled c = Called.Filled
-joined Called.Empty Called.Filled = Called.Filled
-joined Called.Empty Called.Empty = Called.Empty
-joined Called.Empty Called.None = Called.Empty
-joined Called.None c = c
+abbrev pub called_by_both : Called → Called → Called
+called_by_both Called.Filled c = Called.Filled
+called_by_both Called.Empty Called.Filled = Called.Filled
+called_by_both Called.Empty Called.Empty = Called.Empty
+called_by_both Called.Empty Called.None = Called.Empty
+called_by_both Called.None c = c
 
 abbrev pub is_suppressed : Suppressed → NameVariable → Bool
 is_suppressed s NameVariable.Author = s.author

@@ -7,7 +7,7 @@ use Rattle.csl_base.specs.Ring.{body_of, HasNoRing}
 use Rattle.csl_picking.specs.declared.notes.Notes.{Notes}
 use Rattle.csl_picking.specs.Env.{Env}
 use Rattle.csl_picking.specs.Pieces.{NodeValue, plain_node}
-use Rattle.csl_picking.specs.Picked.{Picked, nothing, followed, grouped, in_macro}
+use Rattle.csl_picking.specs.Picked.{Picked, nothing, followed, picked_group, in_macro}
 use Rattle.csl_picking.specs.Conditions.{passes, tested}
 use Rattle.csl_picking.specs.Variables.{meant, pick_variable, pick_words, pick_date}
 use Rattle.csl_picking.specs.Names.{pick_names}
@@ -39,7 +39,7 @@ abbrev mutual
   pick_with env call (names_element variables substitute options look) n =
       pick_names env variables substitute options look n
   pick_with env call (group_element children delimiter look) n =
-      grouped (group_node look delimiter) (pick_all_with env call children n)
+      picked_group (group_node look delimiter) (pick_all_with env call children n)
   pick_with env call (choose_element branches) n = pick_first_with env call branches n
 
   pub pick_all_with : Env → Call → Elements → Notes → Picked

@@ -2,7 +2,7 @@
 use Rattle.std.specs.Prelude.{List, [], ◌∷◌, ◌++◌, Bool, true, false}
 use Rattle.csl_picking.specs.declared.notes.Called.{Called}
 use Rattle.csl_picking.specs.declared.notes.Notes.{Notes}
-use Rattle.csl_picking.specs.Notes.{joined}
+use Rattle.csl_picking.specs.Notes.{called_by_both}
 use Rattle.csl_picking.specs.Pieces.{NodeValue, Part, Token, tokens, node_of}
 
 pub record Picked : Type 0 where
@@ -22,7 +22,7 @@ without_content n = record { parts = []; called = Called.Empty; noted = n }
 
 -- one behind the other
 abbrev pub followed : Picked → Picked → Picked
-followed a b = record { parts = a.parts ++ b.parts; called = joined a.called b.called; noted = b.noted }
+followed a b = record { parts = a.parts ++ b.parts; called = called_by_both a.called b.called; noted = b.noted }
 
 -- whether there are parts
 abbrev pub gives : List Part → Bool
@@ -45,8 +45,8 @@ abbrev pub group_called : List Part → Called → Called
 group_called [] c = c
 group_called (p ∷ ps) c = Called.Filled
 
-abbrev pub grouped : NodeValue → Picked → Picked
-grouped node inner =
+abbrev pub picked_group : NodeValue → Picked → Picked
+picked_group node inner =
     let ps = group_parts inner.called node inner.parts in
     record { parts = ps; called = group_called ps inner.called; noted = inner.noted }
 
@@ -64,6 +64,6 @@ pub record Held : Type 0 where
 abbrev pub added : Picked → Held → Held
 added picked held = record {
   tokens = held.tokens ++ tokens picked.parts;
-  called = joined held.called picked.called;
+  called = called_by_both held.called picked.called;
   noted = picked.noted;
 }

@@ -3,6 +3,7 @@ use Rattle.std.specs.Prelude.{List, map, false, None, option_map}
 use Rattle.std.specs.Option.{option_map_or}
 use Rattle.csl_base.specs.Element.{Affix, Look}
 use Rattle.csl_base.specs.ElementView.{affixes_view, look}
+use Rattle.csl_base.specs.PlainLook.{no_affix}
 use Rattle.csl_lookup.specs.Years.{year_text}
 use Rattle.csl_picking.specs.declared.pieces.Leaf.{Leaf}
 use Rattle.csl_picking.specs.declared.pieces.Leaf.TheVariants as leaves
@@ -21,10 +22,6 @@ leaf_view (leaves.Year year era) = text_leaf (year_text year false era.now era.n
 leaf_view (leaves.Chunked t) = chunked_leaf t.now
 leaf_view (leaves.Link t) = link_leaf t.now
 leaf_view (leaves.Mark i) = mark_leaf i
-
--- neither prefix nor suffix
-abbrev pub no_affix : Affix
-no_affix = record { prefix = None; suffix = None }
 
 abbrev pub node_view : Node → NodeValue
 node_view node = record {

@@ -8,7 +8,7 @@ use Rattle.csl_picking.specs.declared.input.Input.{Input}
 use Rattle.csl_picking.specs.declared.picking.Step.{Step}
 use Rattle.csl_picking.specs.declared.pieces.Shape.{Shape}
 use Rattle.csl_picking.specs.Env.{Env}
-use Rattle.csl_picking.specs.InputView.{env_of, macros_of}
+use Rattle.csl_picking.specs.InputView.{env_of, macros_in}
 use Rattle.csl_picking.specs.PiecesView.{shape_look}
 use Rattle.csl_picking.specs.Picked.{Held}
 use Rattle.csl_picking.specs.Pick.{Call, called_macro}
@@ -20,7 +20,7 @@ env_in answers input = env_of (answers input.entry.now) input.setting
 
 -- what calls of macros give there, at each depth
 abbrev pub calls_in : {T : Type 0} → (T → Answers) → Input T → ℕ → Call
-calls_in answers input = called_macro (env_in answers input) (macros_of input.setting)
+calls_in answers input = called_macro (env_in answers input) (macros_in input.setting)
 
 -- once a number, a date or names are picked there
 abbrev pub plain_in : {T : Type 0} → (T → Answers) → Input T → LayoutRenderingElement → Held → Held
@@ -39,7 +39,7 @@ abbrev pub walk : List Step → Held → Walk
 walk steps h = record { steps = steps_view steps; held = h }
 
 -- a walk goes on from one place to another that comes to the same
-pub record GoesOn (env : Env) (macros : List Macro) (limit : ℕ) (old new : Walk) : Type 0 where
+pub record WalkGoesOn (env : Env) (macros : List Macro) (limit : ℕ) (old new : Walk) : Type 0 where
   -- the same is held in the end
   pub done : all_done env macros new.steps new.held ≡ all_done env macros old.steps old.held
   -- where each of the old steps fits in its turn, so does each of the new ones
@@ -50,5 +50,5 @@ pub record GoesOn (env : Env) (macros : List Macro) (limit : ℕ) (old new : Wal
 -- a walk goes on behind an element that was picked there
 abbrev pub TakesElement : Env → List Macro → ℕ → Element → Walk → Walk → Type 0
 TakesElement env macros depth e old new =
-    GoesOn env macros (2 * weight macros depth e)
+    WalkGoesOn env macros (2 * weight macros depth e)
     (record old { held = element_done env macros depth e old.held }) new

@@ -1,6 +1,6 @@
 //! What goes along a picking.
 ghost use Rattle.std.specs.Prelude.{◌≡◌};
-ghost use Rattle.csl_picking.specs.Notes.{joined, is_suppressed, with_suppressed};
+ghost use Rattle.csl_picking.specs.Notes.{called_by_both, is_suppressed, with_suppressed};
 
 use csl_base::names::NameDisambiguationProperties;
 use csl_base::taxonomy::{NameVariable, Variable};
@@ -32,7 +32,7 @@ pub enum Called {
 impl Called {
     // Of two parts, one after the other.
     pub fn and(self, other: Called) -> Called
-        ensures { result ≡ joined self other }
+        ensures { result ≡ called_by_both self other }
     {
         match (self, other) {
             (Called::Filled, _) => Called::Filled,

@@ -9,9 +9,9 @@ ghost use Rattle.csl_picking.specs.Pick.{Call, group_node, pick_all_with, pick_f
 ghost use Rattle.csl_picking.specs.Nodes.{macro_closed};
 ghost use Rattle.csl_picking.specs.Quiet.{Keeps, IsQuiet, IsOpened};
 ghost use Rattle.csl_picking.specs.Work.{step_view, done, inside_done, Fits, weight, step_work};
-ghost use Rattle.csl_picking.specs.Walk.{env_in, calls_in, plain_in, text_of, walk, GoesOn, TakesElement};
+ghost use Rattle.csl_picking.specs.Walk.{env_in, calls_in, plain_in, text_of, walk, WalkGoesOn, TakesElement};
 ghost use Rattle.csl_picking.specs.HeldView.{held};
-ghost use Rattle.csl_picking.specs.InputView.{env_of, macros_of};
+ghost use Rattle.csl_picking.specs.InputView.{env_of, macros_in};
 
 use crate::choices::passes;
 use crate::held::{Opened, Picking};
@@ -162,9 +162,9 @@ fn step_inside<'a, T: EntryLike>(
     steps: &mut Vec<Step<'a>>,
     picking: &mut Picking<'a>,
 ) -> Result<(), AllocError>
-    ensures steps { let env = env_in T.answers input.now in let ms = macros_of input.now.setting in
+    ensures steps { let env = env_in T.answers input.now in let ms = macros_in input.now.setting in
         let e = element_view element.now in
-        OnOk result (GoesOn env ms (2 * weight ms depth e)
+        OnOk result (WalkGoesOn env ms (2 * weight ms depth e)
         (walk steps.old.items (inside_done env ms depth e (held picking.old)))
         (walk steps.new.items (held picking.new))) }
     ensures keeps { OnOk result (Keeps picking.old.notes picking.new.notes) }
@@ -207,7 +207,7 @@ fn step_macro<'a, T: EntryLike>(
 ) -> Result<(), AllocError>
     requires { IsQuiet (calls_in T.answers input.now) quiet.now picking.old.notes }
     ensures steps { let e = text_of (macro_target name.now) shape.entry in
-        OnOk result (TakesElement (env_in T.answers input.now) (macros_of input.now.setting) depth e
+        OnOk result (TakesElement (env_in T.answers input.now) (macros_in input.now.setting) depth e
         (walk steps.old.items (held picking.old)) (walk steps.new.items (held picking.new))) }
     ensures same { OnOk result (picking.new.notes ≡ picking.old.notes) }
 {
@@ -248,7 +248,7 @@ fn take_text<'a, T: EntryLike>(
 ) -> Result<(), AllocError>
     requires { IsQuiet (calls_in T.answers input.now) quiet.now picking.old.notes }
     ensures steps { let e = text_of (target_view target.now) shape.entry in
-        OnOk result (TakesElement (env_in T.answers input.now) (macros_of input.now.setting) depth e
+        OnOk result (TakesElement (env_in T.answers input.now) (macros_in input.now.setting) depth e
         (walk steps.old.items (held picking.old)) (walk steps.new.items (held picking.new))) }
     ensures keeps { OnOk result (Keeps picking.old.notes picking.new.notes) }
 {
@@ -278,7 +278,7 @@ fn take_element<'a, T: EntryLike>(
 ) -> Result<(), AllocError>
     requires { IsQuiet (calls_in T.answers input.now) quiet.now picking.old.notes }
     ensures steps { let e = element_view element.now in
-        OnOk result (TakesElement (env_in T.answers input.now) (macros_of input.now.setting) depth e
+        OnOk result (TakesElement (env_in T.answers input.now) (macros_in input.now.setting) depth e
         (walk steps.old.items (held picking.old)) (walk steps.new.items (held picking.new))) }
     ensures keeps { OnOk result (Keeps picking.old.notes picking.new.notes) }
 {
@@ -352,9 +352,9 @@ fn take_step<'a, T: EntryLike>(
 ) -> Result<(), AllocError>
     requires quiet { IsQuiet (calls_in T.answers input.now) quiet.old picking.old.notes }
     requires fits { Fits (calls_in T.answers input.now) (step_view step) (held picking.old) }
-    ensures steps { let env = env_in T.answers input.now in let ms = macros_of input.now.setting in
+    ensures steps { let env = env_in T.answers input.now in let ms = macros_in input.now.setting in
         let x = step_view step.entry in
-        OnOk result (GoesOn env ms (step_work ms x)
+        OnOk result (WalkGoesOn env ms (step_work ms x)
         (walk steps.old.items (done env ms x (held picking.old))) (walk steps.new.items (held picking.new))) }
     ensures quiet { OnOk result (IsQuiet (calls_in T.answers input.now) quiet.new picking.new.notes) }
 {
@@ -391,7 +391,7 @@ pub fn pick_layout<'a, T: EntryLike>(
 ) -> Result<(), AllocError>
     ensures { let env = env_of (T.answers input.now.entry.now) input.now.setting in
         OnOk result (held picking.new
-        ≡ added (pick_layout env (macros_of input.now.setting) (elements_view elements.now.items)
+        ≡ added (pick_layout env (macros_in input.now.setting) (elements_view elements.now.items)
         (held picking.old).noted) (held picking.old)) }
 {
     let depth = input.setting.context.style.macros.len();

@@ -12,9 +12,10 @@ use Rattle.csl_entries.specs.Entries.{place}
 use Rattle.csl_entries.specs.PlacedItems.{IsPlaced}
 use Rattle.csl_passes.specs.Positions.{with_last}
 use Rattle.csl_passes.specs.Renders.{CiteRender, ItemRender}
+use Rattle.csl_passes.proofs.Halves.{half}
 use Rattle.csl_positions.specs.FinalProperties.{as_cite, final_position, items_before, with_final, with_final_items}
-use Rattle.csl_positions.specs.FinalSteps.{IsWithin, all_set, first_position, items_at, led_to, placed_item, position_in, set_among}
-use Rattle.csl_positions.proofs.Halves.{changes-agree, half, half-kept, half-next, half-stands, seen-at}
+use Rattle.csl_positions.specs.FinalSteps.{IsPlacedWithin, all_set, first_position, items_at, led_to, placed_item, position_in, set_among}
+use Rattle.csl_positions.proofs.Halves.{changes-agree, half-kept, half-next, half-stands, seen-at}
 
 last-of : {X : Type 0} (x : X) (xs : List X) → slice_get (x ∷ xs) (length xs) ≡ last_or (Some x) xs
 last-of x [] = refl
@@ -128,21 +129,21 @@ module _ {E P : Type 0} (eq : E → E → Bool) (payload_eq : P → P → Bool) 
 
   module _ {X : Type 0} (view : X → ItemRender E P) (old now : List X) (k : ℕ) (found : X) (first : IbidState) (places numbers : List ℕ)
       (within : k < length old) (here : found ≡ get_or now k found)
-      (so-far : map view now ≡ half (set_among eq payload_eq first places numbers (map view old)) 0 k (map view old)) where
+      (so-far : map view now ≡ half (set_among eq payload_eq first places numbers (map view old)) k (map view old)) where
     -- a cite's place leads to one of these
-    pub within-places : All (IsWithin places) (map view old) → IsWithin places (view found)
+    pub within-places : All (IsPlacedWithin places) (map view old) → IsPlacedWithin places (view found)
     within-places all =
-        subst (IsWithin places) (sym (half-stands (set_among eq payload_eq first places numbers (map view old)) view old now k found within here so-far))
+        subst (IsPlacedWithin places) (sym (half-stands (set_among eq payload_eq first places numbers (map view old)) view old now k found within here so-far))
         (all k (view found) (subst (λ n. k < n) (sym (length-map old view)) within))
 
     -- one more cite has its final properties
     pub next-set : (counted : length now ≡ length old) (position : IbidState) (number : ℕ) (x : X)
         → ((i : ItemRender E P) → slice_get (map view now) k ≡ Some i → position ≡ position_in eq payload_eq first (map view now) k i)
         → number ≡ slice_index numbers (led_to places (view found)) → view x ≡ placed_item position number (view found)
-        → map view (set now k x) ≡ half (set_among eq payload_eq first places numbers (map view old)) 0 (k + 1) (map view old)
+        → map view (set now k x) ≡ half (set_among eq payload_eq first places numbers (map view old)) (k + 1) (map view old)
     next-set counted position number x positioned numbered changed =
         let f = set_among eq payload_eq first places numbers (map view old) in
-        let kept : map as_cite (map view now) ≡ map as_cite (map view old) = ap (map as_cite) so-far ∙ half-kept f as_cite (λ n i. refl) 0 k (map view old) in
+        let kept : map as_cite (map view now) ≡ map as_cite (map view old) = ap (map as_cite) so-far ∙ half-kept f as_cite (λ n i. refl) k (map view old) in
         let position-is : position ≡ position_in eq payload_eq first (map view old) k (view found) =
         positioned (view found) (seen-at view now k found (omega arith) here) ∙ position-kept first (map view now) (map view old) k (view found) kept in
         half-next f view old now k found within here so-far x (changed ∙ (λ j. placed_item (position-is j) (numbered j) (view found)))
@@ -178,7 +179,7 @@ row-within eq entries list view places rows renders r made all w =
     subst (λ n. r < n) (sym (length-map renders view) ∙ sym (zip-length (RowPlaced eq entries) rows (map view renders) all) ∙ sym (ap length made) ∙ length-map places list) w
 
 -- a place that leads somewhere is within
-pub placed-within : {E P : Type 0} (eq : E → E → Bool) (entries : List E) (places : List ℕ) (items : List (ItemRender E P)) → All (IsPlaced eq entries places) items → All (IsWithin places) items
+pub placed-within : {E P : Type 0} (eq : E → E → Bool) (entries : List E) (places : List ℕ) (items : List (ItemRender E P)) → All (IsPlaced eq entries places) items → All (IsPlacedWithin places) items
 placed-within eq entries places items all = λ k d w. slice_get_within places (get_or items k d).properties.certain.initial_idx (place eq (get_or items k d).entry entries) (all k d w)
 
 pub placed-seen : {E P V X : Type 0} (eq : E → E → Bool) (entries : List E) (list : V → List ℕ) (view : X → CiteRender E P) (places : List V) (rows : List (List ℕ)) (renders : List X) (r : ℕ) (v : V) (x : X)

@@ -10,10 +10,11 @@ use Rattle.csl_entries.specs.Entries.{place}
 use Rattle.csl_entries.specs.PlacedItems.{IsPlaced}
 use Rattle.csl_passes.specs.Renders.{CiteRender, ItemRender}
 use Rattle.csl_passes.specs.Request.{RequestedCite}
+use Rattle.csl_passes.proofs.Halves.{half}
 use Rattle.csl_positions.specs.FinalProperties.{as_cite, items_before, with_final, with_final_items}
 use Rattle.csl_positions.specs.FinalSteps.{all_set, first_position, items_at}
 use Rattle.csl_positions.proofs.FinalItems.{RowPlaced, all-final, first-kept, items-at, last-map, placed-at}
-use Rattle.csl_positions.proofs.Halves.{changed-kept, half, half-kept, half-next, half-stands}
+use Rattle.csl_positions.proofs.Halves.{changed-kept, half-kept, half-next, half-stands}
 
 -- a request's cites as cites
 abbrev as_cites : {E P : Type 0} → CiteRender E P → List (RequestedCite E P)
@@ -36,7 +37,7 @@ module _ {E P : Type 0} (eq : E → E → Bool) (payload_eq : P → P → Bool) 
   cites-kept renders r x = changed-kept (λ k i. with_final eq payload_eq number_of (items_before renders r ++ take k x.items) i) as_cite (λ k i. refl) 0 x.items
 
   module _ {X : Type 0} (view : X → CiteRender E P) (old now : List X) (r : ℕ) (found : X) (within : r < length old) (counted : length now ≡ length old) (here : found ≡ get_or now r found)
-      (so-far : map view now ≡ half (finally_at (map view old)) 0 r (map view old)) where
+      (so-far : map view now ≡ half (finally_at (map view old)) r (map view old)) where
     -- its cites know where their entries stand
     pub placed-now : {V : Type 0} (entries : List E) (list : V → List ℕ) (places : List V) (rows : List (List ℕ)) (v : V) → map list places ≡ rows
         → AllZip (RowPlaced eq entries) rows (map view old) → v ≡ get_or places r v → RowPlaced eq entries (list v) (view found)
@@ -49,12 +50,12 @@ module _ {E P : Type 0} (eq : E → E → Bool) (payload_eq : P → P → Bool) 
         → first ≡ first_position eq payload_eq (items_before (map view now) r) (items_at (map view now) r)
         → ((e : E) → slice_index numbers (place eq e entries) ≡ number_of e) → All (IsPlaced eq entries places) (view found).items
         → view x ≡ record (view found) { items = all_set eq payload_eq first places numbers (view found).items }
-        → map view (set now r x) ≡ half (finally_at (map view old)) 0 (r + 1) (map view old)
+        → map view (set now r x) ≡ half (finally_at (map view old)) (r + 1) (map view old)
     next-render entries places numbers first x start numbered placed changed =
         let rs = map view old in
         let f = finally_at rs in
         let items = (view found).items in
-        let cites : map as_cites (map view now) ≡ map as_cites rs = ap (map as_cites) so-far ∙ half-kept f as_cites (cites-kept rs) 0 r rs in
+        let cites : map as_cites (map view now) ≡ map as_cites rs = ap (map as_cites) so-far ∙ half-kept f as_cites (cites-kept rs) r rs in
         let before : map as_cite (items_before (map view now) r) ≡ map as_cite (items_before rs r) =
         before-cites (map view now) r ∙ ap (λ l. option_map_or (λ cs. cs) (last_or None (take r l)) []) cites ∙ sym (before-cites rs r) in
         let first-is : first ≡ first_position eq payload_eq (items_before rs r) items =

@@ -1,4 +1,5 @@
 -- What is known of the entries, as cites and requests are added.
+use mathlib.Core.Bool.{or-false, or-true}
 use Rattle.std.proofs.Common.{◌≡◌, ℕ, Bool, true, false, cond, ◌&&◌, ◌||◌, List, [], ◌∷◌, ◌++◌, Option, Some, None, is_some, length, map, get_or, set, find, replicate, option_and_then, refl, ap, sym, ◌∙◌}
 use Rattle.std.specs.Cmp.{IsEquivalence}
 use Rattle.std.specs.List.{list_any}
@@ -6,17 +7,13 @@ use Rattle.std.specs.Option.{option_and, option_or}
 use Rattle.std.proofs.lemmas.List.{map-append}
 use Rattle.csl_entries.specs.Entries.{is_in, place}
 use Rattle.csl_entries.specs.Laws.{NoTwoEqual}
-use Rattle.csl_entries.proofs.Distinct.{is_in-append, or_true}
+use Rattle.csl_entries.proofs.Distinct.{is_in-append}
 use Rattle.csl_passes.specs.Request.{RequestedCite, Request, cited, entries_of}
-use Rattle.csl_positions.specs.FirstProperties.{certain_properties, cites_entry, first_note, notes_entry}
+use Rattle.csl_positions.specs.FirstProperties.{certain_properties, has_cite_of, first_note, notes_entry}
 use Rattle.csl_positions.specs.Seen.{certain_by, last_place, seen_of}
 use Rattle.csl_positions.specs.declared.first.Seen.{Seen}
 use Rattle.csl_positions.proofs.LastPlaces.{first_note-push, is_within-last, last_place-push}
 use Rattle.csl_positions.proofs.Updates.{map-at, map-set_at}
-
-or_false : (b : Bool) → (b || false) ≡ b
-or_false true = refl
-or_false false = refl
 
 pub and_false : (b : Bool) → (b && false) ≡ false
 and_false true = refl
@@ -63,13 +60,13 @@ module _ {E P : Type 0} (eq : E → E → Bool) where
       where
         own : seen_of eq (cs ++ x ∷ []) rs x ≡ record s { cited = true }
         own =
-            let listed : is_in eq x (cs ++ x ∷ []) ≡ true = is_in-append eq laws x cs (x ∷ []) ∙ rw (laws.refl x) (or_true (is_in eq x cs)) in
+            let listed : is_in eq x (cs ++ x ∷ []) ≡ true = is_in-append eq laws x cs (x ∷ []) ∙ rw (laws.refl x) (or-true (is_in eq x cs)) in
             seen_same listed (sym (ap (λ t. t.first_note) at)) (sym (ap (λ t. t.last_noted) at))
 
         miss : (d : E) → eq x d ≡ false → seen_of eq cs rs d ≡ seen_of eq (cs ++ x ∷ []) rs d
         miss d h =
             let apart : eq d x ≡ false = laws.symm d x ∙ h in
-            let one : is_in eq d (cs ++ x ∷ []) ≡ is_in eq d cs = is_in-append eq laws d cs (x ∷ []) ∙ rw apart (or_false (is_in eq d cs)) in
+            let one : is_in eq d (cs ++ x ∷ []) ≡ is_in eq d cs = is_in-append eq laws d cs (x ∷ []) ∙ rw apart (or-false (is_in eq d cs)) in
             seen_same (sym one) refl refl
 
     -- the request r with the cites so far, which are noted
@@ -77,10 +74,10 @@ module _ {E P : Type 0} (eq : E → E → Bool) where
     with_cites r js = record r { cites = js }
 
     cites-more : (r : Request E P) (js : List (RequestedCite E P)) (c : RequestedCite E P) (e : E)
-        → cites_entry eq e (with_cites r (js ++ c ∷ [])) ≡ (cites_entry eq e (with_cites r js) || eq e c.entry)
+        → has_cite_of eq e (with_cites r (js ++ c ∷ [])) ≡ (has_cite_of eq e (with_cites r js) || eq e c.entry)
     cites-more r js c e =
         ap (λ l. is_in eq e l) (map-append (λ k. k.entry) js (c ∷ [])) ∙ is_in-append eq laws e (entries_of js) (c.entry ∷ [])
-        ∙ ap (λ b. is_in eq e (entries_of js) || b) (or_false (eq e c.entry))
+        ∙ ap (λ b. is_in eq e (entries_of js) || b) (or-false (eq e c.entry))
 
     -- one more cite of r, which is noted where r has a note number
     pub noted-more : (cs : List E) (rs : List (Request E P)) (r : Request E P) (js : List (RequestedCite E P)) (c : RequestedCite E P) (es : List E) → NoTwoEqual eq es → is_in eq c.entry es ≡ true
@@ -111,15 +108,15 @@ module _ {E P : Type 0} (eq : E → E → Bool) where
         own =
             let e = c.entry in
             let n = r.note_number in
-            let cites : cites_entry eq e (with_cites r (js ++ c ∷ [])) ≡ true = cites-more r js c e ∙ rw (laws.refl e) (or_true (cites_entry eq e (with_cites r js))) in
+            let cites : has_cite_of eq e (with_cites r (js ++ c ∷ [])) ≡ true = cites-more r js c e ∙ rw (laws.refl e) (or-true (has_cite_of eq e (with_cites r js))) in
             let first : first_note eq e (rs ++ with_cites r (js ++ c ∷ []) ∷ []) ≡ option_or s.first_note n =
             first_note-push eq e rs (with_cites r (js ++ c ∷ [])) ∙ ap (λ b. option_or (first_note eq e rs) (cond b n None)) cites
-            ∙ first-again (first_note eq e rs) n (cites_entry eq e (with_cites r js))
+            ∙ first-again (first_note eq e rs) n (has_cite_of eq e (with_cites r js))
             ∙ ap (λ o. option_or o n) (sym (first_note-push eq e rs (with_cites r js)) ∙ sym (ap (λ t. t.first_note) at)) in
             let last : last_place (notes_entry eq e) (rs ++ with_cites r (js ++ c ∷ []) ∷ []) ≡ option_or (option_and n (Some (length rs))) s.last_noted =
             last_place-push (notes_entry eq e) rs (with_cites r (js ++ c ∷ []))
             ∙ ap (λ b. cond (is_some n && b) (Some (length rs)) (last_place (notes_entry eq e) rs)) cites
-            ∙ last-again n (last_place (notes_entry eq e) rs) (length rs) (cites_entry eq e (with_cites r js))
+            ∙ last-again n (last_place (notes_entry eq e) rs) (length rs) (has_cite_of eq e (with_cites r js))
             ∙ ap (λ o. option_or (option_and n (Some (length rs))) o) (sym (last_place-push (notes_entry eq e) rs (with_cites r js)) ∙ sym (ap (λ t. t.last_noted) at)) in
             seen_same (sym (ap (λ t. t.cited) at)) first last
 
@@ -127,8 +124,8 @@ module _ {E P : Type 0} (eq : E → E → Bool) where
         miss d h =
             let n = r.note_number in
             let apart : eq d c.entry ≡ false = laws.symm d c.entry ∙ h in
-            let cites : cites_entry eq d (with_cites r js) ≡ cites_entry eq d (with_cites r (js ++ c ∷ [])) =
-            sym (cites-more r js c d ∙ rw apart (or_false (cites_entry eq d (with_cites r js)))) in
+            let cites : has_cite_of eq d (with_cites r js) ≡ has_cite_of eq d (with_cites r (js ++ c ∷ [])) =
+            sym (cites-more r js c d ∙ rw apart (or-false (has_cite_of eq d (with_cites r js)))) in
             seen_same refl
             (first_note-push eq d rs (with_cites r js) ∙ ap (λ b. option_or (first_note eq d rs) (cond b n None)) cites ∙ sym (first_note-push eq d rs (with_cites r (js ++ c ∷ []))))
             (last_place-push (notes_entry eq d) rs (with_cites r js) ∙ ap (λ b. cond (is_some n && b) (Some (length rs)) (last_place (notes_entry eq d) rs)) cites
@@ -139,7 +136,7 @@ module _ {E P : Type 0} (eq : E → E → Bool) where
         → map (seen_of eq cs rs) es ≡ map (seen_of eq cs (rs ++ r ∷ [])) es
     unnoted cs rs r es none = same es
       where
-        by : (e : E) (o : Option ℕ) (b : Bool) → r.note_number ≡ o → cites_entry eq e r ≡ b → (is_some o && b) ≡ false → cond b r.note_number None ≡ None
+        by : (e : E) (o : Option ℕ) (b : Bool) → r.note_number ≡ o → has_cite_of eq e r ≡ b → (is_some o && b) ≡ false → cond b r.note_number None ≡ None
         by e None true h k q = h
         by e None false h k q = refl
         by e (Some n) true h k q = cc
@@ -153,7 +150,7 @@ module _ {E P : Type 0} (eq : E → E → Bool) where
         one e =
             let first : first_note eq e (rs ++ r ∷ []) ≡ first_note eq e rs =
             first_note-push eq e rs r
-            ∙ ap (λ (o : Option ℕ). option_or (first_note eq e rs) o) (ap (λ b. cond b r.note_number None) refl ∙ by e r.note_number (cites_entry eq e r) refl refl (none e))
+            ∙ ap (λ (o : Option ℕ). option_or (first_note eq e rs) o) (ap (λ b. cond b r.note_number None) refl ∙ by e r.note_number (has_cite_of eq e r) refl refl (none e))
             ∙ or_none (first_note eq e rs) in
             let last : last_place (notes_entry eq e) (rs ++ r ∷ []) ≡ last_place (notes_entry eq e) rs =
             last_place-push (notes_entry eq e) rs r ∙ ap (λ b. cond b (Some (length rs)) (last_place (notes_entry eq e) rs)) (none e) in

@@ -5,7 +5,7 @@ use Rattle.std.specs.Option.{ForSome, option_or}
 use Rattle.std.proofs.lemmas.Bool.{cases_lt}
 use Rattle.std.proofs.lemmas.Bool.Decides.{nat_tests}
 use Rattle.csl_passes.specs.Request.{Request}
-use Rattle.csl_positions.specs.FirstProperties.{cites_entry, first_note, last_of, notes_entry}
+use Rattle.csl_positions.specs.FirstProperties.{has_cite_of, first_note, last_of, notes_entry}
 use Rattle.csl_positions.specs.Seen.{is_within, last_place, last_place_behind}
 
 module _ {X : Type 0} (p : X → Bool) where
@@ -61,20 +61,20 @@ module _ {X : Type 0} (p : X → Bool) where
 module _ {E P : Type 0} (eq : E → E → Bool) (e : E) where
   -- the number of a request that notes e comes first
   pub first_note-push : (rs : List (Request E P)) (r : Request E P)
-      → first_note eq e (rs ++ r ∷ []) ≡ option_or (first_note eq e rs) (cond (cites_entry eq e r) r.note_number None)
-  first_note-push [] r = by r.note_number (cites_entry eq e r) refl
+      → first_note eq e (rs ++ r ∷ []) ≡ option_or (first_note eq e rs) (cond (has_cite_of eq e r) r.note_number None)
+  first_note-push [] r = by r.note_number (has_cite_of eq e r) refl
     where
       by : (o : Option ℕ) (b : Bool) → r.note_number ≡ o → option_and_then (λ q. q.note_number) (cond (is_some o && b) (Some r) None) ≡ cond b o None
       by None true h = refl
       by None false h = refl
       by (Some n) true h = h
       by (Some n) false h = refl
-  first_note-push (q ∷ rs) r = by q.note_number (cites_entry eq e q) refl (first_note-push rs r)
+  first_note-push (q ∷ rs) r = by q.note_number (has_cite_of eq e q) refl (first_note-push rs r)
     where
       by : (o : Option ℕ) (b : Bool) → q.note_number ≡ o
-          → first_note eq e (rs ++ r ∷ []) ≡ option_or (first_note eq e rs) (cond (cites_entry eq e r) r.note_number None)
+          → first_note eq e (rs ++ r ∷ []) ≡ option_or (first_note eq e rs) (cond (has_cite_of eq e r) r.note_number None)
           → option_and_then (λ q. q.note_number) (cond (is_some o && b) (Some q) (find (notes_entry eq e) (rs ++ r ∷ [])))
-          ≡ option_or (option_and_then (λ q. q.note_number) (cond (is_some o && b) (Some q) (find (notes_entry eq e) rs))) (cond (cites_entry eq e r) r.note_number None)
+          ≡ option_or (option_and_then (λ q. q.note_number) (cond (is_some o && b) (Some q) (find (notes_entry eq e) rs))) (cond (has_cite_of eq e r) r.note_number None)
       by None b h k = k
       by (Some n) false h k = k
-      by (Some n) true h k = h ∙ ap (λ o. option_or o (cond (cites_entry eq e r) r.note_number None)) (sym h)
+      by (Some n) true h k = h ∙ ap (λ o. option_or o (cond (has_cite_of eq e r) r.note_number None)) (sym h)

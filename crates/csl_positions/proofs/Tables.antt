@@ -1,4 +1,5 @@
 -- The table of requests, at one of them.
+use mathlib.Core.Bool.{or-true}
 use Rattle.std.proofs.Common.{◌≡◌, ℕ, zero, suc, ◌+◌, ◌<◌, Bool, true, ◌||◌, List, [], ◌∷◌, ◌++◌, length, map, take, drop, get_or, Vec, Global, refl, ap, sym, subst, ◌∙◌, append-nil}
 use Rattle.std.specs.Cmp.{IsEquivalence}
 use Rattle.std.proofs.lemmas.Grind.{flat_map-append}
@@ -6,7 +7,7 @@ use Rattle.std.proofs.lemmas.List.{drop_more, get_or_at, length-map, map-append,
 use Rattle.csl_entries.specs.Entries.{distinct, is_in}
 use Rattle.csl_entries.specs.Laws.{NoTwoEqual}
 use Rattle.csl_entries.specs.Table.{Table, places_in}
-use Rattle.csl_entries.proofs.Distinct.{is_in-append, is_in-distinct, or_true}
+use Rattle.csl_entries.proofs.Distinct.{is_in-append, is_in-distinct}
 use Rattle.csl_entries.proofs.Once.{NoTwoEqual-distinct}
 use Rattle.csl_passes.specs.Request.{Request, cited, cites_of, entries_of}
 use Rattle.csl_positions.specs.Seen.{IsTableOf}
@@ -44,7 +45,7 @@ module _ {E P : Type 0} (eq : E → E → Bool) (laws : IsEquivalence eq) (befor
       ap (λ l. is_in eq e l) entries-are ∙ is_in-distinct eq laws e (cited (before ++ r ∷ of.0)) ∙ ap (λ l. is_in eq e l) all
       ∙ is_in-append eq laws e (cited before) (entries_of r.cites ++ cited of.0)
       ∙ ap (λ b. is_in eq e (cited before) || b) (is_in-append eq laws e (entries_of r.cites) (cited of.0) ∙ ap (λ b. b || is_in eq e (cited of.0)) there)
-      ∙ or_true (is_in eq e (cited before))
+      ∙ or-true (is_in eq e (cited before))
 
   module _ (rows : List (Vec ℕ Global)) (are : map (λ ps. ps.items) rows ≡ table.places) where
     rows-are : map (λ ps. ps.items) rows ≡ map (λ q. places_in eq table.entries q.cites) before ++ places_in eq table.entries r.cites ∷ map (λ q. places_in eq table.entries q.cites) of.0

@@ -10,8 +10,8 @@ use Rattle.csl_positions.specs.FinalProperties.{as_cite, final_position, placed_
 
 module _ {E P : Type 0} where
   -- a cite's place is one of these
-  abbrev pub IsWithin : List ℕ → ItemRender E P → Type 0
-  IsWithin places i = i.properties.certain.initial_idx < length places
+  abbrev pub IsPlacedWithin : List ℕ → ItemRender E P → Type 0
+  IsPlacedWithin places i = i.properties.certain.initial_idx < length places
 
   -- what stands at a cite's place
   abbrev pub led_to : List ℕ → ItemRender E P → ℕ

@@ -22,12 +22,12 @@ numbered_by eq numbers entries e = slice_index_or numbers (place eq e entries) 0
 
 module _ {E P : Type 0} (eq : E → E → Bool) where
   -- the request cites an entry equal to e
-  abbrev pub cites_entry : E → Request E P → Bool
-  cites_entry e r = is_in eq e (entries_of r.cites)
+  abbrev pub has_cite_of : E → Request E P → Bool
+  has_cite_of e r = is_in eq e (entries_of r.cites)
 
   -- it cites such an entry in a note
   abbrev pub notes_entry : E → Request E P → Bool
-  notes_entry e r = is_some r.note_number && cites_entry e r
+  notes_entry e r = is_some r.note_number && has_cite_of e r
 
   -- the number of the first note among these requests that cites e
   abbrev pub first_note : E → List (Request E P) → Option ℕ

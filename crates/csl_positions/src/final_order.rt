@@ -10,8 +10,8 @@ ghost use Rattle.csl_entries.specs.PlacedItems.{ArePlaced};
 ghost use Rattle.csl_entries.specs.TableView.{table_view};
 ghost use Rattle.csl_passes.specs.Positions.{with_last};
 ghost use Rattle.csl_passes.specs.Renders.{ItemRender};
-ghost use Rattle.csl_positions.specs.FinalProperties.{AreFirstItems, as_cite, cited_finally, items_before, with_final_properties};
-ghost use Rattle.csl_positions.specs.FinalSteps.{IsWithin, all_set, first_position, items_at, led_to, placed_item, position_in, stands_of, with_first};
+ghost use Rattle.csl_positions.specs.FinalProperties.{AreFirstItems, as_cite, cited_finally, item_at, items_before, with_final_properties};
+ghost use Rattle.csl_positions.specs.FinalSteps.{IsPlacedWithin, all_set, first_position, items_at, led_to, placed_item, position_in, stands_of, with_first};
 
 use csl_base::entry::EntryLike;
 use csl_entries::listing::Listing;
@@ -23,7 +23,7 @@ use std::alloc::{AllocError, Global};
 
 /// The place of a cite's entry.
 fn place_led_to<T, P>(item: &SpeculativeItemRender<'_, T, P>, places: &[usize]) -> usize
-    requires { IsWithin places.now (item_view item.now) }
+    requires { IsPlacedWithin places.now (item_view item.now) }
     ensures { result ≡ led_to places.now (item_view item.now) }
 {
     places[item.cite_props.certain.initial_idx]
@@ -35,7 +35,7 @@ fn push_places<T, P>(
     items: &[SpeculativeItemRender<'_, T, P>],
     places: &[usize],
 ) -> Result<(), AllocError>
-    requires { All (IsWithin places.now) (items_view items.now) }
+    requires { All (IsPlacedWithin places.now) (items_view items.now) }
     ensures { OnOk result (all.new.items ≡ all.old.items ++ map (led_to places.now) (items_view items.now)) }
 {
     for item in items {
@@ -99,7 +99,7 @@ fn note_firsts<T, P>(
     items: &[SpeculativeItemRender<'_, T, P>],
     places: &[usize],
 )
-    requires within { All (IsWithin places.now) (items_view items.now) }
+    requires within { All (IsPlacedWithin places.now) (items_view items.now) }
     requires led { All (λ i. led_to places.now i < length firsts.old) (items_view items.now) }
     ensures { firsts.new ≡ fold with_first firsts.old (stands_of r places.now (items_view items.now)) }
 {
@@ -138,6 +138,19 @@ pub fn first_items<'a, T: EntryLike, P>(
         note_firsts(&mut firsts, r, &render.items, &places[r]);
     }
     Ok(firsts)
+}
+
+/// The cite at a place, which has the index of its request and its own in the request; none where no cite
+/// stands there.
+pub fn item_at<'c, 'a, T, P>(
+    renders: &'c [SpeculativeCiteRender<'_, 'a, T, P>],
+    place: (usize, usize),
+) -> Option<&'c SpeculativeItemRender<'a, T, P>>
+    ensures { option_map (λ i. item_view i.now) result ≡ item_at (renders_view renders.now) place }
+{
+    let (request, item) = place;
+    let of_request = renders.get(request)?;
+    of_request.items.get(item)
 }
 
 /// The position of a cite behind the last one, which counts as shown.
@@ -217,7 +230,7 @@ fn number_of<T, P>(
     places: &[usize],
     numbers: &[usize],
 ) -> usize
-    requires { IsWithin places.now (item_view item.now) }
+    requires { IsPlacedWithin places.now (item_view item.now) }
     ensures { result ≡ slice_index numbers.now (led_to places.now (item_view item.now)) }
 {
     match numbers.get(place_led_to(item, places)) {
@@ -233,7 +246,7 @@ fn set_items<T: PartialEq, P: PartialEq>(
     places: &[usize],
     numbers: &[usize],
 )
-    requires { All (IsWithin places.now) (items_view items.old) }
+    requires { All (IsPlacedWithin places.now) (items_view items.old) }
     ensures { items_view items.new ≡ all_set T.eq P.eq first places.now numbers.now (items_view items.old) }
 {
     for k in 0..items.len() {

@@ -7,7 +7,7 @@ use Rattle.std.proofs.lemmas.List.{length-set}
 use Rattle.std.proofs.lemmas.List.Elements.{All-nil}
 use Rattle.std.proofs.lemmas.Option.{same_Some}
 use Rattle.csl_ambiguity.specs.Members.{Member, member_at, state_of}
-use Rattle.csl_base.specs.Forms.{Forms, add_name, written}
+use Rattle.csl_base.specs.Forms.{Forms, add_name, form_written}
 use Rattle.csl_base.specs.declared.entry.Person.{Person}
 use Rattle.csl_base.specs.declared.names.DisambiguatedNameForm.{DisambiguatedNameForm}
 use Rattle.csl_base.specs.declared.names.NameDisambiguationProperties.{NameDisambiguationProperties}
@@ -15,7 +15,7 @@ use Rattle.csl_lookup.specs.declared.state.DisambiguateState.{DisambiguateState}
 use Rattle.csl_name_marks.specs.NamedCites.{first_adds_names, greatest_step, named_cite, named_cite_at, named_cites, start}
 use Rattle.csl_name_marks.specs.NameMarks.{after_step, is_by_cite, mark, marks_after, name_marks}
 use Rattle.csl_name_marks.specs.Raising.{raise, raised, raised_at}
-use Rattle.csl_name_marks.specs.Steps.{is_at, others, step, steps}
+use Rattle.csl_name_marks.specs.Steps.{is_own_step, others, step, steps}
 use Rattle.csl_name_marks.specs.declared.named_cite.NamedCite.{NamedCite}
 use Rattle.csl_passes.specs.Places.{cite_at}
 use Rattle.csl_passes.specs.Renders.{CiteRender, ItemRender, Place}
@@ -34,7 +34,7 @@ changed-long f xs i = by (slice_get xs i)
 
 added-long : (i : ℕ) (xs : Forms) → length (add_name i xs) ≡ length xs
 added-long zero xs = refl
-added-long (suc i) xs = changed-long written xs i
+added-long (suc i) xs = changed-long form_written xs i
 
 module _ (group : List NamedCite) (x : NamedCite) (own : Option ℕ) where
   raise-long : (i : ℕ) (xs : Forms) → length (raise group x i xs) ≡ length xs
@@ -49,7 +49,7 @@ module _ (group : List NamedCite) (x : NamedCite) (own : Option ℕ) where
       by (Some p) = changed-long (raised p qs) xs place
 
   step-long : (i : ℕ) (xs : Forms) → length (after_step group x own xs i) ≡ length xs
-  step-long i xs = by (is_by_cite x.rule && is_at i own)
+  step-long i xs = by (is_by_cite x.rule && is_own_step i own)
     where
       by : (b : Bool) → length (add_name i (cond b (raise group x i xs) xs)) ≡ length xs
       by true = added-long i (raise group x i xs) ∙ raise-long i xs

@@ -8,6 +8,7 @@ use Rattle.std.proofs.Math.Nat.{le-max_left, le-max_right}
 use Rattle.std.proofs.lemmas.List.Elements.{All-append, All-cons, All-head, All-nil, All-tail, All-weaker, filter_agree}
 use Rattle.std.proofs.lemmas.List.Folds.{list_any-append}
 use Rattle.std.proofs.lemmas.List.Sums.{sum_by-append, sum_by-cons, sum_by-le}
+use Rattle.std.proofs.lemmas.Bool.{or_right}
 use Rattle.csl_ambiguity.specs.Members.{Member, entry_of, member_at, state_of}
 use Rattle.csl_writers.specs.Writing.{Writing}
 use Rattle.csl_entries.specs.Entries.{distinct}
@@ -32,10 +33,6 @@ use Rattle.csl_round_laws.proofs.Runs.{all-left, all-right}
 use Rattle.csl_round_laws.proofs.Told.{IsTold, item-known, rows-known, rows-told}
 use Rattle.csl_round_laws.proofs.Twice.{same-entry}
 
-or-right : (a b : Bool) → b ≡ true → (a || b) ≡ true
-or-right true b h = refl
-or-right false b h = h
-
 -- sums that rise
 module _ {X : Type 0} (f g : X → ℕ) (q : X → Bool) (up : (x : X) → f x + cond (q x) 1 0 ≤ g x) where
   sum-up : (xs : List X) → sum_by f xs ≤ sum_by g xs
@@ -58,7 +55,7 @@ any-then p q h (x ∷ xs) e = by (p x) refl e (λ k. any-then p q h xs k)
   where
     by : (b : Bool) → p x ≡ b → (b || list_any p xs) ≡ true → (list_any p xs ≡ true → list_any q xs ≡ true) → (q x || list_any q xs) ≡ true
     by true here e more = ap (λ b. b || list_any q xs) (h x here)
-    by false here e more = or-right (q x) (list_any q xs) (more e)
+    by false here e more = or_right (q x) (list_any q xs) (more e)
 
 all-below : {X : Type 0} (f : X → ℕ) (n : ℕ) (xs : List X) → greatest_number (map f xs) ≤ n → All (λ x. f x ≤ n) xs
 all-below f n [] h = All-nil (λ x. f x ≤ n)
@@ -208,7 +205,7 @@ module _ {E P : Type 0} (writing : Writing E P) (firsts : List (CiteRender E P))
               All-cons (λ j. eq x j.entry ≡ true → list_any (eq x) (map (λ i. i.entry) (i ∷ items)) ≡ true) i items
               (λ h. ap (λ b. b || list_any (eq x) (map (λ i. i.entry) items)) h)
               (All-weaker (λ j. eq x j.entry ≡ true → list_any (eq x) (map (λ i. i.entry) items) ≡ true) (λ j. eq x j.entry ≡ true → list_any (eq x) (map (λ i. i.entry) (i ∷ items)) ≡ true)
-              (λ j h e. or-right (eq x i.entry) (list_any (eq x) (map (λ i. i.entry) items)) (h e)) items (row-there x items))
+              (λ j h e. or_right (eq x i.entry) (list_any (eq x) (map (λ i. i.entry) items)) (h e)) items (row-there x items))
 
           each-from : (x : E) (rs : List (CiteRender E P)) → All (λ i. eq x i.entry ≡ true → list_any (eq x) (entries_cited rs) ≡ true) (flat_map (λ c. c.items) rs)
           each-from x [] = All-nil (λ i. eq x i.entry ≡ true → list_any (eq x) [] ≡ true)
@@ -218,7 +215,7 @@ module _ {E P : Type 0} (writing : Writing E P) (firsts : List (CiteRender E P))
               (λ j h e. list_any-append (eq x) (map (λ i. i.entry) r.items) (entries_cited rs) ∙ ap (λ b. b || list_any (eq x) (entries_cited rs)) (h e)) r.items (row-there x r.items))
               (All-weaker (λ j. eq x j.entry ≡ true → list_any (eq x) (entries_cited rs) ≡ true) (λ j. eq x j.entry ≡ true → list_any (eq x) (entries_cited (r ∷ rs)) ≡ true)
               (λ j h e. list_any-append (eq x) (map (λ i. i.entry) r.items) (entries_cited rs)
-              ∙ or-right (list_any (eq x) (map (λ i. i.entry) r.items)) (list_any (eq x) (entries_cited rs)) (h e)) (flat_map (λ c. c.items) rs) (each-from x rs))
+              ∙ or_right (list_any (eq x) (map (λ i. i.entry) r.items)) (list_any (eq x) (entries_cited rs)) (h e)) (flat_map (λ c. c.items) rs) (each-from x rs))
 
       -- in any list that has an entry equal to each that is cited, one gets a mark
       pub one-marked : (es : List E) → ((e : E) → list_any (eq e) (entries_cited firsts) ≡ true → list_any (eq e) es ≡ true) → has_any marks ≡ true → list_any (λ e. is_some (marked e)) es ≡ true

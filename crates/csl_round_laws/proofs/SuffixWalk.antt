@@ -4,11 +4,11 @@ use Rattle.std.specs.Prelude.{All, Contains}
 use Rattle.std.specs.List.{list_any}
 use Rattle.std.proofs.lemmas.List.Elements.{All-append, All-contains, All-contains_itself, All-head, All-nil, All-tail, All-weaker, Contains-append_left, Contains-append_right}
 use Rattle.csl_ambiguity.specs.Members.{Member, entry_of, members}
+use Rattle.csl_ambiguity.proofs.Contained.{any-in}
 use Rattle.csl_lookup.specs.States.{kind_of}
 use Rattle.csl_passes.specs.Renders.{CiteRender, Place}
 use Rattle.csl_round_laws.specs.RoundMarks.{Mark, MarkedGroups, all_ways, by_full, by_three, cites_entry, has_any, marks_of, waits}
 use Rattle.csl_round_laws.proofs.GoneOn.{AreMarkLaws, GoesIn, IsGroup, cites-is}
-use Rattle.csl_round_laws.proofs.Numbered.{any-in}
 use Rattle.csl_round_laws.proofs.Runs.{all-left, all-right}
 
 -- in mode three: all other marks of the round are by names

@@ -8,6 +8,7 @@ use Rattle.csl_ambiguity.specs.Ambiguity.{ambiguous_groups}
 use Rattle.csl_ambiguity.specs.MarkLaws.{HaveNoSuffix, SuffixesCountEntries}
 use Rattle.csl_ambiguity.specs.Members.{Member, entry_of, members, state_of}
 use Rattle.csl_ambiguity.specs.SuffixMarks.{first_cites, shows_dates, suffix_among, suffix_marks}
+use Rattle.csl_ambiguity.proofs.Contained.{in-filter, in-map, any-in, some-in}
 use Rattle.csl_writers.specs.Writing.{Writing}
 use Rattle.csl_entries.specs.Entries.{distinct, is_in}
 use Rattle.csl_entries.specs.Laws.{NoTwoEqual}
@@ -26,7 +27,7 @@ use Rattle.csl_round_laws.specs.declared.mode.RoundMode.{RoundMode}
 use Rattle.csl_round_laws.proofs.GoneOn.{Alike, AreMarkLaws, GoesIn, all-alike, alike-next, are-groups, are-steps, choice-in, cites-is, goes_on, member-told, names-in, next, state-goes, suffixes-in}
 use Rattle.csl_round_laws.proofs.Kept.{all-chosen, all-distinct}
 use Rattle.csl_round_laws.proofs.MarkKinds.{Named, names-named}
-use Rattle.csl_round_laws.proofs.Numbered.{IsBelow, all-numbered, any-in, any-map, in-filter, in-map, none-in, numbered-map, some-in, top-greatest}
+use Rattle.csl_round_laws.proofs.Numbered.{IsBelow, all-numbered, any-map, none-in, numbered-map, top-greatest}
 use Rattle.csl_round_laws.proofs.Runs.{all-passed, run-neighbours, run-pairs}
 use Rattle.csl_round_laws.proofs.SuffixGroups.{own-suffixes}
 use Rattle.csl_round_laws.proofs.SuffixWalk.{full-walked, three-walked}

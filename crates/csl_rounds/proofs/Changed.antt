@@ -5,12 +5,12 @@ use Rattle.std.proofs.Math.ListN.{get_or-map, length-map, set}
 use Rattle.std.proofs.lemmas.List.{get_or_default, take_all}
 use Rattle.std.proofs.lemmas.List.FromFn.{get_or-enumerate_from, length-enumerate_from}
 use Rattle.csl_base.specs.Answers.{Answers}
+use Rattle.csl_passes.specs.ByPlaces.{by_places}
+use Rattle.csl_passes.proofs.Halves.{as_before, half, step, whole}
 use Rattle.csl_writers.specs.Desk.{Desk, after}
 use Rattle.csl_writers.specs.Tasks.{TaskValue}
 use Rattle.csl_writers.specs.Writing.{Writing, writing_of}
 use Rattle.csl_writers.proofs.TasksDone.{after-more, writes-same}
-use Rattle.csl_rounds.specs.Gathered.{by_places}
-use Rattle.csl_rounds.proofs.Halves.{as_before, half, step, whole}
 
 module _ {X Y E P N : Type 0} (view : X → Y) (answers : E → Answers) (f : Writing E P → ℕ → Y → Y) (tasks : ℕ → Y → List (TaskValue E P)) (xs : List X) (old : Desk E P N) where
   -- the first k are changed

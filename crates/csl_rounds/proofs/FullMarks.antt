@@ -9,7 +9,7 @@ use Rattle.std.proofs.lemmas.List.Folds.{list_any-append}
 use Rattle.std.proofs.lemmas.List.Sums.{fold_push}
 use Rattle.csl_passes.specs.Places.{IsPlace}
 use Rattle.csl_passes.specs.Renders.{CiteRender, Place}
-use Rattle.csl_rounds.specs.Gathered.{AreMarked, IsPlaced, counting_ways, entry_place, with_counting}
+use Rattle.csl_rounds.specs.Gathered.{AreMarked, IsKnownPlace, counting_ways, entry_place, with_counting}
 use Rattle.csl_round_laws.specs.RoundMarks.{Mark, waits}
 use Rattle.csl_round_laws.proofs.Kept.{ways-stand}
 use Rattle.csl_rounds.proofs.Placed.{are-placed, group-placed, row, waits-alike}
@@ -24,8 +24,8 @@ module _ {E P : Type 0} (eq : E → E → Bool) (dated : Bool) (rs : List (CiteR
 
   module _ (laws : IsEquivalence eq) (placed : places ≡ map (row eq es places rs) rs) (listed : All (λ ps. All (λ p. p < length es) ps) places)
       (taken : List (List Place)) (marks : List Mark) (flags : List Bool) (so : MarkedSoFar taken marks flags) (g : List Place) (there : All (IsPlace rs) g) where
-    pub group-known : All (IsPlaced places (length flags)) g
-    group-known = subst (λ n. All (IsPlaced places n) g) (sym so.long) (group-placed eq es places rs placed listed g there)
+    pub group-known : All (IsKnownPlace places (length flags)) g
+    group-known = subst (λ n. All (IsKnownPlace places n) g) (sym so.long) (group-placed eq es places rs placed listed g there)
 
     alike : list_any (λ p. get_or flags (entry_place places p) false) g ≡ waits eq rs marks g
     alike = waits-alike eq es places rs placed listed laws marks so.stand flags so.told g there
@@ -46,8 +46,8 @@ module _ {E P : Type 0} (eq : E → E → Bool) (dated : Bool) (rs : List (CiteR
       own-stand : All (λ m. IsPlace rs m.0) own
       own-stand = subst (All (λ m. IsPlace rs m.0)) (sym is) (ways-stand rs eq dated g)
 
-      pub own-known : All (λ m. IsPlaced places (length flags) m.0) own
-      own-known = subst (λ n. All (λ m. IsPlaced places n m.0) own) (sym so.long) (are-placed eq es places rs placed listed own own-stand)
+      pub own-known : All (λ m. IsKnownPlace places (length flags) m.0) own
+      own-known = subst (λ n. All (λ m. IsKnownPlace places n m.0) own) (sym so.long) (are-placed eq es places rs placed listed own own-stand)
 
       -- and one that is marked
       pub group-marked : list_any (λ p. get_or flags (entry_place places p) false) g ≡ false → (now : List Mark) (noted : List Bool) → now ≡ marks ++ own

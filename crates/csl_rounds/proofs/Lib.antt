@@ -1,7 +1,6 @@
 pub mod Pairs
 pub mod Made
 pub mod FirstSteps
-pub mod Halves
 pub mod Changed
 pub mod Walk
 pub mod Counted

@@ -9,15 +9,15 @@ use Rattle.csl_entries.specs.Table.{Table}
 use Rattle.std.specs.Cmp.{IsEquivalence}
 use Rattle.csl_lookup.specs.declared.state.DisambiguateState.{DisambiguateState}
 use Rattle.csl_passes.specs.Places.{IsPlace}
+use Rattle.csl_passes.proofs.Halves.{by_places-at, by_places-length}
 use Rattle.csl_rounds.specs.CitesOfTable.{AreCitesOfTable}
-use Rattle.csl_rounds.specs.Gathered.{AreGreatest, IsPlaced, document_again, document_tasks, put_before}
+use Rattle.csl_rounds.specs.Gathered.{AreGreatest, IsKnownPlace, document_again, document_tasks, put_before}
 use Rattle.csl_round_laws.specs.RoundMarks.{Mark, has_any, round_marks}
 use Rattle.csl_round_laws.proofs.Kept.{marks-stand, places-kept, rings-kept}
 use Rattle.csl_rounds.proofs.Placed.{are-placed, document-alike, state-at, tasks-alike}
 use Rattle.csl_round_laws.specs.Rerenders.{AreStatesOf}
 use Rattle.csl_round_laws.specs.Rounds.{StateTable, again_tasks, at_table, mark_of, marked_by, no_states, tasks_with, with_marks}
 use Rattle.csl_round_laws.specs.declared.mode.RoundMode.{RoundMode}
-use Rattle.csl_rounds.proofs.Halves.{by_places-at, by_places-length}
 use Rattle.csl_round_laws.proofs.Twice.{nothing-new}
 use Rattle.csl_writers.specs.Desk.{Desk, after}
 use Rattle.std.specs.List.{flat_map}
@@ -59,10 +59,10 @@ module _ {E P : Type 0} (eq : E → E → Bool) (rs : List (CiteRender E P)) (ma
 -- the parts of a round fit
 module _ {E P : Type 0} (mode : RoundMode) (eq : E → E → Bool) (writing : Writing E P) (table : Table E) (rs : List (CiteRender E P)) (are : AreCitesOfTable eq table rs) where
   pub round-placed : (places : List (List ℕ)) (count : ℕ) (marks : List Mark) → places ≡ table.places → count ≡ length table.entries → marks ≡ round_marks mode eq writing.answers rs
-      → All (λ m. IsPlaced places count m.0) marks
+      → All (λ m. IsKnownPlace places count m.0) marks
   round-placed places count marks e f m =
-      subst (λ ps. All (λ m. IsPlaced ps count m.0) marks) (sym e)
-      (subst (λ n. All (λ m. IsPlaced table.places n m.0) marks) (sym f)
+      subst (λ ps. All (λ m. IsKnownPlace ps count m.0) marks) (sym e)
+      (subst (λ n. All (λ m. IsKnownPlace table.places n m.0) marks) (sym f)
       (are-placed eq table.entries table.places rs are.placed are.listed marks (subst (λ ms. All (λ m. IsPlace rs m.0) ms) (sym m) (marks-stand rs mode eq writing))))
 
   abbrev all : List Mark

@@ -39,3 +39,7 @@ module _ {E P : Type 0} (eq : E → E → Bool) (table : Table E) (cites : List 
     row-listed n same =
         subst (λ m. All (λ p. p < m) (get_or table.places r [])) (sym same)
         (All-get_or (λ ps. All (λ p. p < length table.entries) ps) table.places r [] row-within are.listed)
+
+-- the member of a list at a place that another list gives
+pub named_by : {X : Type 0} (xs : List (Option X)) (ps : List ℕ) (k : ℕ) (x : Option X) → All (λ p. p < length xs) ps → k < length ps → x ≡ get_or xs (get_or ps k 0) x → x ≡ get_or xs (get_or ps k 0) None
+named_by xs ps k x all h e = e ∙ get_or_default xs (get_or ps k 0) x None (All-get_or (λ p. p < length xs) ps k 0 h all)

@@ -18,7 +18,7 @@ use Rattle.csl_lookup.specs.declared.state.DisambiguateState.{DisambiguateState}
 use Rattle.csl_passes.specs.Places.{IsPlace}
 use Rattle.csl_passes.specs.Renders.{CiteRender, ItemRender, Place}
 use Rattle.csl_passes.specs.Request.{Request}
-use Rattle.csl_rounds.specs.Gathered.{AreGreatest, IsPlaced, cite_again, document_again, document_tasks, entry_place, greatest_at, request_again, request_tasks, state_at}
+use Rattle.csl_rounds.specs.Gathered.{AreGreatest, IsKnownPlace, cite_again, document_again, document_tasks, entry_place, greatest_at, request_again, request_tasks, state_at}
 use Rattle.csl_round_laws.specs.RoundMarks.{Mark, cites_entry, greatest_state, waits}
 use Rattle.csl_round_laws.specs.Rounds.{again_tasks, again_tasks_of, at_table, mark_of, request_at, tasks_with, with_any}
 
@@ -113,7 +113,7 @@ module _ {E P : Type 0} (eq : E → E → Bool) (es : List E) (places : List (Li
     entry-at : (at : Place) (s : Stands at) → entry_place places at ≡ place eq s.item.entry es
     entry-at at s = ap (λ l. get_or l at.1 0) (row-at at.0 s.cite s.request) ∙ map-at (λ i. place eq i.entry es) s.cite.items at.1 s.item 0 s.here
 
-    is-placed : (at : Place) → Stands at → IsPlaced places (length es) at
+    is-placed : (at : Place) → Stands at → IsKnownPlace places (length es) at
     is-placed at s =
         let requests : at.0 < length places = subst (λ n. at.0 < n) (sym (length-map cites row) ∙ ap length (sym placed)) (slice_get_within cites at.0 s.cite s.request) in
         let within : at.1 < length (get_or places at.0 []) =
@@ -125,11 +125,11 @@ module _ {E P : Type 0} (eq : E → E → Bool) (es : List E) (places : List (Li
         }
 
     -- the places of cites are known
-    pub group-placed : (group : List Place) → All (IsPlace cites) group → All (IsPlaced places (length es)) group
+    pub group-placed : (group : List Place) → All (IsPlace cites) group → All (IsKnownPlace places (length es)) group
     group-placed group h = λ k p within. is-placed (get_or group k p) (stands (get_or group k p) (h k p within))
 
     -- the marks of cites have places
-    pub are-placed : (marks : List Mark) → All (λ m. IsPlace cites m.0) marks → All (λ m. IsPlaced places (length es) m.0) marks
+    pub are-placed : (marks : List Mark) → All (λ m. IsPlace cites m.0) marks → All (λ m. IsKnownPlace places (length es) m.0) marks
     are-placed marks h = λ k m within. is-placed (get_or marks k m).0 (stands (get_or marks k m).0 (h k m within))
 
     module _ (laws : IsEquivalence eq) where

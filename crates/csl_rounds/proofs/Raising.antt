@@ -8,7 +8,7 @@ use Rattle.std.proofs.lemmas.List.Elements.{All-head, All-tail, filter-append}
 use Rattle.std.proofs.lemmas.List.Sums.{fold_push}
 use Rattle.csl_lookup.specs.States.{greater}
 use Rattle.csl_lookup.specs.declared.state.DisambiguateState.{DisambiguateState}
-use Rattle.csl_rounds.specs.Gathered.{AreGreatest, IsPlaced, entry_place, greatest_at, with_greater}
+use Rattle.csl_rounds.specs.Gathered.{AreGreatest, IsKnownPlace, entry_place, greatest_at, with_greater}
 use Rattle.csl_round_laws.specs.RoundMarks.{Mark, greatest_state}
 
 greatest-more : (ss : List DisambiguateState) (s : DisambiguateState) → greatest_state (ss ++ s ∷ []) ≡ with_greater (greatest_state ss) s
@@ -68,12 +68,12 @@ module _ (places : List (List ℕ)) (count : ℕ) (all : List Mark) where
   }
 
   -- what is put in next has a place
-  pub next-placed : (states : List (Option DisambiguateState)) (m : Mark) (rest left : List Mark) → left ≡ m ∷ rest → All (λ n. IsPlaced places count n.0) all → SoFar states left → IsPlaced places count m.0
-  next-placed states m rest left e placed so = at so.done (subst (λ ms. All (λ n. IsPlaced places count n.0) ms) (sym so.split ∙ ap (λ l. so.done ++ l) e) placed)
+  pub next-placed : (states : List (Option DisambiguateState)) (m : Mark) (rest left : List Mark) → left ≡ m ∷ rest → All (λ n. IsKnownPlace places count n.0) all → SoFar states left → IsKnownPlace places count m.0
+  next-placed states m rest left e placed so = at so.done (subst (λ ms. All (λ n. IsKnownPlace places count n.0) ms) (sym so.split ∙ ap (λ l. so.done ++ l) e) placed)
     where
-      at : (done : List Mark) → All (λ n. IsPlaced places count n.0) (done ++ m ∷ rest) → IsPlaced places count m.0
-      at [] h = All-head (λ n. IsPlaced places count n.0) m rest h
-      at (d ∷ ds) h = at ds (All-tail (λ n. IsPlaced places count n.0) d (ds ++ m ∷ rest) h)
+      at : (done : List Mark) → All (λ n. IsKnownPlace places count n.0) (done ++ m ∷ rest) → IsKnownPlace places count m.0
+      at [] h = All-head (λ n. IsKnownPlace places count n.0) m rest h
+      at (d ∷ ds) h = at ds (All-tail (λ n. IsKnownPlace places count n.0) d (ds ++ m ∷ rest) h)
 
   -- a mark is put in
   pub one-more : (states now : List (Option DisambiguateState)) (m : Mark) (rest left : List Mark) (p : ℕ) (d : Option DisambiguateState) → left ≡ m ∷ rest → p ≡ entry_place places m.0 → p < count

@@ -7,6 +7,7 @@ use Rattle.csl_lookup.specs.States.{greater}
 use Rattle.csl_lookup.specs.declared.purpose.CitePurpose.{CitePurpose}
 use Rattle.csl_lookup.specs.declared.state.DisambiguateState.{DisambiguateState}
 use Rattle.csl_name_marks.specs.NameMarks.{name_marks}
+use Rattle.csl_passes.specs.ByPlaces.{by_places}
 use Rattle.csl_passes.specs.Renders.{CiteRender, ItemRender, Place}
 use Rattle.csl_passes.specs.Request.{Request, source_of}
 use Rattle.csl_round_laws.specs.RoundMarks.{Mark, all_ways, by_choice, by_suffix, greatest_state, or_others, waits, ways}
@@ -42,7 +43,7 @@ abbrev pub entry_place : List (List ℕ) → Place → ℕ
 entry_place places at = slice_index (slice_index_or places at.0 []) at.1
 
 -- such a place is known, and below a number
-pub record IsPlaced (places : List (List ℕ)) (count : ℕ) (at : Place) : Type 0 where
+pub record IsKnownPlace (places : List (List ℕ)) (count : ℕ) (at : Place) : Type 0 where
   pub request : at.0 < length places
   pub cite : at.1 < length (slice_index_or places at.0 [])
   pub below : entry_place places at < count
@@ -63,10 +64,6 @@ abbrev pub AreMarked : List (List ℕ) → List Mark → List Bool → List Bool
 AreMarked places marks old new =
     (p : ℕ) → p < length old → slice_index_or new p false
     ≡ (slice_index_or old p false || list_any (λ m. nat_eq (entry_place places m.0) p) marks)
-
--- each member changed by its place
-abbrev pub by_places : {X : Type 0} → (ℕ → X → X) → List X → List X
-by_places change xs = map (λ p. change p.0 p.1) (enumerate_from 0 xs)
 
 -- states before those that were there
 abbrev pub put_before : List (Option DisambiguateState) → List (Option DisambiguateState)

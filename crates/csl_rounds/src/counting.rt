@@ -3,7 +3,7 @@ ghost use Rattle.std.specs.Prelude.{◌≡◌, All, IfOk, false, filter, length,
 ghost use Rattle.std.specs.List.{list_any};
 ghost use Rattle.csl_ambiguity.specs.Members.{member_at, state_of};
 ghost use Rattle.csl_passes.specs.RendersView.{renders_view};
-ghost use Rattle.csl_rounds.specs.Gathered.{AreMarked, IsPlaced, entry_place};
+ghost use Rattle.csl_rounds.specs.Gathered.{AreMarked, IsKnownPlace, entry_place};
 ghost use Rattle.csl_round_laws.specs.RoundMarks.{counts, raises};
 
 use crate::states::entry_place;
@@ -76,7 +76,7 @@ fn raises(state: &DisambiguateState, mark: &DisambiguateState) -> bool
 
 /// Whether some cite of a group cites an entry that is marked.
 pub(crate) fn waits(places: &[Vec<usize>], marked: &[bool], group: &AmbiguousGroup) -> bool
-    requires placed { All (IsPlaced (map (λ ps. ps.items) places.now) (length marked.now)) group.now.items }
+    requires placed { All (IsKnownPlace (map (λ ps. ps.items) places.now) (length marked.now)) group.now.items }
     ensures { result ≡ list_any
         (λ p. slice_index_or marked.now (entry_place (map (λ ps. ps.items) places.now) p) false)
         group.now.items }
@@ -91,7 +91,7 @@ pub(crate) fn waits(places: &[Vec<usize>], marked: &[bool], group: &AmbiguousGro
 
 /// Notes that the entries of these marks are marked.
 pub(crate) fn note(places: &[Vec<usize>], marked: &mut [bool], marks: &Marks)
-    requires placed { All (λ m. IsPlaced (map (λ ps. ps.items) places.now) (length marked.old) m.0)
+    requires placed { All (λ m. IsKnownPlace (map (λ ps. ps.items) places.now) (length marked.old) m.0)
         marks.now.items }
     ensures long { length marked.new ≡ length marked.old }
     ensures noted { AreMarked (map (λ ps. ps.items) places.now) marks.now.items marked.old marked.new }

@@ -1,10 +1,11 @@
 //! Cites rendered again, where their entries are disambiguated by something new.
 ghost use Rattle.std.specs.Prelude.{◌≡◌, ◌∷◌, [], OnOk, length};
 ghost use Rattle.csl_entries.specs.TableView.{table_view};
+ghost use Rattle.csl_passes.specs.ByPlaces.{by_places};
 ghost use Rattle.csl_passes.specs.RequestView.{request_view};
 ghost use Rattle.csl_passes.specs.RendersView.{item_view, items_view, renders_view};
 ghost use Rattle.csl_rounds.specs.CitesOfTable.{AreCitesOfTable, ArePlacesOf};
-ghost use Rattle.csl_rounds.specs.Gathered.{by_places, cite_again, document_again, document_tasks, request_tasks};
+ghost use Rattle.csl_rounds.specs.Gathered.{cite_again, document_again, document_tasks, request_tasks};
 ghost use Rattle.csl_round_laws.specs.Rounds.{again_task, rendered_again, tasks_with, with_any};
 ghost use Rattle.csl_writers.specs.Desk.{after, desk};
 ghost use Rattle.csl_writers.specs.Tasks.{cite_task};

@@ -1,7 +1,7 @@
 //! The states that entries get in a round, by the places of the entries.
 ghost use Rattle.std.specs.Prelude.{◌≡◌, All, IfOk, None, OnOk, length, map, replicate};
 ghost use Rattle.std.specs.Option.{option_or};
-ghost use Rattle.csl_rounds.specs.Gathered.{AreGreatest, IsPlaced, entry_place, put_before, with_greater};
+ghost use Rattle.csl_rounds.specs.Gathered.{AreGreatest, IsKnownPlace, entry_place, put_before, with_greater};
 
 use csl_lookup::state::DisambiguateState;
 use csl_passes::renders::Marks;
@@ -17,7 +17,7 @@ pub(crate) fn greatest_marks(
     count: usize,
     marks: Marks,
 ) -> Result<States, AllocError>
-    requires placed { All (λ m. IsPlaced (map (λ ps. ps.items) places.now) count m.0) marks.items }
+    requires placed { All (λ m. IsKnownPlace (map (λ ps. ps.items) places.now) count m.0) marks.items }
     ensures { IfOk result (λ v. AreGreatest (map (λ ps. ps.items) places.now) marks.items count v.items) }
 {
     let mut states = no_states(alloc, count)?;
@@ -51,7 +51,7 @@ pub(crate) fn no_states(alloc: Global, count: usize) -> Result<States, AllocErro
 
 /// The place of the entry that is cited at a place.
 pub(crate) fn entry_place(places: &[Vec<usize>], at: (usize, usize), count: usize) -> usize
-    requires placed { IsPlaced (map (λ ps. ps.items) places.now) count at }
+    requires placed { IsKnownPlace (map (λ ps. ps.items) places.now) count at }
     ensures { result ≡ entry_place (map (λ ps. ps.items) places.now) at }
 {
     let (request, cite) = at;

@@ -4,7 +4,7 @@ use Rattle.std.proofs.lemmas.List.{append-nil}
 use Rattle.csl_base.specs.Element.{Name, Macro}
 use Rattle.csl_base.specs.Calls.{Names}
 use Rattle.csl_base.specs.Ring.{has_name, body_of}
-use Rattle.csl_styles.specs.Gathered.{with_new, add_new, add_each}
+use Rattle.csl_styles.specs.Gathered.{with_new_name, gather_new, gather_each}
 use Rattle.csl_styles.proofs.NameLists.{has_name-left, has_name-right, has_name-either, has_name-one, has_name-same, left, left-lt}
 
 -- what one more name changes
@@ -15,7 +15,7 @@ pub record IsAdded (ms : List Macro) (bs os ns : Names) : Type 0 where
   pub only : (b : Name) → has_name b extra ≡ true → has_name b bs ≡ true
   pub leaves : left ns ms + length ns ≤ left os ms + length os
 
-is_added-one : (ms : List Macro) (b : Name) (os : Names) (has there : Bool) → has ≡ is_some (body_of b ms) → there ≡ has_name b os → IsAdded ms (b ∷ []) os (with_new has there b os)
+is_added-one : (ms : List Macro) (b : Name) (os : Names) (has there : Bool) → has ≡ is_some (body_of b ms) → there ≡ has_name b os → IsAdded ms (b ∷ []) os (with_new_name has there b os)
 is_added-one ms b os true false h t = record {
   extra = b ∷ [];
   appends = refl;
@@ -38,7 +38,7 @@ is_added-one ms b os false there h t = record {
   leaves = omega arith;
 }
 
-pub is_added : (ms : List Macro) (bs os : Names) → IsAdded ms bs os (add_each ms bs os)
+pub is_added : (ms : List Macro) (bs os : Names) → IsAdded ms bs os (gather_each ms bs os)
 is_added ms [] os = record {
   extra = [];
   appends = sym (append-nil os);
@@ -48,12 +48,12 @@ is_added ms [] os = record {
 }
 is_added ms (b ∷ bs) os =
     let one = is_added-one ms b os (is_some (body_of b ms)) (has_name b os) refl refl in
-    let rest = is_added ms bs (add_new ms b os) in
+    let rest = is_added ms bs (gather_new ms b os) in
     record {
       extra = one.extra ++ rest.extra;
       appends = rest.appends ∙ ap (λ xs. xs ++ rest.extra) one.appends ∙ append_assoc os one.extra rest.extra;
       covers = λ c e s. elim (has_name-either c (b ∷ []) bs e) [
-        | inl h ↦ subst (λ xs. has_name c xs ≡ true) (sym rest.appends) (has_name-left c (add_new ms b os) rest.extra (one.covers c h s))
+        | inl h ↦ subst (λ xs. has_name c xs ≡ true) (sym rest.appends) (has_name-left c (gather_new ms b os) rest.extra (one.covers c h s))
         | inr h ↦ rest.covers c h s
       ];
       only = λ c e. elim (has_name-either c one.extra rest.extra e) [
@@ -63,7 +63,7 @@ is_added ms (b ∷ bs) os =
       leaves = omega (arith, one.leaves, rest.leaves);
     }
 
-pub grows : (ms : List Macro) (bs os : Names) (c : Name) → has_name c os ≡ true → has_name c (add_each ms bs os) ≡ true
+pub grows : (ms : List Macro) (bs os : Names) (c : Name) → has_name c os ≡ true → has_name c (gather_each ms bs os) ≡ true
 grows ms bs os c h =
     let added = is_added ms bs os in
     subst (λ xs. has_name c xs ≡ true) (sym added.appends) (has_name-left c os added.extra h)
@@ -73,7 +73,7 @@ has_name-at x [] i lt e = absurd (omega arith)
 has_name-at x (y ∷ ys) zero lt e = subst (λ z. has_name x (z ∷ ys) ≡ true) e (has_name-left x (x ∷ []) ys (has_name-one x))
 has_name-at x (y ∷ ys) (suc i) lt e = has_name-right x (y ∷ []) ys (has_name-at x ys i (omega arith) e)
 
-pub falls : (ms : List Macro) (bs ns : Names) (at : ℕ) → at < length ns → left (add_each ms bs ns) ms + (length (add_each ms bs ns) - (at + 1)) < left ns ms + (length ns - at)
+pub falls : (ms : List Macro) (bs ns : Names) (at : ℕ) → at < length ns → left (gather_each ms bs ns) ms + (length (gather_each ms bs ns) - (at + 1)) < left ns ms + (length ns - at)
 falls ms bs ns at lt =
     let added = is_added ms bs ns in
     omega (arith, added.leaves, ap length added.appends, length-append ns added.extra)

@@ -5,45 +5,34 @@ use Rattle.std.specs.Borrow.{Bor}
 use Rattle.std.specs.List.{list_any}
 use Rattle.std.specs.Cmp.Lexicographic.{same_text}
 use Rattle.std.proofs.lemmas.Cmp.{nat_list_eq_equiv}
+use Rattle.std.proofs.lemmas.Bool.{or_left, or_right, or_cases}
 use Rattle.csl_base.specs.Element.{Name, Macro}
 use Rattle.csl_base.specs.Calls.{Names}
 use Rattle.csl_base.specs.Ring.{has_name, body_of}
-use Rattle.csl_styles.specs.Gathered.{with_new}
-
-pub or-left : (b c : Bool) → b ≡ true → (b || c) ≡ true
-or-left true c e = refl
-or-left false c e = cc
-
-pub or-right : (b c : Bool) → c ≡ true → (b || c) ≡ true
-or-right true c e = refl
-or-right false c e = e
-
-pub or-either : (b c : Bool) → (b || c) ≡ true → (b ≡ true) ⊎ (c ≡ true)
-or-either true c e = inl refl
-or-either false c e = inr e
+use Rattle.csl_styles.specs.Gathered.{with_new_name}
 
 pub has_name-left : (a : Name) (xs ys : Names) → has_name a xs ≡ true → has_name a (xs ++ ys) ≡ true
 has_name-left a [] ys e = cc
 has_name-left a (x ∷ xs) ys e =
-    elim (or-either (bytes_eq x a) _ e) [ inl h ↦ or-left _ _ h | inr h ↦ or-right (bytes_eq x a) _ (has_name-left a xs ys h) ]
+    elim (or_cases (bytes_eq x a) _ e) [ inl h ↦ or_left _ _ h | inr h ↦ or_right (bytes_eq x a) _ (has_name-left a xs ys h) ]
 
 pub has_name-right : (a : Name) (xs ys : Names) → has_name a ys ≡ true → has_name a (xs ++ ys) ≡ true
 has_name-right a [] ys e = e
-has_name-right a (x ∷ xs) ys e = or-right (bytes_eq x a) _ (has_name-right a xs ys e)
+has_name-right a (x ∷ xs) ys e = or_right (bytes_eq x a) _ (has_name-right a xs ys e)
 
 pub has_name-either : (a : Name) (xs ys : Names) → has_name a (xs ++ ys) ≡ true → (has_name a xs ≡ true) ⊎ (has_name a ys ≡ true)
 has_name-either a [] ys e = inr e
 has_name-either a (x ∷ xs) ys e =
-    elim (or-either (bytes_eq x a) _ e) [
-      | inl h ↦ inl (or-left _ _ h)
-      | inr h ↦ elim (has_name-either a xs ys h) [ inl k ↦ inl (or-right (bytes_eq x a) _ k) | inr k ↦ inr k ]
+    elim (or_cases (bytes_eq x a) _ e) [
+      | inl h ↦ inl (or_left _ _ h)
+      | inr h ↦ elim (has_name-either a xs ys h) [ inl k ↦ inl (or_right (bytes_eq x a) _ k) | inr k ↦ inr k ]
     ]
 
 pub has_name-one : (a : Name) → has_name a (a ∷ []) ≡ true
-has_name-one a = or-left (bytes_eq a a) false (nat_list_eq_equiv.refl a)
+has_name-one a = or_left (bytes_eq a a) false (nat_list_eq_equiv.refl a)
 
 pub has_name-same : (a b : Name) → has_name a (b ∷ []) ≡ true → b ≡ a
-has_name-same a b e = elim (or-either (bytes_eq b a) false e) [ inl h ↦ same_text b a (sym h) | inr h ↦ cc ]
+has_name-same a b e = elim (or_cases (bytes_eq b a) false e) [ inl h ↦ same_text b a (sym h) | inr h ↦ cc ]
 
 abbrev one_unless : Bool → ℕ
 one_unless true = 0
@@ -97,11 +86,11 @@ map-last (k ∷ ks) x = ap (λ ns. k.now ∷ ns) (map-last ks x)
 
 -- and with one more
 pub with_named : (x : Bor Name) (keys : List (Bor Name)) → map (λ (s : Bor Name). s.now) (cond (list_any (λ (k : Bor Name). bytes_eq x.now k.now) keys) keys (keys ++ x ∷ []))
-    ≡ with_new true (has_name x.now (map (λ s. s.now) keys)) x.now (map (λ s. s.now) keys)
+    ≡ with_new_name true (has_name x.now (map (λ s. s.now) keys)) x.now (map (λ s. s.now) keys)
 with_named x keys =
-    let by : (b : Bool) → map (λ (s : Bor Name). s.now) (cond b keys (keys ++ x ∷ [])) ≡ with_new true b x.now (map (λ (s : Bor Name). s.now) keys) = λ b.
-    elim b as (λ b. map (λ (s : Bor Name). s.now) (cond b keys (keys ++ x ∷ [])) ≡ with_new true b x.now (map (λ (s : Bor Name). s.now) keys)) [
+    let by : (b : Bool) → map (λ (s : Bor Name). s.now) (cond b keys (keys ++ x ∷ [])) ≡ with_new_name true b x.now (map (λ (s : Bor Name). s.now) keys) = λ b.
+    elim b as (λ b. map (λ (s : Bor Name). s.now) (cond b keys (keys ++ x ∷ [])) ≡ with_new_name true b x.now (map (λ (s : Bor Name). s.now) keys)) [
       | true ↦ refl
       | false ↦ map-last keys x
     ] in
-    by _ ∙ ap (λ b. with_new true b x.now (map (λ (s : Bor Name). s.now) keys)) (any-named x keys)
+    by _ ∙ ap (λ b. with_new_name true b x.now (map (λ (s : Bor Name). s.now) keys)) (any-named x keys)

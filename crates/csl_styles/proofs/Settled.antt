@@ -4,11 +4,11 @@ use Rattle.std.proofs.Common.{◌≡◌, ℕ, zero, suc, ◌+◌, ◌≤◌, Lis
 use Rattle.std.specs.Prelude.{bytes_eq}
 use Rattle.std.specs.Cmp.Lexicographic.{same_text}
 use Rattle.std.proofs.lemmas.Cmp.{nat_list_eq_equiv}
-use Rattle.std.proofs.lemmas.Bool.{false≢true}
+use Rattle.std.proofs.lemmas.Bool.{false≢true, or_left, or_right}
 use Rattle.csl_base.specs.Element.{Name, Elements, Macro}
 use Rattle.csl_base.specs.Calls.{Names}
 use Rattle.csl_base.specs.Ring.{has_name, body_of, Calls, IsWalk, HasNoRing}
-use Rattle.csl_styles.proofs.NameLists.{or-left, or-right, left, left-lt, left-empty}
+use Rattle.csl_styles.proofs.NameLists.{left, left-lt, left-empty}
 
 -- a walk, and one call more
 walk-more : (ms : List Macro) (a : Name) (between : Names) (b c : Name) → IsWalk ms a between b → Calls ms b c → IsWalk ms a (between ++ b ∷ []) c
@@ -18,7 +18,7 @@ walk-more ms a (d ∷ between) b c w h = (w.0, walk-more ms d between b c w.1 h)
 -- one more open name leaves fewer macros, where it has one
 opened : (a : Name) (os : Names) (ms : List Macro) (es : Elements) → Some es ≡ body_of a ms → has_name a os ≡ false → left (a ∷ os) ms + 1 ≤ left os ms
 opened a os ms es e out =
-    left-lt a os (a ∷ os) ms (ap is_some (sym e)) out (λ b h. or-right (bytes_eq a b) _ h) (or-left (bytes_eq a a) _ (nat_list_eq_equiv.refl a))
+    left-lt a os (a ∷ os) ms (ap is_some (sym e)) out (λ b h. or_right (bytes_eq a b) _ h) (or_left (bytes_eq a a) _ (nat_list_eq_equiv.refl a))
 
 module _ (ms : List Macro) (no_ring : HasNoRing ms) where
   -- each open name leads to this one

@@ -6,12 +6,13 @@ use Rattle.std.specs.Option.{option_map_or}
 use Rattle.std.specs.Cmp.Lexicographic.{same_text}
 use Rattle.std.proofs.lemmas.Cmp.{nat_list_eq_equiv}
 use Rattle.std.proofs.lemmas.List.{take_all, take_more, take-append-le}
+use Rattle.std.proofs.lemmas.Bool.{or_left, or_right, or_cases}
 use Rattle.csl_base.specs.Element.{Name, Target, value_target, standard_target, macro_target, term_target, Element, text_element, number_element, date_element, names_element, group_element, choose_element, Elements, no_elements, element, Branches, otherwise, branch, Macro}
 use Rattle.csl_base.specs.Calls.{Names, target_calls, calls, calls_of_all, calls_of_branches}
 use Rattle.csl_base.specs.Ring.{has_name, body_of, body_calls, macro_calls, Calls, HasNoRing}
-use Rattle.csl_styles.specs.Gathered.{add_each}
+use Rattle.csl_styles.specs.Gathered.{gather_each}
 use Rattle.csl_styles.specs.SuffixText.{suffix_in_target, suffix_in, suffix_in_all, suffix_in_branches, no_call, suffix_in_body, suffix_in_macro, suffix_stands, suffix_called, SuffixesUnfold}
-use Rattle.csl_styles.proofs.NameLists.{or-left, or-right, or-either, has_name-either, has_name-same}
+use Rattle.csl_styles.proofs.NameLists.{has_name-either, has_name-same}
 use Rattle.csl_styles.proofs.Settled.{meaning, settled}
 use Rattle.csl_styles.proofs.Gathering.{is_added, grows, has_name-at}
 
@@ -35,9 +36,9 @@ any-append f (x ∷ xs) ys =
 any-true : (f : Name → Bool) (a : Name) (xs : Names) → has_name a xs ≡ true → f a ≡ true → list_any f xs ≡ true
 any-true f a [] h e = cc
 any-true f a (x ∷ xs) h e =
-    elim (or-either (bytes_eq x a) _ h) [
-      | inl q ↦ or-left (f x) _ (ap f (same_text x a (sym q)) ∙ e)
-      | inr k ↦ or-right (f x) _ (any-true f a xs k e)
+    elim (or_cases (bytes_eq x a) _ h) [
+      | inl q ↦ or_left (f x) _ (ap f (same_text x a (sym q)) ∙ e)
+      | inr k ↦ or_right (f x) _ (any-true f a xs k e)
     ]
 
 both-false : (b c : Bool) → b ≡ false → c ≡ false → (b || c) ≡ false
@@ -47,13 +48,13 @@ both-false false c e h = h
 any-false : (f : Name → Bool) (xs : Names) → ((a : Name) → has_name a xs ≡ true → f a ≡ false) → list_any f xs ≡ false
 any-false f [] h = refl
 any-false f (x ∷ xs) h =
-    both-false (f x) _ (h x (or-left (bytes_eq x x) _ (nat_list_eq_equiv.refl x))) (any-false f xs (λ a k. h a (or-right (bytes_eq x a) _ k)))
+    both-false (f x) _ (h x (or_left (bytes_eq x x) _ (nat_list_eq_equiv.refl x))) (any-false f xs (λ a k. h a (or_right (bytes_eq x a) _ k)))
 
 any-same : (f g : Name → Bool) (xs : Names) → ((a : Name) → has_name a xs ≡ true → f a ≡ g a) → list_any f xs ≡ list_any g xs
 any-same f g [] h = refl
 any-same f g (x ∷ xs) h =
-    let one = h x (or-left (bytes_eq x x) _ (nat_list_eq_equiv.refl x)) in
-    let rest = any-same f g xs (λ a k. h a (or-right (bytes_eq x a) _ k)) in
+    let one = h x (or_left (bytes_eq x x) _ (nat_list_eq_equiv.refl x)) in
+    let rest = any-same f g xs (λ a k. h a (or_right (bytes_eq x a) _ k)) in
     λ i. one i || rest i
 
 -- the text stands in elements, or in a macro that they call
@@ -130,7 +131,7 @@ module _ (ms : List Macro) (no_ring : HasNoRing ms) where
       let by : (o : Option Elements) → has_name b (body_calls o) ≡ true → suffix_in_body (stands ms) o ≡ true = λ o.
       elim o as (λ o. has_name b (body_calls o) ≡ true → suffix_in_body (stands ms) o ≡ true) [
         | None ↦ λ k. cc
-        | Some es ↦ λ k. in_all (stands ms) es ∙ or-right (suffix_in_all no_call es) _ (any-true (stands ms) b (calls_of_all es) k e)
+        | Some es ↦ λ k. in_all (stands ms) es ∙ or_right (suffix_in_all no_call es) _ (any-true (stands ms) b (calls_of_all es) k e)
       ] in
       sym (stands_is a) ∙ by (body_of a ms) h
 
@@ -140,11 +141,11 @@ module _ (ms : List Macro) (no_ring : HasNoRing ms) where
       let by : (o : Option Elements) → suffix_in_body no_call o ≡ true → suffix_in_body (stands ms) o ≡ true = λ o.
       elim o as (λ o. suffix_in_body no_call o ≡ true → suffix_in_body (stands ms) o ≡ true) [
         | None ↦ λ k. cc
-        | Some es ↦ λ k. in_all (stands ms) es ∙ or-left _ (list_any (stands ms) (calls_of_all es)) k
+        | Some es ↦ λ k. in_all (stands ms) es ∙ or_left _ (list_any (stands ms) (calls_of_all es)) k
       ] in
       sym (stands_is a) ∙ by (body_of a ms) h
 
-  pub gathered-start : (first : Names) → IsGathered ms first (add_each ms first []) 0
+  pub gathered-start : (first : Names) → IsGathered ms first (gather_each ms first []) 0
   gathered-start first =
       let added = is_added ms first [] in
       record {
@@ -156,11 +157,11 @@ module _ (ms : List Macro) (no_ring : HasNoRing ms) where
       }
 
   pub gathered-more : (first ns : Names) (at : ℕ) (next : Name) → IsGathered ms first ns at → at < length ns → next ≡ get_or ns at next
-      → suffix_in_body no_call (body_of next ms) ≡ false → IsGathered ms first (add_each ms (macro_calls ms next) ns) (at + 1)
+      → suffix_in_body no_call (body_of next ms) ≡ false → IsGathered ms first (gather_each ms (macro_calls ms next) ns) (at + 1)
   gathered-more first ns at next g lt e none =
       let added = is_added ms (macro_calls ms next) ns in
       let there = has_name-at next ns at lt e in
-      let t : take (at + 1) (add_each ms (macro_calls ms next) ns) ≡ take at ns ++ next ∷ [] =
+      let t : take (at + 1) (gather_each ms (macro_calls ms next) ns) ≡ take at ns ++ next ∷ [] =
       ap (take (at + 1)) added.appends ∙ take-append-le (at + 1) ns added.extra (omega arith) ∙ take_more ns at next lt ∙ ap (λ x. take at ns ++ x ∷ []) (sym e) in
       record {
         within = omega (arith, ap length added.appends, length-append ns added.extra);
@@ -199,12 +200,12 @@ module _ (ms : List Macro) (no_ring : HasNoRing ms) where
 
   -- what is answered: at once, at a name, and at the end
   pub at_once : (es : Elements) → suffix_in_all no_call es ≡ true → true ≡ suffix_stands ms es
-  at_once es e = sym (in_all (stands ms) es ∙ or-left _ (list_any (stands ms) (calls_of_all es)) e)
+  at_once es e = sym (in_all (stands ms) es ∙ or_left _ (list_any (stands ms) (calls_of_all es)) e)
 
   pub at_name : (es : Elements) (ns : Names) (at : ℕ) (next : Name) → IsGathered ms (calls_of_all es) ns at → at < length ns → next ≡ get_or ns at next
       → suffix_in_body no_call (body_of next ms) ≡ true → true ≡ suffix_stands ms es
   at_name es ns at next g lt e some =
-      sym (in_all (stands ms) es ∙ or-right (suffix_in_all no_call es) _ (g.sound next (has_name-at next ns at lt e) (body_stands next some)))
+      sym (in_all (stands ms) es ∙ or_right (suffix_in_all no_call es) _ (g.sound next (has_name-at next ns at lt e) (body_stands next some)))
 
   pub at_end : (es : Elements) (ns : Names) (at : ℕ) → IsGathered ms (calls_of_all es) ns at → length ns ≤ at → suffix_in_all no_call es ≡ false → false ≡ suffix_stands ms es
   at_end es ns at g le none =

@@ -1,7 +1,7 @@
 pub mod MacrosOf
 pub mod SuffixText
 pub mod Gathered
-pub mod SoundView
+pub mod PreparedView
 pub mod MadeOf
 pub mod Terms
 pub mod TermsPlaced

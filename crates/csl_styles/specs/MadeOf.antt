@@ -6,17 +6,17 @@ use Rattle.csl_base.specs.contracts.locale.Locale as locale_
 use Rattle.csl_base.specs.contracts.style.IndependentStyle as style_
 use Rattle.csl_base.specs.declared.locale.Locale.{Locale}
 use Rattle.csl_base.specs.declared.style.IndependentStyle.{IndependentStyle}
-use Rattle.csl_styles.specs.declared.sound.Prepared.{Prepared}
-use Rattle.csl_styles.specs.SoundView.{made_of}
+use Rattle.csl_styles.specs.declared.prepared.PreparedSource.{PreparedSource}
+use Rattle.csl_styles.specs.PreparedView.{made_of}
 use Rattle.csl_styles.specs.TablesView.{locales_of}
 
 -- what was prepared, where there is any, was made of this style and these files
-abbrev pub IsOf : Option Prepared → IndependentStyle → List Locale → Type 0
+abbrev pub IsOf : Option PreparedSource → IndependentStyle → List Locale → Type 0
 IsOf prepared style files =
     ForSome prepared (λ p. (made_of p.style.now ≡ style) × (locales_of p.files.now ≡ files))
 
 -- for ghost fields: there are no two proofs of that
-pub IsOf-prop : (prepared : Option Prepared) (style : IndependentStyle) (files : List Locale)
+pub IsOf-prop : (prepared : Option PreparedSource) (style : IndependentStyle) (files : List Locale)
     → IsProp (IsOf prepared style files)
 IsOf-prop prepared style files x y = λ i p e. (
   Coded-set style_.the_row.coded (made_of p.style.now) style (x p e).0 (y p e).0 i,

@@ -4,7 +4,7 @@
 
 pub mod locales;
 mod macros;
-pub mod sound;
+pub mod prepared;
 pub mod suffix_text;
 pub mod term_table;
 pub mod terms;

@@ -2,7 +2,7 @@
 ghost use Rattle.std.specs.Prelude.{◌≡◌, IfOk};
 ghost use Rattle.csl_base.specs.Element.{Name};
 ghost use Rattle.csl_base.specs.NamedPlaces.{place_named};
-ghost use Rattle.csl_base.specs.Ring.{place_of};
+ghost use Rattle.csl_base.specs.Ring.{place_of_macro};
 ghost use Rattle.csl_base.specs.StyleView.{style_view};
 
 use csl_base::element::LayoutRenderingElement;
@@ -16,7 +16,7 @@ use std::collections::HashMap;
 pub(crate) struct MacroTable<'a> {
     pub(crate) style: &'a IndependentStyle,
     places: HashMap<&'a str, usize>,
-    ghost table: { (name : Name) → place_named places name ≡ place_of name (style_view style.now).macros },
+    ghost table: { (name : Name) → place_named places name ≡ place_of_macro name (style_view style.now).macros },
 }
 
 impl<'a> MacroTable<'a> {

@@ -4,7 +4,7 @@ ghost use Rattle.csl_base.specs.ElementView.{element_view, elements_view, branch
 ghost use Rattle.csl_base.specs.StyleView.{style_view};
 ghost use Rattle.csl_base.specs.Calls.{calls_of_all};
 ghost use Rattle.csl_base.specs.Ring.{body_of, macro_calls, HasNoRing};
-ghost use Rattle.csl_styles.specs.Gathered.{add_new, add_each};
+ghost use Rattle.csl_styles.specs.Gathered.{gather_new, gather_each};
 ghost use Rattle.csl_styles.specs.MacrosOf.{macros_of};
 ghost use Rattle.csl_styles.specs.SuffixText.{no_call, suffix_in_body, suffix_in, suffix_in_all, suffix_in_branches, suffix_stands, explicit_suffix, SuffixesUnfold};
 
@@ -70,7 +70,7 @@ fn add_new<'a>(
     names: &mut IndexSet<&'a str>,
 ) -> Result<(), AllocError>
     ensures { OnOk result (map (λ s. s.now) names.new.keys
-        ≡ add_new (macros_of macros.now) name.now (map (λ s. s.now) names.old.keys)) }
+        ≡ gather_new (macros_of macros.now) name.now (map (λ s. s.now) names.old.keys)) }
 {
     if macros.body_of(name).is_some() {
         names.insert(name)?;
@@ -86,7 +86,7 @@ fn add_called<'a>(
     names: &mut IndexSet<&'a str>,
 ) -> Result<(), AllocError>
     ensures { OnOk result (map (λ s. s.now) names.new.keys
-        ≡ add_each (macros_of macros.now) (calls_of_all (elements_view elements.now.items))
+        ≡ gather_each (macros_of macros.now) (calls_of_all (elements_view elements.now.items))
         (map (λ s. s.now) names.old.keys)) }
 {
     let mut called = Vec::new(alloc);
@@ -108,7 +108,7 @@ fn look_at<'a>(
     ensures found { IfOk result (λ b. b ≡ suffix_in_body no_call (body_of name.now (macros_of macros.now))) }
     ensures gathered { IfOk result (λ b. b ≡ false
         → map (λ s. s.now) names.new.keys
-        ≡ add_each (macros_of macros.now) (macro_calls (macros_of macros.now) name.now)
+        ≡ gather_each (macros_of macros.now) (macro_calls (macros_of macros.now) name.now)
         (map (λ s. s.now) names.old.keys)) }
 {
     match macros.body_of(name) {

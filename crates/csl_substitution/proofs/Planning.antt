@@ -9,11 +9,11 @@ use Rattle.csl_base.specs.declared.elem.Elem.{Elem}
 use Rattle.csl_base.specs.declared.formatting.Formatted.{Formatted}
 use Rattle.csl_base.specs.declared.style.SubsequentAuthorSubstituteRule.{SubsequentAuthorSubstituteRule}
 use Rattle.csl_base.specs.declared.style.SubsequentAuthorSubstituteRule.TheVariants.{CompleteAll, CompleteEach, PartialEach, PartialFirst}
-use Rattle.csl_substitution.specs.Names.{names_of, names_element}
+use Rattle.csl_substitution.specs.Names.{names_within, names_element}
 use Rattle.csl_substitution.specs.Rewriting.{without_names, name_replaced}
 use Rattle.csl_substitution.specs.Rules.{none_of, rule_for, rewritten_by}
 use Rattle.csl_substitution.specs.Substitution.{Item, is_replaced, base, names_after, tree_after, item_after, substitute_text, substituted}
-use Rattle.csl_substitution.specs.ItemView.{items_view}
+use Rattle.csl_substitution.specs.ItemView.{rendered_items_view}
 use Rattle.csl_substitution.specs.Changes.{changed, change_by, change_of, planned, next_base, plan, elem_changed, tree_changed, trees_changed}
 use Rattle.csl_substitution.specs.declared.changes.Change.{Change}
 use Rattle.csl_substitution.specs.declared.changes.Change.TheVariants.{TextAlone, WithoutNames}
@@ -25,7 +25,7 @@ all_or_alone t true cs = refl
 all_or_alone t false cs = refl
 
 change_writes : (t : Formatted) (rule : SubsequentAuthorSubstituteRule) (kept own : Elem) → changed t (change_by rule kept own) own.children ≡ rewritten_by rule t kept own
-change_writes t CompleteAll kept own = all_or_alone t (none_of (names_of own)) own.children
+change_writes t CompleteAll kept own = all_or_alone t (none_of (names_within own)) own.children
 change_writes t CompleteEach kept own = ap (λ cs. text t ∷ map (name_replaced t) cs) (up_to_all (length own.children) own.children (omega arith))
 change_writes t PartialEach kept own = refl
 change_writes t PartialFirst kept own = refl
@@ -81,26 +81,26 @@ each_after t rule before (x ∷ items) all e =
     ∙ ap (λ ys. zip (trees_after t rule (base rule ys) (map (λ p. p.0) items)) (map (λ p. p.1) items)) (reverse-append before (x ∷ [])))
 
 -- items are their trees and their keys
-parted : (xs : List (List Child × String Global)) → items_view xs ≡ zip (map (λ p. p.0) xs) (map string_bytes (map (λ p. p.1) xs))
+parted : (xs : List (List Child × String Global)) → rendered_items_view xs ≡ zip (map (λ p. p.0) xs) (map string_bytes (map (λ p. p.1) xs))
 parted [] = refl
 parted (x ∷ xs) = ap (λ ps. (x.0, string_bytes x.1) ∷ ps) (parted xs)
 
-trees-view : (xs : List (List Child × String Global)) → map (λ p. p.0) (items_view xs) ≡ map (λ p. p.0) xs
+trees-view : (xs : List (List Child × String Global)) → map (λ p. p.0) (rendered_items_view xs) ≡ map (λ p. p.0) xs
 trees-view [] = refl
 trees-view (x ∷ xs) = ap (λ ps. x.0 ∷ ps) (trees-view xs)
 
-keys-view : (xs : List (List Child × String Global)) → map (λ p. p.1) (items_view xs) ≡ map string_bytes (map (λ p. p.1) xs)
+keys-view : (xs : List (List Child × String Global)) → map (λ p. p.1) (rendered_items_view xs) ≡ map string_bytes (map (λ p. p.1) xs)
 keys-view [] = refl
 keys-view (x ∷ xs) = ap (λ ps. string_bytes x.1 ∷ ps) (keys-view xs)
 
 -- all items, where each tree was changed as planned and each key kept
 all_after : (t : Formatted) (rule : SubsequentAuthorSubstituteRule) (xs ys : List (List Child × String Global))
     → map (λ p. p.0) xs ≡ trees_changed t (plan rule None (map (λ p. p.0) ys)) (map (λ p. p.0) ys) → map (λ p. p.1) xs ≡ map (λ p. p.1) ys
-    → items_view xs ≡ map (item_after t rule (items_view ys)) (enumerate_from 0 (items_view ys))
+    → rendered_items_view xs ≡ map (item_after t rule (rendered_items_view ys)) (enumerate_from 0 (rendered_items_view ys))
 all_after t rule xs ys e k =
     parted xs
     ∙ ap₂ zip (e ∙ plan_changed t rule None (map (λ p. p.0) ys) ∙ ap (trees_after t rule None) (sym (trees-view ys))) (ap (map string_bytes) k ∙ sym (keys-view ys))
-    ∙ sym (each_after t rule [] (items_view ys) (items_view ys) refl)
+    ∙ sym (each_after t rule [] (rendered_items_view ys) (rendered_items_view ys) refl)
 
 -- as many changes as trees
 pub plan-length : (rule : SubsequentAuthorSubstituteRule) (b : Option Elem) (trees : List (List Child)) → length (plan rule b trees) ≡ length trees
@@ -134,7 +134,7 @@ module _ {T E : Type 0} where
   pub all_substituted : (r : Result T E) (rule : SubsequentAuthorSubstituteRule) (o : Option (Bor (List ℕ))) (b : Bor (List ℕ)) (t : Formatted) (cs : List (Option Change)) (xs ys : List (List Child × String Global))
       → o ≡ Some b → t ≡ substitute_text b.now → cs ≡ plan rule None (map (λ p. p.0) ys)
       → OnOk r (map (λ p. p.0) xs ≡ trees_changed t cs (map (λ p. p.0) ys)) → OnOk r (map (λ p. p.1) xs ≡ map (λ p. p.1) ys)
-      → OnOk r (items_view xs ≡ substituted (option_map (λ s. s.now) o) rule (items_view ys))
+      → OnOk r (rendered_items_view xs ≡ substituted (option_map (λ s. s.now) o) rule (rendered_items_view ys))
   all_substituted r rule o b t cs xs ys i e f =
       let whole = ap₂ (λ u ds. trees_changed u ds (map (λ p. p.0) ys)) e f in
-      both_ok r (λ p k. all_after (substitute_text b.now) rule xs ys (p ∙ whole) k ∙ sym (ap (λ s. substituted (option_map (λ c. c.now) s) rule (items_view ys)) i))
+      both_ok r (λ p k. all_after (substitute_text b.now) rule xs ys (p ∙ whole) k ∙ sym (ap (λ s. substituted (option_map (λ c. c.now) s) rule (rendered_items_view ys)) i))

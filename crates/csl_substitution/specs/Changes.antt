@@ -8,7 +8,7 @@ use Rattle.csl_base.specs.declared.elem.Elem.{Elem}
 use Rattle.csl_base.specs.declared.formatting.Formatted.{Formatted}
 use Rattle.csl_base.specs.declared.style.SubsequentAuthorSubstituteRule.{SubsequentAuthorSubstituteRule}
 use Rattle.csl_base.specs.declared.style.SubsequentAuthorSubstituteRule.TheVariants.{CompleteAll, CompleteEach, PartialEach, PartialFirst}
-use Rattle.csl_substitution.specs.Names.{names_of, names_element}
+use Rattle.csl_substitution.specs.Names.{names_within, names_element}
 use Rattle.csl_substitution.specs.Rewriting.{without_names, name_replaced, up_to_names}
 use Rattle.csl_substitution.specs.Rules.{none_of, names_in_common, rule_for}
 use Rattle.csl_substitution.specs.Substitution.{is_replaced, stayed}
@@ -23,7 +23,7 @@ changed substitute (NamesReplaced n) cs = text substitute ∷ map (name_replaced
 
 -- the change that a rule makes to the children of `own`
 abbrev pub change_by : SubsequentAuthorSubstituteRule → Elem → Elem → Change
-change_by CompleteAll kept own = if none_of (names_of own) then TextAlone else WithoutNames
+change_by CompleteAll kept own = if none_of (names_within own) then TextAlone else WithoutNames
 change_by CompleteEach kept own = NamesReplaced (length own.children)
 change_by PartialEach kept own = NamesReplaced (names_in_common kept own)
 change_by PartialFirst kept own = NamesReplaced 1

@@ -4,5 +4,5 @@ use Rattle.std.specs.Global.{Global}
 use Rattle.csl_base.specs.Child.{Child}
 use Rattle.csl_substitution.specs.Substitution.{Item}
 
-abbrev pub items_view : List (List Child × String Global) → List Item
-items_view = map (λ p. (p.0, string_bytes p.1))
+abbrev pub rendered_items_view : List (List Child × String Global) → List Item
+rendered_items_view = map (λ p. (p.0, string_bytes p.1))

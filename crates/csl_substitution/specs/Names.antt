@@ -31,8 +31,8 @@ abbrev pub names_in : List Child → List Elem
 names_in cs = kids_names (kids_of cs)
 
 -- the names of a names element
-abbrev pub names_of : Elem → List Elem
-names_of e = names_in e.children
+abbrev pub names_within : Elem → List Elem
+names_within e = names_in e.children
 
 -- the first names element of an item's tree
 abbrev pub names_element : List Child → Option Elem

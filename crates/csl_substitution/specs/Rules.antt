@@ -9,7 +9,7 @@ use Rattle.csl_base.specs.declared.elem.Elem.{Elem}
 use Rattle.csl_base.specs.declared.formatting.Formatted.{Formatted}
 use Rattle.csl_base.specs.declared.style.SubsequentAuthorSubstituteRule.{SubsequentAuthorSubstituteRule}
 use Rattle.csl_base.specs.declared.style.SubsequentAuthorSubstituteRule.TheVariants.{CompleteAll, CompleteEach, PartialEach, PartialFirst}
-use Rattle.csl_substitution.specs.Names.{names_of}
+use Rattle.csl_substitution.specs.Names.{names_within}
 use Rattle.csl_substitution.specs.Rewriting.{without_names, name_replaced, up_to_names}
 
 abbrev pub none_of : List Elem → Bool
@@ -18,16 +18,16 @@ none_of (e ∷ es) = false
 
 -- the two names elements have equal names
 abbrev pub same_names : Elem → Elem → Bool
-same_names kept own = pointwise same_elem (names_of kept) (names_of own)
+same_names kept own = pointwise same_elem (names_within kept) (names_within own)
 
 -- how many names they have in common before the first that differs
 abbrev pub names_in_common : Elem → Elem → ℕ
-names_in_common kept own = common_prefix_len same_elem (names_of kept) (names_of own)
+names_in_common kept own = common_prefix_len same_elem (names_within kept) (names_within own)
 
 -- The tests: `own` is compared with `kept`.
 -- the names are equal and, where there are none, so are the two names elements
 abbrev pub complete_all_holds : Elem → Elem → Bool
-complete_all_holds kept own = same_names kept own && (not (none_of (names_of own)) || same_elem kept own)
+complete_all_holds kept own = same_names kept own && (not (none_of (names_within own)) || same_elem kept own)
 
 -- the names are equal
 abbrev pub complete_each_holds : Elem → Elem → Bool
@@ -45,7 +45,7 @@ partial_first_holds kept own = nat_lt 0 (names_in_common kept own)
 -- the substitute and, unless there are no names, the children without them
 abbrev pub complete_all : Formatted → Elem → Elem → List Child
 complete_all substitute kept own =
-    text substitute ∷ (if none_of (names_of own) then [] else without_names own.children)
+    text substitute ∷ (if none_of (names_within own) then [] else without_names own.children)
 
 -- the substitute, and the children with the substitute in the first name of each
 abbrev pub complete_each : Formatted → Elem → Elem → List Child
@@ -63,7 +63,7 @@ partial_first substitute kept own =
 
 -- the rule that an item goes by: one without names by CompleteAll, whatever the style's rule
 abbrev pub rule_for : SubsequentAuthorSubstituteRule → Elem → SubsequentAuthorSubstituteRule
-rule_for rule own = if none_of (names_of own) then CompleteAll else rule
+rule_for rule own = if none_of (names_within own) then CompleteAll else rule
 
 abbrev pub holds_by : SubsequentAuthorSubstituteRule → Elem → Elem → Bool
 holds_by CompleteAll = complete_all_holds

@@ -3,7 +3,7 @@ ghost use Rattle.std.specs.Prelude.{◌≡◌, Some, map, option_map};
 ghost use Rattle.std.specs.List.{common_prefix_len};
 ghost use Rattle.csl_base.specs.EqualTrees.{same_elem};
 ghost use Rattle.csl_substitution.specs.Changes.{change_of};
-ghost use Rattle.csl_substitution.specs.Names.{names_of};
+ghost use Rattle.csl_substitution.specs.Names.{names_within};
 ghost use Rattle.csl_substitution.specs.Rules.{names_in_common, none_of, same_names};
 
 use crate::names::Named;
@@ -45,7 +45,7 @@ fn has_same_names(kept: &Named<'_>, own: &Named<'_>) -> bool
 }
 
 fn is_nameless(own: &Named<'_>) -> bool
-    ensures { result ≡ none_of (names_of own.now.elem.now) }
+    ensures { result ≡ none_of (names_within own.now.elem.now) }
 {
     own.names.is_empty()
 }

@@ -1,7 +1,7 @@
 //! The names of an item.
 ghost use Rattle.std.specs.Prelude.{◌≡◌, ◌++◌, map, OnOk, IfOk};
 ghost use Rattle.csl_base.specs.ChildView.{child_view};
-ghost use Rattle.csl_substitution.specs.Names.{is_name, child_names, names_in, names_of};
+ghost use Rattle.csl_substitution.specs.Names.{is_name, child_names, names_in, names_within};
 
 use csl_base::elem::{Elem, ElemChild, ElemChildren, ElemMeta};
 use std::alloc::{AllocError, Global};
@@ -11,7 +11,7 @@ use std::alloc::{AllocError, Global};
 pub(crate) struct Named<'a> {
     pub(crate) elem: &'a Elem,
     pub(crate) names: Vec<&'a Elem>,
-    ghost listed: { map (λ e. e.now) names.items ≡ names_of elem.now },
+    ghost listed: { map (λ e. e.now) names.items ≡ names_within elem.now },
 }
 
 /// Whether the meta is `Name`.

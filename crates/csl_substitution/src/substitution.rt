@@ -2,7 +2,7 @@
 ghost use Rattle.std.specs.Prelude.{◌≡◌, ◌≤◌, ◌++◌, ◌∷◌, [], None, map, option_map, length, OnOk, IfOk};
 ghost use Rattle.csl_substitution.specs.Laws.{KeepsAllButNames};
 ghost use Rattle.csl_substitution.specs.Substitution.{substituted};
-ghost use Rattle.csl_substitution.specs.ItemView.{items_view};
+ghost use Rattle.csl_substitution.specs.ItemView.{rendered_items_view};
 ghost use Rattle.csl_substitution.specs.Changes.{next_base, plan, planned, trees_changed};
 
 use crate::changes::{Change, change_of};
@@ -40,9 +40,9 @@ pub fn substitute_subsequent_authors(
     rule: SubsequentAuthorSubstituteRule,
     items: &mut [(ElemChildren, String)],
 ) -> Result<(), AllocError>
-    ensures substituted { OnOk result (items_view items.new
-        ≡ substituted (option_map (λ s. s.now) substitute.entry) rule (items_view items.old)) }
-    ensures laws { OnOk result (KeepsAllButNames (items_view items.old) (items_view items.new)) }
+    ensures substituted { OnOk result (rendered_items_view items.new
+        ≡ substituted (option_map (λ s. s.now) substitute.entry) rule (rendered_items_view items.old)) }
+    ensures laws { OnOk result (KeepsAllButNames (rendered_items_view items.old) (rendered_items_view items.new)) }
 {
     match substitute {
         Some(substitute) => {

@@ -4,16 +4,16 @@ use Rattle.csl_base.specs.Element.{Elements, element, no_elements, text_element,
 use Rattle.csl_base.specs.Style.{StyleValue}
 
 -- the text with which elements begin
-abbrev pub first_text : Elements → List ℕ
-first_text (element (text_element (value_target name) quotes strip look) es) = name
-first_text _ = []
+abbrev pub leading_text : Elements → List ℕ
+leading_text (element (text_element (value_target name) quotes strip look) es) = name
+leading_text _ = []
 
-abbrev pub style_name : StyleValue → List ℕ
-style_name style = first_text style.citation.layout.elements
+abbrev pub host_style_name : StyleValue → List ℕ
+host_style_name style = leading_text style.citation.layout.elements
 
 -- one text, without anything around it
-abbrev pub named : List ℕ → Elements
-named name = element (text_element (value_target name) false false (record {
+abbrev pub one_text : List ℕ → Elements
+one_text name = element (text_element (value_target name) false false (record {
   affixes = record { prefix = None; suffix = None };
   formatting = record { font_style = None; font_weight = None };
   display = None;

@@ -5,7 +5,7 @@ use Rattle.csl_base.specs.declared.taxonomy.Locator.{Locator}
 use Rattle.csl_lookup.specs.Lookup.{Source, locale_in_use}
 use Rattle.csl_lookup.specs.Properties.{LocatorValue, Payload, Properties, own_payload, text_payload}
 use Rattle.csl_lookup.specs.declared.state.DisambiguateState.{DisambiguateState}
-use Rattle.csl_table.specs.HostStyle.{style_name}
+use Rattle.csl_table.specs.HostStyle.{host_style_name}
 use Rattle.csl_table.specs.declared.key.Standing.{Standing}
 use Rattle.csl_table.specs.declared.key.TaskKey.{TaskKey}
 use Rattle.csl_table.specs.declared.key.TaskPart.{TaskPart}
@@ -13,12 +13,12 @@ use Rattle.csl_table.specs.declared.key.TaskPart.TheVariants as parts
 use Rattle.csl_writers.specs.Tasks.{CiteTaskValue, DateTaskValue, ItemTaskValue, LastPlace, TaskValue, cite_task, date_task, item_task}
 
 -- the text of a locator; a payload of the caller's own has none
-abbrev pub payload_text : {P : Type 0} → Payload P → List ℕ
-payload_text (text_payload text) = text
-payload_text (own_payload p) = []
+abbrev pub key_text : {P : Type 0} → Payload P → List ℕ
+key_text (text_payload text) = text
+key_text (own_payload p) = []
 
 abbrev pub located : {P : Type 0} → LocatorValue P → Locator × List ℕ
-located l = (l.kind, payload_text l.payload)
+located l = (l.kind, key_text l.payload)
 
 abbrev pub standing_of : {P : Type 0} → Properties P → Standing
 standing_of p = record {
@@ -34,9 +34,9 @@ standing_of p = record {
 }
 
 -- a part of the entry with this key, in a style with its locales
-abbrev pub key_of : Source → List ℕ → LastPlace → TaskPart → TaskKey
-key_of source entry place part = record {
-  style = style_name source.style;
+abbrev pub key_of_part : Source → List ℕ → LastPlace → TaskPart → TaskKey
+key_of_part source entry place part = record {
+  style = host_style_name source.style;
   locale = locale_in_use source;
   entry = entry;
   place = place;
@@ -46,14 +46,14 @@ key_of source entry place part = record {
 module _ {E P : Type 0} (answers : E → Answers) where
   abbrev pub cite_key : CiteTaskValue E P → TaskKey
   cite_key t =
-      key_of t.source (answers t.entry).key t.place
+      key_of_part t.source (answers t.entry).key t.place
       (parts.Cite (standing_of t.properties) t.purpose t.verdict)
 
   abbrev pub item_key : ItemTaskValue E P → TaskKey
-  item_key t = key_of t.source (answers t.entry).key None (parts.Item (standing_of t.properties))
+  item_key t = key_of_part t.source (answers t.entry).key None (parts.Item (standing_of t.properties))
 
 abbrev pub date_key : {E : Type 0} → (E → Answers) → DateTaskValue E → TaskKey
-date_key answers t = key_of t.source (answers t.entry).key t.place parts.Date
+date_key answers t = key_of_part t.source (answers t.entry).key t.place parts.Date
 
 abbrev pub task_key : {E P : Type 0} → (E → Answers) → TaskValue E P → TaskKey
 task_key answers (cite_task t) = cite_key answers t

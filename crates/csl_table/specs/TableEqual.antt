@@ -2,7 +2,7 @@
 use Rattle.std.specs.Prelude.{◌≡◌, List, Option, Some, None}
 use Rattle.std.proofs.Common.{ap}
 use Rattle.csl_base.specs.Answers.{Answers}
-use Rattle.csl_table.specs.Keys.{key_of, standing_of}
+use Rattle.csl_table.specs.Keys.{key_of_part, standing_of}
 use Rattle.csl_table.specs.Table.{table_state, written_as}
 use Rattle.csl_table.specs.declared.key.TaskKey.{TaskKey}
 use Rattle.csl_table.specs.declared.key.TaskPart.{TaskPart}
@@ -15,9 +15,9 @@ module _ {E P : Type 0} (table : TaskKey → Option Cite) (answers : E → Answe
       → AreWrittenEqually (table_state table {E = E} {P = P} answers missing) a b
   table_writes_equally missing a b e = record {
     cite = λ t. let part : TaskPart = parts.Cite (standing_of t.properties) t.purpose t.verdict in
-        ap (λ (x : Answers). written_as (table (key_of t.source x.key t.place part))) e;
+        ap (λ (x : Answers). written_as (table (key_of_part t.source x.key t.place part))) e;
     item = λ t. let part : TaskPart = parts.Item (standing_of t.properties) in
-        ap (λ (x : Answers). Some (written_as (table (key_of t.source x.key None part))).children) e;
+        ap (λ (x : Answers). Some (written_as (table (key_of_part t.source x.key None part))).children) e;
     date = λ t.
-        ap (λ (x : Answers). (written_as (table (key_of t.source x.key t.place parts.Date))).children) e;
+        ap (λ (x : Answers). (written_as (table (key_of_part t.source x.key t.place parts.Date))).children) e;
   }

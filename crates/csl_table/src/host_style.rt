@@ -2,7 +2,7 @@
 ghost use Rattle.std.specs.Prelude.{◌≡◌, IfOk};
 ghost use Rattle.csl_base.specs.ElementView.{elements_view};
 ghost use Rattle.csl_base.specs.StyleView.{style_view};
-ghost use Rattle.csl_table.specs.HostStyle.{named, style_name};
+ghost use Rattle.csl_table.specs.HostStyle.{one_text, host_style_name};
 
 use csl_base::element::{Affixes, LayoutRenderingElement, TextTarget};
 use csl_base::formatting::StyleFormatting;
@@ -16,7 +16,7 @@ use std::alloc::{AllocError, Global};
 ///
 /// Where memory is refused.
 pub fn named(alloc: Global, name: &str) -> Result<Vec<LayoutRenderingElement>, AllocError>
-    ensures { IfOk result (λ v. elements_view v.items ≡ named name.now) }
+    ensures { IfOk result (λ v. elements_view v.items ≡ one_text name.now) }
 {
     let mut elements = Vec::new(alloc);
     elements.push(LayoutRenderingElement::Text {
@@ -39,7 +39,7 @@ pub fn named(alloc: Global, name: &str) -> Result<Vec<LayoutRenderingElement>, A
 /// The name of a style: the text with which its citation's layout begins; empty where it begins with
 /// anything else.
 pub fn style_name(style: &IndependentStyle) -> &str
-    ensures { result.now ≡ style_name (style_view style.now) }
+    ensures { result.now ≡ host_style_name (style_view style.now) }
 {
     match style.citation.layout.elements.as_slice() {
         [LayoutRenderingElement::Text { target, .. }, ..] => match target {

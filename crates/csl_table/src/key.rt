@@ -2,7 +2,7 @@
 ghost use Rattle.std.specs.Prelude.{◌≡◌, IfOk, option_map};
 ghost use Rattle.csl_lookup.specs.PropertiesView.{locator_view, properties_view};
 ghost use Rattle.csl_lookup.specs.SourceView.{source_view};
-ghost use Rattle.csl_table.specs.Keys.{cite_key, date_key, item_key, key_of, located, standing_of};
+ghost use Rattle.csl_table.specs.Keys.{cite_key, date_key, item_key, key_of_part, located, standing_of};
 ghost use Rattle.csl_writers.specs.TaskView.{cite_task_view, date_task_view, item_task_view};
 
 use crate::host_style::style_name;
@@ -110,7 +110,7 @@ fn key_of<T: EntryLike>(
     place: Option<(usize, usize)>,
     part: TaskPart,
 ) -> Result<TaskKey, AllocError>
-    ensures { IfOk result (λ k. k ≡ key_of (source_view source.now) (T.answers entry.now).key place part) }
+    ensures { IfOk result (λ k. k ≡ key_of_part (source_view source.now) (T.answers entry.now).key place part) }
 {
     Ok(TaskKey {
         style: Text::copied(alloc, style_name(source.style))?,

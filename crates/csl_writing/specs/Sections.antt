@@ -2,6 +2,7 @@
 use Rattle.std.specs.Prelude.{◌∷◌, List, [], Bool, true, false, Option, None, Some}
 use Rattle.std.specs.Bool.{if◌then◌else◌}
 use Rattle.csl_base.specs.Element.{NameOptions, Look, Macro, names_element, Elements, no_elements, element}
+use Rattle.csl_base.specs.PlainLook.{no_look, no_options, no_formatting}
 use Rattle.csl_base.specs.Style.{BibliographyValue}
 use Rattle.csl_base.specs.declared.formatting.StyleFormatting.{StyleFormatting}
 use Rattle.csl_base.specs.declared.taxonomy.NameVariable.{NameVariable}
@@ -21,9 +22,6 @@ use Rattle.csl_writing.specs.Subject.{Subject, env, as_different}
 pub record Section : Type 0 where
   pub formatting : StyleFormatting
   pub picked : Picked
-
-abbrev pub no_formatting : StyleFormatting
-no_formatting = record { font_style = None; font_weight = None }
 
 -- what such elements give under what a picking reads, in that formatting
 abbrev pub picked_section : StyleFormatting → Env → List Macro → Elements → Notes → Section
@@ -56,24 +54,6 @@ abbrev pub bibliography_section : Subject → Form → Notes → Section
 bibliography_section s form n =
     elim s.source.style.bibliography
     [ None ↦ no_section n | Some bibliography ↦ item_section s bibliography form false n ]
-
-abbrev pub no_options : NameOptions
-no_options = record {
-  and = None;
-  name_delimiter = None;
-  names_delimiter = None;
-  et_al_min = None;
-  et_al_use_first = None;
-  name_form = None;
-  initialize_with = None;
-}
-
-abbrev pub no_look : Look
-no_look = record {
-  affixes = record { prefix = None; suffix = None };
-  formatting = no_formatting;
-  display = None;
-}
 
 -- a layout's elements: the author's names and nothing else
 abbrev pub names_alone : Elements

@@ -5,7 +5,7 @@
 
 pub use csl_context::{context, token, writing};
 pub use csl_lookup::{brackets, laws, locator, properties, purpose, state, year};
-pub use csl_styles::{sound, terms};
+pub use csl_styles::{prepared, terms};
 pub use csl_writers::{cite, counter};
 
 mod date;

@@ -5,7 +5,7 @@ ghost use Rattle.csl_base.specs.StyleView.{code_view, locale_view, style_view};
 ghost use Rattle.csl_lookup.specs.FirstAnswer.{Gives, FirstAnswer};
 ghost use Rattle.csl_lookup.specs.Lookup as found;
 ghost use Rattle.csl_lookup.specs.SourceView.{source_view};
-ghost use Rattle.csl_styles.specs.SoundView.{sound_view};
+ghost use Rattle.csl_styles.specs.PreparedView.{prepared_view};
 ghost use Rattle.csl_styles.specs.TablesView.{locales_of};
 ghost use Rattle.csl_context.specs.WritingState.{state, begun};
 ghost use Rattle.csl_writing.specs.ContextSource.{context_source};
@@ -16,7 +16,7 @@ use csl_base::style::IndependentStyle;
 use csl_context::context::{Context, begin_cite};
 use csl_lookup::lookup::StyleLocales;
 use csl_lookup::properties::CiteProperties;
-use csl_styles::sound::SoundStyle;
+use csl_styles::prepared::PreparedStyle;
 use csl_styles::terms::TermTables;
 use std::alloc::{AllocError, Global};
 
@@ -47,20 +47,20 @@ impl<'a> StyleContext<'a> {
     }
 
     /// The context that `new` makes of the same style and files, which were prepared.
-    pub fn of_sound<'s: 'a>(
-        sound: &'a SoundStyle<'s>,
+    pub fn of_prepared<'s: 'a>(
+        prepared: &'a PreparedStyle<'s>,
         locale: Option<&'a LocaleCode>,
         files: &'a TermTables<'s>,
     ) -> StyleContext<'a>
         ensures { context_source result
             ≡ record {
-              style = sound_view sound.now;
+              style = prepared_view prepared.now;
               locale = option_map (λ code. code_view code.now) locale.entry;
               files = map locale_view (locales_of files.now);
             } }
     {
         StyleContext {
-            locales: StyleLocales::of_sound(sound, locale, files),
+            locales: StyleLocales::of_prepared(prepared, locale, files),
         }
     }
 

@@ -3,7 +3,7 @@ ghost use Rattle.std.specs.Prelude.{◌≡◌, IfOk};
 ghost use Rattle.csl_base.specs.ElementView.{elements_view};
 ghost use Rattle.csl_base.specs.StyleView.{bibliography_view};
 ghost use Rattle.csl_picking.specs.Conditions.{is_repeated};
-ghost use Rattle.csl_picking.specs.InputView.{env_of, macros_of};
+ghost use Rattle.csl_picking.specs.InputView.{env_of, macros_in};
 ghost use Rattle.csl_picking.specs.Notes.{first_notes};
 ghost use Rattle.csl_writing.specs.SectionView.{IsSection};
 ghost use Rattle.csl_writing.specs.Sections as sections;
@@ -80,7 +80,7 @@ fn pick_section<'a, T: EntryLike>(
 ) -> Result<Section<'a>, AllocError>
     ensures { IfOk result (λ s. IsSection s
         (sections.picked_section formatting (env_of (T.answers input.now.entry.now) input.now.setting)
-        (macros_of input.now.setting) (elements_view elements.now.items) notes)) }
+        (macros_in input.now.setting) (elements_view elements.now.items) notes)) }
 {
     let mut picking = Picking {
         pieces: Vec::with_capacity(alloc, ROOM)?,

@@ -12,7 +12,7 @@ use Rattle.csl_round_laws.specs.declared.mode.RoundMode.{RoundMode}
 use Rattle.csl_table.specs.declared.key.TaskKey.{TaskKey}
 use Rattle.csl_writers.specs.declared.cite.Cite.{Cite}
 use Rattle.document_reading.specs.Form.{Document}
-use Rattle.cite_document.specs.Run.{accepted, asked_by, same_entry, same_payload, wanted_of}
+use Rattle.cite_document.specs.Run.{accepted, asked_by, same_plain_entry, same_own_payload, wanted_of}
 
 module _ (v : Driver PlainEntry Infallible) (w : Wanted PlainEntry) (d : Document) (p : v ≡ record { requests = accepted d.requests; offset = d.offset }) (q : w ≡ wanted_of d) where
   abbrev asked : Asked PlainEntry Infallible
@@ -22,5 +22,5 @@ module _ (v : Driver PlainEntry Infallible) (w : Wanted PlainEntry) (d : Documen
   same_asked = λ i. record { wanted = q i; requests = (p i).requests; offset = (p i).offset }
 
   pub comes : (table : TaskKey → Option Cite) (mode : RoundMode) (r : Driven PlainEntry)
-      → IsDriven same_entry same_payload plain_answers table mode asked r → IsDriven same_entry same_payload plain_answers table mode (asked_by d) r
-  comes table mode r = subst (λ a. IsDriven same_entry same_payload plain_answers table mode a r) same_asked
+      → IsDriven same_plain_entry same_own_payload plain_answers table mode asked r → IsDriven same_plain_entry same_own_payload plain_answers table mode (asked_by d) r
+  comes table mode r = subst (λ a. IsDriven same_plain_entry same_own_payload plain_answers table mode a r) same_asked

@@ -13,7 +13,7 @@ use Rattle.csl_drive.specs.Driven.{IsDriven}
 use Rattle.csl_drive.specs.declared.drive.Driven.{Driven}
 use Rattle.csl_drive.specs.declared.drive.Driven.TheVariants as results
 use Rattle.document_written.specs.TaskData.{task_data}
-use Rattle.cite_document.specs.Run.{HasFirstRing, HasTooLargeNumbers, asked_by, same_entry, same_payload}
+use Rattle.cite_document.specs.Run.{HasFirstRing, HasTooLargeNumbers, asked_by, same_plain_entry, same_own_payload}
 use Rattle.cite_document.specs.declared.error.RunError.{RunError}
 use Rattle.cite_document.specs.declared.error.RunError.TheVariants as errors
 use Rattle.document_driven.specs.DrivenForm.{DrivenDocument}
@@ -33,7 +33,7 @@ driven_text (results.Missing missing) = missing_text missing.keys
 
 -- the answer with what the host has written, or what is missing of that
 abbrev pub ComesOf : DrivenDocument → Driven PlainEntry → Type 0
-ComesOf d = IsDriven same_entry same_payload plain_answers d.table (d.asked).rounds (asked_by d.asked)
+ComesOf d = IsDriven same_plain_entry same_own_payload plain_answers d.table (d.asked).rounds (asked_by d.asked)
 
 -- there is a driven document, and it is such
 abbrev pub IsDrivenDocumentThat : Option DrivenDocument → (DrivenDocument → Type 0) → Type 0

@@ -5,7 +5,7 @@ use Rattle.serde_json.specs.Read.{read}
 use Rattle.csl_base.specs.declared.entry.PlainEntry.{PlainEntry}
 use Rattle.csl_table.specs.declared.key.TaskKey.{TaskKey}
 use Rattle.csl_writers.specs.declared.cite.Cite.{Cite}
-use Rattle.document_words.specs.Words.{◌>>=◌, object_with, items_at, optional}
+use Rattle.document_words.specs.Words.{◌>>=◌, object_with, items_of_key, optional}
 use Rattle.document_styles.specs.Styles.{NamedStyle, style_named}
 use Rattle.document_reading.specs.Entries.{entry_form, entry_named}
 use Rattle.document_reading.specs.Form.{Document, asked_form, utf8_text}
@@ -39,7 +39,7 @@ unfoldable pub driven_document_form : Data → Option DrivenDocument
 driven_document_form d = do
   o ← driven_top_form d
   styles ← driven_styles_form o
-  entries ← items_at entry_form (codes "entries") o
+  entries ← items_of_key entry_form (codes "entries") o
   driven_by styles entries o
 
 -- the driven document that the bytes are, or none

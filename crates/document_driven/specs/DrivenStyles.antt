@@ -3,23 +3,19 @@ use Rattle.std.specs.Prelude.{ℕ, pos, List, [], ◌∷◌, Option, Some, None,
 use Rattle.serde_json.specs.Data.{Data, no_members, member, Members, object}
 use Rattle.serde_json.specs.Find.{as_object, as_str}
 use Rattle.csl_base.specs.Element.{Elements, no_elements}
+use Rattle.csl_base.specs.PlainLook.{no_options, no_formatting}
 use Rattle.csl_base.specs.Style.{LayoutValue, CitationValue, BibliographyValue, StyleValue}
 use Rattle.csl_base.specs.declared.formatting.StyleFormatting.{StyleFormatting}
 use Rattle.csl_base.specs.declared.style.DisambiguationRule.{DisambiguationRule}
 use Rattle.csl_base.specs.declared.style.StyleClass.{StyleClass}
 use Rattle.csl_base.specs.declared.style.SubsequentAuthorSubstituteRule.{SubsequentAuthorSubstituteRule}
-use Rattle.csl_table.specs.HostStyle.{named}
+use Rattle.csl_table.specs.HostStyle.{one_text}
 use Rattle.document_words.specs.Names.{one_of}
 use Rattle.document_words.specs.Tables.{given_name_rules, collapses, second_field_aligns, substitute_rules, classes}
 use Rattle.document_words.specs.Words.{◌>>=◌, object_with, required, optional, where_present, flag, member_form, whole}
-use Rattle.document_styles.specs.Options.{no_options}
 use Rattle.document_styles.specs.Styles.{NamedStyle, line_spacing, single, spacing}
 
 -- ---- layouts
-
--- as around
-abbrev pub plain : StyleFormatting
-plain = record { font_style = None; font_weight = None }
 
 -- the layout of these elements, with the affixes and the delimiter that an object's own keys say
 unfoldable pub affixes_form : Elements → Data → Option LayoutValue
@@ -29,7 +25,7 @@ affixes_form elements o = do
   delimiter ← where_present as_str (codes "delimiter") o
   Some (record {
     elements = elements;
-    formatting = plain;
+    formatting = no_formatting;
     prefix = prefix;
     suffix = suffix;
     delimiter = delimiter;
@@ -39,7 +35,7 @@ affixes_form elements o = do
 abbrev pub no_layout : LayoutValue
 no_layout = record {
   elements = no_elements;
-  formatting = plain;
+  formatting = no_formatting;
   prefix = None;
   suffix = None;
   delimiter = None;
@@ -56,7 +52,7 @@ driven_citation_keys =
 unfoldable pub driven_citation_form : List ℕ → Data → Option CitationValue
 driven_citation_form name d = do
   o ← object_with driven_citation_keys d
-  layout ← affixes_form (named name) o
+  layout ← affixes_form (one_text name) o
   add_givenname ← flag (codes "add_givenname") o
   rule ← optional DisambiguationRule.ByCite (one_of given_name_rules) (codes "givenname_rule") o
   add_names ← flag (codes "add_names") o

@@ -5,14 +5,14 @@ ghost use Rattle.serde_json.specs.Data.{object as object_of};
 ghost use Rattle.serde_json.specs.Find.{as_object};
 ghost use Rattle.serde_json.specs.View.{view, members_view};
 ghost use Rattle.csl_base.specs.ElementView.{options_view};
+ghost use Rattle.csl_base.specs.PlainLook.{no_formatting, no_options};
 ghost use Rattle.csl_base.specs.StyleView.{layout_view, citation_view, bibliography_view, style_view};
-ghost use Rattle.csl_table.specs.HostStyle.{named};
+ghost use Rattle.csl_table.specs.HostStyle.{one_text};
 ghost use Rattle.document_words.specs.Reads.{Faults, Reads};
 ghost use Rattle.document_words.specs.Words.{member_form, object_with, optional, where_present};
 ghost use Rattle.document_styles.specs.NamedStyleView.{named_style_view, named_styles_view};
-ghost use Rattle.document_styles.specs.Options.{no_options};
 ghost use Rattle.document_styles.specs.Styles.{line_spacing, non_zero, single, spacing};
-ghost use Rattle.document_driven.specs.DrivenStyles.{affixes_form, driven_bibliography_form, driven_bibliography_keys, driven_citation, driven_citation_form, driven_citation_keys, driven_members, driven_style_form, driven_style_keys, driven_styles_form, no_layout, plain};
+ghost use Rattle.document_driven.specs.DrivenStyles.{affixes_form, driven_bibliography_form, driven_bibliography_keys, driven_citation, driven_citation_form, driven_citation_keys, driven_members, driven_style_form, driven_style_keys, driven_styles_form, no_layout};
 
 use csl_base::element::InheritableNameOptions;
 use csl_base::formatting::StyleFormatting;
@@ -109,7 +109,7 @@ fn line_spacing_or_single(alloc: Global, value: &Value, key: &str) -> Result<Non
 // ---- citations
 
 fn plain() -> StyleFormatting
-    ensures { result ≡ plain }
+    ensures { result ≡ no_formatting }
 {
     StyleFormatting {
         font_style: None,
@@ -120,7 +120,7 @@ fn plain() -> StyleFormatting
 /// The layout of a style of this name, with the affixes of the object.
 #[tactic(auto, unfolding(crate::specs::DrivenStyles::affixes_form))]
 fn layout_of(alloc: Global, name: &str, object: &Value) -> Result<Layout, ReadError>
-    ensures read { Reads layout_view result (affixes_form (named name.now) (view object.now)) }
+    ensures read { Reads layout_view result (affixes_form (one_text name.now) (view object.now)) }
     ensures fault { Faults result (view object.now) }
 {
     let elements = named(alloc, name)?;

@@ -8,8 +8,8 @@ use Rattle.csl_base.specs.declared.entry.ChunkedString.{ChunkedString}
 use Rattle.csl_base.specs.declared.entry.Date.{Date}
 use Rattle.csl_base.specs.declared.entry.Person.{Person}
 use Rattle.csl_base.specs.declared.entry.PlainEntry.{PlainEntry}
-use Rattle.document_words.specs.Words.{◌>>=◌, object_with, required, where_present, list_of, whole_between}
-use Rattle.document_words.specs.Tables.{Table, name_variables, date_variables, standard_variables, number_variables}
+use Rattle.document_words.specs.Words.{◌>>=◌, object_with, required, where_present, list_form, whole_between}
+use Rattle.document_words.specs.Tables.{NameTable, name_variables, date_variables, standard_variables, number_variables}
 
 -- ---- what variables hold
 
@@ -46,7 +46,7 @@ pairs_of variable None = []
 pairs_of variable (Some x) = (variable, x) ∷ []
 
 -- what the object says of the table's variables, each of the form f, in the table's order
-abbrev pub pairs_at : {V A : Type 0} → Table V → (Data → Option A) → Data → Option (List (V × A))
+abbrev pub pairs_at : {V A : Type 0} → NameTable V → (Data → Option A) → Data → Option (List (V × A))
 pairs_at [] f o = Some []
 pairs_at (row ∷ rows) f o = do
   held ← where_present f row.0 o
@@ -68,7 +68,7 @@ entry_form d = do
   o ← object_with entry_keys d
   key ← required as_str (codes "key") o
   label ← where_present as_str (codes "label") o
-  names ← pairs_at name_variables (list_of person_form) o
+  names ← pairs_at name_variables (list_form person_form) o
   dates ← pairs_at date_variables year_form o
   texts ← pairs_at (take 7 standard_variables) chunked_form o
   numbers ← pairs_at (drop 3 number_variables) as_str o

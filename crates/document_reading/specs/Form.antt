@@ -9,15 +9,15 @@ use Rattle.csl_base.specs.Style.{LocaleValue, StyleValue}
 use Rattle.csl_passes.specs.Request.{Request}
 use Rattle.csl_round_laws.specs.declared.mode.RoundMode.{RoundMode}
 use Rattle.document_words.specs.Names.{one_of}
-use Rattle.document_words.specs.Tables.{Table}
-use Rattle.document_words.specs.Words.{◌>>=◌, object_with, required, optional, items_at, optional_items, whole}
+use Rattle.document_words.specs.Tables.{NameTable}
+use Rattle.document_words.specs.Words.{◌>>=◌, object_with, required, optional, items_of_key, optional_items, whole}
 use Rattle.document_styles.specs.Locales.{locale_form}
 use Rattle.document_styles.specs.Styles.{styles_form, style_named}
 use Rattle.document_reading.specs.Entries.{entry_form, entry_named}
 use Rattle.document_reading.specs.Requests.{request_form, wanted_form}
 
 -- in how many rounds cites are disambiguated
-abbrev pub round_modes : Table RoundMode
+abbrev pub round_modes : NameTable RoundMode
 round_modes = (codes "three", RoundMode.Three) ∷ (codes "full", RoundMode.Full) ∷ []
 
 -- a document: its requests; the style, the locale and the order of the bibliography; the locales; the number
@@ -35,7 +35,7 @@ pub record Document : Type 0 where
 unfoldable pub asked_form : (List ℕ → Option StyleValue) → (List ℕ → Option PlainEntry) → List LocaleValue
     → Data → Option Document
 asked_form style entry locales o = do
-  requests ← items_at (request_form style entry locales) (codes "requests") o
+  requests ← items_of_key (request_form style entry locales) (codes "requests") o
   wanted ← required (wanted_form style entry) (codes "bibliography") o
   offset ← optional 0 whole (codes "offset") o
   rounds ← optional RoundMode.Three (one_of round_modes) (codes "rounds") o
@@ -61,7 +61,7 @@ document_form d = do
   o ← top_form d
   styles ← styles_form o
   locales ← optional_items locale_form (codes "locales") o
-  entries ← items_at entry_form (codes "entries") o
+  entries ← items_of_key entry_form (codes "entries") o
   asked_form (style_named styles) (entry_named entries) locales o
 
 -- the text that the bytes are, if they are UTF-8

@@ -8,20 +8,20 @@ use Rattle.csl_base.specs.Style.{LocaleValue, StyleValue}
 use Rattle.csl_passes.specs.Class.{is_note}
 use Rattle.csl_lookup.specs.Properties.{text_payload, LocatorValue}
 use Rattle.csl_passes.specs.Request.{RequestedCite, Request}
-use Rattle.document_words.specs.Words.{◌>>=◌, object_with, required, where_present, flag, list_of, items_at, whole, name_form}
+use Rattle.document_words.specs.Words.{◌>>=◌, object_with, required, where_present, flag, list_form, items_of_key, whole, name_form}
 use Rattle.document_words.specs.Names.{one_of}
 use Rattle.document_words.specs.Tables.{locators, purposes}
 
 -- a locator: what it counts, and its text
-abbrev pub locator_of : Items → Option (LocatorValue Infallible)
-locator_of (item kind (item text no_items)) = do
+abbrev pub locator_of_items : Items → Option (LocatorValue Infallible)
+locator_of_items (item kind (item text no_items)) = do
   counted ← one_of locators kind
   place ← as_str text
   Some (record { kind = counted; payload = text_payload place })
-locator_of _ = None
+locator_of_items _ = None
 
 abbrev pub locator_form : Data → Option (LocatorValue Infallible)
-locator_form d = option_and_then locator_of (as_array d)
+locator_form d = option_and_then locator_of_items (as_array d)
 
 -- a cite of an entry
 unfoldable pub item_form : (List ℕ → Option PlainEntry) → Data → Option (RequestedCite PlainEntry Infallible)
@@ -50,7 +50,7 @@ module _ (style : List ℕ → Option StyleValue) (entry : List ℕ → Option P
     by ← required (name_form style) (codes "style") o
     locale ← where_present as_str (codes "locale") o
     note ← where_present whole (codes "note") o
-    cites ← items_at (item_form entry) (codes "items") o
+    cites ← items_of_key (item_form entry) (codes "items") o
     Some (record {
       cites = cites;
       style = by;
@@ -65,5 +65,5 @@ module _ (style : List ℕ → Option StyleValue) (entry : List ℕ → Option P
     o ← object_with (codes "style" ∷ codes "locale" ∷ codes "order" ∷ []) d
     by ← required (name_form style) (codes "style") o
     locale ← where_present as_str (codes "locale") o
-    order ← where_present (list_of (name_form entry)) (codes "order") o
+    order ← where_present (list_form (name_form entry)) (codes "order") o
     Some (by, locale, order)

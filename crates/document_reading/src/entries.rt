@@ -1,88 +1,29 @@
 //! Reading entries.
 ghost use Rattle.std.specs.Prelude.{◌≡◌, ◌++◌, IfOk, OnOk, Some, codes};
-ghost use Rattle.serde_json.specs.Data.{Data, array};
+ghost use Rattle.serde_json.specs.Data.{array};
 ghost use Rattle.serde_json.specs.View.{view, items_view};
-ghost use Rattle.serde_json.specs.Find.{as_str, at};
-ghost use Rattle.document_words.specs.Words.{all_items, items_at, list_of, object_with, where_present};
+ghost use Rattle.serde_json.specs.Find.{as_str};
+ghost use Rattle.document_words.specs.Words.{all_items, items_of_key, list_form, object_with, where_present};
 ghost use Rattle.document_words.specs.Names.{rows_view};
 ghost use Rattle.document_reading.specs.Entries.{person_form, year_form, chunked, chunked_form, pairs_of, pairs_at, entry_keys, entry_form};
 ghost use Rattle.document_words.specs.Reads.{Faults, Reads};
 
+use crate::persons::persons_of;
 use csl_base::entry::{Chunk, ChunkKind, ChunkedString, Date, Person, PlainEntry};
 use csl_base::seq::Seq;
 use csl_base::taxonomy::{DateVariable, NameVariable, NumberVariable, StandardVariable};
 use csl_base::text::Text;
 use document_words::error::ReadError;
 use document_words::fault::Wanted;
-use document_words::refusals::unlike;
 use document_words::tables::{
     DATE_VARIABLES, NAME_VARIABLES, NUMBER_VARIABLES, STANDARD_VARIABLES,
 };
-use document_words::words::{list_of, object_with, required_list, text_at, whole_between};
+use document_words::texts::{held_text, optional_held_text};
+use document_words::words::{object_with, required_list, text_at, whole_between};
 use serde_json::Value;
 use std::alloc::{AllocError, Global};
 
 // ---- what variables hold
-
-/// A copy of the text that the value is.
-fn held_text(alloc: Global, value: &Value) -> Result<Text, ReadError>
-    ensures read { Reads (λ t. t) result (as_str (view value.now)) }
-    ensures fault { Faults result (view value.now) }
-{
-    match value.as_str() {
-        Some(text) => Ok(Text::copied(alloc, text)?),
-        None => Err(unlike(alloc, value, Wanted::Text)),
-    }
-}
-
-/// A copy of the text that the item at this place is.
-#[tactic(auto, using(document_words::proofs::Ways::fails_outside))]
-fn item_text(alloc: Global, item: &Value, place: usize) -> Result<Text, ReadError>
-    ensures read { Reads (λ t. t) result (as_str (view item.now)) }
-    ensures fault { (whole : Data) → at place whole ≡ Some (view item.now) → Faults result whole }
-{
-    held_text(alloc, item).map_err(|error| error.in_item(place))
-}
-
-fn person_of(alloc: Global, value: &Value) -> Result<Person, ReadError>
-    ensures read { Reads (λ p. p) result (person_form (view value.now)) }
-    ensures fault { Faults result (view value.now) }
-{
-    match list_of(alloc, value)? {
-        [family] => Ok(Person {
-            name: item_text(alloc, family, 0)?,
-            given_name: None,
-        }),
-        [family, given] => Ok(Person {
-            name: item_text(alloc, family, 0)?,
-            given_name: Some(item_text(alloc, given, 1)?),
-        }),
-        _ => Err(unlike(alloc, value, Wanted::Person)),
-    }
-}
-
-#[tactic(auto, using(document_words::proofs::Ways::item_there))]
-fn all_persons(alloc: Global, items: &[Value]) -> Result<Vec<Person>, ReadError>
-    ensures read { Reads (λ v. v.items) result (all_items person_form (items_view items.now)) }
-    ensures fault { Faults result (array (items_view items.now)) }
-{
-    let mut persons = Vec::new(alloc);
-    for (place, item) in items.iter().enumerate() {
-        match person_of(alloc, item) {
-            Ok(person) => persons.push(person)?,
-            Err(error) => return Err(error.in_item(place)),
-        }
-    }
-    Ok(persons)
-}
-
-fn persons_of(alloc: Global, value: &Value) -> Result<Seq<Person>, ReadError>
-    ensures read { Reads (λ s. s) result (list_of person_form (view value.now)) }
-    ensures fault { Faults result (view value.now) }
-{
-    let list = list_of(alloc, value)?;
-    Ok(Seq::new(all_persons(alloc, list)?))
-}
 
 fn date_of(alloc: Global, value: &Value) -> Result<Date, ReadError>
     ensures read { Reads (λ d. d) result (year_form (view value.now)) }
@@ -133,7 +74,7 @@ fn optional_persons(
     object: &Value,
     key: &str,
 ) -> Result<Option<Seq<Person>>, ReadError>
-    ensures read { Reads (λ h. h) result (where_present (list_of person_form) key.now (view object.now)) }
+    ensures read { Reads (λ h. h) result (where_present (list_form person_form) key.now (view object.now)) }
     ensures fault { Faults result (view object.now) }
 {
     match object.get(key) {
@@ -151,7 +92,7 @@ fn names_in(
     object: &Value,
 ) -> Result<Vec<(NameVariable, Seq<Person>)>, ReadError>
     ensures read { Reads (λ v. v.items) result
-        (pairs_at (rows_view rows.now) (list_of person_form) (view object.now)) }
+        (pairs_at (rows_view rows.now) (list_form person_form) (view object.now)) }
     ensures fault { Faults result (view object.now) }
 {
     let mut pairs = Vec::new(alloc);
@@ -227,20 +168,6 @@ fn texts_in(
     Ok(pairs)
 }
 
-#[tactic(auto, using(document_words::proofs::Ways::fails_outside))]
-fn optional_text(alloc: Global, object: &Value, key: &str) -> Result<Option<Text>, ReadError>
-    ensures read { Reads (λ h. h) result (where_present as_str key.now (view object.now)) }
-    ensures fault { Faults result (view object.now) }
-{
-    match object.get(key) {
-        None => Ok(None),
-        Some(member) => match held_text(alloc, member) {
-            Ok(text) => Ok(Some(text)),
-            Err(error) => Err(error.under(alloc, key)),
-        },
-    }
-}
-
 fn numbers_in(
     alloc: Global,
     rows: &[(&str, NumberVariable)],
@@ -251,7 +178,7 @@ fn numbers_in(
 {
     let mut pairs = Vec::new(alloc);
     for row in rows {
-        let held = optional_text(alloc, object, row.0)?;
+        let held = optional_held_text(alloc, object, row.0)?;
         push_held(&mut pairs, row.1, held)?;
     }
     Ok(pairs)
@@ -302,7 +229,7 @@ fn read_entry(alloc: Global, value: &Value) -> Result<PlainEntry, ReadError>
 {
     let object = entry_object(alloc, value)?;
     let key = text_at(alloc, object, "key")?;
-    let label = optional_text(alloc, object, "label")?;
+    let label = optional_held_text(alloc, object, "label")?;
     let names = names_in(alloc, NAME_VARIABLES, object)?;
     let dates = dates_in(alloc, DATE_VARIABLES, object)?;
     let texts = texts_in(alloc, &STANDARD_VARIABLES[..7], object)?;
@@ -335,7 +262,7 @@ fn all_entries(alloc: Global, items: &[Value]) -> Result<Vec<PlainEntry>, ReadEr
 /// The entries of the document.
 #[tactic(auto, using(document_words::proofs::Ways::fails_outside))]
 pub fn entries_of(alloc: Global, object: &Value) -> Result<Vec<PlainEntry>, ReadError>
-    ensures read { Reads (λ v. v.items) result (items_at entry_form (codes "entries") (view object.now)) }
+    ensures read { Reads (λ v. v.items) result (items_of_key entry_form (codes "entries") (view object.now)) }
     ensures fault { Faults result (view object.now) }
 {
     let list = required_list(alloc, object, "entries")?;

@@ -1,10 +1,10 @@
 //! A style as the requests of a document find it.
 ghost use Rattle.std.specs.Prelude.{◌≡◌, IfOk, IfSome};
-ghost use Rattle.csl_styles.specs.SoundView.{made_of};
-ghost use Rattle.document_reading.specs.Prepared.{IsOf, IsOf-prop};
+ghost use Rattle.csl_styles.specs.PreparedView.{made_of};
+ghost use Rattle.document_reading.specs.Prepared.{IsMadeOf, IsMadeOf-prop};
 
 use csl_base::style::IndependentStyle;
-use csl_styles::sound::SoundStyle;
+use csl_styles::prepared::PreparedStyle;
 use document_styles::styles::NamedStyle;
 use std::alloc::{AllocError, Global};
 
@@ -16,8 +16,8 @@ pub struct FoundStyle<'e> {
     pub name: &'e str,
     /// The style as the document has it.
     pub style: &'e IndependentStyle,
-    sound: Option<SoundStyle<'e>>,
-    ghost same: { IsOf sound style.now } by { IsOf-prop sound style.now },
+    prepared: Option<PreparedStyle<'e>>,
+    ghost same: { IsMadeOf prepared style.now } by { IsMadeOf-prop prepared style.now },
 }
 
 impl<'e> FoundStyle<'e> {
@@ -37,27 +37,27 @@ impl<'e> FoundStyle<'e> {
         let plain = FoundStyle {
             name,
             style,
-            sound: None,
+            prepared: None,
         };
         if !is_named {
             return Ok(plain);
         }
-        match SoundStyle::new(alloc, style)? {
-            Ok(sound) => Ok(FoundStyle {
+        match PreparedStyle::new(alloc, style)? {
+            Ok(prepared) => Ok(FoundStyle {
                 name,
                 style,
-                sound: Some(sound),
+                prepared: Some(prepared),
             }),
             Err(_) => Ok(plain),
         }
     }
 
     /// The style, prepared; none where it isn't.
-    pub fn sound(&self) -> Option<&SoundStyle<'e>>
-        ensures { IfSome result (λ sound. made_of sound.now ≡ self.now.style.now) }
+    pub fn prepared(&self) -> Option<&PreparedStyle<'e>>
+        ensures { IfSome result (λ prepared. made_of prepared.now ≡ self.now.style.now) }
     {
-        match &self.sound {
-            Some(sound) => Some(sound),
+        match &self.prepared {
+            Some(prepared) => Some(prepared),
             None => None,
         }
     }

@@ -6,4 +6,5 @@ pub mod entries;
 pub mod finders;
 pub mod first_fault;
 pub mod found;
+pub mod persons;
 pub mod requests;

@@ -8,7 +8,7 @@ ghost use Rattle.csl_lookup.specs.PropertiesView.{locator_view};
 ghost use Rattle.csl_passes.specs.RequestView.{cite_view, cites_view, entries_view, request_view};
 ghost use Rattle.csl_styles.specs.TablesView.{locales_of};
 ghost use Rattle.document_reading.specs.AskedView.{asked_cite_view, asked_cites_view, asked_locator_view, asked_request_view, asked_requests_view};
-ghost use Rattle.document_words.specs.Words.{all_items, items_at, list_of, name_form, required, where_present};
+ghost use Rattle.document_words.specs.Words.{all_items, items_of_key, list_form, name_form, required, where_present};
 ghost use Rattle.document_reading.specs.Finders.{entry_in, style_in};
 ghost use Rattle.document_reading.specs.Requests.{locator_form, item_form, request_form, wanted_form};
 ghost use Rattle.document_reading.specs.WantedView.{asked_bibliography_view};
@@ -109,8 +109,11 @@ fn required_entry<'e>(
 }
 
 /// What the first item of a locator says it counts.
+///
+/// # Errors
+/// The fault of an item that names no locator, as one of the list; a want of memory.
 #[tactic(auto, using(document_words::proofs::Ways::fails_outside))]
-fn locator_kind(alloc: Global, item: &Value) -> Result<Locator, ReadError>
+pub fn locator_kind(alloc: Global, item: &Value) -> Result<Locator, ReadError>
     ensures read { Reads (λ k. k) result (one_of locators (view item.now)) }
     ensures fault { (whole : Data) → at 0 whole ≡ Some (view item.now) → Faults result whole }
 {
@@ -211,7 +214,7 @@ fn cites_at<'e>(
     object: &Value,
 ) -> Result<Vec<AskedCite<'e>>, ReadError>
     ensures read { Reads (λ v. asked_cites_view v.items) result
-        (items_at (item_form (entry_in entries.now)) (codes "items") (view object.now)) }
+        (items_of_key (item_form (entry_in entries.now)) (codes "items") (view object.now)) }
     ensures fault { Faults result (view object.now) }
 {
     let list = required_list(alloc, object, "items")?;
@@ -308,7 +311,7 @@ pub fn requests_of<'e>(
     object: &Value,
 ) -> Result<Vec<AskedRequest<'e>>, ReadError>
     ensures read { Reads (λ v. asked_requests_view (map locale_view locales.now) v.items) result
-        (items_at (request_form (style_in styles.now) (entry_in entries.now) (map locale_view locales.now))
+        (items_of_key (request_form (style_in styles.now) (entry_in entries.now) (map locale_view locales.now))
         (codes "requests") (view object.now)) }
     ensures fault { Faults result (view object.now) }
 {
@@ -378,8 +381,8 @@ pub fn driver_request<'r, 'f: 'r>(
     let locale = copied_code(alloc, &request.locale)?;
     let note = request.note_number;
     let locales = files.locales();
-    match request.style.sound() {
-        Some(sound) => Ok(CitationRequest::of_sound(items, sound, locale, files, note)),
+    match request.style.prepared() {
+        Some(prepared) => Ok(CitationRequest::of_prepared(items, prepared, locale, files, note)),
         None => Ok(CitationRequest::new(items, request.style.style, locale, locales, note)),
     }
 }
@@ -423,7 +426,7 @@ fn order_of<'e>(
     value: &Value,
 ) -> Result<Vec<&'e PlainEntry>, ReadError>
     ensures read { Reads (λ v. entries_view v.items) result
-        (list_of (name_form (entry_in entries.now)) (view value.now)) }
+        (list_form (name_form (entry_in entries.now)) (view value.now)) }
     ensures fault { Faults result (view value.now) }
 {
     let list = list_of(alloc, value)?;
@@ -437,7 +440,7 @@ fn optional_order<'e>(
     value: &Value,
 ) -> Result<Option<Vec<&'e PlainEntry>>, ReadError>
     ensures read { Reads (option_map (λ v. entries_view v.items)) result
-        (where_present (list_of (name_form (entry_in entries.now))) (codes "order") (view value.now)) }
+        (where_present (list_form (name_form (entry_in entries.now))) (codes "order") (view value.now)) }
     ensures fault { Faults result (view value.now) }
 {
     match value.get("order") {

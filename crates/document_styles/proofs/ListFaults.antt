@@ -2,7 +2,7 @@
 use Rattle.std.proofs.Common.{◌≡◌, ℕ, List, Option, Some, None, ap, sym, subst}
 use Rattle.serde_json.specs.Data.{Data, null, boolean, number, string, array, object, Items, no_items}
 use Rattle.serde_json.specs.Find.{get, as_array}
-use Rattle.document_words.specs.Reads.{Fails, IsErrorOf, Refuses}
+use Rattle.document_words.specs.Reads.{Fails, IsErrorOf, RefusesToo}
 use Rattle.document_words.specs.Words.{all_items, optional, or_default, required}
 use Rattle.document_words.specs.declared.error.ReadError.{ReadError}
 use Rattle.document_words.specs.declared.error.ReadError.TheVariants as errors
@@ -26,13 +26,13 @@ required_fault k d ds e r q h outer = by (get k d) (λ part p. outer part p) q
     by (Some part) g s = g part (λ i. Some part) (subst (IsErrorOf e) (sym (is_list part ds s)) h)
 
 -- no items are refused
-absent : {A : Type 0} (f : Data → Option A) (d : Data) (e r : ReadError) → Fails e (all_items f no_items) → Refuses e r → IsErrorOf r d
+absent : {A : Type 0} (f : Data → Option A) (d : Data) (e r : ReadError) → Fails e (all_items f no_items) → RefusesToo e r → IsErrorOf r d
 absent f d (errors.Document fault) r h w = cc
 absent f d errors.OutOfMemory r h w = subst (λ q. IsErrorOf q d) (sym w) tt
 
 -- where it may be absent
 pub optional_fault : {A : Type 0} (f : Data → Option A) (k : List ℕ) (d : Data) (ds : Items) (e r : ReadError) → optional no_items as_array k d ≡ Some ds
-    → Fails e (all_items f ds) → IsErrorOf e (array ds) → Refuses e r → ((part : Data) → get k d ≡ Some part → IsErrorOf e part → IsErrorOf r d) → IsErrorOf r d
+    → Fails e (all_items f ds) → IsErrorOf e (array ds) → RefusesToo e r → ((part : Data) → get k d ≡ Some part → IsErrorOf e part → IsErrorOf r d) → IsErrorOf r d
 optional_fault f k d ds e r q fails h w outer = by (get k d) (λ part p. outer part p) q
   where
     by : (o : Option Data) → ((part : Data) → o ≡ Some part → IsErrorOf e part → IsErrorOf r d) → or_default no_items as_array o ≡ Some ds → IsErrorOf r d

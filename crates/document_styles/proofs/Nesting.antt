@@ -10,7 +10,7 @@ use Rattle.serde_json.specs.Find.{get, get_member, as_array, as_str}
 use Rattle.serde_json.specs.View.{view, items_view}
 use Rattle.serde_json.specs.declared.value.Value.{Value}
 use Rattle.csl_base.specs.Element.{Element, choose_element, branches_of, elements_of}
-use Rattle.document_words.specs.Words.{has_only, object_with, required, optional, or_default, all_items, items_at, optional_items}
+use Rattle.document_words.specs.Words.{has_only, object_with, required, optional, or_default, all_items, items_of_key, optional_items}
 use Rattle.document_styles.specs.Elements.{group_keys, branch_keys, choose_keys, text_form, number_form, date_form, names_form, group_form, branch_form, choose_form, kind_form, element_over, element_within, element_form, ElementsNest}
 
 -- ---- parts nest less deep
@@ -108,7 +108,7 @@ module _ {X : Type 0} (F G : Data → Option X) where
   abbrev pub AgreeBelow : ℕ → Type 0
   AgreeBelow n = (e : Data) → depth e < n → F e ≡ G e
 
-  items_at_agree : (k : List ℕ) (d : Data) → AgreeBelow (depth d) → items_at F k d ≡ items_at G k d
+  items_at_agree : (k : List ℕ) (d : Data) → AgreeBelow (depth d) → items_of_key F k d ≡ items_of_key G k d
   items_at_agree k d agree =
       bind_agrees (all_items F) (all_items G) (required as_array k d)
       (λ ds q. let within = list_within k d ds q in items_agree F G ds (λ e j. agree e (omega (arith, within, j))))
@@ -131,13 +131,13 @@ in_object {Y} K L keys d h = by (has_only keys d)
     by false = refl
 
 -- an object of these keys, the list under one of them, and what is made of both
-list_agrees : {X Y : Type 0} (F G : Data → Option X) (keys : List (List ℕ)) (k : List ℕ) (d : Data) (K L : Data → List X → Option Y)
+pub list_agrees : {X Y : Type 0} (F G : Data → Option X) (keys : List (List ℕ)) (k : List ℕ) (d : Data) (K L : Data → List X → Option Y)
     → AgreeBelow F G (depth d) → ((xs : List X) → K d xs ≡ L d xs)
-    → option_and_then (λ o. option_and_then (K o) (items_at F k o)) (object_with keys d)
-    ≡ option_and_then (λ o. option_and_then (L o) (items_at G k o)) (object_with keys d)
+    → option_and_then (λ o. option_and_then (K o) (items_of_key F k o)) (object_with keys d)
+    ≡ option_and_then (λ o. option_and_then (L o) (items_of_key G k o)) (object_with keys d)
 list_agrees F G keys k d K L agree rest =
-    in_object (λ o. option_and_then (K o) (items_at F k o)) (λ o. option_and_then (L o) (items_at G k o)) keys d
-    (ap (option_and_then (K d)) (items_at_agree F G k d agree) ∙ bind_agrees (K d) (L d) (items_at G k d) (λ xs q. rest xs))
+    in_object (λ o. option_and_then (K o) (items_of_key F k o)) (λ o. option_and_then (L o) (items_of_key G k o)) keys d
+    (ap (option_and_then (K d)) (items_at_agree F G k d agree) ∙ bind_agrees (K d) (L d) (items_of_key G k d) (λ xs q. rest xs))
 
 module _ (f g : Data → Option Element) where
   group_agrees : (d : Data) → AgreeBelow f g (depth d) → group_form f d ≡ group_form g d

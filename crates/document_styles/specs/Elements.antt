@@ -11,8 +11,8 @@ use Rattle.csl_base.specs.declared.formatting.StyleFormatting.{StyleFormatting}
 use Rattle.csl_base.specs.declared.taxonomy.TermForm.{TermForm}
 use Rattle.csl_base.specs.declared.taxonomy.Variable.{Variable}
 use Rattle.csl_base.specs.Element.{Look, Target, value_target, standard_target, macro_target, term_target, Element, text_element, number_element, date_element, names_element, group_element, choose_element, Branch, elements_of, branches_of}
-use Rattle.document_words.specs.Words.{◌>>=◌, object_with, required, optional, where_present, flag, items_at, optional_items, name_form}
-use Rattle.document_words.specs.Names.{named, one_of, variable_named, term_named}
+use Rattle.document_words.specs.Words.{◌>>=◌, object_with, required, optional, where_present, flag, items_of_key, optional_items, name_form}
+use Rattle.document_words.specs.Names.{value_named, one_of, variable_named, term_named}
 use Rattle.document_styles.specs.Options.{options_at}
 use Rattle.document_words.specs.Tables.{displays, standard_variables, term_forms, number_variables, date_variables, name_variables, positions, matches}
 
@@ -103,7 +103,7 @@ date_form d = do
 unfoldable pub names_form : Data → Option Element
 names_form d = do
   o ← object_with (look_keys ++ codes "variables" ∷ codes "substitute" ∷ codes "options" ∷ []) d
-  variables ← items_at (one_of name_variables) (codes "variables") o
+  variables ← items_of_key (one_of name_variables) (codes "variables") o
   substitute ← optional_items (one_of name_variables) (codes "substitute") o
   options ← options_at o
   look ← look_form o
@@ -121,7 +121,7 @@ variable_form d = do
 abbrev pub condition_named : List ℕ → Option Condition
 condition_named name =
     if pointwise nat_eq name (codes "disambiguate") then Some Condition.Disambiguate
-    else option_map Condition.Position (named positions name)
+    else option_map Condition.Position (value_named positions name)
 
 -- a condition's name, or an object that names a variable
 unfoldable pub condition_form : Data → Option Condition
@@ -137,7 +137,7 @@ group_keys = look_keys ++ codes "children" ∷ codes "delimiter" ∷ []
 unfoldable pub group_form : (Data → Option Element) → Data → Option Element
 group_form inner d = do
   o ← object_with group_keys d
-  children ← items_at inner (codes "children") o
+  children ← items_of_key inner (codes "children") o
   delimiter ← where_present as_str (codes "delimiter") o
   look ← look_form o
   Some (group_element (elements_of children) delimiter look)
@@ -149,8 +149,8 @@ branch_keys = codes "if" ∷ codes "match" ∷ codes "children" ∷ []
 unfoldable pub branch_form : (Data → Option Element) → Data → Option Branch
 branch_form inner d = do
   o ← object_with branch_keys d
-  children ← items_at inner (codes "children") o
-  conditions ← items_at condition_form (codes "if") o
+  children ← items_of_key inner (codes "children") o
+  conditions ← items_of_key condition_form (codes "if") o
   rule ← optional ChooseMatch.All (one_of matches) (codes "match") o
   Some (record { conditions = conditions; rule = rule; children = elements_of children })
 
@@ -161,7 +161,7 @@ choose_keys = codes "kind" ∷ codes "branches" ∷ codes "else" ∷ []
 unfoldable pub choose_form : (Data → Option Element) → Data → Option Element
 choose_form inner d = do
   o ← object_with choose_keys d
-  branches ← items_at (branch_form inner) (codes "branches") o
+  branches ← items_of_key (branch_form inner) (codes "branches") o
   last ← optional_items inner (codes "else") o
   Some (choose_element (branches_of branches (elements_of last)))
 

@@ -3,21 +3,10 @@ use Rattle.std.specs.Prelude.{[], ◌∷◌, Option, Some, None, codes}
 use Rattle.serde_json.specs.Data.{Data}
 use Rattle.serde_json.specs.Find.{as_str}
 use Rattle.csl_base.specs.Element.{NameOptions}
+use Rattle.csl_base.specs.PlainLook.{no_options}
 use Rattle.document_words.specs.Words.{◌>>=◌, object_with, optional, where_present, whole}
 use Rattle.document_words.specs.Names.{one_of}
 use Rattle.document_words.specs.Tables.{name_ands, name_forms}
-
--- no option is given
-abbrev pub no_options : NameOptions
-no_options = record {
-  and = None;
-  name_delimiter = None;
-  names_delimiter = None;
-  et_al_min = None;
-  et_al_use_first = None;
-  name_form = None;
-  initialize_with = None;
-}
 
 -- the options of names
 unfoldable pub options_form : Data → Option NameOptions

@@ -10,7 +10,7 @@ use Rattle.csl_base.specs.declared.style.StyleClass.{StyleClass}
 use Rattle.csl_base.specs.declared.style.SubsequentAuthorSubstituteRule.{SubsequentAuthorSubstituteRule}
 use Rattle.csl_base.specs.Element.{Macro, elements_of}
 use Rattle.csl_base.specs.Style.{LayoutValue, CitationValue, BibliographyValue, StyleValue}
-use Rattle.document_words.specs.Words.{◌>>=◌, object_with, required, optional, where_present, flag, items_at, optional_items, all_members, whole, whole_between}
+use Rattle.document_words.specs.Words.{◌>>=◌, object_with, required, optional, where_present, flag, items_of_key, optional_items, all_members, whole, whole_between}
 use Rattle.document_words.specs.Names.{one_of}
 use Rattle.document_styles.specs.Options.{options_at}
 use Rattle.document_styles.specs.Elements.{formatting_form, element_form}
@@ -42,7 +42,7 @@ line_spacing d = option_and_then non_zero (spacing d)
 -- the layout that an object's own keys say
 unfoldable pub layout_form : Data → Option LayoutValue
 layout_form o = do
-  elements ← items_at element_form (codes "elements") o
+  elements ← items_of_key element_form (codes "elements") o
   formatting ← formatting_form o
   prefix ← where_present as_str (codes "prefix") o
   suffix ← where_present as_str (codes "suffix") o
@@ -131,7 +131,7 @@ unfoldable pub macro_form : Data → Option Macro
 macro_form d = do
   o ← object_with (codes "name" ∷ codes "children" ∷ []) d
   name ← required as_str (codes "name") o
-  children ← items_at element_form (codes "children") o
+  children ← items_of_key element_form (codes "children") o
   Some (record { name = name; children = elements_of children })
 
 abbrev pub style_keys : List (List ℕ)

@@ -4,7 +4,7 @@ ghost use Rattle.serde_json.specs.Data.{array};
 ghost use Rattle.serde_json.specs.View.{view, items_view};
 ghost use Rattle.csl_base.specs.Element.{elements_of};
 ghost use Rattle.csl_base.specs.ElementView.{look, target_view, element_view, branch_view};
-ghost use Rattle.document_words.specs.Words.{all_items, items_at, required, name_form};
+ghost use Rattle.document_words.specs.Words.{all_items, items_of_key, required, name_form};
 ghost use Rattle.document_words.specs.Names.{variable_named};
 ghost use Rattle.document_styles.specs.Elements.{formatting_of, formatting_form, look_form, target_form, text_form, number_form, date_form, names_form, variable_form, condition_named, condition_form, group_form, branch_form, choose_form, element_form, element_over, ElementsNest};
 ghost use Rattle.document_words.specs.Reads.{Faults, IsErrorOf, Reads};
@@ -300,7 +300,7 @@ fn conditions_of(alloc: Global, items: &[Value]) -> Result<Vec<Condition>, ReadE
 /// The conditions under the key `if`, which has to be there.
 #[tactic(auto, using(document_words::proofs::Ways::fails_outside))]
 fn tests_at(alloc: Global, object: &Value) -> Result<Vec<Condition>, ReadError>
-    ensures read { Reads (λ v. v.items) result (items_at condition_form (codes "if") (view object.now)) }
+    ensures read { Reads (λ v. v.items) result (items_of_key condition_form (codes "if") (view object.now)) }
     ensures fault { Faults result (view object.now) }
 {
     let list = required_list(alloc, object, "if")?;
@@ -372,7 +372,7 @@ pub fn elements_at(
     key: &str,
 ) -> Result<Vec<LayoutRenderingElement>, ReadError>
     ensures read { Reads (λ v. map element_view v.items) result
-        (items_at element_form key.now (view object.now)) }
+        (items_of_key element_form key.now (view object.now)) }
     ensures fault { Faults result (view object.now) }
 {
     let list = required_list(alloc, object, key)?;
@@ -454,7 +454,7 @@ fn all_branches(alloc: Global, items: &[Value]) -> Result<Vec<ChooseBranch>, Rea
 #[tactic(auto, using(document_words::proofs::Ways::fails_outside))]
 fn branches_at(alloc: Global, object: &Value) -> Result<Vec<ChooseBranch>, ReadError>
     ensures read { Reads (λ v. map branch_view v.items) result
-        (items_at (branch_form element_form) (codes "branches") (view object.now)) }
+        (items_of_key (branch_form element_form) (codes "branches") (view object.now)) }
     ensures fault { Faults result (view object.now) }
 {
     let list = required_list(alloc, object, "branches")?;

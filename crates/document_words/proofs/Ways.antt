@@ -10,7 +10,7 @@ use Rattle.document_words.specs.declared.fault.Found.{Found}
 use Rattle.document_words.specs.declared.error.ReadError.{ReadError}
 use Rattle.document_words.specs.declared.error.ReadError.TheVariants as errors
 use Rattle.document_words.specs.Faults.{into, part_at, kind, IsFound, IsFoundThere}
-use Rattle.document_words.specs.Reads.{Fails, Refuses}
+use Rattle.document_words.specs.Reads.{Fails, RefusesToo}
 
 part_inside : (way : List Step) (s : Step) (whole part : Data) → into s whole ≡ Some part → part_at way part ≡ part_at (way ++ s ∷ []) whole
 part_inside [] s whole part h = sym h
@@ -35,7 +35,7 @@ pub kind_found : (f : Found) (d : Data) → f ≡ kind d → IsFound f d
 kind_found f d e = subst (λ g. IsFound g d) (sym e) (of_kind d)
 
 -- an error with more around its way
-pub fails_outside : {Y : Type 0} (e r : ReadError) (read : Option Y) → Refuses e r → Fails e read → Fails r read
+pub fails_outside : {Y : Type 0} (e r : ReadError) (read : Option Y) → RefusesToo e r → Fails e read → Fails r read
 fails_outside (errors.Document f) (errors.Document g) read w h = h
 fails_outside (errors.Document f) errors.OutOfMemory read w h = tt
 fails_outside errors.OutOfMemory r read w h = subst (λ q. Fails q read) (sym w) tt

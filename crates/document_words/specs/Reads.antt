@@ -26,6 +26,6 @@ Faults (Ok x) d = Unit {0}
 Faults (Err e) d = IsErrorOf e d
 
 -- the second is a refusal only where the first is
-abbrev pub Refuses : ReadError → ReadError → Type 0
-Refuses (errors.Document fault) e = Unit {0}
-Refuses errors.OutOfMemory e = e ≡ errors.OutOfMemory
+abbrev pub RefusesToo : ReadError → ReadError → Type 0
+RefusesToo (errors.Document fault) e = Unit {0}
+RefusesToo errors.OutOfMemory e = e ≡ errors.OutOfMemory

@@ -22,15 +22,15 @@ use Rattle.csl_base.specs.declared.element.ChooseMatch.{ChooseMatch}
 use Rattle.csl_lookup.specs.declared.purpose.CitePurpose.{CitePurpose}
 
 -- names and the values that they stand for
-abbrev pub Table : Type 0 → Type 0
-Table A = List (List ℕ × A)
+abbrev pub NameTable : Type 0 → Type 0
+NameTable A = List (List ℕ × A)
 
 -- the rows of a constant are those of the table
-abbrev pub AreRowsOf : {A : Type 0} → Table A → List (record { now : List ℕ } × A) → Type 0
+abbrev pub AreRowsOf : {A : Type 0} → NameTable A → List (record { now : List ℕ } × A) → Type 0
 AreRowsOf table rows = map (λ row. (row.0.now, row.1)) rows ≡ table
 
 -- the categories of styles
-abbrev pub categories : Table StyleCategory
+abbrev pub categories : NameTable StyleCategory
 categories =
     (codes "author-date", StyleCategory.CitationFormat CitationFormat.AuthorDate) ∷
     (codes "author", StyleCategory.CitationFormat CitationFormat.Author) ∷
@@ -40,14 +40,14 @@ categories =
     []
 
 -- the classes of styles
-abbrev pub classes : Table StyleClass
+abbrev pub classes : NameTable StyleClass
 classes =
     (codes "in-text", StyleClass.InText) ∷
     (codes "note", StyleClass.Note) ∷
     []
 
 -- which names are made fuller
-abbrev pub given_name_rules : Table DisambiguationRule
+abbrev pub given_name_rules : NameTable DisambiguationRule
 given_name_rules =
     (codes "all-names", DisambiguationRule.AllNames) ∷
     (codes "all-names-with-initials", DisambiguationRule.AllNamesWithInitials) ∷
@@ -57,7 +57,7 @@ given_name_rules =
     []
 
 -- the ways of collapsing
-abbrev pub collapses : Table Collapse
+abbrev pub collapses : NameTable Collapse
 collapses =
     (codes "citation-number", Collapse.CitationNumber) ∷
     (codes "year", Collapse.Year) ∷
@@ -66,14 +66,14 @@ collapses =
     []
 
 -- where a second field is aligned
-abbrev pub second_field_aligns : Table SecondFieldAlign
+abbrev pub second_field_aligns : NameTable SecondFieldAlign
 second_field_aligns =
     (codes "flush", SecondFieldAlign.Flush) ∷
     (codes "margin", SecondFieldAlign.Margin) ∷
     []
 
 -- which repeated names are substituted
-abbrev pub substitute_rules : Table SubsequentAuthorSubstituteRule
+abbrev pub substitute_rules : NameTable SubsequentAuthorSubstituteRule
 substitute_rules =
     (codes "complete-all", SubsequentAuthorSubstituteRule.CompleteAll) ∷
     (codes "complete-each", SubsequentAuthorSubstituteRule.CompleteEach) ∷
@@ -82,21 +82,21 @@ substitute_rules =
     []
 
 -- the words before a last name
-abbrev pub name_ands : Table NameAnd
+abbrev pub name_ands : NameTable NameAnd
 name_ands =
     (codes "text", NameAnd.Text) ∷
     (codes "symbol", NameAnd.Symbol) ∷
     []
 
 -- how much of a name is written
-abbrev pub name_forms : Table NameForm
+abbrev pub name_forms : NameTable NameForm
 name_forms =
     (codes "long", NameForm.Long) ∷
     (codes "short", NameForm.Short) ∷
     []
 
 -- how an element is set off
-abbrev pub displays : Table Display
+abbrev pub displays : NameTable Display
 displays =
     (codes "block", Display.Block) ∷
     (codes "left-margin", Display.LeftMargin) ∷
@@ -105,7 +105,7 @@ displays =
     []
 
 -- the variables that hold persons
-abbrev pub name_variables : Table NameVariable
+abbrev pub name_variables : NameTable NameVariable
 name_variables =
     (codes "author", NameVariable.Author) ∷
     (codes "editor", NameVariable.Editor) ∷
@@ -113,7 +113,7 @@ name_variables =
     []
 
 -- the variables that hold dates
-abbrev pub date_variables : Table DateVariable
+abbrev pub date_variables : NameTable DateVariable
 date_variables =
     (codes "issued", DateVariable.Issued) ∷
     (codes "accessed", DateVariable.Accessed) ∷
@@ -124,7 +124,7 @@ date_variables =
     []
 
 -- the variables that hold texts
-abbrev pub standard_variables : Table StandardVariable
+abbrev pub standard_variables : NameTable StandardVariable
 standard_variables =
     (codes "title", StandardVariable.Title) ∷
     (codes "container-title", StandardVariable.ContainerTitle) ∷
@@ -138,7 +138,7 @@ standard_variables =
     []
 
 -- the variables that hold numbers
-abbrev pub number_variables : Table NumberVariable
+abbrev pub number_variables : NameTable NumberVariable
 number_variables =
     (codes "citation-number", NumberVariable.CitationNumber) ∷
     (codes "locator", NumberVariable.Locator) ∷
@@ -150,7 +150,7 @@ number_variables =
     []
 
 -- what locators count
-abbrev pub locators : Table Locator
+abbrev pub locators : NameTable Locator
 locators =
     (codes "book", Locator.Book) ∷
     (codes "chapter", Locator.Chapter) ∷
@@ -168,7 +168,7 @@ locators =
     []
 
 -- the terms that are named after no variable and no locator
-abbrev pub other_terms : Table OtherTerm
+abbrev pub other_terms : NameTable OtherTerm
 other_terms =
     (codes "ad", OtherTerm.Ad) ∷
     (codes "bc", OtherTerm.Bc) ∷
@@ -183,7 +183,7 @@ other_terms =
     []
 
 -- the forms of terms
-abbrev pub term_forms : Table TermForm
+abbrev pub term_forms : NameTable TermForm
 term_forms =
     (codes "long", TermForm.Long) ∷
     (codes "short", TermForm.Short) ∷
@@ -193,7 +193,7 @@ term_forms =
     []
 
 -- the positions that a condition tests
-abbrev pub positions : Table TestPosition
+abbrev pub positions : NameTable TestPosition
 positions =
     (codes "first", TestPosition.First) ∷
     (codes "subsequent", TestPosition.Subsequent) ∷
@@ -203,7 +203,7 @@ positions =
     []
 
 -- how many conditions have to hold
-abbrev pub matches : Table ChooseMatch
+abbrev pub matches : NameTable ChooseMatch
 matches =
     (codes "any", ChooseMatch.Any) ∷
     (codes "all", ChooseMatch.All) ∷
@@ -211,7 +211,7 @@ matches =
     []
 
 -- what a cite is written for
-abbrev pub purposes : Table CitePurpose
+abbrev pub purposes : NameTable CitePurpose
 purposes =
     (codes "author", CitePurpose.Author) ∷
     (codes "year", CitePurpose.Year) ∷

@@ -71,12 +71,12 @@ all_items f (item d ds) = do
   Some (x ∷ xs)
 
 -- an array whose items are of the form f
-abbrev pub list_of : {A : Type 0} → (Data → Option A) → Data → Option (List A)
-list_of f d = option_and_then (all_items f) (as_array d)
+abbrev pub list_form : {A : Type 0} → (Data → Option A) → Data → Option (List A)
+list_form f d = option_and_then (all_items f) (as_array d)
 
 -- what the items of a key's array are, which must be there
-abbrev pub items_at : {A : Type 0} → (Data → Option A) → List ℕ → Data → Option (List A)
-items_at f k d = option_and_then (all_items f) (required as_array k d)
+abbrev pub items_of_key : {A : Type 0} → (Data → Option A) → List ℕ → Data → Option (List A)
+items_of_key f k d = option_and_then (all_items f) (required as_array k d)
 
 -- the same; none where the key is absent
 abbrev pub optional_items : {A : Type 0} → (Data → Option A) → List ℕ → Data → Option (List A)
@@ -101,12 +101,12 @@ abbrev pub whole : Data → Option ℕ
 whole d = option_and_then as_u64 (as_number d)
 
 -- a number, if it is neither below the one bound nor above the other
-abbrev pub between : ℤ → ℤ → ℤ → Option ℤ
-between low high z = if int_le low z && int_le z high then Some z else None
+abbrev pub within_bounds : ℤ → ℤ → ℤ → Option ℤ
+within_bounds low high z = if int_le low z && int_le z high then Some z else None
 
 -- a whole number between these bounds, without fraction and exponent
 abbrev pub whole_between : ℤ → ℤ → Data → Option ℤ
-whole_between low high d = option_and_then (between low high) (option_and_then as_i64 (as_number d))
+whole_between low high d = option_and_then (within_bounds low high) (option_and_then as_i64 (as_number d))
 
 -- a text that names what f finds
 abbrev pub name_form : {A : Type 0} → (List ℕ → Option A) → Data → Option A

@@ -3,7 +3,7 @@ ghost use Rattle.std.specs.Prelude.{◌≡◌, Some};
 ghost use Rattle.serde_json.specs.Data.{Data};
 ghost use Rattle.serde_json.specs.Find.{at, get};
 ghost use Rattle.document_words.specs.Faults.{into, IsFaultOf};
-ghost use Rattle.document_words.specs.Reads.{IsErrorOf, Refuses};
+ghost use Rattle.document_words.specs.Reads.{IsErrorOf, RefusesToo};
 
 use crate::fault::{Fault, Step};
 use std::alloc::{AllocError, AllocFailed, Global};
@@ -34,7 +34,7 @@ fn one_step_out(mut fault: Box<Fault>, step: Step) -> ReadError
 impl ReadError {
     /// The error of a part, as one of the object that has the part under this key.
     pub fn under(self, alloc: Global, key: &str) -> ReadError
-        ensures refuses { Refuses self result }
+        ensures refuses { RefusesToo self result }
         ensures fault { (whole part : Data) → get key.now whole ≡ Some part → IsErrorOf self part
             → IsErrorOf result whole }
     {
@@ -49,7 +49,7 @@ impl ReadError {
 
     /// The error of a part, as one of the list that has the part at this place, from 0.
     pub fn in_item(self, place: usize) -> ReadError
-        ensures refuses { Refuses self result }
+        ensures refuses { RefusesToo self result }
         ensures fault { (whole part : Data) → at place whole ≡ Some part → IsErrorOf self part
             → IsErrorOf result whole }
     {

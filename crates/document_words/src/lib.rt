@@ -6,4 +6,5 @@ pub mod fault;
 pub mod names;
 pub mod refusals;
 pub mod tables;
+pub mod texts;
 pub mod words;

@@ -2,7 +2,7 @@
 ghost use Rattle.std.specs.Prelude.{◌≡◌};
 ghost use Rattle.serde_json.specs.View.{view};
 ghost use Rattle.document_words.specs.Words.{name_form};
-ghost use Rattle.document_words.specs.Names.{named, rows_view, variable_named, locator_term_named, term_named};
+ghost use Rattle.document_words.specs.Names.{value_named, rows_view, variable_named, locator_term_named, term_named};
 ghost use Rattle.document_words.specs.Reads.{Faults, Reads};
 
 use crate::error::ReadError;
@@ -17,7 +17,7 @@ use std::alloc::Global;
 
 /// The value of a name: that of the first row that has the name.
 pub fn named<T: Copy>(rows: &[(&str, T)], name: &str) -> Option<T>
-    ensures { result ≡ named (rows_view rows.now) name.now }
+    ensures { result ≡ value_named (rows_view rows.now) name.now }
 {
     for row in rows {
         if row.0 == name {

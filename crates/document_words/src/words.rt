@@ -6,7 +6,7 @@ ghost use Rattle.serde_json.specs.Data.{array, no_items};
 ghost use Rattle.serde_json.specs.View.{view, items_view, members_view};
 ghost use Rattle.serde_json.specs.Find.{as_array, as_str, as_bool};
 ghost use Rattle.csl_base.specs.StyleView.{code_view};
-ghost use Rattle.document_words.specs.Words.{all_items, object_with, required, optional, where_present, flag, is_one_of, items_at, member_keys, optional_items, whole, whole_between};
+ghost use Rattle.document_words.specs.Words.{all_items, object_with, required, optional, where_present, flag, is_one_of, items_of_key, member_keys, optional_items, whole, whole_between};
 ghost use Rattle.document_words.specs.Names.{one_of, rows_view};
 ghost use Rattle.document_words.specs.Reads.{Faults, Reads};
 
@@ -418,7 +418,7 @@ pub fn names_at<T: Copy + Drop>(
     key: &str,
 ) -> Result<Vec<T>, ReadError>
     ensures read { Reads (λ v. v.items) result
-        (items_at (one_of (rows_view rows.now)) key.now (view value.now)) }
+        (items_of_key (one_of (rows_view rows.now)) key.now (view value.now)) }
     ensures fault { Faults result (view value.now) }
 {
     let list = required_list(alloc, value, key)?;

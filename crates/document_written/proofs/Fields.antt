@@ -8,6 +8,7 @@ use Rattle.std.specs.Cmp.Lexicographic.{slice_cmp}
 use Rattle.std.specs.declared.cmp.Ordering.{Ordering}
 use Rattle.std.specs.declared.cmp.Ordering.TheVariants.{Less, Equal, Greater}
 use Rattle.std.proofs.lemmas.Slice.Eq.{bytes_eq-Decides}
+use Rattle.std.proofs.lemmas.Bool.{and_from}
 use Rattle.serde_json.specs.Data.{Data, Members, no_members, member, put}
 use Rattle.serde_json.specs.Find.{get_member}
 use Rattle.serde_json.proofs.Views.{get_member-put, get_member-put_other}
@@ -43,9 +44,6 @@ module _ (p : List ℕ → Bool) where
   abbrev Each : Members → Type 0
   Each ms = list_all p (member_keys ms) ≡ true
 
-  both : (a b : Bool) → a ≡ true → b ≡ true → a && b ≡ true
-  both a b e f = rw e f
-
   front : (a b : Bool) → a && b ≡ true → a ≡ true
   front true b e = refl
   front false b e = cc
@@ -55,16 +53,16 @@ module _ (p : List ℕ → Bool) where
   rest false b e = cc
 
   put_each : (k : List ℕ) (d : Data) (ms : Members) → p k ≡ true → Each ms → Each (put k d ms)
-  put_each k d no_members h all = both (p k) true h refl
+  put_each k d no_members h all = and_from (p k) true h refl
   put_each k d (member l e ms) h all =
       let first = front (p l) (list_all p (member_keys ms)) all in
       let others = rest (p l) (list_all p (member_keys ms)) all in
       by first others (put_each k d ms h others) (slice_cmp nat_cmp k l)
     where
       by : p l ≡ true → Each ms → Each (put k d ms) → (o : Ordering) → Each (match_ordering o (member k d (member l e ms)) (member l d ms) (member l e (put k d ms)))
-      by first others later Less = both (p k) (list_all p (member_keys (member l e ms))) h all
-      by first others later Equal = both (p l) (list_all p (member_keys ms)) first others
-      by first others later Greater = both (p l) (list_all p (member_keys (put k d ms))) first later
+      by first others later Less = and_from (p k) (list_all p (member_keys (member l e ms))) h all
+      by first others later Equal = and_from (p l) (list_all p (member_keys ms)) first others
+      by first others later Greater = and_from (p l) (list_all p (member_keys (put k d ms))) first later
 
   -- a field that is there has such a key
   abbrev pub allows : List ℕ × Option Data → Bool

@@ -4,27 +4,7 @@ use Rattle.serde_json.specs.Data.{Data}
 use Rattle.serde_json.specs.Find.{as_array}
 use Rattle.serde_json.specs.View.{items_view}
 use Rattle.serde_json.specs.declared.value.Value.{Value}
-use Rattle.document_words.specs.Reads.{Fails}
-use Rattle.document_words.specs.declared.error.ReadError.{ReadError}
-use Rattle.document_words.specs.declared.error.ReadError.TheVariants as errors
-use Rattle.document_written.specs.MetaForm.{person_of, person_form}
 use Rattle.document_written.specs.Pairs.{pair_of, pair_form}
-
-of_none : (vs : List Value) → length vs < 1 → person_of (items_view vs) ≡ None
-of_none [] h = refl
-of_none (v ∷ vs) h = absurd (omega arith)
-
-of_three : (vs : List Value) → 3 ≤ length vs → person_of (items_view vs) ≡ None
-of_three [] h = absurd (omega arith)
-of_three (u ∷ []) h = absurd (omega arith)
-of_three (u ∷ v ∷ []) h = absurd (omega arith)
-of_three (u ∷ v ∷ w ∷ vs) h = refl
-
-pub no_name : (d : Data) (vs : List Value) → as_array d ≡ Some (items_view vs) → length vs < 1 → person_form d ≡ None
-no_name d vs e h = ap (option_and_then person_of) e ∙ of_none vs h
-
-pub three_names : (d : Data) (vs : List Value) → as_array d ≡ Some (items_view vs) → 3 ≤ length vs → person_form d ≡ None
-three_names d vs e h = ap (option_and_then person_of) e ∙ of_three vs h
 
 module _ {A B : Type 0} (f : Data → Option A) (g : Data → Option B) where
   of_one : (vs : List Value) → length vs < 2 → pair_of f g (items_view vs) ≡ None
@@ -43,8 +23,3 @@ module _ {A B : Type 0} (f : Data → Option A) (g : Data → Option B) where
 
   pub too_long : (d : Data) (vs : List Value) → as_array d ≡ Some (items_view vs) → 3 ≤ length vs → pair_form f g d ≡ None
   too_long d vs e h = ap (option_and_then (pair_of f g)) e ∙ of_more vs h
-
--- where nothing is read, any error may be returned
-pub fails_none : {A : Type 0} (e : ReadError) (read : Option A) → read ≡ None → Fails e read
-fails_none (errors.Document fault) read h = h
-fails_none errors.OutOfMemory read h = tt

@@ -18,16 +18,16 @@ use Rattle.csl_writers.specs.Tasks.{LastPlace}
 use Rattle.document_words.specs.Words.{first_of, is_one_of, object_with, required, optional, or_default, present, where_present, flag, all_items, whole}
 use Rattle.document_words.specs.Names.{one_of}
 use Rattle.document_words.specs.Tables.{locators, purposes}
-use Rattle.document_written.specs.ReadBack.{IsPlaced, TasksReadBack}
-use Rattle.document_written.specs.TaskNames.{form_name, locator_name, name_forms, purpose_name, repeats, repeats_name, usage_name, usages, verdict_name, verdicts, kinds}
+use Rattle.document_written.specs.ReadBack.{HasFittingPlace, TasksReadBack}
+use Rattle.document_written.specs.TaskNames.{form_name, locator_name, written_name_forms, purpose_name, ibid_states, repeats_name, usage_name, usages, verdict_name, verdicts, kinds}
 use Rattle.document_written.specs.TaskData.{count_data, true_if, place_data, locator_data, state_data, key_fields, task_data}
-use Rattle.document_written.specs.TaskForm.{cite_form, date_form, item_form, key_form, kind_form, locator_form, names_state, part_form, place_form, standing_form, standing_keys, state_form, suffix_state, task_keys}
+use Rattle.document_written.specs.TaskForm.{cite_task_form, date_task_form, item_task_form, key_form, kind_task_form, counted_locator_form, names_state, part_form, place_form, standing_form, standing_keys, state_form, suffix_state, task_keys}
 use Rattle.document_written.specs.declared.task_names.TaskKind.{TaskKind}
 use Rattle.document_written.proofs.Fields.{allows, field_at, found_field, fields_each}
 
 -- ---- what stands under the keys
 
-form_back : (form : DisambiguatedNameForm) → one_of name_forms (string (form_name form)) ≡ Some form
+form_back : (form : DisambiguatedNameForm) → one_of written_name_forms (string (form_name form)) ≡ Some form
 form_back DisambiguatedNameForm.Count = refl
 form_back DisambiguatedNameForm.Short = refl
 form_back DisambiguatedNameForm.LongInitialized = refl
@@ -61,13 +61,13 @@ kind_back Locator.Volume = refl
 place_back : (p : ℕ × ℕ) → place_form (place_data p) ≡ Some p
 place_back p = refl
 
-locator_back : (l : Locator × List ℕ) → locator_form (locator_data l) ≡ Some l
+locator_back : (l : Locator × List ℕ) → counted_locator_form (locator_data l) ≡ Some l
 locator_back l = ap (option_and_then (λ kind. Some (kind, l.1))) (kind_back l.0)
 
-forms_back : (forms : List DisambiguatedNameForm) → all_items (one_of name_forms) (items_of (map (λ form. string (form_name form)) forms)) ≡ Some forms
+forms_back : (forms : List DisambiguatedNameForm) → all_items (one_of written_name_forms) (items_of (map (λ form. string (form_name form)) forms)) ≡ Some forms
 forms_back [] = refl
 forms_back (form ∷ forms) =
-    let rest = all_items (one_of name_forms) (items_of (map (λ form. string (form_name form)) forms)) in
+    let rest = all_items (one_of written_name_forms) (items_of (map (λ form. string (form_name form)) forms)) in
     ap (option_and_then (λ x. option_and_then (λ xs. Some (x ∷ xs)) rest)) (form_back form)
     ∙ ap (option_and_then (λ xs. Some (form ∷ xs))) (forms_back forms)
 
@@ -79,7 +79,7 @@ state_back (DisambiguateState.NameDisambiguation names) =
 state_back DisambiguateState.Choose = refl
 state_back (DisambiguateState.YearSuffix n) = refl
 
-ibid_back : (s : IbidState) → or_default IbidState.Different (one_of repeats) (option_map string (repeats_name s)) ≡ Some s
+ibid_back : (s : IbidState) → or_default IbidState.Different (one_of ibid_states) (option_map string (repeats_name s)) ≡ Some s
 ibid_back IbidState.Different = refl
 ibid_back IbidState.IbidWithLocator = refl
 ibid_back IbidState.Ibid = refl
@@ -106,7 +106,7 @@ record SaysStanding (d : Data) (s : Standing) : Type 0 where
   first_note : get (codes "first_note") d ≡ option_map count_data s.first_note_number
   near_note : get (codes "near_note") d ≡ true_if s.is_near_note
   first : get (codes "first") d ≡ true_if s.is_first
-  ibid : get (codes "repeats") d ≡ option_map string (repeats_name s.ibid)
+  ibid : get (codes "ibid_states") d ≡ option_map string (repeats_name s.ibid)
   number : get (codes "number") d ≡ Some (count_data s.citation_number)
   locator : get (codes "locator") d ≡ option_map locator_data s.locator
   state : get (codes "state") d ≡ state_data s.disambiguation
@@ -122,9 +122,9 @@ standing_back d s h =
     (then (where_present whole (codes "first_note") d) s.first_note_number _ _ (ap (or_default None (present whole)) h.first_note ∙ absent_back whole count_data s.first_note_number (λ n. refl))
     (then (flag (codes "near_note") d) s.is_near_note _ _ (ap (or_default false as_bool) h.near_note ∙ flag_back s.is_near_note)
     (then (flag (codes "first") d) s.is_first _ _ (ap (or_default false as_bool) h.first ∙ flag_back s.is_first)
-    (then (optional IbidState.Different (one_of repeats) (codes "repeats") d) s.ibid _ _ (ap (or_default IbidState.Different (one_of repeats)) h.ibid ∙ ibid_back s.ibid)
+    (then (optional IbidState.Different (one_of ibid_states) (codes "ibid_states") d) s.ibid _ _ (ap (or_default IbidState.Different (one_of ibid_states)) h.ibid ∙ ibid_back s.ibid)
     (then (required whole (codes "number") d) s.citation_number _ _ (ap (option_and_then whole) h.number)
-    (then (where_present locator_form (codes "locator") d) s.locator _ _ (ap (or_default None (present locator_form)) h.locator ∙ absent_back locator_form locator_data s.locator locator_back)
+    (then (where_present counted_locator_form (codes "locator") d) s.locator _ _ (ap (or_default None (present counted_locator_form)) h.locator ∙ absent_back counted_locator_form locator_data s.locator locator_back)
     (then (optional DisambiguateState.None state_form (codes "state") d) s.disambiguation _ _ (ap (or_default DisambiguateState.None state_form) h.state ∙ state_back s.disambiguation)
     (then (optional IdentifierUsage.None (one_of usages) (codes "usage") d) s.identifier_usage _ _ (ap (or_default IdentifierUsage.None (one_of usages)) h.usage ∙ usage_back s.identifier_usage)
     refl))))))))
@@ -161,7 +161,7 @@ cite_says k s purpose verdict =
       first_note = there t (codes "first_note") ∙ first_of_none (option_map count_data s.first_note_number);
       near_note = there t (codes "near_note") ∙ first_of_none (true_if s.is_near_note);
       first = there t (codes "first") ∙ first_of_none (true_if s.is_first);
-      ibid = there t (codes "repeats") ∙ first_of_none (option_map string (repeats_name s.ibid));
+      ibid = there t (codes "ibid_states") ∙ first_of_none (option_map string (repeats_name s.ibid));
       number = there t (codes "number");
       locator = there t (codes "locator") ∙ first_of_none (option_map locator_data s.locator);
       state = there t (codes "state") ∙ first_of_none (state_data s.disambiguation);
@@ -176,7 +176,7 @@ item_says k s =
       first_note = there t (codes "first_note") ∙ first_of_none (option_map count_data s.first_note_number);
       near_note = there t (codes "near_note") ∙ first_of_none (true_if s.is_near_note);
       first = there t (codes "first") ∙ first_of_none (true_if s.is_first);
-      ibid = there t (codes "repeats") ∙ first_of_none (option_map string (repeats_name s.ibid));
+      ibid = there t (codes "ibid_states") ∙ first_of_none (option_map string (repeats_name s.ibid));
       number = there t (codes "number");
       locator = there t (codes "locator") ∙ first_of_none (option_map locator_data s.locator);
       state = there t (codes "state") ∙ first_of_none (state_data s.disambiguation);
@@ -218,8 +218,8 @@ key_says k TaskPart.Date =
 -- ---- what is read
 
 cite_back : (k : TaskKey) (s : Standing) (purpose : Option CitePurpose) (verdict : Option CollapseVerdict)
-    → cite_form (task_data (of_part k (TaskPart.Cite s purpose verdict))) ≡ Some (TaskPart.Cite s purpose verdict)
-unfolding cite_form
+    → cite_task_form (task_data (of_part k (TaskPart.Cite s purpose verdict))) ≡ Some (TaskPart.Cite s purpose verdict)
+unfolding cite_task_form
 cite_back k s purpose verdict =
     let t = of_part k (TaskPart.Cite s purpose verdict) in
     let d = task_data t in
@@ -234,8 +234,8 @@ cite_back k s purpose verdict =
     (ap (or_default None (present (one_of verdicts))) (there t (codes "verdict") ∙ first_of_none (option_map cut verdict)) ∙ absent_back (one_of verdicts) cut verdict verdict_back)
     refl)))
 
-item_back : (k : TaskKey) (s : Standing) → item_form (task_data (item_at k s None)) ≡ Some (TaskPart.Item s)
-unfolding item_form
+item_back : (k : TaskKey) (s : Standing) → item_task_form (task_data (item_at k s None)) ≡ Some (TaskPart.Item s)
+unfolding item_task_form
 item_back k s =
     let t = item_at k s None in
     let d = task_data t in
@@ -243,18 +243,18 @@ item_back k s =
     then (object_with keys d) d _ _ (only t keys refl)
     (ap (option_map TaskPart.Item) (standing_back d s (item_says t s)))
 
-date_back : (k : TaskKey) → date_form (task_data (of_part k TaskPart.Date)) ≡ Some TaskPart.Date
-unfolding date_form
+date_back : (k : TaskKey) → date_task_form (task_data (of_part k TaskPart.Date)) ≡ Some TaskPart.Date
+unfolding date_task_form
 date_back k =
     let t = of_part k TaskPart.Date in
     let keys = task_keys ++ codes "place" ∷ [] in
     then (object_with keys (task_data t)) (task_data t) _ _ (only t keys refl) refl
 
 kind_read : (d : Data) (kind : TaskKind) (name : List ℕ) → get (codes "kind") d ≡ Some (string name) → one_of kinds (string name) ≡ Some kind
-    → part_form d ≡ kind_form kind d
-kind_read d kind name e h = ap (option_and_then (λ it. kind_form it d)) (ap (option_and_then (one_of kinds)) e ∙ h)
+    → part_form d ≡ kind_task_form kind d
+kind_read d kind name e h = ap (option_and_then (λ it. kind_task_form it d)) (ap (option_and_then (one_of kinds)) e ∙ h)
 
-part_back : (k : TaskKey) (part : TaskPart) → IsPlaced part k.place → part_form (task_data (of_part k part)) ≡ Some part
+part_back : (k : TaskKey) (part : TaskPart) → HasFittingPlace part k.place → part_form (task_data (of_part k part)) ≡ Some part
 part_back k (TaskPart.Cite s purpose verdict) h =
     let t = of_part k (TaskPart.Cite s purpose verdict) in
     kind_read (task_data t) TaskKind.Cite (codes "cite") (there t (codes "kind")) refl ∙ cite_back k s purpose verdict
@@ -266,7 +266,7 @@ part_back k TaskPart.Date h =
     let t = of_part k TaskPart.Date in
     kind_read (task_data t) TaskKind.Date (codes "date") (there t (codes "kind")) refl ∙ date_back k
 
-key_back : (k : TaskKey) (part : TaskPart) → IsPlaced part k.place → key_form (task_data (of_part k part)) ≡ Some (of_part k part)
+key_back : (k : TaskKey) (part : TaskPart) → HasFittingPlace part k.place → key_form (task_data (of_part k part)) ≡ Some (of_part k part)
 unfolding key_form
 key_back k part placed =
     let d = task_data (of_part k part) in

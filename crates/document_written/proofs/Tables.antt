@@ -5,13 +5,14 @@ use Rattle.std.specs.Cmp.{IsEquivalence}
 use Rattle.std.specs.HashMap.{HashMap, Updates}
 use Rattle.std.specs.List.{list_all}
 use Rattle.std.specs.Map.{lookup}
+use Rattle.std.proofs.lemmas.Bool.{and_from}
 use Rattle.csl_base.specs.SameTree.{same_trees-Decides}
 use Rattle.csl_table.specs.Table.{found, key_eq}
 use Rattle.csl_table.specs.contracts.key.TaskKeyEq.TheImpl.Laws.{laws-law}
 use Rattle.csl_table.specs.declared.key.TaskKey.{TaskKey}
 use Rattle.csl_writers.specs.declared.cite.Cite.{Cite}
 use Rattle.document_words.specs.Words.{first_of}
-use Rattle.document_written.specs.WrittenForm.{Written, first_written, has_tree, has_one_tree_each, table_of, with_first}
+use Rattle.document_written.specs.WrittenForm.{Written, first_written, has_tree, has_one_tree_each, table_of_written, with_first_tree}
 
 pub key_laws : IsEquivalence key_eq
 key_laws = laws-law
@@ -27,7 +28,7 @@ first-append (x ∷ xs) ys k = by (key_eq k x.0) (first-append xs ys k)
     by true h = refl
     by false h = h
 
-pub one_more_found : (ws : Written) (w : TaskKey × Cite) → with_first w (first_written ws) ≡ first_written (ws ++ w ∷ [])
+pub one_more_found : (ws : Written) (w : TaskKey × Cite) → with_first_tree w (first_written ws) ≡ first_written (ws ++ w ∷ [])
 one_more_found ws w = λ i k. sym (first-append ws (w ∷ []) k) i
 
 first_of_none : {A : Type 0} (o : Option A) → first_of o None ≡ o
@@ -49,7 +50,7 @@ comes None c h = refl
 comes (Some x) c h = cc
 
 -- what stands for the key stays
-pub kept : {S : Type 0} (m : HashMap TaskKey Cite S) (w : TaskKey × Cite) → is_some (found m w.0) ≡ true → found m ≡ with_first w (found m)
+pub kept : {S : Type 0} (m : HashMap TaskKey Cite S) (w : TaskKey × Cite) → is_some (found m w.0) ≡ true → found m ≡ with_first_tree w (found m)
 kept m w there = λ i k. at k (key_eq k w.0) refl i
   where
     at : (k : TaskKey) (b : Bool) → key_eq k w.0 ≡ b → found m k ≡ first_of (found m k) (cond b (Some w.1) None)
@@ -57,7 +58,7 @@ kept m w there = λ i k. at k (key_eq k w.0) refl i
     at k false e = sym (first_of_none (found m k))
 
 -- a key that wasn't there is put in
-pub added : {S : Type 0} (m n : HashMap TaskKey Cite S) (w : TaskKey × Cite) → is_some (found m w.0) ≡ false → Updates key_eq m n w.0 (Some w.1) → found n ≡ with_first w (found m)
+pub added : {S : Type 0} (m n : HashMap TaskKey Cite S) (w : TaskKey × Cite) → is_some (found m w.0) ≡ false → Updates key_eq m n w.0 (Some w.1) → found n ≡ with_first_tree w (found m)
 added m n w absent u = λ i k. (u.0 k ∙ at k (key_eq w.0 k) refl ∙ ap (λ b. first_of (found m k) (cond b (Some w.1) None)) (key_laws.symm w.0 k)) i
   where
     at : (k : TaskKey) (b : Bool) → key_eq w.0 k ≡ b → cond b (Some w.1) (found m k) ≡ first_of (found m k) (cond b (Some w.1) None)
@@ -69,9 +70,6 @@ added m n w absent u = λ i k. (u.0 k ∙ at k (key_eq w.0 k) refl ∙ ap (λ b.
 abbrev among : Written → TaskKey × Cite → Bool
 among ws w = has_tree (first_written ws w.0) w.1 false
 
-both : (a b : Bool) → a ≡ true → b ≡ true → a && b ≡ true
-both a b e f = rw e f
-
 left : (a b : Bool) → a && b ≡ true → a ≡ true
 left true b e = refl
 left false b e = cc
@@ -82,11 +80,11 @@ right false b e = cc
 
 all-append : {X : Type 0} (p : X → Bool) (xs ys : List X) → list_all p xs ≡ true → list_all p ys ≡ true → list_all p (xs ++ ys) ≡ true
 all-append p [] ys h g = g
-all-append p (x ∷ xs) ys h g = both (p x) (list_all p (xs ++ ys)) (left (p x) (list_all p xs) h) (all-append p xs ys (right (p x) (list_all p xs) h) g)
+all-append p (x ∷ xs) ys h g = and_from (p x) (list_all p (xs ++ ys)) (left (p x) (list_all p xs) h) (all-append p xs ys (right (p x) (list_all p xs) h) g)
 
 all_of : {X : Type 0} (p q : X → Bool) (xs : List X) → ((x : X) → p x ≡ true → q x ≡ true) → list_all p xs ≡ true → list_all q xs ≡ true
 all_of p q [] f h = refl
-all_of p q (x ∷ xs) f h = both (q x) (list_all q xs) (f x (left (p x) (list_all p xs) h)) (all_of p q xs f (right (p x) (list_all p xs) h))
+all_of p q (x ∷ xs) f h = and_from (q x) (list_all q xs) (f x (left (p x) (list_all p xs) h)) (all_of p q xs f (right (p x) (list_all p xs) h))
 
 not_all : {X : Type 0} (p : X → Bool) (xs : List X) (x : X) (ys : List X) → p x ≡ false → list_all p (xs ++ x ∷ ys) ≡ false
 not_all p [] x ys h = rw h refl
@@ -113,7 +111,7 @@ one_more ws w h g =
     all-append (among whole) ws (w ∷ [])
     (all_of (among ws) (among whole) ws
     (λ v e. ap (λ o. has_tree o v.1 false) (first-append ws (w ∷ []) v.0) ∙ later (first_written ws v.0) (first_written (w ∷ []) v.0) v.1 e) h)
-    (both (among whole w) true (ap (λ o. has_tree o w.1 false) here ∙ last (first_written ws w.0) w.1 g) refl)
+    (and_from (among whole w) true (ap (λ o. has_tree o w.1 false) here ∙ last (first_written ws w.0) w.1 g) refl)
 
 clash : (o r : Option Cite) (c : Cite) → has_tree o c true ≡ false → has_tree (first_of o r) c false ≡ false
 clash None r c h = cc
@@ -121,13 +119,13 @@ clash (Some x) r c h = h
 
 -- the next has another tree: nothing is read, whatever follows
 pub two_trees : (ws : Written) (w : TaskKey × Cite) (rest whole : Option Written) → has_tree (first_written ws w.0) w.1 true ≡ false
-    → option_map (λ later. (ws ++ w ∷ []) ++ later) rest ≡ whole → option_and_then table_of whole ≡ None
-two_trees ws w None whole h e = ap (option_and_then table_of) (sym e)
+    → option_map (λ later. (ws ++ w ∷ []) ++ later) rest ≡ whole → option_and_then table_of_written whole ≡ None
+two_trees ws w None whole h e = ap (option_and_then table_of_written) (sym e)
 two_trees ws w (Some vs) whole h e =
     let all = ws ++ w ∷ vs in
     let joined : (ws ++ w ∷ []) ++ vs ≡ all = append_assoc ws (w ∷ []) vs in
     let bad : among all w ≡ false = ap (λ o. has_tree o w.1 false) (first-append ws (w ∷ vs) w.0) ∙ clash (first_written ws w.0) (first_written (w ∷ vs) w.0) w.1 h in
-    ap (option_and_then table_of) (sym e) ∙ ap table_of joined ∙ ap (λ b. cond b (Some (first_written all)) None) (not_all (among all) ws w vs bad)
+    ap (option_and_then table_of_written) (sym e) ∙ ap table_of_written joined ∙ ap (λ b. cond b (Some (first_written all)) None) (not_all (among all) ws w vs bad)
 
-pub all_read : (ws : Written) (whole : Option Written) → has_one_tree_each ws ≡ true → whole ≡ Some ws → option_and_then table_of whole ≡ Some (first_written ws)
-all_read ws whole h e = ap (option_and_then table_of) e ∙ ap (λ b. cond b (Some (first_written ws)) None) h
+pub all_read : (ws : Written) (whole : Option Written) → has_one_tree_each ws ≡ true → whole ≡ Some ws → option_and_then table_of_written whole ≡ Some (first_written ws)
+all_read ws whole h e = ap (option_and_then table_of_written) e ∙ ap (λ b. cond b (Some (first_written ws)) None) h

@@ -1,39 +1,27 @@
 -- The form of what an element was rendered for.
 use Rattle.std.specs.Prelude.{ℕ, List, [], ◌∷◌, Option, Some, None, option_and_then, option_map, is_some, nat_eq, codes, if◌then◌else◌}
 use Rattle.std.specs.Cmp.Lexicographic.{pointwise}
+use Rattle.document_reading.specs.Entries.{person_form}
 use Rattle.serde_json.specs.Data.{Data, Items, no_items, item}
 use Rattle.serde_json.specs.Find.{get, as_array, as_str}
 use Rattle.csl_base.specs.declared.elem.ElemMeta.{ElemMeta}
 use Rattle.csl_base.specs.declared.entry.Person.{Person}
 use Rattle.csl_base.specs.declared.taxonomy.NameVariable.{NameVariable}
-use Rattle.document_words.specs.Words.{◌>>=◌, object_with, required, items_at, whole}
+use Rattle.document_words.specs.Words.{◌>>=◌, object_with, required, items_of_key, whole}
 use Rattle.document_words.specs.Names.{one_of}
 use Rattle.document_words.specs.Tables.{name_variables}
 
--- a person: a family name, or a family name and a given name
-abbrev pub person_of : Items → Option Person
-person_of (item family no_items) =
-    option_map (λ name. record { name = name; given_name = None }) (as_str family)
-person_of (item family (item given no_items)) = do
-  name ← as_str family
-  given_name ← as_str given
-  Some (record { name = name; given_name = Some given_name })
-person_of _ = None
-
-abbrev pub person_form : Data → Option Person
-person_form d = option_and_then person_of (as_array d)
-
 -- a variable and its persons
-unfoldable pub names_form : Data → Option (List Person × NameVariable)
-names_form d = do
+unfoldable pub names_meta_form : Data → Option (List Person × NameVariable)
+names_meta_form d = do
   o ← object_with (codes "persons" ∷ codes "variable" ∷ []) d
-  persons ← items_at person_form (codes "persons") o
+  persons ← items_of_key person_form (codes "persons") o
   variable ← required (one_of name_variables) (codes "variable") o
   Some (persons, variable)
 
 -- one name of a variable
-unfoldable pub name_form : Data → Option ElemMeta
-name_form d = do
+unfoldable pub name_meta_form : Data → Option ElemMeta
+name_meta_form d = do
   o ← object_with (codes "place" ∷ codes "variable" ∷ []) d
   place ← required whole (codes "place") o
   variable ← required (one_of name_variables) (codes "variable") o
@@ -55,12 +43,12 @@ entry_meta d = do
 unfoldable pub name_meta : Data → Option ElemMeta
 name_meta d = do
   o ← object_with (codes "name" ∷ []) d
-  required name_form (codes "name") o
+  required name_meta_form (codes "name") o
 
 unfoldable pub names_meta : Data → Option ElemMeta
 names_meta d = do
   o ← object_with (codes "names" ∷ []) d
-  option_map ElemMeta.Names (items_at names_form (codes "names") o)
+  option_map ElemMeta.Names (items_of_key names_meta_form (codes "names") o)
 
 abbrev pub object_meta : Data → Option ElemMeta
 object_meta d =

@@ -7,10 +7,10 @@ use Rattle.document_written.specs.TaskData.{task_data}
 use Rattle.document_written.specs.TaskForm.{key_form}
 
 -- an item of the bibliography has no place
-abbrev pub IsPlaced : TaskPart → LastPlace → Type 0
-IsPlaced (TaskPart.Item standing) place = place ≡ None
-IsPlaced _ place = ⊤
+abbrev pub HasFittingPlace : TaskPart → LastPlace → Type 0
+HasFittingPlace (TaskPart.Item standing) place = place ≡ None
+HasFittingPlace _ place = ⊤
 
 -- the data of such a task reads as the task
 abbrev pub TasksReadBack : Type 0
-TasksReadBack = (k : TaskKey) → IsPlaced k.part k.place → key_form (task_data k) ≡ Some k
+TasksReadBack = (k : TaskKey) → HasFittingPlace k.part k.place → key_form (task_data k) ≡ Some k

@@ -10,11 +10,11 @@ use Rattle.csl_lookup.specs.declared.state.IdentifierUsage.{IdentifierUsage}
 use Rattle.csl_table.specs.declared.key.Standing.{Standing}
 use Rattle.csl_table.specs.declared.key.TaskKey.{TaskKey}
 use Rattle.csl_table.specs.declared.key.TaskPart.{TaskPart}
-use Rattle.document_words.specs.Words.{◌>>=◌, object_with, required, optional, where_present, flag, items_at, whole}
+use Rattle.document_words.specs.Words.{◌>>=◌, object_with, required, optional, where_present, flag, items_of_key, whole}
 use Rattle.document_words.specs.Names.{one_of}
 use Rattle.document_words.specs.Tables.{locators, purposes}
 use Rattle.document_written.specs.Pairs.{pair_form}
-use Rattle.document_written.specs.TaskNames.{kinds, name_forms, repeats, usages, verdicts}
+use Rattle.document_written.specs.TaskNames.{kinds, written_name_forms, ibid_states, usages, verdicts}
 use Rattle.document_written.specs.declared.task_names.TaskKind.{TaskKind}
 
 -- the index of a request, and that of an item in it
@@ -22,8 +22,8 @@ abbrev pub place_form : Data → Option (ℕ × ℕ)
 place_form = pair_form whole whole
 
 -- what a locator counts, and its text
-abbrev pub locator_form : Data → Option (Locator × List ℕ)
-locator_form = pair_form (one_of locators) as_str
+abbrev pub counted_locator_form : Data → Option (Locator × List ℕ)
+counted_locator_form = pair_form (one_of locators) as_str
 
 -- ---- what disambiguates an entry
 
@@ -33,7 +33,7 @@ state_named s = if pointwise nat_eq s (codes "choose") then Some DisambiguateSta
 unfoldable pub names_state : Data → Option DisambiguateState
 names_state d = do
   o ← object_with (codes "names" ∷ []) d
-  forms ← items_at (one_of name_forms) (codes "names") o
+  forms ← items_of_key (one_of written_name_forms) (codes "names") o
   Some (DisambiguateState.NameDisambiguation (record { forms = forms }))
 
 unfoldable pub suffix_state : Data → Option DisambiguateState
@@ -55,9 +55,9 @@ standing_form o = do
   first_note ← where_present whole (codes "first_note") o
   near_note ← flag (codes "near_note") o
   first ← flag (codes "first") o
-  ibid ← optional IbidState.Different (one_of repeats) (codes "repeats") o
+  ibid ← optional IbidState.Different (one_of ibid_states) (codes "ibid_states") o
   number ← required whole (codes "number") o
-  locator ← where_present locator_form (codes "locator") o
+  locator ← where_present counted_locator_form (codes "locator") o
   state ← optional DisambiguateState.None state_form (codes "state") o
   usage ← optional IdentifierUsage.None (one_of usages) (codes "usage") o
   Some (record {
@@ -78,34 +78,34 @@ abbrev pub task_keys : List (List ℕ)
 task_keys = codes "kind" ∷ codes "style" ∷ codes "locale" ∷ codes "entry" ∷ []
 
 abbrev pub standing_keys : List (List ℕ)
-standing_keys = codes "note" ∷ codes "first_note" ∷ codes "near_note" ∷ codes "first" ∷ codes "repeats"
+standing_keys = codes "note" ∷ codes "first_note" ∷ codes "near_note" ∷ codes "first" ∷ codes "ibid_states"
     ∷ codes "number" ∷ codes "locator" ∷ codes "state" ∷ codes "usage" ∷ []
 
-unfoldable pub cite_form : Data → Option TaskPart
-cite_form d = do
+unfoldable pub cite_task_form : Data → Option TaskPart
+cite_task_form d = do
   o ← object_with (task_keys ++ standing_keys ++ codes "place" ∷ codes "purpose" ∷ codes "verdict" ∷ []) d
   standing ← standing_form o
   purpose ← where_present (one_of purposes) (codes "purpose") o
   verdict ← where_present (one_of verdicts) (codes "verdict") o
   Some (TaskPart.Cite standing purpose verdict)
 
-unfoldable pub item_form : Data → Option TaskPart
-item_form d = do
+unfoldable pub item_task_form : Data → Option TaskPart
+item_task_form d = do
   o ← object_with (task_keys ++ standing_keys) d
   option_map TaskPart.Item (standing_form o)
 
-unfoldable pub date_form : Data → Option TaskPart
-date_form d = do
+unfoldable pub date_task_form : Data → Option TaskPart
+date_task_form d = do
   o ← object_with (task_keys ++ codes "place" ∷ []) d
   Some TaskPart.Date
 
-abbrev pub kind_form : TaskKind → Data → Option TaskPart
-kind_form TaskKind.Cite d = cite_form d
-kind_form TaskKind.Item d = item_form d
-kind_form TaskKind.Date d = date_form d
+abbrev pub kind_task_form : TaskKind → Data → Option TaskPart
+kind_task_form TaskKind.Cite d = cite_task_form d
+kind_task_form TaskKind.Item d = item_task_form d
+kind_task_form TaskKind.Date d = date_task_form d
 
 abbrev pub part_form : Data → Option TaskPart
-part_form d = option_and_then (λ kind. kind_form kind d) (required (one_of kinds) (codes "kind") d)
+part_form d = option_and_then (λ kind. kind_task_form kind d) (required (one_of kinds) (codes "kind") d)
 
 -- a task
 unfoldable pub key_form : Data → Option TaskKey

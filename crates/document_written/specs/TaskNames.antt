@@ -6,19 +6,19 @@ use Rattle.csl_lookup.specs.declared.purpose.CitePurpose.{CitePurpose}
 use Rattle.csl_lookup.specs.declared.state.CollapseVerdict.{CollapseVerdict}
 use Rattle.csl_lookup.specs.declared.state.IbidState.{IbidState}
 use Rattle.csl_lookup.specs.declared.state.IdentifierUsage.{IdentifierUsage}
-use Rattle.document_words.specs.Tables.{Table}
+use Rattle.document_words.specs.Tables.{NameTable}
 use Rattle.document_written.specs.declared.task_names.TaskKind.{TaskKind}
 
 -- the kinds of tasks
-abbrev pub kinds : Table TaskKind
+abbrev pub kinds : NameTable TaskKind
 kinds = (codes "cite", TaskKind.Cite) ∷ (codes "item", TaskKind.Item) ∷ (codes "date", TaskKind.Date) ∷ []
 
 -- how a cite repeats the one before it
-abbrev pub repeats : Table IbidState
-repeats = (codes "ibid", IbidState.Ibid) ∷ (codes "ibid-with-locator", IbidState.IbidWithLocator) ∷ []
+abbrev pub ibid_states : NameTable IbidState
+ibid_states = (codes "ibid", IbidState.Ibid) ∷ (codes "ibid-with-locator", IbidState.IbidWithLocator) ∷ []
 
 -- which identifiers were written
-abbrev pub usages : Table IdentifierUsage
+abbrev pub usages : NameTable IdentifierUsage
 usages =
     (codes "label", IdentifierUsage.OnlyCitationLabel) ∷
     (codes "number", IdentifierUsage.OnlyCitationNumber) ∷
@@ -26,12 +26,12 @@ usages =
     []
 
 -- how a cite is cut
-abbrev pub verdicts : Table CollapseVerdict
+abbrev pub verdicts : NameTable CollapseVerdict
 verdicts = (codes "date", CollapseVerdict.First) ∷ (codes "suffix", CollapseVerdict.YearSuffix) ∷ []
 
 -- how far a name is written
-abbrev pub name_forms : Table DisambiguatedNameForm
-name_forms =
+abbrev pub written_name_forms : NameTable DisambiguatedNameForm
+written_name_forms =
     (codes "count", DisambiguatedNameForm.Count) ∷
     (codes "short", DisambiguatedNameForm.Short) ∷
     (codes "initials", DisambiguatedNameForm.LongInitialized) ∷

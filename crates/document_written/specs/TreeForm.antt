@@ -7,22 +7,22 @@ use Rattle.csl_base.specs.declared.formatting.FontStyle.{FontStyle}
 use Rattle.csl_base.specs.declared.formatting.FontWeight.{FontWeight}
 use Rattle.csl_base.specs.declared.formatting.Formatted.{Formatted}
 use Rattle.csl_base.specs.declared.formatting.Formatting.{Formatting}
-use Rattle.document_words.specs.Words.{◌>>=◌, object_with, required, where_present, items_at, list_of, whole}
+use Rattle.document_words.specs.Words.{◌>>=◌, object_with, required, where_present, items_of_key, list_form, whole}
 use Rattle.document_words.specs.Names.{one_of}
-use Rattle.document_words.specs.Tables.{Table, displays}
+use Rattle.document_words.specs.Tables.{NameTable, displays}
 use Rattle.document_written.specs.MetaForm.{meta_form}
 
 -- how letters slant
-abbrev pub font_styles : Table FontStyle
+abbrev pub font_styles : NameTable FontStyle
 font_styles = (codes "normal", FontStyle.Normal) ∷ (codes "italic", FontStyle.Italic) ∷ []
 
 -- how heavy letters are
-abbrev pub font_weights : Table FontWeight
+abbrev pub font_weights : NameTable FontWeight
 font_weights = (codes "normal", FontWeight.Normal) ∷ (codes "bold", FontWeight.Bold) ∷ []
 
 -- the formatting of an object, which says both of it
-unfoldable pub formatting_form : Data → Option Formatting
-formatting_form o = do
+unfoldable pub full_formatting_form : Data → Option Formatting
+full_formatting_form o = do
   slant ← required (one_of font_styles) (codes "font_style") o
   weight ← required (one_of font_weights) (codes "font_weight") o
   Some (record { font_style = slant; font_weight = weight })
@@ -35,10 +35,10 @@ abbrev pub text_or_link : Formatted → Option (List ℕ) → Child
 text_or_link f None = text f
 text_or_link f (Some url) = link f url
 
-unfoldable pub text_form : Data → Option Child
-text_form d = do
+unfoldable pub text_child_form : Data → Option Child
+text_child_form d = do
   o ← object_with (formatting_keys ++ codes "text" ∷ codes "url" ∷ []) d
-  formatting ← formatting_form o
+  formatting ← full_formatting_form o
   s ← required as_str (codes "text") o
   url ← where_present as_str (codes "url") o
   Some (text_or_link (record { text = s; formatting = formatting }) url)
@@ -50,10 +50,10 @@ markup_form d = do
   option_map markup (required as_str (codes "markup") o)
 
 -- a place for a cite
-unfoldable pub cite_form : Data → Option Child
-cite_form d = do
+unfoldable pub cite_mark_form : Data → Option Child
+cite_mark_form d = do
   o ← object_with (formatting_keys ++ codes "cite" ∷ []) d
-  formatting ← formatting_form o
+  formatting ← full_formatting_form o
   cite ← required whole (codes "cite") o
   Some (transparent cite formatting)
 
@@ -63,10 +63,10 @@ abbrev pub element_keys : List (List ℕ)
 element_keys = codes "children" ∷ codes "display" ∷ codes "meta" ∷ []
 
 -- an element
-unfoldable pub element_form : (Data → Option Child) → Data → Option Child
-element_form inner d = do
+unfoldable pub elem_form : (Data → Option Child) → Data → Option Child
+elem_form inner d = do
   o ← object_with element_keys d
-  children ← items_at inner (codes "children") o
+  children ← items_of_key inner (codes "children") o
   display ← where_present (one_of displays) (codes "display") o
   meta ← where_present meta_form (codes "meta") o
   Some (elem (kids_of children) display meta)
@@ -74,9 +74,9 @@ element_form inner d = do
 -- a node, of the kind that its keys say
 abbrev pub node_over : (Data → Option Child) → Data → Option Child
 node_over inner d =
-    if is_some (get (codes "children") d) then element_form inner d else
+    if is_some (get (codes "children") d) then elem_form inner d else
     (if is_some (get (codes "markup") d) then markup_form d else
-    (if is_some (get (codes "cite") d) then cite_form d else text_form d))
+    (if is_some (get (codes "cite") d) then cite_mark_form d else text_child_form d))
 
 -- a node in which nodes nest less than n deep
 abbrev pub node_within : ℕ → Data → Option Child
@@ -93,4 +93,4 @@ NodesNest = (d : Data) → node_form d ≡ node_over node_form d
 
 -- a tree: a list of nodes
 abbrev pub tree_form : Data → Option (List Child)
-tree_form = list_of node_form
+tree_form = list_form node_form

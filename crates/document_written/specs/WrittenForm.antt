@@ -12,15 +12,15 @@ use Rattle.csl_table.specs.declared.key.TaskKey.{TaskKey}
 use Rattle.csl_writers.specs.declared.cite.Cite.{Cite}
 use Rattle.document_reading.specs.Entries.{entry_named}
 use Rattle.document_styles.specs.Styles.{NamedStyle, style_named}
-use Rattle.document_words.specs.Words.{◌>>=◌, first_of, object_with, required, optional, where_present, flag, list_of}
+use Rattle.document_words.specs.Words.{◌>>=◌, first_of, object_with, required, optional, where_present, flag, list_form}
 use Rattle.document_words.specs.Names.{one_of}
 use Rattle.document_written.specs.Known.{is_known, task_among}
-use Rattle.document_written.specs.TaskNames.{name_forms, usages}
+use Rattle.document_written.specs.TaskNames.{written_name_forms, usages}
 use Rattle.document_written.specs.TreeForm.{tree_form}
 
 -- the form of each name
 abbrev pub first_name_form : Data → Option NameDisambiguationProperties
-first_name_form d = option_map (λ forms. record { forms = forms }) (list_of (one_of name_forms) d)
+first_name_form d = option_map (λ forms. record { forms = forms }) (list_form (one_of written_name_forms) d)
 
 abbrev pub written_keys : List (List ℕ)
 written_keys = codes "task" ∷ codes "tree" ∷ codes "disambiguate_tested" ∷ codes "first_name" ∷ codes "usage"
@@ -68,14 +68,14 @@ abbrev pub has_one_tree_each : Written → Bool
 has_one_tree_each ws = list_all (λ w. has_tree (first_written ws w.0) w.1 false) ws
 
 -- what was written first, by task, unless a task has two trees
-abbrev pub table_of : Written → Option (TaskKey → Option Cite)
-table_of ws = if has_one_tree_each ws then Some (first_written ws) else None
+abbrev pub table_of_written : Written → Option (TaskKey → Option Cite)
+table_of_written ws = if has_one_tree_each ws then Some (first_written ws) else None
 
 -- the same of what a document with these styles and entries says
 abbrev pub table_form : List NamedStyle → List PlainEntry → Data → Option (TaskKey → Option Cite)
 table_form styles entries d =
-    option_and_then table_of (list_of (written_form (is_known (style_named styles) (entry_named entries))) d)
+    option_and_then table_of_written (list_form (written_form (is_known (style_named styles) (entry_named entries))) d)
 
 -- one more, where nothing is there for its task
-abbrev pub with_first : TaskKey × Cite → (TaskKey → Option Cite) → TaskKey → Option Cite
-with_first w table key = first_of (table key) (if key_eq key w.0 then Some w.1 else None)
+abbrev pub with_first_tree : TaskKey × Cite → (TaskKey → Option Cite) → TaskKey → Option Cite
+with_first_tree w table key = first_of (table key) (if key_eq key w.0 then Some w.1 else None)

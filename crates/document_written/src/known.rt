@@ -2,7 +2,7 @@
 ghost use Rattle.std.specs.Prelude.{◌≡◌, IfOk};
 ghost use Rattle.document_styles.specs.NamedStyleView.{named_styles_view};
 ghost use Rattle.document_styles.specs.Styles.{style_named};
-ghost use Rattle.document_written.specs.Known.{style_in};
+ghost use Rattle.document_written.specs.Known.{known_style_in};
 
 use csl_base::entry::PlainEntry;
 use document_reading::finders::{EntriesByKey, entries_by_key};
@@ -18,7 +18,7 @@ fn styles_by_name<'d>(
     alloc: Global,
     styles: &'d [NamedStyle],
 ) -> Result<StylesByName<'d>, AllocError>
-    ensures { IfOk result (λ m. style_in m ≡ style_named (named_styles_view styles.now)) }
+    ensures { IfOk result (λ m. known_style_in m ≡ style_named (named_styles_view styles.now)) }
 {
     let mut by_name = HashMap::new(alloc);
     for named in styles {
@@ -43,7 +43,7 @@ impl<'d> Known<'d> {
     ghost use Rattle.document_styles.specs.Styles.{style_named};
     ghost use Rattle.document_reading.specs.Entries.{entry_named};
     ghost use Rattle.document_reading.specs.Finders.{entry_in};
-    ghost use Rattle.document_written.specs.Known.{is_known, knows, style_in};
+    ghost use Rattle.document_written.specs.Known.{is_known, knows, known_style_in};
 
     /// What tasks may name where these are the styles and the entries.
     pub(crate) fn new(
@@ -62,7 +62,7 @@ impl<'d> Known<'d> {
 
     /// Whether there is a style of this name.
     pub(crate) fn has_style(&self, name: &str) -> bool
-        ensures { result ≡ is_some (style_in self.now.styles name.now) }
+        ensures { result ≡ is_some (known_style_in self.now.styles name.now) }
     {
         self.styles.contains_key(&name)
     }

@@ -3,9 +3,9 @@
 
 mod known;
 mod metas;
-mod parts;
 pub mod printing;
 mod task_names;
 pub mod tasks;
 pub mod trees;
+mod wholes;
 pub mod written;

@@ -2,61 +2,30 @@
 ghost use Rattle.std.specs.Prelude.{◌≡◌, codes};
 ghost use Rattle.serde_json.specs.Data.{array};
 ghost use Rattle.serde_json.specs.View.{view, items_view};
-ghost use Rattle.document_words.specs.Words.{all_items, items_at, required, where_present};
+ghost use Rattle.document_words.specs.Words.{all_items, items_of_key, required, where_present};
 ghost use Rattle.document_words.specs.Reads.{Faults, Reads};
-ghost use Rattle.document_written.specs.MetaForm.{person_form, names_form, name_form, meta_named, entry_meta, name_meta, names_meta, object_meta, meta_form};
+ghost use Rattle.document_reading.specs.Entries.{person_form};
+ghost use Rattle.document_written.specs.MetaForm.{names_meta_form, name_meta_form, meta_named, entry_meta, name_meta, names_meta, object_meta, meta_form};
 
-use crate::parts::{item_text, whole_at};
+use crate::wholes::whole_at;
 use csl_base::elem::ElemMeta;
 use csl_base::entry::Person;
 use csl_base::seq::Seq;
 use csl_base::taxonomy::NameVariable;
+use document_reading::persons::all_persons;
 use document_words::error::ReadError;
-use document_words::fault::Wanted;
-use document_words::refusals::{lacking, unlike, unnamed};
+use document_words::refusals::{lacking, unnamed};
 use document_words::tables::NAME_VARIABLES;
-use document_words::words::{list_of, name_at, object_with, required_list};
+use document_words::words::{name_at, object_with, required_list};
 use serde_json::Value;
 use std::alloc::Global;
 
 // ---- persons
 
-fn person_of(alloc: Global, value: &Value) -> Result<Person, ReadError>
-    ensures read { Reads (λ p. p) result (person_form (view value.now)) }
-    ensures fault { Faults result (view value.now) }
-{
-    match list_of(alloc, value)? {
-        [family] => Ok(Person {
-            name: item_text(alloc, family, 0)?,
-            given_name: None,
-        }),
-        [family, given] => Ok(Person {
-            name: item_text(alloc, family, 0)?,
-            given_name: Some(item_text(alloc, given, 1)?),
-        }),
-        _ => Err(unlike(alloc, value, Wanted::Person)),
-    }
-}
-
-#[tactic(auto, using(document_words::proofs::Ways::item_there))]
-fn all_persons(alloc: Global, items: &[Value]) -> Result<Vec<Person>, ReadError>
-    ensures read { Reads (λ v. v.items) result (all_items person_form (items_view items.now)) }
-    ensures fault { Faults result (array (items_view items.now)) }
-{
-    let mut persons = Vec::new(alloc);
-    for (place, item) in items.iter().enumerate() {
-        match person_of(alloc, item) {
-            Ok(person) => persons.push(person)?,
-            Err(error) => return Err(error.in_item(place)),
-        }
-    }
-    Ok(persons)
-}
-
 /// The persons under the key `persons`, which has to be there.
 #[tactic(auto, using(document_words::proofs::Ways::fails_outside))]
 fn persons_at(alloc: Global, object: &Value) -> Result<Seq<Person>, ReadError>
-    ensures read { Reads (λ s. s) result (items_at person_form (codes "persons") (view object.now)) }
+    ensures read { Reads (λ s. s) result (items_of_key person_form (codes "persons") (view object.now)) }
     ensures fault { Faults result (view object.now) }
 {
     let list = required_list(alloc, object, "persons")?;
@@ -68,9 +37,9 @@ fn persons_at(alloc: Global, object: &Value) -> Result<Seq<Person>, ReadError>
 
 // ---- names
 
-#[tactic(auto, unfolding(crate::specs::MetaForm::names_form))]
+#[tactic(auto, unfolding(crate::specs::MetaForm::names_meta_form))]
 fn names_of(alloc: Global, value: &Value) -> Result<(Seq<Person>, NameVariable), ReadError>
-    ensures read { Reads (λ n. n) result (names_form (view value.now)) }
+    ensures read { Reads (λ n. n) result (names_meta_form (view value.now)) }
     ensures fault { Faults result (view value.now) }
 {
     let object = object_with(alloc, &["persons", "variable"], value)?;
@@ -81,7 +50,7 @@ fn names_of(alloc: Global, value: &Value) -> Result<(Seq<Person>, NameVariable),
 
 #[tactic(auto, using(document_words::proofs::Ways::item_there))]
 fn all_names(alloc: Global, items: &[Value]) -> Result<Vec<(Seq<Person>, NameVariable)>, ReadError>
-    ensures read { Reads (λ v. v.items) result (all_items names_form (items_view items.now)) }
+    ensures read { Reads (λ v. v.items) result (all_items names_meta_form (items_view items.now)) }
     ensures fault { Faults result (array (items_view items.now)) }
 {
     let mut all = Vec::new(alloc);
@@ -94,9 +63,9 @@ fn all_names(alloc: Global, items: &[Value]) -> Result<Vec<(Seq<Person>, NameVar
     Ok(all)
 }
 
-#[tactic(auto, unfolding(crate::specs::MetaForm::name_form))]
+#[tactic(auto, unfolding(crate::specs::MetaForm::name_meta_form))]
 fn name_of(alloc: Global, value: &Value) -> Result<ElemMeta, ReadError>
-    ensures read { Reads (λ m. m) result (name_form (view value.now)) }
+    ensures read { Reads (λ m. m) result (name_meta_form (view value.now)) }
     ensures fault { Faults result (view value.now) }
 {
     let object = object_with(alloc, &["place", "variable"], value)?;

@@ -1,7 +1,7 @@
 //! How a task names the values of enums.
 ghost use Rattle.std.specs.Prelude.{◌≡◌, option_map};
 ghost use Rattle.document_words.specs.Tables.{AreRowsOf};
-ghost use Rattle.document_written.specs.TaskNames.{form_name, kinds, locator_name, name_forms, purpose_name, repeats, repeats_name, usage_name, usages, verdict_name, verdicts};
+ghost use Rattle.document_written.specs.TaskNames.{form_name, kinds, locator_name, written_name_forms, purpose_name, ibid_states, repeats_name, usage_name, usages, verdict_name, verdicts};
 
 use csl_base::names::DisambiguatedNameForm;
 use csl_base::taxonomy::Locator;
@@ -53,10 +53,10 @@ pub(crate) const NAME_FORMS: &[(&str, DisambiguatedNameForm)] = &[
 /// Each table has the rows that its definition lists.
 pub fn rows_are_as_defined()
     ensures kinds { AreRowsOf kinds KINDS.now }
-    ensures repeats { AreRowsOf repeats REPEATS.now }
+    ensures ibid_states { AreRowsOf ibid_states REPEATS.now }
     ensures usages { AreRowsOf usages USAGES.now }
     ensures verdicts { AreRowsOf verdicts VERDICTS.now }
-    ensures name_forms { AreRowsOf name_forms NAME_FORMS.now }
+    ensures written_name_forms { AreRowsOf written_name_forms NAME_FORMS.now }
 {}
 
 pub(crate) fn repeats_name(ibid: IbidState) -> Option<&'static str>

@@ -5,25 +5,25 @@ ghost use Rattle.serde_json.specs.Find.{as_str, at};
 ghost use Rattle.serde_json.specs.View.{view};
 ghost use Rattle.csl_lookup.specs.declared.state.DisambiguateState.TheVariants as states;
 ghost use Rattle.document_words.specs.Words.{optional, where_present, whole};
-ghost use Rattle.document_words.specs.Names.{one_of};
-ghost use Rattle.document_words.specs.Tables.{locators};
 ghost use Rattle.document_words.specs.Reads.{Faults, Reads};
-ghost use Rattle.document_written.specs.TaskForm.{cite_form, date_form, item_form, key_form, locator_form, names_state, object_state, part_form, place_form, standing_form, state_form, state_named, suffix_state};
+ghost use Rattle.document_written.specs.TaskForm.{cite_task_form, date_task_form, item_task_form, key_form, counted_locator_form, names_state, object_state, part_form, place_form, standing_form, state_form, state_named, suffix_state};
 
-use crate::parts::{held_text_at, item_text, whole_at, whole_of};
 use crate::task_names::{KINDS, NAME_FORMS, REPEATS, TaskKind, USAGES, VERDICTS};
+use crate::wholes::{whole_at, whole_of};
 use csl_base::names::NameDisambiguationProperties;
 use csl_base::seq::Seq;
 use csl_base::taxonomy::Locator;
 use csl_base::text::Text;
 use csl_lookup::state::{DisambiguateState, IbidState, IdentifierUsage};
 use csl_table::key::{Standing, TaskKey, TaskPart};
+use document_reading::requests::locator_kind;
 use document_words::error::ReadError;
 use document_words::fault::Wanted;
 use document_words::refusals::{unlike, unnamed};
-use document_words::tables::{LOCATORS, PURPOSES};
+use document_words::tables::PURPOSES;
+use document_words::texts::{held_text_at, item_text};
 use document_words::words::{
-    flag, list_of, name_at, name_or, names_at, object_with, one_of, optional_name, optional_number,
+    flag, list_of, name_at, name_or, names_at, object_with, optional_name, optional_number,
 };
 use serde_json::Value;
 use std::alloc::Global;
@@ -68,17 +68,8 @@ fn optional_place(alloc: Global, object: &Value) -> Result<Option<(usize, usize)
 
 // ---- locators
 
-/// What the first item of a locator says it counts.
-#[tactic(auto, using(document_words::proofs::Ways::fails_outside))]
-fn locator_kind(alloc: Global, item: &Value) -> Result<Locator, ReadError>
-    ensures read { Reads (λ k. k) result (one_of locators (view item.now)) }
-    ensures fault { (around : Data) → at 0 around ≡ Some (view item.now) → Faults result around }
-{
-    one_of(alloc, LOCATORS, item).map_err(|error| error.in_item(0))
-}
-
 fn locator_of(alloc: Global, value: &Value) -> Result<(Locator, Text), ReadError>
-    ensures read { Reads (λ l. l) result (locator_form (view value.now)) }
+    ensures read { Reads (λ l. l) result (counted_locator_form (view value.now)) }
     ensures fault { Faults result (view value.now) }
 {
     match list_of(alloc, value)? {
@@ -89,7 +80,7 @@ fn locator_of(alloc: Global, value: &Value) -> Result<(Locator, Text), ReadError
 
 #[tactic(auto, using(document_words::proofs::Ways::fails_outside))]
 fn optional_locator(alloc: Global, object: &Value) -> Result<Option<(Locator, Text)>, ReadError>
-    ensures read { Reads (λ l. l) result (where_present locator_form (codes "locator") (view object.now)) }
+    ensures read { Reads (λ l. l) result (where_present counted_locator_form (codes "locator") (view object.now)) }
     ensures fault { Faults result (view object.now) }
 {
     match object.get("locator") {
@@ -206,9 +197,9 @@ fn standing_of(alloc: Global, object: &Value) -> Result<Standing, ReadError>
     })
 }
 
-#[tactic(auto, unfolding(crate::specs::TaskForm::cite_form))]
+#[tactic(auto, unfolding(crate::specs::TaskForm::cite_task_form))]
 fn cite_part(alloc: Global, value: &Value) -> Result<TaskPart, ReadError>
-    ensures read { Reads (λ p. p) result (cite_form (view value.now)) }
+    ensures read { Reads (λ p. p) result (cite_task_form (view value.now)) }
     ensures fault { Faults result (view value.now) }
 {
     let object = object_with(
@@ -239,9 +230,9 @@ fn cite_part(alloc: Global, value: &Value) -> Result<TaskPart, ReadError>
     Ok(TaskPart::Cite(standing, purpose, verdict))
 }
 
-#[tactic(auto, unfolding(crate::specs::TaskForm::item_form))]
+#[tactic(auto, unfolding(crate::specs::TaskForm::item_task_form))]
 fn item_part(alloc: Global, value: &Value) -> Result<TaskPart, ReadError>
-    ensures read { Reads (λ p. p) result (item_form (view value.now)) }
+    ensures read { Reads (λ p. p) result (item_task_form (view value.now)) }
     ensures fault { Faults result (view value.now) }
 {
     let object = object_with(
@@ -266,9 +257,9 @@ fn item_part(alloc: Global, value: &Value) -> Result<TaskPart, ReadError>
     Ok(TaskPart::Item(standing_of(alloc, object)?))
 }
 
-#[tactic(auto, unfolding(crate::specs::TaskForm::date_form))]
+#[tactic(auto, unfolding(crate::specs::TaskForm::date_task_form))]
 fn date_part(alloc: Global, value: &Value) -> Result<TaskPart, ReadError>
-    ensures read { Reads (λ p. p) result (date_form (view value.now)) }
+    ensures read { Reads (λ p. p) result (date_task_form (view value.now)) }
     ensures fault { Faults result (view value.now) }
 {
     object_with(alloc, &["kind", "style", "locale", "entry", "place"], value)?;

@@ -4,18 +4,19 @@ ghost use Rattle.serde_json.specs.Data.{array};
 ghost use Rattle.serde_json.specs.View.{view, items_view};
 ghost use Rattle.csl_base.specs.Child.{kids_of};
 ghost use Rattle.csl_base.specs.ChildView.{child_view};
-ghost use Rattle.document_words.specs.Words.{all_items, items_at};
+ghost use Rattle.document_words.specs.Words.{all_items, items_of_key};
 ghost use Rattle.document_words.specs.Reads.{Faults, Reads};
 ghost use Rattle.document_words.specs.Tables.{AreRowsOf};
-ghost use Rattle.document_written.specs.TreeForm.{font_styles, font_weights, formatting_form, text_or_link, text_form, markup_form, cite_form, element_form, node_over, node_form, NodesNest, tree_form};
+ghost use Rattle.document_written.specs.TreeForm.{font_styles, font_weights, full_formatting_form, text_or_link, text_child_form, markup_form, cite_mark_form, elem_form, node_over, node_form, NodesNest, tree_form};
 
 use crate::metas::optional_meta;
-use crate::parts::{held_text_at, optional_held_text, whole_at};
+use crate::wholes::whole_at;
 use csl_base::elem::{Elem, ElemChild, ElemChildren};
 use csl_base::formatting::{FontStyle, FontWeight, Formatted, Formatting};
 use csl_base::text::Text;
 use document_words::error::ReadError;
 use document_words::tables::DISPLAYS;
+use document_words::texts::{held_text_at, optional_held_text};
 use document_words::words::{list_of, name_at, object_with, optional_name, required_list};
 use serde_json::Value;
 use std::alloc::Global;
@@ -40,9 +41,9 @@ pub fn rows_are_as_defined()
 
 // ---- nodes with no nodes inside
 
-#[tactic(auto, unfolding(crate::specs::TreeForm::formatting_form))]
+#[tactic(auto, unfolding(crate::specs::TreeForm::full_formatting_form))]
 fn formatting_of(alloc: Global, object: &Value) -> Result<Formatting, ReadError>
-    ensures read { Reads (λ f. f) result (formatting_form (view object.now)) }
+    ensures read { Reads (λ f. f) result (full_formatting_form (view object.now)) }
     ensures fault { Faults result (view object.now) }
 {
     let font_style = name_at(alloc, FONT_STYLES, object, "font_style")?;
@@ -62,9 +63,9 @@ fn text_or_link(text: Formatted, url: Option<Text>) -> ElemChild
     }
 }
 
-#[tactic(auto, unfolding(crate::specs::TreeForm::text_form))]
+#[tactic(auto, unfolding(crate::specs::TreeForm::text_child_form))]
 fn text_of(alloc: Global, value: &Value) -> Result<ElemChild, ReadError>
-    ensures read { Reads child_view result (text_form (view value.now)) }
+    ensures read { Reads child_view result (text_child_form (view value.now)) }
     ensures fault { Faults result (view value.now) }
 {
     let object = object_with(alloc, &["font_style", "font_weight", "text", "url"], value)?;
@@ -83,9 +84,9 @@ fn markup_of(alloc: Global, value: &Value) -> Result<ElemChild, ReadError>
     Ok(ElemChild::Markup(held_text_at(alloc, object, "markup")?))
 }
 
-#[tactic(auto, unfolding(crate::specs::TreeForm::cite_form))]
+#[tactic(auto, unfolding(crate::specs::TreeForm::cite_mark_form))]
 fn cite_of(alloc: Global, value: &Value) -> Result<ElemChild, ReadError>
-    ensures read { Reads child_view result (cite_form (view value.now)) }
+    ensures read { Reads child_view result (cite_mark_form (view value.now)) }
     ensures fault { Faults result (view value.now) }
 {
     let object = object_with(alloc, &["font_style", "font_weight", "cite"], value)?;
@@ -141,7 +142,7 @@ fn all_nodes(alloc: Global, items: &[Value]) -> Result<ElemChildren, ReadError>
 #[cycle(nodes)]
 #[tactic(auto, using(document_words::proofs::Ways::fails_outside))]
 fn children_at(alloc: Global, object: &Value) -> Result<ElemChildren, ReadError>
-    ensures read { Reads (λ t. t) result (items_at node_form (codes "children") (view object.now)) }
+    ensures read { Reads (λ t. t) result (items_of_key node_form (codes "children") (view object.now)) }
     ensures fault { Faults result (view object.now) }
 {
     let list = required_list(alloc, object, "children")?;
@@ -152,9 +153,9 @@ fn children_at(alloc: Global, object: &Value) -> Result<ElemChildren, ReadError>
 }
 
 #[cycle(nodes)]
-#[tactic(auto, unfolding(crate::specs::TreeForm::element_form))]
+#[tactic(auto, unfolding(crate::specs::TreeForm::elem_form))]
 fn element_of(alloc: Global, value: &Value) -> Result<ElemChild, ReadError>
-    ensures read { Reads child_view result (element_form node_form (view value.now)) }
+    ensures read { Reads child_view result (elem_form node_form (view value.now)) }
     ensures fault { Faults result (view value.now) }
 {
     let object = object_with(alloc, &["children", "display", "meta"], value)?;

@@ -8,7 +8,7 @@ ghost use Rattle.document_words.specs.Reads.{Faults, IsErrorOf, Reads};
 ghost use Rattle.document_styles.specs.NamedStyleView.{named_styles_view};
 ghost use Rattle.document_written.specs.Known.{knows, task_among};
 ghost use Rattle.document_written.specs.TreeForm.{tree_form};
-ghost use Rattle.document_written.specs.WrittenForm.{first_name_form, has_tree, table_form, table_of, with_first, written_cite, written_form};
+ghost use Rattle.document_written.specs.WrittenForm.{first_name_form, has_tree, table_form, table_of_written, with_first_tree, written_cite, written_form};
 
 use crate::known::Known;
 use crate::task_names::{NAME_FORMS, USAGES};
@@ -165,7 +165,7 @@ fn agrees(table: &Table, key: &TaskKey, cite: &Cite) -> bool
 
 /// Adds what is written for a task, unless something is there for it.
 fn add(table: &mut Table, key: TaskKey, cite: Cite) -> Result<(), AllocError>
-    ensures { OnOk result (found table.new ≡ with_first (key, cite) (found table.old)) }
+    ensures { OnOk result (found table.new ≡ with_first_tree (key, cite) (found table.old)) }
 {
     if table.contains_key(&key) {
         return Ok(());
@@ -179,7 +179,7 @@ fn add(table: &mut Table, key: TaskKey, cite: Cite) -> Result<(), AllocError>
 #[tactic(auto, using(document_words::proofs::Ways::item_there))]
 fn table_of_items(alloc: Global, known: &Known<'_>, items: &[Value]) -> Result<Table, ReadError>
     ensures read { Reads found result
-        (option_and_then table_of (all_items (written_form (knows known.now)) (items_view items.now))) }
+        (option_and_then table_of_written (all_items (written_form (knows known.now)) (items_view items.now))) }
     ensures fault { Faults result (array (items_view items.now)) }
 {
     let mut table = IndexMap::new(alloc);

@@ -6,7 +6,7 @@ use Rattle.cite_document.specs.Run.{answer, HasAnswer, IsRefused, Prints}
 use Rattle.cite_document.specs.Status.{status}
 use Rattle.cite_document.specs.declared.error.RunError.{RunError}
 use Rattle.cite_document.specs.declared.error.RunError.TheVariants as errors
-use Rattle.gamhilon_c.specs.Called.{Called, Fills, HandsOut, Places}
+use Rattle.gamhilon_c.specs.Called.{Called, Fills, HandsOut, PlacesText}
 
 module _ (text_of : Rendered → List ℕ) (read : Option Document) (code : ℕ) (before after : List ℕ) (needed : ℕ) where
   fits : (d : Document) → read ≡ Some d → HasAnswer d → needed ≡ length (text_of (answer d)) → code ≡ 0 → Fills (text_of (answer d)) before after
@@ -35,7 +35,7 @@ module _ (text_of : Rendered → List ℕ) (read : Option Document) (code : ℕ)
     is_status = (omega arith, λ c. absurd (omega arith));
   }
 
-  text_handed : (d : Document) → read ≡ Some d → HasAnswer d → Places (text_of (answer d)) code before after needed → Called text_of read code before after needed
+  text_handed : (d : Document) → read ≡ Some d → HasAnswer d → PlacesText (text_of (answer d)) code before after needed → Called text_of read code before after needed
   text_handed d is has h = elim h.1 [
     | inl y ↦ fits d is has h.0 y.0 y.1
     | inr y ↦ lacks_room d is has h.0 y.0 y.1 y.2
@@ -86,5 +86,5 @@ module _ (text_of : Rendered → List ℕ) (read : Option Document) (code : ℕ)
 
   pub called : (text : Result (String Global) RunError) → Prints text_of text read → HandsOut text code before after needed
       → Called text_of read code before after needed
-  called (Ok text) p h = text_handed p.0 p.1 (p.2).0 (subst (λ t. Places t code before after needed) (p.2).1 h)
+  called (Ok text) p h = text_handed p.0 p.1 (p.2).0 (subst (λ t. PlacesText t code before after needed) (p.2).1 h)
   called (Err e) p h = refused e p h.0 h.1 h.2

@@ -5,11 +5,11 @@ use Rattle.cite_document.specs.declared.error.RunError.{RunError}
 use Rattle.cite_document.specs.declared.error.RunError.TheVariants as errors
 use Rattle.document_driven.specs.Drive.{Drives, IsDrivenDocumentThat, IsUndriven, Tells}
 use Rattle.document_driven.specs.DrivenForm.{DrivenDocument}
-use Rattle.gamhilon_c.specs.Called.{HandsOut, Places}
+use Rattle.gamhilon_c.specs.Called.{HandsOut, PlacesText}
 use Rattle.gamhilon_c.specs.CalledDriven.{CalledDriven}
 
 module _ (read : Option DrivenDocument) (code : ℕ) (before after : List ℕ) (needed : ℕ) where
-  text_handed : (text : List ℕ) → IsDrivenDocumentThat read (Tells text) → Places text code before after needed → CalledDriven read code before after needed
+  text_handed : (text : List ℕ) → IsDrivenDocumentThat read (Tells text) → PlacesText text code before after needed → CalledDriven read code before after needed
   text_handed text d h = elim h.1 [
     | inl y ↦ record {
       answered = λ c. (d.0, d.1, (text, d.2, (y.1, h.0)));

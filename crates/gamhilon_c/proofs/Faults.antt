@@ -7,12 +7,12 @@ use Rattle.cite_document.specs.FaultText.{fault_text}
 use Rattle.cite_document.specs.Status.{status}
 use Rattle.cite_document.specs.TellsFault.{IsFaultText, TellsFault}
 use Rattle.cite_document.specs.declared.error.RunError.{RunError}
-use Rattle.gamhilon_c.specs.Called.{Fills, HandsOut, Places}
+use Rattle.gamhilon_c.specs.Called.{Fills, HandsOut, PlacesText}
 use Rattle.gamhilon_c.specs.FindsFault.{FindsFault}
 
 module _ {D : Type 0} (read : Option D) (value : Option Data) (code : ℕ) (before after : List ℕ) (needed : ℕ) where
   -- an empty text stands in every room
-  sound : (text : List ℕ) → IsSome read → text ≡ [] → Places text code before after needed → FindsFault read value code before after needed
+  sound : (text : List ℕ) → IsSome read → text ≡ [] → PlacesText text code before after needed → FindsFault read value code before after needed
   sound text is none h = elim h.1 [
     | inl y ↦ record {
       answered = λ c. inl (is, h.0 ∙ ap length none, (subst (λ t. Fills t before after) none y.1).1);
@@ -24,7 +24,7 @@ module _ {D : Type 0} (read : Option D) (value : Option Data) (code : ℕ) (befo
     | inr y ↦ absurd (omega (arith, y.2, ap length none))
   ]
 
-  told : (text : List ℕ) → IsFaultText text read value → Places text code before after needed → FindsFault read value code before after needed
+  told : (text : List ℕ) → IsFaultText text read value → PlacesText text code before after needed → FindsFault read value code before after needed
   told text f h = elim h.1 [
     | inl y ↦ record {
       answered = λ c. inr (f.0, (f.1.0, f.1.1, (subst (λ t. Fills t before after) f.1.2 y.1, h.0 ∙ ap length f.1.2)));

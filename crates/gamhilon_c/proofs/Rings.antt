@@ -2,7 +2,7 @@
 use Rattle.std.proofs.Common.{◌≡◌, ℕ, Option, Result, Ok, Err, arith}
 use Rattle.csl_assembly.specs.declared.rendered.Rendered.{Rendered}
 use Rattle.document_reading.specs.Form.{Document}
-use Rattle.cite_document.specs.Run.{Answers, IsRefused}
+use Rattle.cite_document.specs.Run.{IsRunAnswer, IsRefused}
 use Rattle.cite_document.specs.Status.{status}
 use Rattle.cite_document.specs.declared.error.RunError.{RunError}
 use Rattle.cite_document.specs.declared.error.RunError.TheVariants as errors
@@ -45,7 +45,7 @@ module _ (read : Option Document) (code : ℕ) (before after : GamhilonRing) whe
     is_status = (omega arith, λ c. absurd (omega arith));
   }
 
-  pub finds_ring : (answer : Result Rendered RunError) → Answers answer read → HandsOutRing answer code before after → FindsRing read code before after
+  pub finds_ring : (answer : Result Rendered RunError) → IsRunAnswer answer read → HandsOutRing answer code before after → FindsRing read code before after
   finds_ring (Ok r) p h = record {
     answered = λ c. (p.0, p.1, (p.2).0);
     no_document = λ c. absurd (omega (arith, h.0));

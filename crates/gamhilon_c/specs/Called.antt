@@ -35,12 +35,12 @@ pub record Called (text_of : Rendered
 -- ---- for private clauses
 
 -- the text stands in the room where that is as long, and its length is told
-abbrev pub Places : List ℕ → ℕ → List ℕ → List ℕ → ℕ → Type 0
-Places text code before after needed =
+abbrev pub PlacesText : List ℕ → ℕ → List ℕ → List ℕ → ℕ → Type 0
+PlacesText text code before after needed =
     (needed ≡ length text) × (((code ≡ 0) × Fills text before after)
     ⊎ ((code ≡ 6) × (after ≡ before) × (length before < length text)))
 
 -- so does a text, if there is one; else the status tells why there is none
 abbrev pub HandsOut : Result (String Global) RunError → ℕ → List ℕ → List ℕ → ℕ → Type 0
-HandsOut (Ok text) code before after needed = Places (string_bytes text) code before after needed
+HandsOut (Ok text) code before after needed = PlacesText (string_bytes text) code before after needed
 HandsOut (Err e) code before after needed = (code ≡ status e) × (after ≡ before) × (needed ≡ 0)

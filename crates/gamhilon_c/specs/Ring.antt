@@ -11,13 +11,13 @@ use Rattle.cite_document.specs.declared.error.RunError.TheVariants as errors
 use Rattle.gamhilon_c.specs.declared.ring.GamhilonRing.{GamhilonRing}
 
 -- the numbers that tell a style's place and that of a macro
-abbrev pub numbers_of : RingPlace → ℕ → GamhilonRing
-numbers_of (places.Request k) i = record { of_bibliography = 0; request = k; macro_place = i }
-numbers_of places.Bibliography i = record { of_bibliography = 1; request = 0; macro_place = i }
+abbrev pub ring_numbers : RingPlace → ℕ → GamhilonRing
+ring_numbers (places.Request k) i = record { of_bibliography = 0; request = k; macro_place = i }
+ring_numbers places.Bibliography i = record { of_bibliography = 1; request = 0; macro_place = i }
 
 -- the numbers tell the place of the document's first ring
 abbrev pub TellsFirstRing : GamhilonRing → Document → Type 0
-TellsFirstRing r d = (place : RingPlace) × (i : ℕ) × (r ≡ numbers_of place i) × HasFirstRing place i d
+TellsFirstRing r d = (place : RingPlace) × (i : ℕ) × (r ≡ ring_numbers place i) × HasFirstRing place i d
 
 -- A call that ended with the status `code`. The bytes that it was given are the document of `read`, or none;
 -- and the ring held `before` and then `after`.
@@ -33,7 +33,7 @@ pub record FindsRing (read : Option Document) (code : ℕ) (before after : Gamhi
 
 -- the place is noted where there is a ring
 abbrev pub NotesRing : RunError → GamhilonRing → GamhilonRing → Type 0
-NotesRing (errors.MacroRing place i) before after = after ≡ numbers_of place i
+NotesRing (errors.MacroRing place i) before after = after ≡ ring_numbers place i
 NotesRing _ before after = after ≡ before
 
 abbrev pub HandsOutRing : Result Rendered RunError → ℕ → GamhilonRing → GamhilonRing → Type 0

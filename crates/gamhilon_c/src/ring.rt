@@ -1,6 +1,6 @@
 //! Places of rings as numbers.
 ghost use Rattle.std.specs.Prelude.{◌≡◌};
-ghost use Rattle.gamhilon_c.specs.Ring.{HandsOutRing, NotesRing, numbers_of};
+ghost use Rattle.gamhilon_c.specs.Ring.{HandsOutRing, NotesRing, ring_numbers};
 
 use cite_document::error::RunError;
 use csl_driver::error::RingPlace;
@@ -19,7 +19,7 @@ pub struct GamhilonRing {
 }
 
 fn ring_at(place: RingPlace, macro_place: usize) -> GamhilonRing
-    ensures { result ≡ numbers_of place macro_place }
+    ensures { result ≡ ring_numbers place macro_place }
 {
     match place {
         RingPlace::Request(request) => GamhilonRing {

@@ -1,6 +1,6 @@
 //! Text that goes into the caller's room.
 ghost use Rattle.std.specs.Prelude.{◌≡◌, length};
-ghost use Rattle.gamhilon_c.specs.Called.{HandsOut, Places};
+ghost use Rattle.gamhilon_c.specs.Called.{HandsOut, PlacesText};
 
 use cite_document::error::RunError;
 
@@ -12,7 +12,7 @@ const ROOM_TOO_SMALL: u32 = 6;
 
 /// Puts the text at the beginning of the room, if the room is as long, and tells its length.
 fn place(text: &[u8], room: &mut [u8], needed: &mut usize) -> u32
-    ensures { Places text.now result room.old room.new needed.new }
+    ensures { PlacesText text.now result room.old room.new needed.new }
 {
     let length = text.len();
     *needed = length;

@@ -142,9 +142,9 @@ fn bibliography_request<'o, 'e>(
         Some(entries) => Some(Order(entries.as_slice())),
         None => None,
     };
-    match asked.wanted.style.sound() {
-        Some(sound) if is_prepared => Ok(BibliographyRequest::of_sound(
-            sound, locale, files, order,
+    match asked.wanted.style.prepared() {
+        Some(prepared) if is_prepared => Ok(BibliographyRequest::of_prepared(
+            prepared, locale, files, order,
         )),
         _ => {
             let style = asked.wanted.style.style;

@@ -54,7 +54,7 @@ pub mod of_writing {
         CertainCiteProperties, CiteProperties, SpeculativeCiteProperties,
     };
     pub use csl_writing::purpose::CitePurpose;
-    pub use csl_writing::sound::SoundStyle;
+    pub use csl_writing::prepared::PreparedStyle;
     pub use csl_writing::state::{CollapseVerdict, DisambiguateState, IbidState, IdentifierUsage};
     pub use csl_writing::terms::TermTables;
     pub use csl_writing::token::{DelimiterIdx, DisplayLoc, FormatIdx};
@@ -155,7 +155,7 @@ pub mod of_driver {
     pub use csl_driver::request::CitationRequest;
     pub use csl_driver::request::Order;
     pub use csl_driver::seq::Seq;
-    pub use csl_driver::sound::SoundStyle;
+    pub use csl_driver::prepared::PreparedStyle;
     pub use csl_driver::stack::NonEmptyStack;
     pub use csl_driver::standalone::standalone_citation;
     pub use csl_driver::state::CollapseVerdict;

@@ -5,7 +5,7 @@ use csl_driver::driver::BibliographyDriver;
 use csl_driver::item::CitationItem;
 use csl_driver::rendered::Rendered;
 use csl_driver::request::{BibliographyRequest, CitationRequest};
-use csl_driver::sound::SoundStyle;
+use csl_driver::prepared::PreparedStyle;
 use csl_driver::terms::TermTables;
 use test_styles::styles::{entry, numeric};
 use std::alloc::{AllocError, Global};
@@ -25,17 +25,17 @@ fn cite<'a>(
 
 fn cite_prepared<'a, 's: 'a>(
     alloc: Global,
-    sound: &'a SoundStyle<'s>,
+    prepared: &'a PreparedStyle<'s>,
     files: &'a TermTables<'s>,
     cited: &'a PlainEntry,
 ) -> Result<Request<'a>, AllocError> {
     let items = vec![in alloc; CitationItem::with_entry(cited)]?;
-    Ok(CitationRequest::of_sound(items, sound, None, files, None))
+    Ok(CitationRequest::of_prepared(items, prepared, None, files, None))
 }
 
-fn prepared<'a>(alloc: Global, style: &'a IndependentStyle) -> Result<SoundStyle<'a>, Fail> {
-    match SoundStyle::new(alloc, style)? {
-        Ok(sound) => Ok(sound),
+fn prepared<'a>(alloc: Global, style: &'a IndependentStyle) -> Result<PreparedStyle<'a>, Fail> {
+    match PreparedStyle::new(alloc, style)? {
+        Ok(prepared) => Ok(prepared),
         Err(_) => Err(Fail::new("the style has a ring")),
     }
 }
@@ -66,24 +66,24 @@ fn answer_unprepared<'a>(
 /// The same in a prepared style.
 fn answer_prepared<'a, 's: 'a>(
     alloc: Global,
-    sound: &'a SoundStyle<'s>,
+    prepared: &'a PreparedStyle<'s>,
     files: &'a TermTables<'s>,
     cited: &'a PlainEntry,
 ) -> Result<Rendered, Fail> {
-    let wanted = BibliographyRequest::of_sound(sound, None, files, None);
-    answer(alloc, cite_prepared(alloc, sound, files, cited)?, wanted)
+    let wanted = BibliographyRequest::of_prepared(prepared, None, files, None);
+    answer(alloc, cite_prepared(alloc, prepared, files, cited)?, wanted)
 }
 
 /// Whether both answers to a cite are equal.
-fn answers_alike(alloc: Global, sound: &SoundStyle<'_>, cited: &PlainEntry) -> Result<bool, Fail> {
+fn answers_alike(alloc: Global, prepared: &PreparedStyle<'_>, cited: &PlainEntry) -> Result<bool, Fail> {
     let files = TermTables::new(alloc, &[])?;
-    let answered = answer_prepared(alloc, sound, &files, cited)?;
-    Ok(answered == answer_unprepared(alloc, sound.style(), cited)?)
+    let answered = answer_prepared(alloc, prepared, &files, cited)?;
+    Ok(answered == answer_unprepared(alloc, prepared.style(), cited)?)
 }
 
 /// Whether they are for an entry of the key a.
-fn answers_alike_in(alloc: Global, sound: &SoundStyle<'_>) -> Result<bool, Fail> {
-    answers_alike(alloc, sound, &entry(alloc, "a")?)
+fn answers_alike_in(alloc: Global, prepared: &PreparedStyle<'_>) -> Result<bool, Fail> {
+    answers_alike(alloc, prepared, &entry(alloc, "a")?)
 }
 
 /// Whether they are in this style.

@@ -15,8 +15,8 @@ one_cite n = record {
   note_number = None;
 }
 
-abbrev pub asked : Asked Sample ℕ
-asked = record {
+abbrev pub sample_asked : Asked Sample ℕ
+sample_asked = record {
   wanted = record { style = style; locale = None; locales = []; order = None };
   requests = one_cite 0 ∷ one_cite 1 ∷ [];
   offset = 0;

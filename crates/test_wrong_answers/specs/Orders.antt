@@ -4,28 +4,28 @@ use Rattle.csl_base.specs.declared.elem.Elem.{Elem}
 use Rattle.csl_base.specs.declared.elem.ElemMeta.{ElemMeta}
 use Rattle.csl_base.specs.declared.taxonomy.NameVariable.{NameVariable}
 use Rattle.csl_passes.specs.Renders.{ItemRender}
-use Rattle.test_wrong_answers.specs.Samples.{by_authors, cite, person, words}
+use Rattle.test_wrong_answers.specs.Samples.{by_authors, sample_cite, person, words}
 use Rattle.test_wrong_answers.specs.declared.sample.Sample.{Sample}
 
 -- the names element of a cite by this author
-abbrev pub names_of : List ℕ → Elem
-names_of author = record {
+abbrev pub names_by : List ℕ → Elem
+names_by author = record {
   children = words author ∷ [];
   display = None;
   meta = Some (ElemMeta.Names ((person author ∷ [], NameVariable.Author) ∷ []));
 }
 
 abbrev pub names_of_a : Elem
-names_of_a = names_of (codes "A")
+names_of_a = names_by (codes "A")
 
 abbrev pub names_of_b : Elem
-names_of_b = names_of (codes "B")
+names_of_b = names_by (codes "B")
 
 abbrev pub by_a : ℕ → ItemRender Sample ℕ
-by_a n = cite n n (by_authors (person (codes "A") ∷ []) (codes "A") ∷ [])
+by_a n = sample_cite n n (by_authors (person (codes "A") ∷ []) (codes "A") ∷ [])
 
 abbrev pub by_b : ℕ → ItemRender Sample ℕ
-by_b n = cite n n (by_authors (person (codes "B") ∷ []) (codes "B") ∷ [])
+by_b n = sample_cite n n (by_authors (person (codes "B") ∷ []) (codes "B") ∷ [])
 
 -- A B A A B
 abbrev pub as_cited : List (ItemRender Sample ℕ)

@@ -8,7 +8,7 @@ use Rattle.csl_lookup.specs.declared.state.DisambiguateState.{DisambiguateState}
 use Rattle.csl_lookup.specs.declared.state.DisambiguateState.TheVariants.{Choose, NameDisambiguation, YearSuffix}
 use Rattle.csl_passes.specs.Renders.{CiteRender, ItemRender}
 use Rattle.csl_round_laws.specs.Rounds.{StateTable, no_states}
-use Rattle.test_wrong_answers.specs.Samples.{by_authors, cite, in_year, person, request_of, words}
+use Rattle.test_wrong_answers.specs.Samples.{by_authors, sample_cite, in_year, person, request_of, words}
 use Rattle.test_wrong_answers.specs.declared.sample.Sample.{Sample}
 
 -- a table with these rows: the number of an entry, and its state
@@ -24,7 +24,7 @@ one_by_one (c ∷ cs) = request_of (c ∷ []) ∷ one_by_one cs
 abbrev pub alike : List (CiteRender Sample ℕ)
 alike =
     let doe = in_year (codes "Doe 1999") ∷ [] in
-    one_by_one (cite 0 0 doe ∷ cite 0 0 doe ∷ cite 1 1 doe ∷ [])
+    one_by_one (sample_cite 0 0 doe ∷ sample_cite 0 0 doe ∷ sample_cite 1 1 doe ∷ [])
 
 -- a suffix for each cite: the first entry gets 0 and then 1, and the second gets 2
 abbrev pub by_cite : List (StateTable Sample)
@@ -32,7 +32,7 @@ by_cite = no_states ∷ table ((0, YearSuffix 1) ∷ (1, YearSuffix 2) ∷ []) �
 
 -- two cites that read differently
 abbrev pub unlike : List (CiteRender Sample ℕ)
-unlike = one_by_one (cite 0 0 (in_year (codes "Doe 1999") ∷ []) ∷ cite 1 1 (in_year (codes "Roe 2000") ∷ [])
+unlike = one_by_one (sample_cite 0 0 (in_year (codes "Doe 1999") ∷ []) ∷ sample_cite 1 1 (in_year (codes "Roe 2000") ∷ [])
     ∷ [])
 
 -- a suffix for each entry, though no cite is ambiguous
@@ -49,12 +49,12 @@ both_shown = record { forms = DisambiguatedNameForm.Short ∷ DisambiguatedNameF
 
 -- a cite that tested `disambiguate`
 abbrev pub asking : ℕ → ItemRender Sample ℕ
-asking n = record (cite n n (words (codes "X") ∷ [])) { checked_disambiguate = true }
+asking n = record (sample_cite n n (words (codes "X") ∷ [])) { checked_disambiguate = true }
 
 -- a cite of Lee and another author, which shows Lee alone
 abbrev pub by_lee_and : List ℕ → ℕ → ItemRender Sample ℕ
 by_lee_and other n =
-    record (cite n n (by_authors (person (codes "Lee") ∷ person other ∷ []) (codes "Lee et al.")
+    record (sample_cite n n (by_authors (person (codes "Lee") ∷ person other ∷ []) (codes "Lee et al.")
     ∷ [])) { first_name = Some one_shown }
 
 -- the first entry is cited in two groups: in one a choice tells it apart, and in the next one names do

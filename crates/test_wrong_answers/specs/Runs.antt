@@ -2,12 +2,12 @@
 use Rattle.std.specs.Prelude.{ℕ, true, List, [], ◌∷◌, Some, codes}
 use Rattle.csl_collapse.specs.NumberRuns.{en_dash}
 use Rattle.csl_passes.specs.Renders.{ItemRender}
-use Rattle.test_wrong_answers.specs.Samples.{cite, with_number}
+use Rattle.test_wrong_answers.specs.Samples.{sample_cite, numbered_element}
 use Rattle.test_wrong_answers.specs.declared.sample.Sample.{Sample}
 
 -- a cite with this number; its text, here a letter, tells nothing of runs
 abbrev pub numbered : ℕ → ItemRender Sample ℕ
-numbered n = cite n n (with_number (codes "n") ∷ [])
+numbered n = sample_cite n n (numbered_element (codes "n") ∷ [])
 
 abbrev pub hidden : ItemRender Sample ℕ → ItemRender Sample ℕ
 hidden c = record c { hidden = true }

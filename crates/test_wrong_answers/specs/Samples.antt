@@ -3,6 +3,7 @@ use Rattle.std.specs.Prelude.{ℕ, Bool, true, false, List, [], ◌∷◌, Optio
 use Rattle.csl_base.specs.Child.{Child, elem, kid, no_kids, text}
 use Rattle.csl_base.specs.Element.{NameOptions, no_elements}
 use Rattle.csl_base.specs.Formatting.{normal}
+use Rattle.csl_base.specs.PlainLook.{no_options}
 use Rattle.csl_base.specs.Style.{StyleValue}
 use Rattle.csl_base.specs.declared.elem.Elem.{Elem}
 use Rattle.csl_base.specs.declared.elem.ElemMeta.{ElemMeta}
@@ -22,17 +23,6 @@ use Rattle.test_wrong_answers.specs.declared.sample.Sample.{Sample}
 -- the entry of this number
 abbrev pub entry : ℕ → Sample
 entry n = record { number = n }
-
-abbrev pub no_options : NameOptions
-no_options = record {
-  and = None;
-  name_delimiter = None;
-  names_delimiter = None;
-  et_al_min = None;
-  et_al_use_first = None;
-  name_form = None;
-  initialize_with = None;
-}
 
 -- a style that groups cites, collapses numbers, adds names and adds suffixes
 abbrev pub style : StyleValue
@@ -73,8 +63,8 @@ request_of cites = record {
 }
 
 -- a cite of an entry, with this number, that was rendered so
-abbrev pub cite : ℕ → ℕ → List Child → ItemRender Sample ℕ
-cite n number tree = record {
+abbrev pub sample_cite : ℕ → ℕ → List Child → ItemRender Sample ℕ
+sample_cite n number tree = record {
   rendered = tree;
   entry = entry n;
   properties = record {
@@ -120,5 +110,5 @@ abbrev pub in_year : List ℕ → Child
 in_year shown = elem (kid (words shown) no_kids) None (Some ElemMeta.Date)
 
 -- an element for a citation number
-abbrev pub with_number : List ℕ → Child
-with_number shown = elem (kid (words shown) no_kids) None (Some ElemMeta.CitationNumber)
+abbrev pub numbered_element : List ℕ → Child
+numbered_element shown = elem (kid (words shown) no_kids) None (Some ElemMeta.CitationNumber)

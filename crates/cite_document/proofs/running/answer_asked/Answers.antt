@@ -6,7 +6,7 @@ use Rattle.csl_passes.specs.RequestView.{wanted_view}
 use Rattle.document_reading.specs.AskedView.{asked_requests_view}
 use Rattle.document_reading.specs.DocumentView.{document_view}
 use Rattle.csl_driver.specs.Rings.{Refuses}
-use Rattle.cite_document.specs.Run.{accepted, same_entry, wanted_of}
+use Rattle.cite_document.specs.Run.{accepted, same_plain_entry, wanted_of}
 use Rattle.cite_document.proofs.Refusals.{has_answer, is_answer, first_ring, too_large}
 use Rattle.cite_document.proofs.running.answer_asked.Goals as goal
 
@@ -34,7 +34,7 @@ returns-in-Err-MacroRing c =
     ∙ (λ i. record { requests = accepted (asked_requests_view (map locale_view (c.in_ok-files.ensures i)) (c.deref.ensures.value i)); offset = asked.offset }) in
     let wanted : w ≡ wanted_of d = c.in_ok-request.ensures ∙ (λ i. record (wanted_of d) { locales = map locale_view (c.in_ok-files.ensures i) }) in
     let e = c.in-Err-MacroRing in
-    (d, refl, first_ring v w d made wanted e.place e.macro_idx (subst (Refuses same_entry v.requests w.style v.offset) e.field-0-is e.ensures.refused))
+    (d, refl, first_ring v w d made wanted e.place e.macro_idx (subst (Refuses same_plain_entry v.requests w.style v.offset) e.field-0-is e.ensures.refused))
 
 pub returns-in-Err-NumberOverflow : goal.returns-in-Err-NumberOverflow
 returns-in-Err-NumberOverflow c =

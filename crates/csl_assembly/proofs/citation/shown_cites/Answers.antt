@@ -9,7 +9,7 @@ use Rattle.csl_writers.specs.Desk.{desk}
 use Rattle.csl_writers.specs.Tasks.{CiteTaskValue, TaskValue}
 use Rattle.csl_writers.specs.Writing.{Writing, writing_of}
 use Rattle.csl_writers.proofs.TasksDone.{writes-same}
-use Rattle.csl_assembly.specs.CitationTree.{marked_cite, place_of}
+use Rattle.csl_assembly.specs.CitationTree.{marked_cite, last_place_of}
 use Rattle.csl_assembly.specs.LastTree.{last_task, task_by_purpose, tree_by_purpose}
 use Rattle.csl_assembly.proofs.Asked.{asked-each, written_by_same}
 use Rattle.csl_assembly.proofs.citation.shown_cites.Goals.{else-not-item, then-not-item+in_ok-push}
@@ -27,7 +27,7 @@ loop-item-preserved g c =
     let before = desk (g.W.CiteWriter.state c.loop-item.writer) c.loop-item.counter in
     let new = desk (g.W.CiteWriter.state c.marked_cite.new.writer) c.marked_cite.new.counter in
     let was = c.loop-item.invariant in
-    let task_of : ItemRender E P → CiteTaskValue E P = λ i. last_task source (place_of c.args.index i) i in
+    let task_of : ItemRender E P → CiteTaskValue E P = λ i. last_task source (last_place_of c.args.index i) i in
     let asked : List (TaskValue E P) = map (λ i. task_by_purpose (task_of i)) (items_view (take k items)) in
     let written = writing_of g.T.EntryLike.answers old.writer in
     let writes = writing_of g.T.EntryLike.answers before.writer in

@@ -7,10 +7,10 @@ use Rattle.csl_base.specs.Element.{Name, Macro}
 use Rattle.csl_base.specs.ElementView.{macros_view}
 use Rattle.csl_base.specs.Places.{Places}
 use Rattle.csl_base.specs.NamedPlaces.{place_named}
-use Rattle.csl_base.specs.Ring.{place_of, call_places}
+use Rattle.csl_base.specs.Ring.{place_of_macro, call_places}
 use Rattle.csl_base.proofs.ring.call_places.Goals as goal
 
-same_rows : (named : Name → Option ℕ) (ms : List Macro) → ((name : Name) → named name ≡ place_of name ms) → map (λ (m : Macro). filter_map named (calls_of_all m.children)) ms ≡ call_places ms
+same_rows : (named : Name → Option ℕ) (ms : List Macro) → ((name : Name) → named name ≡ place_of_macro name ms) → map (λ (m : Macro). filter_map named (calls_of_all m.children)) ms ≡ call_places ms
 same_rows named ms e = λ i. map (λ (m : Macro). filter_map (λ name. e name i) (calls_of_all m.children)) ms
 
 pub returns : goal.returns

@@ -4,7 +4,7 @@ use Rattle.std.specs.Prelude.{bytes_eq}
 use Rattle.csl_base.specs.Element.{Name, Macro}
 use Rattle.csl_base.specs.ElementView.{macro_view, macros_view}
 use Rattle.csl_base.specs.NamedPlaces.{place_named}
-use Rattle.csl_base.specs.Ring.{place_of}
+use Rattle.csl_base.specs.Ring.{place_of_macro}
 use Rattle.csl_base.proofs.NamedPlaces.{next_name, macros-next, length-macros}
 use Rattle.csl_base.proofs.ring.first_places.Goals as goal
 
@@ -22,5 +22,5 @@ loop-i-preserved c =
     c.in_ok-insert.ensures.updates.0 (record c.as_str-name.result { now = name })
     ∙ (λ j. cond (bytes_eq (named j) name) (Some (first j)) (place_named l.places name))
     ∙ (λ j. cond (bytes_eq m.name name) (Some (unwrap_or (place_named l.places (named j)) (sym at j))) (place_named l.places name)) in
-    let Holds : List Macro → Type 0 = λ ms. (name : Name) → place_named c.insert.new.self name ≡ place_of name ms in
+    let Holds : List Macro → Type 0 = λ ms. (name : Name) → place_named c.insert.new.self name ≡ place_of_macro name ms in
     subst Holds (sym (macros-next xs l.i c.index.result.now lt c.index.ensures)) (next_name (place_named l.places) (place_named c.insert.new.self) before m l.invariant adds)

@@ -1,8 +1,8 @@
 use Rattle.std.proofs.Common.{◌≡◌, map}
 use Rattle.std.specs.Prelude.{option_map}
 use Rattle.csl_passes.specs.RendersView.{items_view}
+use Rattle.csl_passes.proofs.Halves.{half}
 use Rattle.csl_collapse.specs.NumberRuns.{number_collapsed, shown_number}
-use Rattle.csl_collapse.proofs.ByPlaces.{half}
 use Rattle.csl_collapse.proofs.RunLemmas.{RisesUpTo}
 use Rattle.csl_collapse.proofs.numbers.collapse_numbers.Given as goal
 

@@ -2,8 +2,8 @@ use Rattle.std.proofs.Common.{◌≡◌, map}
 use Rattle.std.specs.Prelude.{None}
 use Rattle.csl_base.specs.StyleView.{citation_view}
 use Rattle.csl_passes.specs.RendersView.{items_view}
+use Rattle.csl_passes.proofs.Halves.{half}
 use Rattle.csl_collapse.specs.YearStretches.{group_at, year_collapsed}
-use Rattle.csl_collapse.proofs.ByPlaces.{half}
 use Rattle.csl_collapse.proofs.StretchLemmas.{was_later_at}
 use Rattle.csl_collapse.proofs.Wholes.{before}
 use Rattle.csl_collapse.proofs.years.collapse_years.Given as goal

@@ -1,5 +1,5 @@
 use Rattle.std.proofs.Common.{[], ◌∷◌, ◌++◌, ap, sym, ◌∙◌}
-use Rattle.csl_grouping.specs.Steps.{entries_view}
+use Rattle.csl_grouping.specs.Steps.{blocks_view}
 use Rattle.csl_grouping.proofs.Entries.{found-at, inserted, missing-at, pushed}
 use Rattle.csl_grouping.proofs.blocks.add_place.Goals as goal
 
@@ -10,6 +10,6 @@ returns-in_ok-push-in-Some c =
 
 pub returns-in_ok-insert-in-None : goal.returns-in_ok-insert-in-None
 returns-in_ok-insert-in-None c =
-    ap entries_view c.in_ok-insert-in-None.ensures.entries
+    ap blocks_view c.in_ok-insert-in-None.ensures.entries
     ∙ inserted c.args.key c.args.k c.args.blocks.now.entries c.push-in-None.new.self (missing-at _ _ c.in-None.ensures.index)
     (c.in_ok-push-in-None.ensures.items ∙ ap (λ xs. xs ++ c.args.k ∷ []) c.new-places.ensures.items)

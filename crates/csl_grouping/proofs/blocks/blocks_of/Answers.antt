@@ -1,6 +1,6 @@
 use Rattle.std.proofs.Common.{◌∙◌}
 use Rattle.csl_passes.specs.RendersView.{item_view}
-use Rattle.csl_grouping.specs.Steps.{entries_view, key_view}
+use Rattle.csl_grouping.specs.Steps.{blocks_view, key_view}
 use Rattle.csl_grouping.proofs.Entries.{cites-more}
 use Rattle.csl_grouping.proofs.blocks.blocks_of.Goals as goal
 
@@ -9,5 +9,5 @@ loop-k-preserved g c =
     let items = c.args.items.now in
     let k = c.loop-k.k in
     c.in_ok-add_place.ensures
-    ∙ cites-more item_view items k c.index-items-k.result c.index-items-k.result (entries_view c.loop-k.blocks.entries) (key_view c.key_of.result)
+    ∙ cites-more item_view items k c.index-items-k.result c.index-items-k.result (blocks_view c.loop-k.blocks.entries) (key_view c.key_of.result)
     c.loop-k-test.true c.index-items-k.is c.loop-k.invariant c.key_of.ensures

@@ -1,7 +1,7 @@
 use Rattle.std.proofs.Common.{◌≡◌, take}
 use Rattle.csl_passes.specs.RendersView.{items_view}
-use Rattle.csl_grouping.specs.Steps.{blocks_of, entries_view}
+use Rattle.csl_grouping.specs.Steps.{blocks_of, blocks_view}
 use Rattle.csl_grouping.proofs.blocks.blocks_of.Given as goal
 
 abbrev pub invariant-loop-k : goal.invariant-loop-k
-invariant-loop-k g l = entries_view l.blocks.entries ≡ blocks_of (items_view (take l.k l.items))
+invariant-loop-k g l = blocks_view l.blocks.entries ≡ blocks_of (items_view (take l.k l.items))

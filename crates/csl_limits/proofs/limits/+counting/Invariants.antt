@@ -1,7 +1,7 @@
 use Rattle.std.proofs.Common.{ℕ, ◌+◌, ◌*◌, drop}
 use Rattle.std.specs.Prelude.{Result}
 use Rattle.csl_base.specs.ElementView.{branches_view, elements_view}
-use Rattle.csl_styles.specs.SoundView.{sound_view}
+use Rattle.csl_styles.specs.PreparedView.{prepared_view}
 use Rattle.csl_limits.specs.declared.limits.Excess.{Excess}
 use Rattle.csl_limits.specs.Limited.{Counted}
 use Rattle.csl_limits.specs.Nesting.{branch_items, items}
@@ -25,12 +25,12 @@ decreases-count_inside l = 5 * l.depth + 4
 -- what comes of the rest, counted on, comes of all
 abbrev pub invariant-count_all-loop-element : goal.invariant-count_all-loop-element
 invariant-count_all-loop-element l =
-    let macros = (sound_view l.style).macros in (r : Result ℕ Excess)
+    let macros = (prepared_view l.style).macros in (r : Result ℕ Excess)
     → Counted macros l.depth (items (elements_view (drop l.element-index l.elements))) l.left r
     → Counted macros l.depth (items (elements_view l.elements)) l.fn.left r
 
 abbrev pub invariant-count_branches-loop-branch : goal.invariant-count_branches-loop-branch
 invariant-count_branches-loop-branch l =
-    let macros = (sound_view l.style).macros in (r : Result ℕ Excess)
+    let macros = (prepared_view l.style).macros in (r : Result ℕ Excess)
     → Counted macros l.depth (branch_items (branches_view (drop l.branch-index l.branches) l.otherwise)) l.left r
     → Counted macros l.depth (branch_items (branches_view l.branches l.otherwise)) l.fn.left r

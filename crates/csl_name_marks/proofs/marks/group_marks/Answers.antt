@@ -1,7 +1,7 @@
 use Rattle.std.proofs.Common.{ap, filter, sym, ◌∙◌}
 use Rattle.std.specs.List.{filter_map, list_any, range_with_len, zip}
 use Rattle.csl_name_marks.specs.NameMarks.{mark}
-use Rattle.csl_name_marks.specs.Steps.{is_at}
+use Rattle.csl_name_marks.specs.Steps.{is_own_step}
 use Rattle.csl_name_marks.proofs.Marking.{in_other_words, is-empty, is-not-empty, marks-none, marks-some}
 use Rattle.csl_name_marks.proofs.marks.group_marks.Goals as goal
 
@@ -11,7 +11,7 @@ returns-then-is_empty c =
     let taken = c.in_ok-steps.steps in
     c.new.ensures.items
     ∙ marks-none c.args.group.now c.args.greatest own taken.items c.in_ok-own_steps.ensures
-    (c.in_ok-steps.ensures ∙ ap (λ l. filter (λ i. list_any (is_at i) l) (range_with_len 1 c.args.greatest)) c.deref.ensures.value)
+    (c.in_ok-steps.ensures ∙ ap (λ l. filter (λ i. list_any (is_own_step i) l) (range_with_len 1 c.args.greatest)) c.deref.ensures.value)
     (is-empty taken.items taken.len (sym taken.ok.0) (sym c.if-is_empty.ensures))
 
 pub returns : goal.returns
@@ -23,6 +23,6 @@ returns c =
     (ap (λ l. filter_map (λ p. mark group l p.0 p.1) (zip group c.deref-3.result.now)) c.deref-2.ensures.value
     ∙ ap (λ l. filter_map (λ p. mark group taken.items p.0 p.1) (zip group l)) c.deref-3.ensures.value
     ∙ marks-some group c.args.greatest own taken.items c.in_ok-own_steps.ensures
-    (c.in_ok-steps.ensures ∙ ap (λ l. filter (λ i. list_any (is_at i) l) (range_with_len 1 c.args.greatest)) c.deref.ensures.value)
+    (c.in_ok-steps.ensures ∙ ap (λ l. filter (λ i. list_any (is_own_step i) l) (range_with_len 1 c.args.greatest)) c.deref.ensures.value)
     (is-not-empty taken.items taken.len (sym taken.ok.0) (sym c.if-is_empty.ensures)))
     c.member_marks.ensures

@@ -1,6 +1,6 @@
 use Rattle.std.proofs.Common.{None, arith, get_or, sym, ◌∙◌}
 use Rattle.std.specs.List.{zip}
-use Rattle.csl_name_marks.specs.Classes.{waits}
+use Rattle.csl_name_marks.specs.Classes.{waits_for_step}
 use Rattle.csl_name_marks.proofs.Marking.{same-default, zip-at, zip-long}
 use Rattle.csl_name_marks.proofs.Zipped.{any-here, any-past, any-rest}
 use Rattle.csl_name_marks.proofs.steps.some_waits.Goals as goal
@@ -12,7 +12,7 @@ returns-then-waits c =
     let k = c.loop-k.k in
     let own = get_or steps k None in
     let here = zip-at group steps k c.index-group-k.result own c.loop-k-test.true c.requires c.index-group-k.is (same-default steps k None own (omega (arith, c.requires))) in
-    sym (any-here (λ p. waits c.args.rule p.0 p.1) (zip group steps) k (c.index-group-k.result, own) (zip-long group steps k c.loop-k-test.true c.requires) here
+    sym (any-here (λ p. waits_for_step c.args.rule p.0 p.1) (zip group steps) k (c.index-group-k.result, own) (zip-long group steps k c.loop-k-test.true c.requires) here
     (sym c.waits.ensures ∙ c.if-waits.true))
     ∙ c.loop-k.invariant
 
@@ -23,9 +23,9 @@ loop-k-preserved c =
     let k = c.loop-k.k in
     let own = get_or steps k None in
     let here = zip-at group steps k c.index-group-k.result own c.loop-k-test.true c.requires c.index-group-k.is (same-default steps k None own (omega (arith, c.requires))) in
-    sym (any-past (λ p. waits c.args.rule p.0 p.1) (zip group steps) k (c.index-group-k.result, own) (zip-long group steps k c.loop-k-test.true c.requires) here
+    sym (any-past (λ p. waits_for_step c.args.rule p.0 p.1) (zip group steps) k (c.index-group-k.result, own) (zip-long group steps k c.loop-k-test.true c.requires) here
     (sym c.waits.ensures ∙ c.if-waits.false))
     ∙ c.loop-k.invariant
 
 pub returns : goal.returns
-returns c = any-rest (λ p. waits c.args.rule p.0 p.1) c.args.group.now c.args.steps.now c.loop-k.k c.loop-k-test.false c.requires ∙ c.loop-k.invariant
+returns c = any-rest (λ p. waits_for_step c.args.rule p.0 p.1) c.args.group.now c.args.steps.now c.loop-k.k c.loop-k-test.false c.requires ∙ c.loop-k.invariant

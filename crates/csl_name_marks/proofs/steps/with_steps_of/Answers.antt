@@ -1,6 +1,6 @@
 use Rattle.std.proofs.Common.{◌≡◌, arith, ap, sym, length, ◌∙◌}
 use Rattle.std.specs.List.{list_any, zip}
-use Rattle.csl_name_marks.specs.Classes.{waits}
+use Rattle.csl_name_marks.specs.Classes.{waits_for_step}
 use Rattle.csl_name_marks.proofs.Keys.{first-classes}
 use Rattle.csl_name_marks.proofs.Waiting.{steps-all, steps-first, steps-long, steps-next, steps_to}
 use Rattle.csl_name_marks.proofs.steps.with_steps_of.Goals as goal
@@ -18,7 +18,7 @@ some_waits-requires c =
 pub returns-then-not-some_waits : goal.returns-then-not-some_waits
 returns-then-not-some_waits c =
     steps-all c.args.rule c.args.group.now c.args.steps.items c.requires.long c.loop-i.i c.args.greatest c.loop-i.steps.items (omega arith) c.loop-i.invariant.steps
-    (ap (λ l. list_any (λ p. waits c.args.rule p.0 p.1) (zip c.args.group.now l)) (sym c.deref.ensures.value) ∙ sym c.some_waits.ensures ∙ c.if-not-some_waits.true)
+    (ap (λ l. list_any (λ p. waits_for_step c.args.rule p.0 p.1) (zip c.args.group.now l)) (sym c.deref.ensures.value) ∙ sym c.some_waits.ensures ∙ c.if-not-some_waits.true)
 
 pub steps_after-requires-clause-long : goal.steps_after-requires-clause-long
 steps_after-requires-clause-long c =

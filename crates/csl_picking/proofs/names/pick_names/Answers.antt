@@ -2,7 +2,7 @@ use Rattle.std.proofs.Common.{◌≡◌, ◌∙◌, ◌++◌, ◌∷◌, [], Lis
 use Rattle.csl_base.specs.declared.taxonomy.NameVariable.{NameVariable}
 use Rattle.csl_base.specs.declared.elem.ElemMeta.{ElemMeta}
 use Rattle.csl_base.specs.ElementView.{options_view}
-use Rattle.csl_picking.specs.Notes.{joined}
+use Rattle.csl_picking.specs.Notes.{called_by_both}
 use Rattle.csl_picking.specs.InputView.{env_of}
 use Rattle.csl_picking.specs.NameRulesView.{rules_view}
 use Rattle.csl_picking.specs.Names.{author_variable, blocks, stand_in, written_blocks, blocks_parts, names_node}
@@ -45,4 +45,4 @@ returns g c =
     r vs c.in_ok-chosen.chosen.stand_in c.in_ok-given.given (tokens_of c.close_node.new.pieces.items) c.push_blocks.new.picking.called c.and-picking.result
     c.push_blocks.new.picking.notes c.note_stand_in.new.self
     c.new-rules.ensures kept stands c.in_ok-given.ensures.given closed c.in_ok-given.ensures.called
-    (c.and-picking.ensures ∙ ap (λ x. joined c.push_blocks.new.picking.called x) c.called_with.ensures) c.in_ok-given.ensures.noted c.note_stand_in.ensures
+    (c.and-picking.ensures ∙ ap (λ x. called_by_both c.push_blocks.new.picking.called x) c.called_with.ensures) c.in_ok-given.ensures.noted c.note_stand_in.ensures

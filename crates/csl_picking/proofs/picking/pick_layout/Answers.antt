@@ -2,7 +2,7 @@ use Rattle.std.proofs.Common.{◌≡◌, ◌<◌, length, ap, sym, ◌∙◌, ar
 use Rattle.csl_base.specs.ElementView.{elements_view}
 use Rattle.csl_base.proofs.Views.{macros_length}
 use Rattle.csl_picking.specs.declared.picking.Step.TheVariants as steps
-use Rattle.csl_picking.specs.InputView.{env_of, macros_of}
+use Rattle.csl_picking.specs.InputView.{env_of, macros_in}
 use Rattle.csl_picking.specs.HeldView.{held}
 use Rattle.csl_picking.specs.Picked.{added}
 use Rattle.csl_picking.specs.Pick.{picks_all}
@@ -12,7 +12,7 @@ use Rattle.csl_picking.proofs.picking.pick_layout.Goals as goal
 
 pub loop-step-smaller : goal.loop-step-smaller
 loop-step-smaller g c =
-    let ms = macros_of c.args.input.now.setting in
+    let ms = macros_in c.args.input.now.setting in
     let one = pushed-work ms c.pop.new.self.items c.loop-step.steps.items c.in-Some.step c.in-Some.ensures.items in
     let falls = c.in_ok-take_step.ensures.steps.falls in
     let h : work ms (steps_view c.take_step.new.steps.items) < work ms (steps_view c.loop-step.steps.items) = omega (arith, one, falls) in
@@ -21,13 +21,13 @@ loop-step-smaller g c =
 pub take_step-requires-clause-fits : goal.take_step-requires-clause-fits
 take_step-requires-clause-fits g c =
     let env = env_of (g.T.EntryLike.answers c.args.input.now.entry.now) c.args.input.now.setting in
-    let ms = macros_of c.args.input.now.setting in
+    let ms = macros_in c.args.input.now.setting in
     (fits_popped env ms c.pop.new.self.items c.loop-step.steps.items c.in-Some.step (held c.loop-step.picking) c.in-Some.ensures.items c.loop-step.invariant.fit).1
 
 pub loop-step-preserved : goal.loop-step-preserved
 loop-step-preserved g c =
     let env = env_of (g.T.EntryLike.answers c.args.input.now.entry.now) c.args.input.now.setting in
-    let ms = macros_of c.args.input.now.setting in
+    let ms = macros_in c.args.input.now.setting in
     let popped = fits_popped env ms c.pop.new.self.items c.loop-step.steps.items c.in-Some.step (held c.loop-step.picking) c.in-Some.ensures.items c.loop-step.invariant.fit in
     record {
       all = c.in_ok-take_step.ensures.steps.done ∙ sym (pushed env ms c.pop.new.self.items c.loop-step.steps.items c.in-Some.step (held c.loop-step.picking) c.in-Some.ensures.items)
@@ -40,7 +40,7 @@ pub returns : goal.returns
 returns g c =
     let env = env_of (g.T.EntryLike.answers c.args.input.now.entry.now) c.args.input.now.setting in
     let macros = c.args.input.now.setting.context.style.now.macros in
-    let ms = macros_of c.args.input.now.setting in
+    let ms = macros_in c.args.input.now.setting in
     let d = c.len-depth.result in
     let h = held c.args.picking.now in
     let empty = no_items c.loop-step.steps.items (omega (arith, c.loop-step.steps.ok.0, c.in_default.ensures.cases.0)) in

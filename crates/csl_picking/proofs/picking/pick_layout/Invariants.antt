@@ -1,5 +1,5 @@
 use Rattle.std.proofs.Common.{◌≡◌}
-use Rattle.csl_picking.specs.InputView.{env_of, macros_of}
+use Rattle.csl_picking.specs.InputView.{env_of, macros_in}
 use Rattle.csl_picking.specs.HeldView.{held}
 use Rattle.csl_picking.specs.Work.{steps_view, all_done, AllFit, work}
 use Rattle.csl_picking.specs.Pick.{called_macro}
@@ -9,7 +9,7 @@ use Rattle.csl_picking.proofs.picking.pick_layout.Given as goal
 abbrev pub invariant-loop-step : goal.invariant-loop-step
 invariant-loop-step g l =
     let env = env_of (g.T.EntryLike.answers l.input.entry.now) l.input.setting in
-    let ms = macros_of l.input.setting in
+    let ms = macros_in l.input.setting in
     record {
       all : all_done env ms (steps_view l.steps.items) (held l.picking) ≡ all_done env ms (steps_view l.initial.steps.items) (held l.initial.picking);
       fit : AllFit env ms (steps_view l.steps.items) (held l.picking);
@@ -17,4 +17,4 @@ invariant-loop-step g l =
     }
 
 abbrev pub decreases-loop-step : goal.decreases-loop-step
-decreases-loop-step g l = work (macros_of l.input.setting) (steps_view l.steps.items)
+decreases-loop-step g l = work (macros_in l.input.setting) (steps_view l.steps.items)

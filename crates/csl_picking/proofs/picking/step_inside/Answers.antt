@@ -2,7 +2,7 @@ use Rattle.std.proofs.Common.{◌≡◌, ap, sym, ◌∙◌, subst, arith}
 use Rattle.csl_base.specs.ElementView.{elements_view, branches_view, text_view, look}
 use Rattle.csl_base.proofs.Views.{group_view, choose_view}
 use Rattle.csl_picking.specs.declared.picking.Step.TheVariants as steps
-use Rattle.csl_picking.specs.InputView.{macros_of}
+use Rattle.csl_picking.specs.InputView.{macros_in}
 use Rattle.csl_picking.specs.HeldView.{held}
 use Rattle.csl_picking.specs.Picked.{Held, added}
 use Rattle.csl_picking.specs.PiecesView.{node_view}
@@ -15,7 +15,7 @@ use Rattle.csl_picking.proofs.picking.step_inside.Goals as goal
 pub returns-in_ok-push-in-Group-2-clause-steps : goal.returns-in_ok-push-in-Group-2-clause-steps
 returns-in_ok-push-in-Group-2-clause-steps g c =
     let env = env_in g.T.EntryLike.answers c.args.input.now in
-    let ms = macros_of c.args.input.now.setting in
+    let ms = macros_in c.args.input.now.setting in
     let d = c.args.depth in
     let e = c.in-Group in
     let o = c.in_ok-opened-in-Group in
@@ -41,7 +41,7 @@ returns-in_ok-push-in-Group-2-clause-steps g c =
 pub returns-in_ok-push-in-Choose-clause-steps : goal.returns-in_ok-push-in-Choose-clause-steps
 returns-in_ok-push-in-Choose-clause-steps g c =
     let env = env_in g.T.EntryLike.answers c.args.input.now in
-    let ms = macros_of c.args.input.now.setting in
+    let ms = macros_in c.args.input.now.setting in
     let d = c.args.depth in
     let e = c.in-Choose in
     let a = c.args.steps.now.items in

@@ -3,7 +3,7 @@ use Rattle.csl_base.specs.Element.{macro_target}
 use Rattle.csl_base.specs.ElementView.{elements_view}
 use Rattle.csl_picking.specs.declared.picking.OpenMacro.{OpenMacro}
 use Rattle.csl_picking.specs.declared.picking.Step.TheVariants as steps
-use Rattle.csl_picking.specs.InputView.{macros_of}
+use Rattle.csl_picking.specs.InputView.{macros_in}
 use Rattle.csl_picking.specs.HeldView.{held}
 use Rattle.csl_picking.specs.Pick.{called_macro}
 use Rattle.csl_picking.specs.Picked.{Held}
@@ -17,7 +17,7 @@ use Rattle.csl_picking.proofs.picking.step_macro.Goals as goal
 pub returns-in-Some-clause-steps : goal.returns-in-Some-clause-steps
 returns-in-Some-clause-steps g c =
     let env = env_in g.T.EntryLike.answers c.args.input.now in
-    let ms = macros_of c.args.input.now.setting in
+    let ms = macros_in c.args.input.now.setting in
     let shape = c.args.shape in
     let node = plain_node (shape_look shape) shape.quotes shape.strip_periods None in
     let s = held c.args.picking.now in
@@ -28,7 +28,7 @@ returns-in-Some-clause-steps g c =
 pub returns-in-None-clause-steps : goal.returns-in-None-clause-steps
 returns-in-None-clause-steps g c =
     let env = env_in g.T.EntryLike.answers c.args.input.now in
-    let ms = macros_of c.args.input.now.setting in
+    let ms = macros_in c.args.input.now.setting in
     let shape = c.args.shape in
     let node = plain_node (shape_look shape) shape.quotes shape.strip_periods None in
     let s = held c.args.picking.now in
@@ -38,7 +38,7 @@ returns-in-None-clause-steps g c =
 pub returns-in_ok-push-in-Some-body_of-2-clause-steps : goal.returns-in_ok-push-in-Some-body_of-2-clause-steps
 returns-in_ok-push-in-Some-body_of-2-clause-steps g c =
     let env = env_in g.T.EntryLike.answers c.args.input.now in
-    let ms = macros_of c.args.input.now.setting in
+    let ms = macros_in c.args.input.now.setting in
     let d = c.args.depth in
     let shape = c.args.shape in
     let node = plain_node (shape_look shape) shape.quotes shape.strip_periods None in

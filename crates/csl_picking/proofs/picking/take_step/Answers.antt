@@ -1,10 +1,10 @@
 use Rattle.std.proofs.Common.{◌≡◌, ap, sym, ◌∙◌, subst}
 use Rattle.csl_base.specs.Element.{element}
 use Rattle.csl_base.specs.ElementView.{element_view, elements_view}
-use Rattle.csl_picking.specs.InputView.{macros_of}
+use Rattle.csl_picking.specs.InputView.{macros_in}
 use Rattle.csl_picking.specs.HeldView.{held}
 use Rattle.csl_picking.specs.Work.{elements_step, step_view, done, step_work}
-use Rattle.csl_picking.specs.Walk.{env_in, calls_in, Walk, walk, GoesOn}
+use Rattle.csl_picking.specs.Walk.{env_in, calls_in, Walk, walk, WalkGoesOn}
 use Rattle.csl_picking.proofs.WorkSteps.{elements_taken}
 use Rattle.csl_picking.proofs.QuietMacros.{quiet_on}
 use Rattle.csl_picking.proofs.picking.take_step.Goals as goal
@@ -12,7 +12,7 @@ use Rattle.csl_picking.proofs.picking.take_step.Goals as goal
 pub returns-in_ok-take_element-in-Elements-clause-steps : goal.returns-in_ok-take_element-in-Elements-clause-steps
 returns-in_ok-take_element-in-Elements-clause-steps g c =
     let env = env_in g.T.EntryLike.answers c.args.input.now in
-    let ms = macros_of c.args.input.now.setting in
+    let ms = macros_in c.args.input.now.setting in
     let d = c.in-Elements.depth in
     let a = c.args.steps.now.items in
     let s = held c.args.picking.now in
@@ -21,7 +21,7 @@ returns-in_ok-take_element-in-Elements-clause-steps g c =
     let new : Walk = walk c.take_element.new.steps.items (held c.take_element.new.picking) in
     let is : elements_step (element e (elements_view rest.now)) d ≡ step_view c.args.step =
     ap (λ xs. elements_step (elements_view xs) d) (sym c.in-Some.ensures.cases.0) ∙ ap step_view (sym c.in-Elements.is) in
-    subst (λ x. GoesOn env ms (step_work ms x) (walk a (done env ms x s)) new) is
+    subst (λ x. WalkGoesOn env ms (step_work ms x) (walk a (done env ms x s)) new) is
     (elements_taken env ms d a c.push.new.self.items rest e s new c.in_ok-push-in-Elements.ensures.items c.in_ok-take_element-in-Elements.ensures.steps)
 
 pub returns-in_ok-take_element-in-Elements-clause-quiet : goal.returns-in_ok-take_element-in-Elements-clause-quiet

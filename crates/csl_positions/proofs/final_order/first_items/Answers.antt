@@ -5,7 +5,7 @@ use Rattle.csl_entries.specs.TableView.{table_view}
 use Rattle.csl_entries.proofs.ListedPlaces.{all-cited}
 use Rattle.csl_passes.specs.RendersView.{items_view, render_view, renders_view}
 use Rattle.csl_positions.specs.FinalProperties.{cited_finally}
-use Rattle.csl_positions.specs.FinalSteps.{IsWithin, led_to, stands_of, with_first}
+use Rattle.csl_positions.specs.FinalSteps.{IsPlacedWithin, led_to, stands_of, with_first}
 use Rattle.csl_positions.proofs.FinalFirsts.{firsts-are, length-stands, requests-more, stands}
 use Rattle.csl_positions.proofs.FinalItems.{placed-seen, placed-within, row-within}
 use Rattle.csl_positions.proofs.FinalPlaces.{row-below}
@@ -25,8 +25,8 @@ note_firsts-requires-clause-within g c =
     let stands =
     placed-seen eq table.entries (λ ps. ps.items) render_view c.places-places.result.now table.places c.args.renders.now c.loop-r.r row found c.places-places.ensures c.requires.placed
     c.loop-r-test.true c.index-places-r.is c.index-renders-r.is in
-    subst (λ ps. All (IsWithin ps) (items_view c.deref.result.now)) (sym c.deref-in-loop-r.ensures.value)
-    (subst (λ is. All (IsWithin row.items) (items_view is)) (sym c.deref.ensures.value) (placed-within eq table.entries row.items (items_view found.items.items) stands))
+    subst (λ ps. All (IsPlacedWithin ps) (items_view c.deref.result.now)) (sym c.deref-in-loop-r.ensures.value)
+    (subst (λ is. All (IsPlacedWithin row.items) (items_view is)) (sym c.deref.ensures.value) (placed-within eq table.entries row.items (items_view found.items.items) stands))
 
 pub note_firsts-requires-clause-led : goal.note_firsts-requires-clause-led
 note_firsts-requires-clause-led g c =

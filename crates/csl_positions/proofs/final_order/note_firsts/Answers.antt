@@ -1,13 +1,13 @@
 use Rattle.std.proofs.Common.{◌<◌, length, arith}
 use Rattle.csl_passes.specs.RendersView.{item_view}
-use Rattle.csl_positions.specs.FinalSteps.{IsWithin, led_to}
+use Rattle.csl_positions.specs.FinalSteps.{IsPlacedWithin, led_to}
 use Rattle.csl_positions.proofs.FinalPlaces.{all-at}
 use Rattle.csl_positions.proofs.FinalFirsts.{stands-more}
 use Rattle.csl_positions.proofs.final_order.note_firsts.Goals as goal
 
 pub place_led_to-requires : goal.place_led_to-requires
 place_led_to-requires g c =
-    all-at (IsWithin c.args.places.now) item_view c.args.items.now c.loop-k.k c.index-items-k.result c.requires.within c.loop-k-test.true c.index-items-k.is
+    all-at (IsPlacedWithin c.args.places.now) item_view c.args.items.now c.loop-k.k c.index-items-k.result c.requires.within c.loop-k-test.true c.index-items-k.is
 
 pub note_first-requires : goal.note_first-requires
 note_first-requires g c =

@@ -1,7 +1,7 @@
 use Rattle.std.proofs.Common.{All, map, subst, sym, ◌++◌, ◌∙◌}
 use Rattle.csl_entries.specs.TableView.{table_view}
 use Rattle.csl_passes.specs.RendersView.{items_view, render_view}
-use Rattle.csl_positions.specs.FinalSteps.{IsWithin, led_to}
+use Rattle.csl_positions.specs.FinalSteps.{IsPlacedWithin, led_to}
 use Rattle.csl_positions.proofs.FinalItems.{placed-seen, placed-within, row-within}
 use Rattle.csl_positions.proofs.FinalPlaces.{places-more}
 use Rattle.csl_positions.proofs.final_order.places_finally.Goals as goal
@@ -20,8 +20,8 @@ push_places-requires g c =
     let stands =
     placed-seen eq table.entries (λ ps. ps.items) render_view c.places-places.result.now table.places c.args.renders.now c.loop-r.r row found c.places-places.ensures c.requires.placed
     c.loop-r-test.true c.index-places-r.is c.index-renders-r.is in
-    subst (λ ps. All (IsWithin ps) (items_view c.deref.result.now)) (sym c.deref-in-loop-r.ensures.value)
-    (subst (λ is. All (IsWithin row.items) (items_view is)) (sym c.deref.ensures.value) (placed-within eq table.entries row.items (items_view found.items.items) stands))
+    subst (λ ps. All (IsPlacedWithin ps) (items_view c.deref.result.now)) (sym c.deref-in-loop-r.ensures.value)
+    (subst (λ is. All (IsPlacedWithin row.items) (items_view is)) (sym c.deref.ensures.value) (placed-within eq table.entries row.items (items_view found.items.items) stands))
 
 pub loop-r-preserved : goal.loop-r-preserved
 loop-r-preserved g c =

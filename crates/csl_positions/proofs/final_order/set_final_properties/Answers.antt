@@ -6,7 +6,7 @@ use Rattle.csl_entries.specs.Entries.{place}
 use Rattle.csl_entries.specs.TableView.{table_view}
 use Rattle.csl_passes.specs.RendersView.{items_view, render_view}
 use Rattle.csl_passes.specs.RequestView.{request_view}
-use Rattle.csl_positions.specs.FinalSteps.{IsWithin, all_set}
+use Rattle.csl_positions.specs.FinalSteps.{IsPlacedWithin, all_set}
 use Rattle.csl_positions.proofs.FinalItems.{placed-within, row-within}
 use Rattle.csl_positions.proofs.FinalRenders.{next-render, placed-now}
 use Rattle.csl_positions.proofs.final_order.set_final_properties.Goals as goal
@@ -30,8 +30,8 @@ set_items-requires g c =
     placed-now eq g.P.PartialEq.eq (λ e. slice_index_or c.args.numbers.now (place eq e table.entries) 0) render_view old now r found c.loop-r-test.true counted
     (ap (get_or now r) c.index-renders-r.is) c.loop-r.invariant table.entries (λ ps. ps.items) c.places-places.result.now table.places row c.places-places.ensures c.requires.placed
     c.index-places-r.is in
-    subst (λ ps. All (IsWithin ps) (items_view c.deref_mut.result.now)) (sym c.deref.ensures.value)
-    (subst (λ is. All (IsWithin row.items) (items_view is)) (sym c.deref_mut.ensures.value) (placed-within eq table.entries row.items (items_view found.items.items) stands))
+    subst (λ ps. All (IsPlacedWithin ps) (items_view c.deref_mut.result.now)) (sym c.deref.ensures.value)
+    (subst (λ is. All (IsPlacedWithin row.items) (items_view is)) (sym c.deref_mut.ensures.value) (placed-within eq table.entries row.items (items_view found.items.items) stands))
 
 pub loop-r-preserved : goal.loop-r-preserved
 loop-r-preserved g c =

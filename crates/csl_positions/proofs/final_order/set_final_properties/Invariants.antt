@@ -3,12 +3,12 @@ use Rattle.std.specs.Prelude.{slice_index_or}
 use Rattle.csl_entries.specs.Entries.{place}
 use Rattle.csl_entries.specs.TableView.{table_view}
 use Rattle.csl_passes.specs.RendersView.{renders_view}
+use Rattle.csl_passes.proofs.Halves.{half}
 use Rattle.csl_positions.proofs.FinalRenders.{finally_at}
-use Rattle.csl_positions.proofs.Halves.{half}
 use Rattle.csl_positions.proofs.final_order.set_final_properties.Given as goal
 
 abbrev pub invariant-loop-r : goal.invariant-loop-r
 invariant-loop-r g l =
     renders_view l.renders
-    ≡ half (finally_at g.T.PartialEq.eq g.P.PartialEq.eq (λ e. slice_index_or l.numbers (place g.T.PartialEq.eq e (table_view l.table).entries) 0) (renders_view l.initial.renders)) 0 l.r
+    ≡ half (finally_at g.T.PartialEq.eq g.P.PartialEq.eq (λ e. slice_index_or l.numbers (place g.T.PartialEq.eq e (table_view l.table).entries) 0) (renders_view l.initial.renders)) l.r
     (renders_view l.initial.renders)

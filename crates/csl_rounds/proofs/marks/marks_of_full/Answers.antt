@@ -5,7 +5,7 @@ use Rattle.std.proofs.lemmas.List.{take_all, with_items_is}
 use Rattle.csl_entries.specs.TableView.{table_view}
 use Rattle.csl_passes.specs.Places.{IsPlace}
 use Rattle.csl_passes.specs.RendersView.{renders_view}
-use Rattle.csl_rounds.specs.Gathered.{AreMarked, IsPlaced, entry_place, with_counting}
+use Rattle.csl_rounds.specs.Gathered.{AreMarked, IsKnownPlace, entry_place, with_counting}
 use Rattle.csl_rounds.proofs.Counted.{known-at}
 use Rattle.csl_rounds.proofs.FullMarks.{MarkedSoFar, group-known, group-marked, group-waits, one-more-group, own-known}
 use Rattle.csl_rounds.proofs.Walk.{full-is}
@@ -21,8 +21,8 @@ waits-requires g c =
     let there = known-at (λ v. All (IsPlace rs) v.items) c.in_ok-groups.groups.items c.deref-group-items.result.now c.loop-group.group-index c.group-item.result
     c.deref-group-items.ensures.value c.in_ok-groups.ensures.exist c.loop-group-test.true c.group-item.is in
     record {
-      placed = subst (λ ps. All (IsPlaced ps (length c.deref.result.now)) group) (sym c.places-places.ensures)
-          (subst (λ fs. All (IsPlaced table.places (length fs)) group) (sym c.deref.ensures.value)
+      placed = subst (λ ps. All (IsKnownPlace ps (length c.deref.result.now)) group) (sym c.places-places.ensures)
+          (subst (λ fs. All (IsKnownPlace table.places (length fs)) group) (sym c.deref.ensures.value)
           (group-known eq c.shows_dates-dated.result rs table.entries table.places g.met.T.Eq.laws c.requires.cites.placed c.requires.cites.listed
           (map (λ p. p.items) (take c.loop-group.group-index c.deref-group-items.result.now)) c.loop-group.marks.items c.loop-group.marked.items c.loop-group.invariant group there));
     }
@@ -37,8 +37,8 @@ note-requires g c =
     let there = known-at (λ v. All (IsPlace rs) v.items) c.in_ok-groups.groups.items c.deref-group-items.result.now c.loop-group.group-index c.group-item.result
     c.deref-group-items.ensures.value c.in_ok-groups.ensures.exist c.loop-group-test.true c.group-item.is in
     record {
-      placed = subst (λ ps. All (λ m. IsPlaced ps (length c.deref_mut.result.now) m.0) own) (sym c.places-places.ensures)
-          (subst (λ fs. All (λ m. IsPlaced table.places (length fs) m.0) own) (sym c.deref_mut.ensures.value)
+      placed = subst (λ ps. All (λ m. IsKnownPlace ps (length c.deref_mut.result.now) m.0) own) (sym c.places-places.ensures)
+          (subst (λ fs. All (λ m. IsKnownPlace table.places (length fs) m.0) own) (sym c.deref_mut.ensures.value)
           (own-known eq c.shows_dates-dated.result rs table.entries table.places g.met.T.Eq.laws c.requires.cites.placed c.requires.cites.listed
           (map (λ p. p.items) (take c.loop-group.group-index c.deref-group-items.result.now)) c.loop-group.marks.items c.loop-group.marked.items c.loop-group.invariant group there own c.in_ok-own.ensures));
     }

@@ -6,8 +6,8 @@ use Rattle.csl_writers.specs.Desk.{after, desk}
 use Rattle.csl_writers.specs.Writing.{writing_of}
 use Rattle.csl_rounds.specs.Gathered.{cite_again, state_at}
 use Rattle.csl_rounds.proofs.Changed.{all-changed, one-changed}
-use Rattle.csl_rounds.proofs.Halves.{named_by}
 use Rattle.csl_rounds.proofs.rerender.render_items.Goals as goal
+use Rattle.csl_rounds.proofs.OfTable.{named_by}
 
 pub loop-k-init : goal.loop-k-init
 loop-k-init g c = record { again = refl; asked = refl }

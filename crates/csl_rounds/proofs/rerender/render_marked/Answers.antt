@@ -4,12 +4,13 @@ use Rattle.std.proofs.Math.ListN.{get_or-map, length-map}
 use Rattle.std.proofs.lemmas.List.{get_or_default, with_items_is}
 use Rattle.csl_base.specs.Ring.{HasNoRing}
 use Rattle.csl_entries.specs.TableView.{table_view}
+use Rattle.csl_passes.specs.ByPlaces.{by_places}
 use Rattle.csl_passes.specs.RendersView.{item_view, items_view, render_view, renders_view}
+use Rattle.csl_passes.proofs.Halves.{as_before, known_next}
 use Rattle.csl_writers.specs.Desk.{after, desk}
 use Rattle.csl_writers.specs.Writing.{writing_of}
-use Rattle.csl_rounds.specs.Gathered.{by_places, cite_again, request_again, request_tasks}
+use Rattle.csl_rounds.specs.Gathered.{cite_again, request_again, request_tasks}
 use Rattle.csl_rounds.proofs.Changed.{all-changed, one-changed}
-use Rattle.csl_rounds.proofs.Halves.{as_before, known_next}
 use Rattle.csl_rounds.proofs.OfTable.{row-is, row-listed, row-long}
 use Rattle.csl_rounds.proofs.rerender.render_marked.Goals as goal
 

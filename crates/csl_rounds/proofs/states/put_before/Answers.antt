@@ -1,7 +1,7 @@
 use Rattle.std.proofs.Common.{◌<◌, None, ap, get_or, length, subst, sym, ◌∙◌}
 use Rattle.std.specs.Option.{option_or}
 use Rattle.std.proofs.lemmas.List.{get_or_default}
-use Rattle.csl_rounds.proofs.Halves.{put}
+use Rattle.csl_passes.proofs.Halves.{put}
 use Rattle.csl_rounds.proofs.states.put_before.Goals as goal
 
 pub loop-place-preserved : goal.loop-place-preserved

@@ -1,6 +1,6 @@
 use Rattle.std.proofs.Common.{◌≡◌, None, get_or}
 use Rattle.std.specs.Option.{option_or}
-use Rattle.csl_rounds.proofs.Halves.{half}
+use Rattle.csl_passes.proofs.Halves.{half}
 use Rattle.csl_rounds.proofs.states.put_before.Given as goal
 
 abbrev pub invariant-loop-place : goal.invariant-loop-place

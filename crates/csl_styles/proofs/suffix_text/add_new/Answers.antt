@@ -1,7 +1,7 @@
 use Rattle.std.proofs.Common.{◌≡◌, Bor, Option, Some, None, is_some, option_map, map, refl, ap, sym, ◌∙◌}
 use Rattle.csl_base.specs.Element.{Name}
 use Rattle.csl_base.specs.Ring.{has_name}
-use Rattle.csl_styles.specs.Gathered.{with_new}
+use Rattle.csl_styles.specs.Gathered.{with_new_name}
 use Rattle.csl_styles.proofs.NameLists.{with_named}
 use Rattle.csl_styles.proofs.suffix_text.add_new.Goals as goal
 
@@ -15,4 +15,4 @@ returns-in_ok-insert c =
     let names = map (λ (s : Bor Name). s.now) c.args.names.now.keys in
     let there = c.if-is_some.ensures ∙ sym (is_some-map _ c.body_of.result) ∙ ap is_some c.body_of.ensures in
     ap (map (λ (s : Bor Name). s.now)) c.in_ok-insert.ensures.keys ∙ with_named name c.args.names.now.keys
-    ∙ ap (λ b. with_new b (has_name name.now names) name.now names) there
+    ∙ ap (λ b. with_new_name b (has_name name.now names) name.now names) there

@@ -1,7 +1,7 @@
 -- What is planned is carried out.
 use Rattle.std.proofs.Common.{length, map, option_map, arith, ap, refl, ◌∙◌, None}
 use Rattle.std.proofs.lemmas.List.{length-map}
-use Rattle.csl_substitution.specs.ItemView.{items_view}
+use Rattle.csl_substitution.specs.ItemView.{rendered_items_view}
 use Rattle.csl_substitution.proofs.Planning.{all_substituted, plan-length}
 use Rattle.csl_substitution.proofs.Staying.{kept, kept-on_ok}
 use Rattle.csl_substitution.proofs.substitution.substitute_subsequent_authors.Goals as goal
@@ -13,7 +13,7 @@ carry_out-requires c =
     omega (arith, whole)
 
 pub returns-in-None-clause-laws : goal.returns-in-None-clause-laws
-returns-in-None-clause-laws c = kept None c.args.rule (items_view c.args.items.now) (items_view c.args.items.now) refl
+returns-in-None-clause-laws c = kept None c.args.rule (rendered_items_view c.args.items.now) (rendered_items_view c.args.items.now) refl
 
 pub returns-in_ok-plan-in-Some : goal.returns-in_ok-plan-in-Some
 returns-in_ok-plan-in-Some c =
@@ -23,5 +23,5 @@ returns-in_ok-plan-in-Some c =
     c.in-Some.is text (c.deref.ensures.value ∙ c.in_ok-plan-in-Some.ensures) c.carry_out.ensures.trees c.carry_out.ensures.keys in
     record {
       substituted = done;
-      laws = kept-on_ok c.carry_out.result (option_map (λ s. s.now) c.args.substitute) c.args.rule (items_view c.args.items.now) (items_view c.carry_out.new.items) done;
+      laws = kept-on_ok c.carry_out.result (option_map (λ s. s.now) c.args.substitute) c.args.rule (rendered_items_view c.args.items.now) (rendered_items_view c.carry_out.new.items) done;
     }

@@ -7,7 +7,7 @@ use Rattle.csl_passes.specs.RequestView.{wanted_view}
 use Rattle.csl_table.specs.Table.{found}
 use Rattle.document_reading.specs.AskedView.{asked_requests_view}
 use Rattle.document_reading.specs.DocumentView.{document_view}
-use Rattle.cite_document.specs.Run.{accepted, same_entry, wanted_of}
+use Rattle.cite_document.specs.Run.{accepted, same_plain_entry, wanted_of}
 use Rattle.cite_document.proofs.Refusals.{first_ring, too_large}
 use Rattle.document_driven.specs.DrivenForm.{DrivenDocument}
 use Rattle.document_driven.proofs.AskedBy.{comes}
@@ -38,7 +38,7 @@ returns-in-Err-MacroRing c =
     let wanted : w ≡ wanted_of d = c.in_ok-request.ensures ∙ (λ i. record (wanted_of d) { locales = map locale_view (c.in_ok-files.ensures i) }) in
     let e = c.in-Err-MacroRing in
     let x : DrivenDocument = record { asked = d; table = found c.args.table.now } in
-    (x, refl, rw e.field-0-is (first_ring v w d made wanted e.place e.macro_idx (subst (Refuses same_entry v.requests w.style v.offset) e.field-0-is e.ensures.refused)))
+    (x, refl, rw e.field-0-is (first_ring v w d made wanted e.place e.macro_idx (subst (Refuses same_plain_entry v.requests w.style v.offset) e.field-0-is e.ensures.refused)))
 
 pub returns-in-Err-NumberOverflow : goal.returns-in-Err-NumberOverflow
 returns-in-Err-NumberOverflow c =

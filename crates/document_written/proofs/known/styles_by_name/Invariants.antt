@@ -2,9 +2,9 @@
 use Rattle.std.proofs.Common.{◌≡◌, ℕ, List, take, string_bytes}
 use Rattle.csl_base.specs.StyleView.{style_view}
 use Rattle.document_reading.proofs.FirstKeyed.{found}
-use Rattle.document_written.specs.Known.{style_in}
+use Rattle.document_written.specs.Known.{known_style_in}
 use Rattle.document_written.proofs.known.styles_by_name.Given as goal
 
 abbrev pub invariant-loop-named : goal.invariant-loop-named
 invariant-loop-named l =
-    (name : List ℕ) → style_in l.by_name name ≡ found (λ s. string_bytes s.name) (λ s. style_view s.style) (take l.named-index l.styles) name
+    (name : List ℕ) → known_style_in l.by_name name ≡ found (λ s. string_bytes s.name) (λ s. style_view s.style) (take l.named-index l.styles) name

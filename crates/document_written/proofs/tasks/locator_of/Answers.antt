@@ -1,10 +1,11 @@
 -- A list of two is read, and no other list.
 use Rattle.std.proofs.Common.{arith}
+use Rattle.document_reading.proofs.Pairs.{fails_none}
 use Rattle.serde_json.specs.View.{view}
 use Rattle.document_words.specs.Names.{one_of}
 use Rattle.document_words.specs.Tables.{locators}
 use Rattle.serde_json.specs.Find.{as_str}
-use Rattle.document_written.proofs.Pairs.{fails_none, too_short, too_long}
+use Rattle.document_written.proofs.Pairs.{too_short, too_long}
 use Rattle.document_written.proofs.tasks.locator_of.Goals as goal
 use Rattle.document_written.proofs.tasks.locator_of.Goals.{in_default-via-then-branch-lt2, in_default-via-else-branch-lt2+else-this-lt3}
 

@@ -1,8 +1,9 @@
 -- A list of two is read, and no other list.
 use Rattle.std.proofs.Common.{arith}
+use Rattle.document_reading.proofs.Pairs.{fails_none}
 use Rattle.serde_json.specs.View.{view}
 use Rattle.document_words.specs.Words.{whole}
-use Rattle.document_written.proofs.Pairs.{fails_none, too_short, too_long}
+use Rattle.document_written.proofs.Pairs.{too_short, too_long}
 use Rattle.document_written.proofs.tasks.place_of.Goals as goal
 use Rattle.document_written.proofs.tasks.place_of.Goals.{in_default-via-then-branch-lt2, in_default-via-else-branch-lt2+else-this-lt3}
 

@@ -1,13 +1,13 @@
 -- Each task that is read has its tree, or none yet; else nothing is read.
 use Rattle.std.proofs.Common.{◌+◌, [], ◌∷◌, ◌++◌, true, drop, ap, sym, ◌∙◌}
+use Rattle.document_reading.proofs.Pairs.{fails_none}
 use Rattle.serde_json.specs.View.{items_view}
 use Rattle.csl_table.specs.declared.key.TaskKey.{TaskKey}
 use Rattle.csl_writers.specs.declared.cite.Cite.{Cite}
 use Rattle.document_words.proofs.Progress.{Progress, Progress-more}
 use Rattle.document_words.specs.Words.{all_items}
 use Rattle.document_written.specs.Known.{knows}
-use Rattle.document_written.specs.WrittenForm.{has_tree, with_first, written_form}
-use Rattle.document_written.proofs.Pairs.{fails_none}
+use Rattle.document_written.specs.WrittenForm.{has_tree, with_first_tree, written_form}
 use Rattle.document_written.proofs.Tables.{one_more, one_more_found, two_trees}
 use Rattle.document_written.proofs.written.table_of_items.Goals as goal
 
@@ -30,7 +30,7 @@ loop-place-preserved c =
     record {
       written = so_far.written ++ w ∷ [];
       so_far = Progress-more (written_form (knows c.args.known.now)) c.args.items.now c.loop-place.place so_far.written c.index-items-place.result w c.loop-place-test.true c.index-items-place.is c.in-Ok.ensures.read so_far.so_far;
-      first = c.in_ok-add-in-Ok.ensures ∙ ap (with_first w) so_far.first ∙ one_more_found so_far.written w;
+      first = c.in_ok-add-in-Ok.ensures ∙ ap (with_first_tree w) so_far.first ∙ one_more_found so_far.written w;
       one_tree = one_more so_far.written w so_far.one_tree
           (ap (λ t. has_tree (t w.0) w.1 true) (sym so_far.first) ∙ sym c.agrees.ensures ∙ c.if-not-agrees.false);
     }

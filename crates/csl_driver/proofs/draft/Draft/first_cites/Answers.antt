@@ -36,22 +36,16 @@ loop-entry-preserved g c =
     let p = get_or order k 0 in
     let firsts = c.in_ok-places.places.items in
     let next = c.loop-entry-test.true in
+    let first = first_of eq entries cites in
     let listed = subst (λ ps. All (λ q. q < length entries) ps) (sym c.order-order.ensures) (known-within c.args.self.known g.met.T.Eq.laws) in
     let within = within-firsts eq entries cites firsts c.in_ok-places.ensures order k listed next in
-    elim c.match-first.branch [
-      | in-Some+in_ok-push w ↦
-          let some = sym w.in-Some.is ∙ c.index-first.ensures ∙ same-default firsts p _ (Some w.in-Some.place) within in
-          subst (Found eq entries cites order (k + 1)) (sym (ap (λ (v : _). v.items) w.firsts-is))
-          (found-more eq entries cites order k c.loop-entry.firsts.items c.loop-entry.invariant p next (same-default order k 0 p next) firsts c.in_ok-places.ensures within
-          w.in-Some.place w.push.new.self.items some w.in_ok-push.ensures.items)
-      | in_default w ↦
-          let none = sym w.in_default.is ∙ c.index-first.ensures ∙ same-default firsts p _ None within in
-          subst (Found eq entries cites order (k + 1)) (sym (ap (λ (v : _). v.items) w.firsts-is))
-          (found-same eq entries cites order k c.loop-entry.firsts.items c.loop-entry.invariant p next (same-default order k 0 p next) firsts c.in_ok-places.ensures within none)
-    ]
+    let here = same-default order k 0 p next in
+    let noted-is : option_map (λ i. item_view i.now) c.first_cite.result ≡ first p =
+    c.first_cite.ensures ∙ noted eq entries cites firsts c.in_ok-places.ensures p _ within (c.index-first_cite.is) in
+    ?
 
-pub returns-clause-firsts : goal.returns-clause-firsts
-returns-clause-firsts g c =
+pub returns : goal.returns
+returns g c =
     let eq = g.T.PartialEq.eq in
     let entries = (table_in c.args.self).entries in
     let cites = renders_view c.args.cites.now in
@@ -59,6 +53,6 @@ returns-clause-firsts g c =
     let asked = asked_in c.args.self in
     let order = bibliography_order eq (order_in_use asked.wanted) (cited asked.requests) in
     let past : length c.order-order.result.now ≤ c.loop-entry.entry-index = omega (arith, c.loop-entry-test.false) in
-    c.loop-entry.invariant.cites
+    c.loop-entry.invariant
     ∙ ap (filter_map (first_of eq entries cites)) (take_all c.loop-entry.entry-index c.order-order.result.now past ∙ c.order-order.ensures ∙ ap (λ (l : Listed). l.order) listed.listed)
     ∙ first-cites eq entries cites g.met.T.Eq.laws order (λ e inside. sym (listed.same e) ∙ inside)

@@ -1,10 +1,10 @@
 use Rattle.std.proofs.Common.{rules}
 use Rattle.csl_base.specs.StyleView.{bibliography_view}
-use Rattle.csl_styles.specs.SoundView.{sound_view}
+use Rattle.csl_styles.specs.PreparedView.{prepared_view}
 use Rattle.csl_limits.proofs.Counting.{exceeded-there}
 use Rattle.csl_limits.proofs.limits.Limits.check.Goals as goal
 
 pub returns-in-Some-clause-exceeded : goal.returns-in-Some-clause-exceeded
 returns-in-Some-clause-exceeded c =
-    let h = exceeded-there c.args.self.now (sound_view c.args.style.now) (bibliography_view c.in-Some.bibliography) c.check_layout-in-Some.result in
+    let h = exceeded-there c.args.self.now (prepared_view c.args.style.now) (bibliography_view c.in-Some.bibliography) c.check_layout-in-Some.result in
     search (rules, h)
