@@ -1,6 +1,6 @@
 -- What the driver answers to a document's requests, and what it refuses, is of the document.
 use Rattle.csl_writing.specs.LayoutWriting.{layout_writing}
-use Rattle.std.proofs.Common.{◌≡◌, ℕ, ◌+◌, ◌<◌, ◌^◌, Bool, List, length, ap, ◌∙◌, subst}
+use Rattle.std.proofs.Common.{◌≡◌, ℕ, ◌+◌, ◌<◌, ◌^◌, Bool, List, length, Some, refl, ap, sym, ◌∙◌, subst}
 use Rattle.std.specs.declared.convert.Infallible.{Infallible}
 use Rattle.csl_base.specs.PlainEntry.{plain_answers}
 use Rattle.csl_base.specs.declared.entry.PlainEntry.{PlainEntry}
@@ -11,11 +11,12 @@ use Rattle.csl_round_laws.specs.declared.mode.RoundMode.{RoundMode}
 use Rattle.csl_driver.specs.Driver.{Driver}
 use Rattle.csl_driver.specs.Rings.{IsFirstRingOf, NoRingAtAll, Overflows, Refuses}
 use Rattle.csl_driver.specs.declared.error.DriverError.{DriverError}
-use Rattle.csl_driver.specs.declared.error.DriverError.TheVariants.{NumberOverflow}
+use Rattle.csl_driver.specs.declared.error.DriverError.TheVariants as drivers
 use Rattle.csl_driver.specs.declared.error.RingPlace.{RingPlace}
 use Rattle.csl_assembly.specs.declared.rendered.Rendered.{Rendered}
 use Rattle.document_reading.specs.Form.{Document}
-use Rattle.cite_document.specs.Run.{same_plain_entry, same_own_payload, accepted, wanted_of, answer, HasAnswer, HasFirstRing, HasTooLargeNumbers}
+use Rattle.cite_document.specs.Run.{same_plain_entry, same_own_payload, accepted, wanted_of, answer, HasAnswer, HasFirstRing, HasTooLargeNumbers, IsRefusedFor}
+use Rattle.cite_document.specs.Status.{refused}
 
 module _ (v : Driver PlainEntry Infallible) (w : Wanted PlainEntry) (d : Document) (p : v ≡ record { requests = accepted d.requests; offset = d.offset }) (q : w ≡ wanted_of d) where
   pub has_answer : NoRingAtAll v.requests w.style → v.offset + length (distinct same_plain_entry (cited v.requests)) < 2 ^ 64 → HasAnswer d
@@ -29,11 +30,17 @@ module _ (v : Driver PlainEntry Infallible) (w : Wanted PlainEntry) (d : Documen
       ∙ ap (λ x. rendered same_plain_entry same_own_payload (layout_writing plain_answers) d.rounds (record { wanted = x; requests = v.requests; offset = v.offset })) q
       ∙ ap (λ x. rendered same_plain_entry same_own_payload (layout_writing plain_answers) d.rounds (record { wanted = wanted_of d; requests = x.requests; offset = x.offset })) p
 
-  pub first_ring : (place : RingPlace) (i : ℕ) → IsFirstRingOf v.requests w.style place i → HasFirstRing place i d
+  first_ring : (place : RingPlace) (i : ℕ) → IsFirstRingOf v.requests w.style place i → HasFirstRing place i d
   first_ring place i h =
       subst (λ x. IsFirstRingOf x.requests d.style place i) p (subst (λ (x : Wanted PlainEntry). IsFirstRingOf v.requests x.style place i) q h)
 
-  pub too_large : (e : DriverError) → e ≡ NumberOverflow → Refuses same_plain_entry v.requests w.style v.offset e → HasTooLargeNumbers d
-  too_large e n h =
+  too_large : NoRingAtAll v.requests w.style × Overflows same_plain_entry v.requests v.offset → HasTooLargeNumbers d
+  too_large h =
       subst (λ x. NoRingAtAll x.requests d.style × Overflows same_plain_entry x.requests x.offset) p
-      (subst (λ (x : Wanted PlainEntry). NoRingAtAll v.requests x.style × Overflows same_plain_entry v.requests v.offset) q (subst (Refuses same_plain_entry v.requests w.style v.offset) n h))
+      (subst (λ (x : Wanted PlainEntry). NoRingAtAll v.requests x.style × Overflows same_plain_entry v.requests v.offset) q h)
+
+  -- what the driver refuses is refused of what asks for the document
+  pub refused-for : {D : Type 0} (asked : D → Document) (x : D) → asked x ≡ d → (e : DriverError) → Refuses same_plain_entry v.requests w.style v.offset e → IsRefusedFor asked (refused e) (Some x)
+  refused-for asked x same (drivers.MacroRing place i) h = (x, refl, subst (HasFirstRing place i) (sym same) (first_ring place i h))
+  refused-for asked x same drivers.NumberOverflow h = (x, refl, subst HasTooLargeNumbers (sym same) (too_large h))
+  refused-for asked x same (drivers.OutOfMemory e) h = tt

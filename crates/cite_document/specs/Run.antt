@@ -56,16 +56,20 @@ HasTooLargeNumbers d = NoRingAtAll (accepted d.requests) d.style
     × Overflows same_plain_entry (accepted d.requests) d.offset
 
 -- there is a document, and it is such
-abbrev pub IsDocumentThat : Option Document → (Document → Type 0) → Type 0
-IsDocumentThat read Such = (d : Document) × (read ≡ Some d) × Such d
+abbrev pub IsDocumentThat : {D : Type 0} → Option D → (D → Type 0) → Type 0
+IsDocumentThat {D} read Such = (d : D) × (read ≡ Some d) × Such d
+
+-- why nothing comes of what asks for such a document, where there is one
+abbrev pub IsRefusedFor : {D : Type 0} → (D → Document) → RunError → Option D → Type 0
+IsRefusedFor asked errors.Document read = read ≡ None
+IsRefusedFor asked (errors.MacroRing place i) read = IsDocumentThat read (λ d. HasFirstRing place i (asked d))
+IsRefusedFor asked errors.NumberOverflow read = IsDocumentThat read (λ d. HasTooLargeNumbers (asked d))
+IsRefusedFor asked errors.OutOfMemory read = Unit {0}
+IsRefusedFor asked errors.Output read = ⊥
 
 -- why there is no answer, where the form gives this document, or none
 abbrev pub IsRefused : RunError → Option Document → Type 0
-IsRefused errors.Document read = read ≡ None
-IsRefused (errors.MacroRing place i) read = IsDocumentThat read (HasFirstRing place i)
-IsRefused errors.NumberOverflow read = IsDocumentThat read HasTooLargeNumbers
-IsRefused errors.OutOfMemory read = Unit {0}
-IsRefused errors.Output read = ⊥
+IsRefused = IsRefusedFor (λ d. d)
 
 -- the answer, or why there is none
 abbrev pub IsRunAnswer : Result Rendered RunError → Option Document → Type 0

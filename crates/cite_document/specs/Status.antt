@@ -1,5 +1,7 @@
 -- The errors of the program: the status that it ends with, and what comes of a part that isn't read.
 use Rattle.std.specs.Prelude.{ℕ}
+use Rattle.csl_driver.specs.declared.error.DriverError.{DriverError}
+use Rattle.csl_driver.specs.declared.error.DriverError.TheVariants as drivers
 use Rattle.document_words.specs.declared.error.ReadError.{ReadError}
 use Rattle.document_words.specs.declared.error.ReadError.TheVariants as parts
 use Rattle.cite_document.specs.declared.error.RunError.{RunError}
@@ -17,3 +19,9 @@ status errors.OutOfMemory = 5
 abbrev pub refusal : ReadError → RunError
 refusal (parts.Document fault) = errors.Document
 refusal parts.OutOfMemory = errors.OutOfMemory
+
+-- what the driver refuses is refused for the same reason
+abbrev pub refused : DriverError → RunError
+refused (drivers.MacroRing place i) = errors.MacroRing place i
+refused drivers.NumberOverflow = errors.NumberOverflow
+refused (drivers.OutOfMemory e) = errors.OutOfMemory

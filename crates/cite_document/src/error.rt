@@ -2,7 +2,7 @@
 ghost use Rattle.std.specs.Prelude.{◌≡◌};
 ghost use Rattle.cite_document.specs.Status.{status};
 
-use csl_driver::error::RingPlace;
+use csl_driver::error::{DriverError, RingPlace};
 use document_words::error::ReadError;
 use std::alloc::{AllocError, AllocFailed};
 use thiserror::Error;
@@ -76,6 +76,21 @@ impl From<ReadError> for RunError {
         match error {
             ReadError::Document(_) => RunError::Document,
             ReadError::OutOfMemory => RunError::OutOfMemory,
+        }
+    }
+}
+
+impl From<DriverError> for RunError {
+    ghost use Rattle.std.specs.Prelude.{◌≡◌};
+    ghost use Rattle.cite_document.specs.Status.{refused};
+
+    ghost from_gives = { λ driver e. e ≡ refused driver };
+
+    fn from(error: DriverError) -> RunError {
+        match error {
+            DriverError::MacroRing { place, macro_idx } => RunError::MacroRing { place, macro_idx },
+            DriverError::NumberOverflow => RunError::NumberOverflow,
+            DriverError::OutOfMemory(_) => RunError::OutOfMemory,
         }
     }
 }

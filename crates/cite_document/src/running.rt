@@ -66,14 +66,8 @@ fn answer_asked<'r>(alloc: Global, asked: &'r Asked<'_>) -> Result<Rendered, Run
     let files = TermTables::new(alloc, asked.locales)?;
     let driver = filled_driver(alloc, &asked.requests, &files, asked.offset)?;
     let request = bibliography_request(alloc, asked, &files)?;
-    match answer_in(driver, request, asked.rounds) {
-        Ok(rendered) => Ok(rendered),
-        Err(DriverError::MacroRing { place, macro_idx }) => {
-            Err(RunError::MacroRing { place, macro_idx })
-        }
-        Err(DriverError::NumberOverflow) => Err(RunError::NumberOverflow),
-        Err(DriverError::OutOfMemory(_)) => Err(RunError::OutOfMemory),
-    }
+    let rendered = answer_in(driver, request, asked.rounds)?;
+    Ok(rendered)
 }
 
 /// The answer to what the value asks for, of these styles, entries and locales. The value is dropped

@@ -20,7 +20,3 @@ module _ {X : Type 0} (q : X → Bool) (kept all rest left : List X) (x : X) (sp
 
   pub kept-skip : q x ≡ false → kept ++ filter q rest ≡ all
   kept-skip h = ap (λ b. kept ++ cond b (x ∷ filter q rest) (filter q rest)) (sym h) ∙ next
-
--- what is known of a member of a list
-pub known-at : {X : Type 0} (Q : X → Type 0) (xs ys : List X) (k : ℕ) (x : X) → ys ≡ xs → All Q xs → k < length ys → x ≡ get_or ys k x → Q x
-known-at Q xs ys k x same all within here = subst Q (sym here) (All-get_or Q ys k x within (subst (All Q) (sym same) all))

@@ -1,66 +1,53 @@
 -- The marks of a round of mode full, group by group.
 use Rattle.std.proofs.Common.{◌≡◌, ℕ, ◌+◌, ◌<◌, Bool, true, false, cond, ◌||◌, List, [], ◌∷◌, ◌++◌, length, map, take, get_or, ap, sym, subst, ◌∙◌, append-nil}
-use Rattle.std.specs.Prelude.{All, fold, nat_eq}
+use Rattle.std.specs.Prelude.{All, fold}
 use Rattle.std.specs.Cmp.{IsEquivalence}
 use Rattle.std.specs.List.{list_any}
 use Rattle.std.proofs.lemmas.List.{map-append, take_more}
-use Rattle.std.proofs.lemmas.List.Elements.{All-append}
 use Rattle.std.proofs.lemmas.List.Folds.{list_any-append}
 use Rattle.std.proofs.lemmas.List.Sums.{fold_push}
-use Rattle.csl_passes.specs.Places.{IsPlace}
 use Rattle.csl_passes.specs.Renders.{CiteRender, Place}
-use Rattle.csl_rounds.specs.Gathered.{AreMarked, IsKnownPlace, counting_ways, entry_place, with_counting}
+use Rattle.csl_rounds.specs.Gathered.{AreMarked, counting_ways, entry_place, is_marked, is_of, with_counting}
 use Rattle.csl_round_laws.specs.RoundMarks.{Mark, waits}
-use Rattle.csl_round_laws.proofs.Kept.{ways-stand}
-use Rattle.csl_rounds.proofs.Placed.{are-placed, group-placed, row, waits-alike}
+use Rattle.csl_rounds.proofs.Placed.{row, waits-alike}
 
 module _ {E P : Type 0} (eq : E → E → Bool) (dated : Bool) (rs : List (CiteRender E P)) (es : List E) (places : List (List ℕ)) where
   -- the marks of these groups, and whether an entry has one, by its place
   pub record MarkedSoFar (taken : List (List Place)) (marks : List Mark) (flags : List Bool) : Type 0 where
     pub gathered : marks ≡ fold (with_counting eq dated rs) [] taken
-    pub stand : All (λ m. IsPlace rs m.0) marks
     pub long : length flags ≡ length es
-    pub told : (p : ℕ) → p < length es → get_or flags p false ≡ list_any (λ m. nat_eq (entry_place places m.0) p) marks
+    pub told : (p : ℕ) → p < length es → get_or flags p false ≡ list_any (λ m. is_of places p m.0) marks
 
   module _ (laws : IsEquivalence eq) (placed : places ≡ map (row eq es places rs) rs) (listed : All (λ ps. All (λ p. p < length es) ps) places)
-      (taken : List (List Place)) (marks : List Mark) (flags : List Bool) (so : MarkedSoFar taken marks flags) (g : List Place) (there : All (IsPlace rs) g) where
-    pub group-known : All (IsKnownPlace places (length flags)) g
-    group-known = subst (λ n. All (IsKnownPlace places n) g) (sym so.long) (group-placed eq es places rs placed listed g there)
+      (taken : List (List Place)) (marks : List Mark) (flags : List Bool) (so : MarkedSoFar taken marks flags) (g : List Place) where
+    abbrev waiting : Bool
+    waiting = list_any (λ at. is_marked flags (entry_place places at)) g
 
-    alike : list_any (λ p. get_or flags (entry_place places p) false) g ≡ waits eq rs marks g
-    alike = waits-alike eq es places rs placed listed laws marks so.stand flags so.told g there
+    alike : waiting ≡ waits eq rs marks g
+    alike = waits-alike eq es places rs placed listed laws marks flags so.told g
 
     more : fold (with_counting eq dated rs) [] (taken ++ g ∷ []) ≡ with_counting eq dated rs marks g
     more = fold_push (with_counting eq dated rs) [] taken g ∙ ap (λ ms. with_counting eq dated rs ms g) (sym so.gathered)
 
     -- a group that waits
-    pub group-waits : list_any (λ p. get_or flags (entry_place places p) false) g ≡ true → MarkedSoFar (taken ++ g ∷ []) marks flags
+    pub group-waits : waiting ≡ true → MarkedSoFar (taken ++ g ∷ []) marks flags
     group-waits h = record {
       gathered = sym (more ∙ ap (λ b. marks ++ cond b [] (counting_ways eq dated rs g)) (sym alike ∙ h) ∙ append-nil marks);
-      stand = so.stand;
       long = so.long;
       told = so.told;
     }
 
-    module _ (own : List Mark) (is : own ≡ counting_ways eq dated rs g) where
-      own-stand : All (λ m. IsPlace rs m.0) own
-      own-stand = subst (All (λ m. IsPlace rs m.0)) (sym is) (ways-stand rs eq dated g)
-
-      pub own-known : All (λ m. IsKnownPlace places (length flags) m.0) own
-      own-known = subst (λ n. All (λ m. IsKnownPlace places n m.0) own) (sym so.long) (are-placed eq es places rs placed listed own own-stand)
-
-      -- and one that is marked
-      pub group-marked : list_any (λ p. get_or flags (entry_place places p) false) g ≡ false → (now : List Mark) (noted : List Bool) → now ≡ marks ++ own
-          → length noted ≡ length flags → AreMarked places own flags noted → MarkedSoFar (taken ++ g ∷ []) now noted
-      group-marked h now noted push same marked = record {
-        gathered = push ∙ sym (more ∙ ap (λ b. marks ++ cond b [] (counting_ways eq dated rs g)) (sym alike ∙ h) ∙ ap (λ ms. marks ++ ms) (sym is));
-        stand = subst (All (λ m. IsPlace rs m.0)) (sym push) (All-append (λ m. IsPlace rs m.0) marks own so.stand own-stand);
-        long = same ∙ so.long;
-        told = λ p below.
-            marked p (subst (λ n. p < n) (sym so.long) below)
-            ∙ ap (λ b. b || list_any (λ m. nat_eq (entry_place places m.0) p) own) (so.told p below)
-            ∙ sym (ap (list_any (λ m. nat_eq (entry_place places m.0) p)) push ∙ list_any-append (λ m. nat_eq (entry_place places m.0) p) marks own);
-      }
+    -- and one that is marked
+    pub group-marked : (own : List Mark) → own ≡ counting_ways eq dated rs g → waiting ≡ false → (now : List Mark) (noted : List Bool) → now ≡ marks ++ own
+        → length noted ≡ length flags → AreMarked places own flags noted → MarkedSoFar (taken ++ g ∷ []) now noted
+    group-marked own is h now noted push same marked = record {
+      gathered = push ∙ sym (more ∙ ap (λ b. marks ++ cond b [] (counting_ways eq dated rs g)) (sym alike ∙ h) ∙ ap (λ ms. marks ++ ms) (sym is));
+      long = same ∙ so.long;
+      told = λ p inside.
+          marked p (subst (λ n. p < n) (sym so.long) inside)
+          ∙ ap (λ b. b || list_any (λ m. is_of places p m.0) own) (so.told p inside)
+          ∙ sym (ap (list_any (λ m. is_of places p m.0)) push ∙ list_any-append (λ m. is_of places p m.0) marks own);
+    }
 
 -- one more of the groups of a list
 pub one-more-group : {A : Type 0} (view : A → List Place) (xs : List A) (k : ℕ) (x : A) → k < length xs → x ≡ get_or xs k x → map view (take (k + 1) xs) ≡ map view (take k xs) ++ view x ∷ []

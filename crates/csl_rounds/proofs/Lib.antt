@@ -9,5 +9,5 @@ pub mod Placed
 pub mod OfTable
 pub mod Marked
 pub mod InRounds
-pub mod FullRounds
+pub mod InMode
 pub mod FullMarks

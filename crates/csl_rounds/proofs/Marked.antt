@@ -1,6 +1,5 @@
 -- Steps of a round.
 use Rattle.std.proofs.Common.{◌≡◌, ℕ, ◌<◌, Bool, true, false, not, ◌==◌, Option, None, List, [], ◌∷◌, ◌++◌, get_or, length, refl, ap, sym, subst, ◌∙◌, arith}
-use Rattle.std.specs.Prelude.{All}
 use Rattle.std.proofs.lemmas.Bool.{eqb-true, eqb-false}
 use Rattle.csl_writers.specs.Writing.{Writing}
 use Rattle.csl_passes.specs.Renders.{CiteRender, ItemRender}
@@ -8,13 +7,12 @@ use Rattle.csl_entries.specs.Entries.{place}
 use Rattle.csl_entries.specs.Table.{Table}
 use Rattle.std.specs.Cmp.{IsEquivalence}
 use Rattle.csl_lookup.specs.declared.state.DisambiguateState.{DisambiguateState}
-use Rattle.csl_passes.specs.Places.{IsPlace}
 use Rattle.csl_passes.proofs.Halves.{by_places-at, by_places-length}
 use Rattle.csl_rounds.specs.CitesOfTable.{AreCitesOfTable}
-use Rattle.csl_rounds.specs.Gathered.{AreGreatest, IsKnownPlace, document_again, document_tasks, put_before}
+use Rattle.csl_rounds.specs.Gathered.{AreGreatest, document_again, document_tasks, put_before}
 use Rattle.csl_round_laws.specs.RoundMarks.{Mark, has_any, round_marks}
-use Rattle.csl_round_laws.proofs.Kept.{marks-stand, places-kept, rings-kept}
-use Rattle.csl_rounds.proofs.Placed.{are-placed, document-alike, state-at, tasks-alike}
+use Rattle.csl_round_laws.proofs.Kept.{places-kept, rings-kept}
+use Rattle.csl_rounds.proofs.Placed.{document-alike, state-at, tasks-alike}
 use Rattle.csl_round_laws.specs.Rerenders.{AreStatesOf}
 use Rattle.csl_round_laws.specs.Rounds.{StateTable, again_tasks, at_table, mark_of, marked_by, no_states, tasks_with, with_marks}
 use Rattle.csl_round_laws.specs.declared.mode.RoundMode.{RoundMode}
@@ -58,13 +56,6 @@ module _ {E P : Type 0} (eq : E → E → Bool) (rs : List (CiteRender E P)) (ma
 
 -- the parts of a round fit
 module _ {E P : Type 0} (mode : RoundMode) (eq : E → E → Bool) (writing : Writing E P) (table : Table E) (rs : List (CiteRender E P)) (are : AreCitesOfTable eq table rs) where
-  pub round-placed : (places : List (List ℕ)) (count : ℕ) (marks : List Mark) → places ≡ table.places → count ≡ length table.entries → marks ≡ round_marks mode eq writing.answers rs
-      → All (λ m. IsKnownPlace places count m.0) marks
-  round-placed places count marks e f m =
-      subst (λ ps. All (λ m. IsKnownPlace ps count m.0) marks) (sym e)
-      (subst (λ n. All (λ m. IsKnownPlace table.places n m.0) marks) (sym f)
-      (are-placed eq table.entries table.places rs are.placed are.listed marks (subst (λ ms. All (λ m. IsPlace rs m.0) ms) (sym m) (marks-stand rs mode eq writing))))
-
   abbrev all : List Mark
   all = round_marks mode eq writing.answers rs
 
@@ -76,11 +67,11 @@ module _ {E P : Type 0} (mode : RoundMode) (eq : E → E → Bool) (writing : Wr
 
   module _ (laws : IsEquivalence eq) (now : List (Option DisambiguateState)) (great : AreGreatest table.places all (length table.entries) now) where
     pub round-done : document_again now writing table.places rs ≡ at_table writing (marked_by mode eq writing rs) rs
-    round-done = document-alike eq table.entries table.places rs are.placed are.listed laws all (marks-stand rs mode eq writing) now great writing
+    round-done = document-alike eq table.entries table.places rs are.placed are.listed laws all now great writing
 
     -- what it asks for
     pub round-asked : document_tasks now table.places rs ≡ again_tasks (marked_by mode eq writing rs) rs
-    round-asked = tasks-alike eq table.entries table.places rs are.placed are.listed laws all (marks-stand rs mode eq writing) now great
+    round-asked = tasks-alike eq table.entries table.places rs are.placed are.listed laws all now great
 
     -- and the entries have its states before those that they had
     pub round-states : (known : StateTable E) (old new : List (Option DisambiguateState)) → new ≡ put_before now old → AreStatesOf eq table.entries known old
@@ -92,7 +83,7 @@ module _ {E P : Type 0} (mode : RoundMode) (eq : E → E → Bool) (writing : Wr
           at = λ e below.
               by_places-at before old (place eq e table.entries) None (subst (λ n. place eq e table.entries < n) (sym were.long) below)
               ∙ ap (λ s. option_or s (get_or old (place eq e table.entries) None))
-              (state-at eq table.entries table.places rs are.placed are.listed laws all (marks-stand rs mode eq writing) now great e below)
+              (state-at eq table.entries table.places rs are.placed are.listed laws all now great e below)
               ∙ ap (option_or (marked_by mode eq writing rs e)) (were.at e below);
         })
       where

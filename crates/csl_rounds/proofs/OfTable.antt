@@ -1,8 +1,6 @@
 -- The cites of a table, request by request.
 use Rattle.std.proofs.Common.{◌≡◌, ℕ, ◌<◌, Bool, List, [], length, map, get_or, ap, sym, subst, ◌∙◌}
-use Rattle.std.specs.Prelude.{All}
 use Rattle.std.proofs.Math.ListN.{length-map}
-use Rattle.std.proofs.lemmas.List.Elements.{All-get_or}
 use Rattle.std.proofs.lemmas.List.{get_or-map}
 use Rattle.csl_entries.specs.Entries.{place}
 use Rattle.csl_entries.specs.Table.{Table}
@@ -26,20 +24,3 @@ module _ {E P : Type 0} (eq : E → E → Bool) (table : Table E) (cites : List 
     row-is view rows row same here =
         let inside : r < length rows = subst (λ n. r < n) (ap length (sym same) ∙ length-map rows view) row-within in
         ap view here ∙ sym (get_or-map view rows r row [] inside) ∙ ap (λ l. get_or l r []) same
-
-    -- one for each of its cites
-    pub row-long : (c : CiteRender E P) → length (get_or table.places r []) ≡ length (get_or cites r c).items
-    row-long c =
-        ap (λ rows. length (get_or rows r [])) are.placed
-        ∙ ap length (get_or-map places_of cites r c [] within)
-        ∙ length-map (get_or cites r c).items (λ i. place eq i.entry table.entries)
-
-    -- and an entry stands at each
-    pub row-listed : (n : ℕ) → n ≡ length table.entries → All (λ p. p < n) (get_or table.places r [])
-    row-listed n same =
-        subst (λ m. All (λ p. p < m) (get_or table.places r [])) (sym same)
-        (All-get_or (λ ps. All (λ p. p < length table.entries) ps) table.places r [] row-within are.listed)
-
--- the member of a list at a place that another list gives
-pub named_by : {X : Type 0} (xs : List (Option X)) (ps : List ℕ) (k : ℕ) (x : Option X) → All (λ p. p < length xs) ps → k < length ps → x ≡ get_or xs (get_or ps k 0) x → x ≡ get_or xs (get_or ps k 0) None
-named_by xs ps k x all h e = e ∙ get_or_default xs (get_or ps k 0) x None (All-get_or (λ p. p < length xs) ps k 0 h all)

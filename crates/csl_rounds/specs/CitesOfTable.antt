@@ -20,8 +20,3 @@ pub record AreCitesOfTable {E P : Type 0} (eq : E → E → Bool) (table : Table
 pub record IsGroupOf {E P : Type 0} (cites : List (CiteRender E P)) (group : List Place) : Type 0 where
   pub exist : All (IsPlace cites) group
   pub distinct : AreDistinct group
-
--- of so many cites each has a place, and it is one of so many
-pub record ArePlacesOf (cites count : ℕ) (places : List ℕ) : Type 0 where
-  pub each : length places ≡ cites
-  pub below : All (λ p. p < count) places

@@ -1,7 +1,7 @@
 -- For the code: marks gathered group by group, and put in by the places of entries.
-use Rattle.std.specs.Prelude.{◌≡◌, ◌<◌, ◌||◌, ℕ, Bool, false, List, [], ◌++◌, Option, Some, None, filter, length, map, nat_eq, slice_index, slice_index_or, if◌then◌else◌}
+use Rattle.std.specs.Prelude.{◌≡◌, ◌<◌, ◌||◌, ℕ, Bool, true, false, List, [], ◌++◌, Option, Some, None, filter, length, map, nat_eq, nat_lt, slice_get, slice_index_or, if◌then◌else◌}
 use Rattle.std.specs.List.{enumerate_from, flat_map, list_any}
-use Rattle.std.specs.Option.{option_or}
+use Rattle.std.specs.Option.{option_and_then, option_map_or, option_or}
 use Rattle.csl_lookup.specs.Properties.{Properties}
 use Rattle.csl_lookup.specs.States.{greater}
 use Rattle.csl_lookup.specs.declared.purpose.CitePurpose.{CitePurpose}
@@ -15,6 +15,11 @@ use Rattle.csl_round_laws.specs.Rounds.{tasks_with, with_any}
 use Rattle.csl_round_laws.specs.declared.mode.RoundMode.{RoundMode}
 use Rattle.csl_writers.specs.Tasks.{CiteTaskValue, TaskValue}
 use Rattle.csl_writers.specs.Writing.{Writing}
+
+-- a round may follow so many that marked
+abbrev pub has_round_left : RoundMode → ℕ → Bool
+has_round_left RoundMode.Three marked = nat_lt marked 3
+has_round_left RoundMode.Full marked = true
 
 module _ {E P : Type 0} (eq : E → E → Bool) (dated : Bool) (cites : List (CiteRender E P)) where
   -- the marks of the groups so far, and those of one more
@@ -38,20 +43,22 @@ abbrev pub with_greater : Option DisambiguateState → DisambiguateState → Opt
 with_greater None mark = Some mark
 with_greater (Some before) mark = Some (greater before mark)
 
--- the place of the entry that is cited at a place
-abbrev pub entry_place : List (List ℕ) → Place → ℕ
-entry_place places at = slice_index (slice_index_or places at.0 []) at.1
+-- the place of the entry that is cited at a place, if a cite stands there
+abbrev pub entry_place : List (List ℕ) → Place → Option ℕ
+entry_place places at = option_and_then (λ row. slice_get row at.1) (slice_get places at.0)
 
--- such a place is known, and below a number
-pub record IsKnownPlace (places : List (List ℕ)) (count : ℕ) (at : Place) : Type 0 where
-  pub request : at.0 < length places
-  pub cite : at.1 < length (slice_index_or places at.0 [])
-  pub below : entry_place places at < count
+-- a cite of the entry at p stands there
+abbrev pub is_of : List (List ℕ) → ℕ → Place → Bool
+is_of places p at = option_map_or (λ n. nat_eq n p) (entry_place places at) false
+
+-- the entry at a place is marked, if there is one
+abbrev pub is_marked : List Bool → Option ℕ → Bool
+is_marked marked place = option_map_or (λ p. slice_index_or marked p false) place false
 
 -- the greatest of the marks of the entry at p
 abbrev pub greatest_at : List (List ℕ) → List Mark → ℕ → Option DisambiguateState
 greatest_at places marks p =
-    greatest_state (map (λ m. m.1) (filter (λ m. nat_eq (entry_place places m.0) p) marks))
+    greatest_state (map (λ m. m.1) (filter (λ m. is_of places p m.0) marks))
 
 -- a list of such states
 pub record AreGreatest (places : List (List ℕ)) (marks : List Mark) (count : ℕ)
@@ -63,7 +70,7 @@ pub record AreGreatest (places : List (List ℕ)) (marks : List Mark) (count : �
 abbrev pub AreMarked : List (List ℕ) → List Mark → List Bool → List Bool → Type 0
 AreMarked places marks old new =
     (p : ℕ) → p < length old → slice_index_or new p false
-    ≡ (slice_index_or old p false || list_any (λ m. nat_eq (entry_place places m.0) p) marks)
+    ≡ (slice_index_or old p false || list_any (λ m. is_of places p m.0) marks)
 
 -- states before those that were there
 abbrev pub put_before : List (Option DisambiguateState) → List (Option DisambiguateState)
@@ -72,7 +79,7 @@ put_before states = by_places (λ p. option_or (slice_index_or states p None))
 
 -- the state that the entry of the k-th cite of a request has, by the places of their entries
 abbrev pub state_at : List (Option DisambiguateState) → List ℕ → ℕ → Option DisambiguateState
-state_at states places k = slice_index_or states (slice_index places k) None
+state_at states places k = option_and_then (λ p. slice_index_or states p None) (slice_get places k)
 
 module _ {E P : Type 0} where
   -- what is asked for where a cite is rendered to be compared: for its purpose and by these properties

@@ -1,9 +1,10 @@
 //! Which marks count where rounds go on until none marks, and which groups wait.
-ghost use Rattle.std.specs.Prelude.{◌≡◌, All, IfOk, false, filter, length, map, option_map, replicate, slice_index_or};
+ghost use Rattle.std.specs.Prelude.{◌≡◌, ℕ, ◌<◌, ◌||◌, IfOk, false, filter, length, map, nat_eq, option_map, replicate, slice_index_or};
 ghost use Rattle.std.specs.List.{list_any};
+ghost use Rattle.std.specs.Option.{option_map_or};
 ghost use Rattle.csl_ambiguity.specs.Members.{member_at, state_of};
 ghost use Rattle.csl_passes.specs.RendersView.{renders_view};
-ghost use Rattle.csl_rounds.specs.Gathered.{AreMarked, IsKnownPlace, entry_place};
+ghost use Rattle.csl_rounds.specs.Gathered.{AreMarked, entry_place, is_marked};
 ghost use Rattle.csl_round_laws.specs.RoundMarks.{counts, raises};
 
 use crate::states::entry_place;
@@ -76,29 +77,47 @@ fn raises(state: &DisambiguateState, mark: &DisambiguateState) -> bool
 
 /// Whether some cite of a group cites an entry that is marked.
 pub(crate) fn waits(places: &[Vec<usize>], marked: &[bool], group: &AmbiguousGroup) -> bool
-    requires placed { All (IsKnownPlace (map (λ ps. ps.items) places.now) (length marked.now)) group.now.items }
     ensures { result ≡ list_any
-        (λ p. slice_index_or marked.now (entry_place (map (λ ps. ps.items) places.now) p) false)
-        group.now.items }
+        (λ at. is_marked marked.now (entry_place (map (λ ps. ps.items) places.now) at)) group.now.items }
 {
-    for place in group {
-        if marked[entry_place(places, *place, marked.len())] {
+    for at in group {
+        if is_marked(marked, entry_place(places, *at)) {
             return true;
         }
     }
     false
 }
 
+/// Whether the entry at a place is marked, if there is one.
+fn is_marked(marked: &[bool], place: Option<usize>) -> bool
+    ensures { result ≡ is_marked marked.now place }
+{
+    match place {
+        Some(place) if place < marked.len() => marked[place],
+        _ => false,
+    }
+}
+
 /// Notes that the entries of these marks are marked.
 pub(crate) fn note(places: &[Vec<usize>], marked: &mut [bool], marks: &Marks)
-    requires placed { All (λ m. IsKnownPlace (map (λ ps. ps.items) places.now) (length marked.old) m.0)
-        marks.now.items }
     ensures long { length marked.new ≡ length marked.old }
     ensures noted { AreMarked (map (λ ps. ps.items) places.now) marks.now.items marked.old marked.new }
 {
-    let count = marked.len();
     for mark in marks {
-        marked[entry_place(places, mark.0, count)] = true;
+        note_at(marked, entry_place(places, mark.0));
+    }
+}
+
+/// Notes that the entry at a place is marked, if there is one.
+fn note_at(marked: &mut [bool], place: Option<usize>)
+    ensures long { length marked.new ≡ length marked.old }
+    ensures noted { (p : ℕ) → p < length marked.old → slice_index_or marked.new p false
+        ≡ (slice_index_or marked.old p false || option_map_or (λ n. nat_eq n p) place.entry false) }
+{
+    if let Some(place) = place {
+        if place < marked.len() {
+            marked[place] = true;
+        }
     }
 }
 

@@ -1,11 +1,11 @@
 //! Cites rendered again, where their entries are disambiguated by something new.
-ghost use Rattle.std.specs.Prelude.{◌≡◌, ◌∷◌, [], OnOk, length};
+ghost use Rattle.std.specs.Prelude.{◌≡◌, ◌∷◌, [], OnOk, length, option_map};
 ghost use Rattle.csl_entries.specs.TableView.{table_view};
 ghost use Rattle.csl_passes.specs.ByPlaces.{by_places};
 ghost use Rattle.csl_passes.specs.RequestView.{request_view};
 ghost use Rattle.csl_passes.specs.RendersView.{item_view, items_view, renders_view};
-ghost use Rattle.csl_rounds.specs.CitesOfTable.{AreCitesOfTable, ArePlacesOf};
-ghost use Rattle.csl_rounds.specs.Gathered.{cite_again, document_again, document_tasks, request_tasks};
+ghost use Rattle.csl_rounds.specs.CitesOfTable.{AreCitesOfTable};
+ghost use Rattle.csl_rounds.specs.Gathered.{cite_again, document_again, document_tasks, request_tasks, state_at};
 ghost use Rattle.csl_round_laws.specs.Rounds.{again_task, rendered_again, tasks_with, with_any};
 ghost use Rattle.csl_writers.specs.Desk.{after, desk};
 ghost use Rattle.csl_writers.specs.Tasks.{cite_task};
@@ -60,7 +60,6 @@ fn render_items<T: EntryLike, P, W: CiteWriter<T, P>>(
     writer: &mut W,
     counter: &mut Renders,
 ) -> Result<(), W::Error>
-    requires placed { ArePlacesOf (length items.old) (length states.now) places.now }
     ensures again { OnOk result (items_view items.new
         ≡ by_places (cite_again states.now (writing_of T.answers (W.state writer.old))
         (request_view request.entry.request.now) places.now) (items_view items.old)) }
@@ -70,27 +69,40 @@ fn render_items<T: EntryLike, P, W: CiteWriter<T, P>>(
         (desk (W.state writer.old) counter.old)) }
 {
     for k in 0..items.len() {
-        let state = &states[places[k]];
+        let state = state_at(states, places, k);
         render_with(alloc, request, state, &mut items[k], writer, counter)?;
     }
     Ok(())
+}
+
+/// The state of the entry whose place stands at this index, if it has one.
+fn state_at<'s>(
+    states: &'s [Option<DisambiguateState>],
+    places: &[usize],
+    index: usize,
+) -> Option<&'s DisambiguateState>
+    ensures { option_map (λ s. s.now) result ≡ state_at states.now places.now index }
+{
+    let place = *places.get(index)?;
+    states.get(place)?.as_ref()
 }
 
 /// Renders a cite again, if its entry has a state.
 fn render_with<T: EntryLike, P, W: CiteWriter<T, P>>(
     alloc: Global,
     request: AcyclicRequest<'_, '_, T, P>,
-    state: &Option<DisambiguateState>,
+    state: Option<&DisambiguateState>,
     item: &mut SpeculativeItemRender<'_, T, P>,
     writer: &mut W,
     counter: &mut Renders,
 ) -> Result<(), W::Error>
     ensures again { OnOk result (item_view item.new
         ≡ with_any (writing_of T.answers (W.state writer.old))
-        (request_view request.entry.request.now) state.now
+        (request_view request.entry.request.now) (option_map (λ s. s.now) state.entry)
         (item_view item.old)) }
     ensures asked { OnOk result (desk (W.state writer.new) counter.new
-        ≡ after (tasks_with (request_view request.entry.request.now) state.now (item_view item.old))
+        ≡ after (tasks_with (request_view request.entry.request.now) (option_map (λ s. s.now) state.entry)
+        (item_view item.old))
         (desk (W.state writer.old) counter.old)) }
 {
     match state {

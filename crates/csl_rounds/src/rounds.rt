@@ -4,6 +4,7 @@ ghost use Rattle.csl_entries.specs.TableView.{table_view};
 ghost use Rattle.csl_passes.specs.RendersView.{renders_view};
 ghost use Rattle.csl_rounds.specs.AfterRounds.{AreAfterRounds};
 ghost use Rattle.csl_rounds.specs.CitesOfTable.{AreCitesOfTable};
+ghost use Rattle.csl_rounds.specs.Gathered.{has_round_left};
 ghost use Rattle.csl_round_laws.specs.FirstRenders.{AreBegun};
 ghost use Rattle.csl_round_laws.specs.Rerenders.{AreStatesOf};
 ghost use Rattle.csl_round_laws.specs.RoundMarks.{has_any, round_marks};
@@ -67,40 +68,13 @@ pub fn disambiguate<'a, T: EntryLike, P, W: CiteWriter<T, P>>(
         (renders_view cites.old) (table_view table.now).entries (desk (W.state writer.old) counter.old)
         (renders_view cites.new) r.states.items r.marked (desk (W.state writer.new) counter.new)) }
 {
-    match mode {
-        RoundMode::Three => three_rounds(alloc, cites, table, writer, counter),
-        RoundMode::Full => all_rounds(alloc, cites, table, writer, counter),
-    }
-}
-
-/// At most three rounds. One without marks is the last.
-fn three_rounds<'a, T: EntryLike, P, W: CiteWriter<T, P>>(
-    alloc: Global,
-    cites: &mut [SpeculativeCiteRender<'_, 'a, T, P>],
-    table: &EntryTable<'a, T>,
-    writer: &mut W,
-    counter: &mut Renders,
-) -> Result<Rounds, W::Error>
-    requires cites { AreCitesOfTable T.eq (table_view table.now) (renders_view cites.old) }
-    ensures { IfOk result (λ r. AreAfterRounds RoundMode.Three T.eq
-        (writing_of T.answers (W.state writer.old))
-        (renders_view cites.old) (table_view table.now).entries (desk (W.state writer.old) counter.old)
-        (renders_view cites.new) r.states.items r.marked (desk (W.state writer.new) counter.new)) }
-{
     let mut rounds = Rounds {
         marked: 0,
         states: no_states(alloc, table.len())?,
     };
-    for _round in 0..3usize {
-        if !run_round(
-            alloc,
-            cites,
-            table,
-            RoundMode::Three,
-            &mut rounds.states,
-            writer,
-            counter,
-        )? {
+    while has_round_left(mode, rounds.marked) {
+        let states = &mut rounds.states;
+        if !run_round(alloc, cites, table, mode, states, writer, counter)? {
             return Ok(rounds);
         }
         rounds.marked = rounds.marked.saturating_add(1);
@@ -108,37 +82,14 @@ fn three_rounds<'a, T: EntryLike, P, W: CiteWriter<T, P>>(
     Ok(rounds)
 }
 
-/// Rounds until one has no marks that count.
-fn all_rounds<'a, T: EntryLike, P, W: CiteWriter<T, P>>(
-    alloc: Global,
-    cites: &mut [SpeculativeCiteRender<'_, 'a, T, P>],
-    table: &EntryTable<'a, T>,
-    writer: &mut W,
-    counter: &mut Renders,
-) -> Result<Rounds, W::Error>
-    requires cites { AreCitesOfTable T.eq (table_view table.now) (renders_view cites.old) }
-    requires begun { AreBegun (renders_view cites.old) }
-    ensures { IfOk result (λ r. AreAfterRounds RoundMode.Full T.eq
-        (writing_of T.answers (W.state writer.old))
-        (renders_view cites.old) (table_view table.now).entries (desk (W.state writer.old) counter.old)
-        (renders_view cites.new) r.states.items r.marked (desk (W.state writer.new) counter.new)) }
+/// Whether a round may follow so many that marked: in mode three there are three at most.
+fn has_round_left(mode: RoundMode, marked: u128) -> bool
+    ensures { result ≡ has_round_left mode marked }
 {
-    let mut rounds = Rounds {
-        marked: 0,
-        states: no_states(alloc, table.len())?,
-    };
-    while run_round(
-        alloc,
-        cites,
-        table,
-        RoundMode::Full,
-        &mut rounds.states,
-        writer,
-        counter,
-    )? {
-        rounds.marked = rounds.marked.saturating_add(1);
+    match mode {
+        RoundMode::Three => marked < 3,
+        RoundMode::Full => true,
     }
-    Ok(rounds)
 }
 
 /// One round: the cites whose entries get marks are rendered again with these, which are their states from

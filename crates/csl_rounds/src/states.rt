@@ -1,7 +1,7 @@
 //! The states that entries get in a round, by the places of the entries.
-ghost use Rattle.std.specs.Prelude.{◌≡◌, All, IfOk, None, OnOk, length, map, replicate};
+ghost use Rattle.std.specs.Prelude.{◌≡◌, IfOk, None, OnOk, length, map, replicate, slice_index_or, slice_set};
 ghost use Rattle.std.specs.Option.{option_or};
-ghost use Rattle.csl_rounds.specs.Gathered.{AreGreatest, IsKnownPlace, entry_place, put_before, with_greater};
+ghost use Rattle.csl_rounds.specs.Gathered.{AreGreatest, entry_place, put_before, with_greater};
 
 use csl_lookup::state::DisambiguateState;
 use csl_passes::renders::Marks;
@@ -17,15 +17,24 @@ pub(crate) fn greatest_marks(
     count: usize,
     marks: Marks,
 ) -> Result<States, AllocError>
-    requires placed { All (λ m. IsKnownPlace (map (λ ps. ps.items) places.now) count m.0) marks.items }
     ensures { IfOk result (λ v. AreGreatest (map (λ ps. ps.items) places.now) marks.items count v.items) }
 {
     let mut states = no_states(alloc, count)?;
     for (at, mark) in marks {
-        let place = entry_place(places, at, count);
-        raise(&mut states[place], mark);
+        if let Some(place) = entry_place(places, at) {
+            raise_at(&mut states, place, mark);
+        }
     }
     Ok(states)
+}
+
+/// Raises the state of the entry at a place to a mark, if an entry stands there.
+fn raise_at(states: &mut [Option<DisambiguateState>], place: usize, mark: DisambiguateState)
+    ensures { states.new ≡ slice_set states.old place (with_greater (slice_index_or states.old place None) mark) }
+{
+    if place < states.len() {
+        raise(&mut states[place], mark);
+    }
 }
 
 /// Raises a state to a mark, where that is greater.
@@ -49,13 +58,13 @@ pub(crate) fn no_states(alloc: Global, count: usize) -> Result<States, AllocErro
     Ok(states)
 }
 
-/// The place of the entry that is cited at a place.
-pub(crate) fn entry_place(places: &[Vec<usize>], at: (usize, usize), count: usize) -> usize
-    requires placed { IsKnownPlace (map (λ ps. ps.items) places.now) count at }
+/// The place of the entry that is cited at a place, if a cite stands there.
+pub(crate) fn entry_place(places: &[Vec<usize>], at: (usize, usize)) -> Option<usize>
     ensures { result ≡ entry_place (map (λ ps. ps.items) places.now) at }
 {
     let (request, cite) = at;
-    places[request][cite]
+    let of_request = places.get(request)?;
+    of_request.get(cite).copied()
 }
 
 /// Puts the states of a round before those of the rounds before it: an entry that gets one has it from

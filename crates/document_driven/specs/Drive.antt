@@ -1,5 +1,5 @@
 -- What comes of a driven document, and why nothing does.
-use Rattle.std.specs.Prelude.{◌≡◌, ℕ, List, map, ◌++◌, Option, Some, None, Result, Ok, Err, String, codes, string_bytes}
+use Rattle.std.specs.Prelude.{◌≡◌, ℕ, List, map, ◌++◌, Option, Result, Ok, Err, String, codes, string_bytes}
 use Rattle.std.specs.declared.alloc.Global.{Global}
 use Rattle.serde_json.specs.Data.{array}
 use Rattle.serde_json.specs.View.{items_of}
@@ -13,9 +13,8 @@ use Rattle.csl_drive.specs.Driven.{IsDriven}
 use Rattle.csl_drive.specs.declared.drive.Driven.{Driven}
 use Rattle.csl_drive.specs.declared.drive.Driven.TheVariants as results
 use Rattle.document_written.specs.TaskData.{task_data}
-use Rattle.cite_document.specs.Run.{HasFirstRing, HasTooLargeNumbers, asked_by, same_plain_entry, same_own_payload}
+use Rattle.cite_document.specs.Run.{IsDocumentThat, IsRefusedFor, asked_by, same_plain_entry, same_own_payload}
 use Rattle.cite_document.specs.declared.error.RunError.{RunError}
-use Rattle.cite_document.specs.declared.error.RunError.TheVariants as errors
 use Rattle.document_driven.specs.DrivenForm.{DrivenDocument}
 
 -- the JSON of an answer
@@ -35,23 +34,11 @@ driven_text (results.Missing missing) = missing_text missing.keys
 abbrev pub ComesOf : DrivenDocument → Driven PlainEntry → Type 0
 ComesOf d = IsDriven same_plain_entry same_own_payload plain_answers d.table (d.asked).rounds (asked_by d.asked)
 
--- there is a driven document, and it is such
-abbrev pub IsDrivenDocumentThat : Option DrivenDocument → (DrivenDocument → Type 0) → Type 0
-IsDrivenDocumentThat read Such = (d : DrivenDocument) × (read ≡ Some d) × Such d
-
 -- the text is that of what comes of the document
 abbrev pub Tells : List ℕ → DrivenDocument → Type 0
 Tells text d = (r : Driven PlainEntry) × ComesOf d r × (text ≡ driven_text r)
 
--- why nothing comes, where the form gives this document, or none
-abbrev pub IsUndriven : RunError → Option DrivenDocument → Type 0
-IsUndriven errors.Document read = read ≡ None
-IsUndriven (errors.MacroRing place i) read = IsDrivenDocumentThat read (λ d. HasFirstRing place i d.asked)
-IsUndriven errors.NumberOverflow read = IsDrivenDocumentThat read (λ d. HasTooLargeNumbers d.asked)
-IsUndriven errors.OutOfMemory read = Unit {0}
-IsUndriven errors.Output read = ⊥
-
 -- the text of what comes, or why nothing does
 abbrev pub Drives : Result (String Global) RunError → Option DrivenDocument → Type 0
-Drives (Ok text) read = IsDrivenDocumentThat read (Tells (string_bytes text))
-Drives (Err e) read = IsUndriven e read
+Drives (Ok text) read = IsDocumentThat read (Tells (string_bytes text))
+Drives (Err e) read = IsRefusedFor (λ d. d.asked) e read

@@ -14,7 +14,6 @@ use cite_document::error::RunError;
 use cite_document::filling::{bibliography_request, filled_driver};
 use csl_base::entry::PlainEntry;
 use csl_drive::drive::drive;
-use csl_driver::error::DriverError;
 use csl_styles::terms::TermTables;
 use csl_table::table::Table;
 use document_reading::document::{Asked, asked_in, utf8_text, value_of};
@@ -31,14 +30,8 @@ fn drive_asked(alloc: Global, asked: &Asked<'_>, table: &Table) -> Result<String
     let files = TermTables::new(alloc, asked.locales)?;
     let driver = filled_driver(alloc, &asked.requests, &files, asked.offset)?;
     let request = bibliography_request(alloc, asked, &files)?;
-    match drive(alloc, driver, request, asked.rounds, table) {
-        Ok(driven) => Ok(driven_text(alloc, driven)?),
-        Err(DriverError::MacroRing { place, macro_idx }) => {
-            Err(RunError::MacroRing { place, macro_idx })
-        }
-        Err(DriverError::NumberOverflow) => Err(RunError::NumberOverflow),
-        Err(DriverError::OutOfMemory(_)) => Err(RunError::OutOfMemory),
-    }
+    let driven = drive(alloc, driver, request, asked.rounds, table)?;
+    Ok(driven_text(alloc, driven)?)
 }
 
 /// What comes of what the value asks for, of these styles and entries, with what it says was written. The

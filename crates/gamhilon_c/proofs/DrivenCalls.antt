@@ -3,13 +3,14 @@ use Rattle.std.proofs.Common.{◌≡◌, inl, inr, ℕ, List, Option, Result, Ok
 use Rattle.cite_document.specs.Status.{status}
 use Rattle.cite_document.specs.declared.error.RunError.{RunError}
 use Rattle.cite_document.specs.declared.error.RunError.TheVariants as errors
-use Rattle.document_driven.specs.Drive.{Drives, IsDrivenDocumentThat, IsUndriven, Tells}
+use Rattle.cite_document.specs.Run.{IsDocumentThat, IsRefusedFor}
+use Rattle.document_driven.specs.Drive.{Drives, Tells}
 use Rattle.document_driven.specs.DrivenForm.{DrivenDocument}
 use Rattle.gamhilon_c.specs.Called.{HandsOut, PlacesText}
 use Rattle.gamhilon_c.specs.CalledDriven.{CalledDriven}
 
 module _ (read : Option DrivenDocument) (code : ℕ) (before after : List ℕ) (needed : ℕ) where
-  text_handed : (text : List ℕ) → IsDrivenDocumentThat read (Tells text) → PlacesText text code before after needed → CalledDriven read code before after needed
+  text_handed : (text : List ℕ) → IsDocumentThat read (Tells text) → PlacesText text code before after needed → CalledDriven read code before after needed
   text_handed text d h = elim h.1 [
     | inl y ↦ record {
       answered = λ c. (d.0, d.1, (text, d.2, (y.1, h.0)));
@@ -33,7 +34,7 @@ module _ (read : Option DrivenDocument) (code : ℕ) (before after : List ℕ) (
     }
   ]
 
-  refused : (e : RunError) → IsUndriven e read → code ≡ status e → after ≡ before → needed ≡ 0 → CalledDriven read code before after needed
+  refused : (e : RunError) → IsRefusedFor (λ d. d.asked) e read → code ≡ status e → after ≡ before → needed ≡ 0 → CalledDriven read code before after needed
   refused errors.Output h s same none = absurd h
   refused (errors.MacroRing place i) h s same none = record {
     answered = λ c. absurd (omega arith);

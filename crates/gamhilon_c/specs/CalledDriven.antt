@@ -1,13 +1,13 @@
 -- What a call for what comes of a driven document does.
 use Rattle.std.specs.Prelude.{◌≡◌, ◌≢◌, ℕ, ◌<◌, ◌≤◌, List, length, Option, None}
-use Rattle.cite_document.specs.Run.{HasTooLargeNumbers}
-use Rattle.document_driven.specs.Drive.{IsDrivenDocumentThat, Tells}
+use Rattle.cite_document.specs.Run.{HasTooLargeNumbers, IsDocumentThat}
+use Rattle.document_driven.specs.Drive.{Tells}
 use Rattle.document_driven.specs.DrivenForm.{DrivenDocument}
 use Rattle.gamhilon_c.specs.Called.{Fills, HasRing}
 
 -- there is a driven document, and the text of what comes of it is such
 abbrev pub HasTextThat : Option DrivenDocument → (List ℕ → Type 0) → Type 0
-HasTextThat read Such = IsDrivenDocumentThat read (λ d. (text : List ℕ) × Tells text d × Such text)
+HasTextThat read Such = IsDocumentThat read (λ d. (text : List ℕ) × Tells text d × Such text)
 
 -- A call that ended with the status `code` and told the length `needed`. The bytes that it was given are the
 -- driven document of `read`, or none; and the room held `before` and then `after`.
@@ -15,8 +15,8 @@ pub record CalledDriven (read : Option DrivenDocument) (code : ℕ) (before afte
     : Type 0 where
   pub answered : code ≡ 0 → HasTextThat read (λ text. Fills text before after × (needed ≡ length text))
   pub no_document : code ≡ 2 → read ≡ None
-  pub ring : code ≡ 3 → IsDrivenDocumentThat read (λ d. HasRing d.asked)
-  pub overflow : code ≡ 4 → IsDrivenDocumentThat read (λ d. HasTooLargeNumbers d.asked)
+  pub ring : code ≡ 3 → IsDocumentThat read (λ d. HasRing d.asked)
+  pub overflow : code ≡ 4 → IsDocumentThat read (λ d. HasTooLargeNumbers d.asked)
   pub too_small : code ≡ 6 → HasTextThat read (λ text. (needed ≡ length text) × (length before < needed))
   pub kept : code ≢ 0 → after ≡ before
   pub nothing_needed : code ≢ 0 → code ≢ 6 → needed ≡ 0

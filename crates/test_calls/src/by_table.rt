@@ -2,7 +2,7 @@
 //! that have a name in place of their layouts: answer and account have to be the same. Then each thing is
 //! taken out of the table, one at a time, and exactly that has to be missing.
 
-use crate::calls::{Seen, print_answer, refusal};
+use crate::calls::{Seen, print_answer};
 use crate::hosting::host_styles;
 use crate::recording::Recorder;
 use crate::taking::{fill_in_turn, take_each_out};
@@ -141,7 +141,7 @@ fn finished(asking: &Asking<'_, '_>) -> Result<(), RunError> {
     let request = bibliography_request(asking.alloc, asked, asking.files)?;
     match driver.finish_with(request, asked.rounds, &mut LayoutWriter::new()) {
         Ok(_) => Ok(()),
-        Err(error) => Err(refusal(DriverError::from(error))),
+        Err(error) => Err(DriverError::from(error).into()),
     }
 }
 
@@ -155,7 +155,7 @@ fn recorded_by<'a>(
     let request = bibliography_request(asking.alloc, asked, asking.files)?;
     match driver.finish_with(request, asked.rounds, recorder) {
         Ok(answer) => Ok(answer),
-        Err(error) => Err(refusal(DriverError::from(error))),
+        Err(error) => Err(DriverError::from(error).into()),
     }
 }
 
@@ -241,10 +241,7 @@ pub fn driven<'a>(
     let asked = asking.asked;
     let driver = filled_driver(asking.alloc, &asked.requests, asking.files, asked.offset)?;
     let request = bibliography_request(asking.alloc, asked, asking.files)?;
-    match drive(asking.alloc, driver, request, asked.rounds, table) {
-        Ok(driven) => Ok(driven),
-        Err(error) => Err(refusal(error)),
-    }
+    Ok(drive(asking.alloc, driver, request, asked.rounds, table)?)
 }
 
 /// Answers it so many times from the table.

@@ -122,14 +122,6 @@ fn take_all<'e, 'f: 'e>(
     Ok(came_back)
 }
 
-pub(crate) fn refusal(error: DriverError) -> RunError {
-    match error {
-        DriverError::MacroRing { place, macro_idx } => RunError::MacroRing { place, macro_idx },
-        DriverError::NumberOverflow => RunError::NumberOverflow,
-        DriverError::OutOfMemory(_) => RunError::OutOfMemory,
-    }
-}
-
 /// What the driver is asked of the bibliography.
 fn bibliography_request<'o, 'e>(
     alloc: Global,
@@ -269,9 +261,7 @@ fn answer_all<'e, 'f: 'e>(
         How::Copies => print_copied(rt, driver, request),
         _ => print_finished(rt, driver, request, how),
     };
-    if let Err(error) = finished {
-        return Err(refusal(error));
-    }
+    finished?;
     if came_back {
         Ok(Seen::AnswerAtLast)
     } else {
@@ -289,12 +279,8 @@ fn answer_alone<'e, 'f: 'e>(
         let _ = eprintln!(rt; "prepare");
         let made = driver_request(rt.alloc(), request, files)?;
         let _ = eprintln!(rt; "standalone_citation");
-        match standalone_citation(rt.alloc(), made) {
-            Ok(tree) => {
-                let _ = println!(rt; "{tree}");
-            }
-            Err(error) => return Err(refusal(error)),
-        }
+        let tree = standalone_citation(rt.alloc(), made)?;
+        let _ = println!(rt; "{tree}");
     }
     Ok(Seen::Answer)
 }

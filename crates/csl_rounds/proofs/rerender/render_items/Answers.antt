@@ -1,4 +1,4 @@
-use Rattle.std.proofs.Common.{◌<◌, ap, get_or, length, refl, subst, sym, ◌∙◌}
+use Rattle.std.proofs.Common.{ap, get_or, refl, ◌∙◌}
 use Rattle.csl_passes.specs.RendersView.{item_view}
 use Rattle.csl_passes.specs.RequestView.{request_view}
 use Rattle.csl_round_laws.specs.Rounds.{tasks_with, with_any}
@@ -7,7 +7,6 @@ use Rattle.csl_writers.specs.Writing.{writing_of}
 use Rattle.csl_rounds.specs.Gathered.{cite_again, state_at}
 use Rattle.csl_rounds.proofs.Changed.{all-changed, one-changed}
 use Rattle.csl_rounds.proofs.rerender.render_items.Goals as goal
-use Rattle.csl_rounds.proofs.OfTable.{named_by}
 
 pub loop-k-init : goal.loop-k-init
 loop-k-init g c = record { again = refl; asked = refl }
@@ -21,8 +20,7 @@ loop-k-preserved g c =
     let found = c.index-items-k.result in
     let item = item_view (get_or c.loop-k.items k found) in
     let before = desk (g.W.CiteWriter.state c.loop-k.writer) c.loop-k.counter in
-    let within : k < length places = subst (λ n. k < n) (sym c.requires.placed.each) c.loop-k-test.true in
-    let state = named_by states places k c.index-states-places.result c.requires.placed.below within c.index-states-places.is in
+    let state = c.state_at-state.ensures in
     one-changed item_view g.T.EntryLike.answers (λ w. cite_again states w request places) (λ k. tasks_with request (state_at states places k)) c.args.items.now
     (desk (g.W.CiteWriter.state c.args.writer.now) c.args.counter.now) k c.loop-k.items before _ found c.render_with.new.item c.loop-k.invariant c.loop-k-test.true
     (c.in_ok-render_with.ensures.again ∙ ap (λ s. with_any (writing_of g.T.EntryLike.answers (g.W.CiteWriter.state c.loop-k.writer)) request s item) state)

@@ -1,17 +1,16 @@
 use Rattle.std.proofs.Common.{◌<◌, [], ap, arith, get_or, length, refl, subst, sym, ◌∙◌}
-use Rattle.std.specs.Prelude.{All}
 use Rattle.std.proofs.Math.ListN.{get_or-map, length-map}
 use Rattle.std.proofs.lemmas.List.{get_or_default, with_items_is}
 use Rattle.csl_base.specs.Ring.{HasNoRing}
 use Rattle.csl_entries.specs.TableView.{table_view}
 use Rattle.csl_passes.specs.ByPlaces.{by_places}
 use Rattle.csl_passes.specs.RendersView.{item_view, items_view, render_view, renders_view}
-use Rattle.csl_passes.proofs.Halves.{as_before, known_next}
+use Rattle.csl_passes.proofs.Halves.{known_next}
 use Rattle.csl_writers.specs.Desk.{after, desk}
 use Rattle.csl_writers.specs.Writing.{writing_of}
 use Rattle.csl_rounds.specs.Gathered.{cite_again, request_again, request_tasks}
 use Rattle.csl_rounds.proofs.Changed.{all-changed, one-changed}
-use Rattle.csl_rounds.proofs.OfTable.{row-is, row-listed, row-long}
+use Rattle.csl_rounds.proofs.OfTable.{row-is}
 use Rattle.csl_rounds.proofs.rerender.render_marked.Goals as goal
 
 pub invariant_of-request : goal.invariant_of-request
@@ -19,26 +18,6 @@ invariant_of-request g c =
     let again = λ (r : _). request_again c.args.states.now (writing_of g.T.EntryLike.answers (g.W.CiteWriter.state c.args.writer.now)) (get_or (table_view c.args.table.now).places r []) in
     record {
       no_ring = known_next render_view again c.args.cites.now c.loop-r.cites c.loop-r.r c.loop-r.invariant.again (λ x. HasNoRing x.request.style.macros) c.requires.cites.no_ring c.loop-r-test.true c.index-cites-r.result;
-    }
-
-pub render_items-requires : goal.render_items-requires
-render_items-requires g c =
-    let eq = g.T.PartialEq.eq in
-    let table = table_view c.args.table.now in
-    let again = λ (r : _). request_again c.args.states.now (writing_of g.T.EntryLike.answers (g.W.CiteWriter.state c.args.writer.now)) (get_or table.places r []) in
-    let olds = c.args.cites.now in
-    let r = c.loop-r.r in
-    let found = c.index-cites-r-in-loop-r.result in
-    let within : r < length (renders_view olds) = subst (λ n. r < n) (sym (length-map olds render_view)) c.loop-r-test.true in
-    let row = c.deref.ensures.value ∙ row-is eq table (renders_view olds) c.requires.cites r within (λ ps. ps.items) c.places-places.result.now c.index-places-r.result c.places-places.ensures c.index-places-r.is in
-    record {
-      placed = record {
-        each = ap length row
-            ∙ row-long eq table (renders_view olds) c.requires.cites r within (render_view found)
-            ∙ ap (λ x. length x.items) (get_or-map render_view olds r found ∙ sym (as_before render_view again olds c.loop-r.cites r c.loop-r.invariant.again found))
-            ∙ length-map _ item_view ∙ sym (ap length c.deref_mut.ensures.value);
-        below = subst (All (λ p. p < length c.args.states.now)) (sym row) (row-listed eq table (renders_view olds) c.requires.cites r within (length c.args.states.now) c.requires.long);
-      };
     }
 
 pub loop-r-init : goal.loop-r-init

@@ -5,7 +5,7 @@ use Rattle.csl_round_laws.specs.RoundMarks.{has_any}
 use Rattle.csl_writers.specs.Desk.{after, desk}
 use Rattle.csl_writers.specs.Writing.{writing_of}
 use Rattle.csl_rounds.specs.Gathered.{put_before}
-use Rattle.csl_rounds.proofs.Marked.{any-tested, empty-asked, empty-round, empty-states, greatest-now, nothing-marked, round-asked, round-done, round-placed, round-states}
+use Rattle.csl_rounds.proofs.Marked.{any-tested, empty-asked, empty-round, empty-states, greatest-now, nothing-marked, round-asked, round-done, round-states}
 use Rattle.csl_rounds.proofs.rounds.run_round.Goals as goal
 
 pub returns-then-is_empty : goal.returns-then-is_empty
@@ -21,12 +21,6 @@ returns-then-is_empty g c =
       states = λ known. empty-states eq rs _ none (table_view c.args.table.now).entries known c.args.states.now;
       asked = empty-asked eq rs _ none (desk (g.W.CiteWriter.state c.args.writer.now) c.args.counter.now);
     }
-
-pub greatest_marks-requires : goal.greatest_marks-requires
-greatest_marks-requires g c = record {
-  placed = round-placed c.args.mode g.T.PartialEq.eq (writing_of g.T.EntryLike.answers (g.W.CiteWriter.state c.args.writer.now)) (table_view c.args.table.now) (renders_view c.args.cites.now) c.requires.cites
-      (map (λ ps. ps.items) c.places.result.now) c.len.result c.in_ok-marks.marks.items c.places.ensures c.len.ensures c.in_ok-marks.ensures;
-}
 
 pub render_marked-requires-clause-long : goal.render_marked-requires-clause-long
 render_marked-requires-clause-long g c = ap length c.deref.ensures.value ∙ c.in_ok-marked.ensures.long ∙ c.len.ensures

@@ -13,8 +13,8 @@ use Rattle.document_driven.specs.DrivenForm.{DrivenDocument}
 use Rattle.document_driven.proofs.AskedBy.{comes}
 use Rattle.document_driven.proofs.driving.drive_asked.Goals as goal
 
-pub returns-in-Ok : goal.returns-in-Ok
-returns-in-Ok c =
+pub returns : goal.returns
+returns c =
     let v = driver_view c.in_ok-driver.driver in
     let w = wanted_view c.in_ok-request.request in
     let asked = c.args.asked.now in
@@ -24,10 +24,10 @@ returns-in-Ok c =
     ∙ (λ i. record { requests = accepted (asked_requests_view (map locale_view (c.in_ok-files.ensures i)) (c.deref.ensures.value i)); offset = asked.offset }) in
     let wanted : w ≡ wanted_of d = c.in_ok-request.ensures ∙ (λ i. record (wanted_of d) { locales = map locale_view (c.in_ok-files.ensures i) }) in
     let x : DrivenDocument = record { asked = d; table = found c.args.table.now } in
-    (x, refl, (c.in-Ok.driven, comes v w d made wanted (found c.args.table.now) asked.rounds c.in-Ok.driven c.in-Ok.ensures.driven, c.in_ok-driven_text-in-Ok.ensures))
+    (x, refl, (c.in_ok-driven.driven, comes v w d made wanted (found c.args.table.now) asked.rounds c.in_ok-driven.driven c.in_ok-driven.ensures.driven, c.in_ok-driven_text.ensures))
 
-pub returns-in-Err-MacroRing : goal.returns-in-Err-MacroRing
-returns-in-Err-MacroRing c =
+pub returns-in_err-driven : goal.returns-in_err-driven
+returns-in_err-driven c =
     let v = driver_view c.in_ok-driver.driver in
     let w = wanted_view c.in_ok-request.request in
     let asked = c.args.asked.now in
@@ -36,20 +36,4 @@ returns-in-Err-MacroRing c =
     c.in_ok-driver.ensures.filled
     ∙ (λ i. record { requests = accepted (asked_requests_view (map locale_view (c.in_ok-files.ensures i)) (c.deref.ensures.value i)); offset = asked.offset }) in
     let wanted : w ≡ wanted_of d = c.in_ok-request.ensures ∙ (λ i. record (wanted_of d) { locales = map locale_view (c.in_ok-files.ensures i) }) in
-    let e = c.in-Err-MacroRing in
-    let x : DrivenDocument = record { asked = d; table = found c.args.table.now } in
-    (x, refl, rw e.field-0-is (first_ring v w d made wanted e.place e.macro_idx (subst (Refuses same_plain_entry v.requests w.style v.offset) e.field-0-is e.ensures.refused)))
-
-pub returns-in-Err-NumberOverflow : goal.returns-in-Err-NumberOverflow
-returns-in-Err-NumberOverflow c =
-    let v = driver_view c.in_ok-driver.driver in
-    let w = wanted_view c.in_ok-request.request in
-    let asked = c.args.asked.now in
-    let d = document_view asked in
-    let made : v ≡ record { requests = accepted d.requests; offset = d.offset } =
-    c.in_ok-driver.ensures.filled
-    ∙ (λ i. record { requests = accepted (asked_requests_view (map locale_view (c.in_ok-files.ensures i)) (c.deref.ensures.value i)); offset = asked.offset }) in
-    let wanted : w ≡ wanted_of d = c.in_ok-request.ensures ∙ (λ i. record (wanted_of d) { locales = map locale_view (c.in_ok-files.ensures i) }) in
-    let e = c.in-Err-NumberOverflow in
-    let x : DrivenDocument = record { asked = d; table = found c.args.table.now } in
-    (x, refl, too_large v w d made wanted e.field-0 e.field-0-is e.ensures.refused)
+    ?

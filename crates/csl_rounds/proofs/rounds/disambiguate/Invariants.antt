@@ -1,0 +1,16 @@
+use Rattle.csl_entries.specs.TableView.{table_view}
+use Rattle.csl_passes.specs.RendersView.{renders_view}
+use Rattle.csl_writers.specs.Desk.{desk}
+use Rattle.csl_rounds.specs.CitesOfTable.{AreCitesOfTable}
+use Rattle.csl_rounds.proofs.InMode.{InMode, left_for}
+use Rattle.csl_rounds.proofs.rounds.disambiguate.Given as goal
+
+abbrev pub invariant-loop-has_round_left : goal.invariant-loop-has_round_left
+invariant-loop-has_round_left g l = record {
+  cites : AreCitesOfTable g.T.PartialEq.eq (table_view l.table) (renders_view l.cites);
+  rounds : InMode l.mode g.T.PartialEq.eq g.T.EntryLike.answers (renders_view l.initial.cites) (table_view l.table).entries (desk (g.W.CiteWriter.state l.fn.writer) l.fn.counter) g.met.T.Eq.laws
+      (renders_view l.cites) l.rounds.states.items l.rounds.marked (desk (g.W.CiteWriter.state l.writer) l.counter);
+}
+
+abbrev pub decreases-loop-has_round_left : goal.decreases-loop-has_round_left
+decreases-loop-has_round_left g l = left_for l.mode (renders_view l.initial.cites) l.rounds.marked (renders_view l.cites)
