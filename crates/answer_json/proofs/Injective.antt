@@ -22,6 +22,7 @@ use Rattle.csl_base.specs.declared.formatting.Formatting.{Formatting}
 use Rattle.csl_base.specs.declared.style.SecondFieldAlign.{SecondFieldAlign}
 use Rattle.csl_base.specs.declared.style.SecondFieldAlign.TheVariants as align
 use Rattle.csl_base.specs.declared.taxonomy.NameVariable.TheVariants as variable
+use Rattle.csl_base.proofs.Seen.{spacings_equal}
 use Rattle.csl_assembly.specs.declared.rendered.RenderedBibliography.{RenderedBibliography}
 use Rattle.answer_json.specs.AnswerData.{align_name, item_data, bibliography_data, citation_data, answer_data}
 use Rattle.answer_json.specs.Members.{member_if}
@@ -85,10 +86,6 @@ integers_tell (pos m) (pos n) p = let same : m ≡ n = cc in ap pos same
 integers_tell (negsuc m) (negsuc n) p = cc
 integers_tell (pos m) (negsuc n) p = cc
 integers_tell (negsuc m) (pos n) p = cc
-
--- a number that isn't 0, by its integer
-spacings_tell : (a b : NonZeroI16) → a.value ≡ b.value → a ≡ b
-spacings_tell a b same = λ i. record { value = same i; ok = is_prop→PathP (λ j. 0 < unsigned_abs (same j)) (λ j. le_prop) a.ok b.ok i }
 
 persons_tell : Tells person_data
 persons_tell a b p =
@@ -259,7 +256,7 @@ bibliographies_tell a b p =
     let indent : a.hanging_indent ≡ b.hanging_indent = cc in
     let items : items_of (map item_data a.items) ≡ items_of (map item_data b.items) = cc in
     let line : of_integer (a.line_spacing).value ≡ of_integer (b.line_spacing).value = cc in
-    let spacing = spacings_tell a.line_spacing b.line_spacing (integers_tell _ _ line) in
+    let spacing = spacings_equal a.line_spacing b.line_spacing (integers_tell _ _ line) in
     let entries = integers_tell a.entry_spacing b.entry_spacing entry in
     let aligned = aligned_tell a.second_field_align b.second_field_align p in
     let all = items_tell item_data bibliography_items_tell a.items b.items items in

@@ -19,7 +19,7 @@ all-append Q [] ys h k = k
 all-append Q (x ∷ xs) ys h k = (h.0, all-append Q xs ys h.1 k)
 
 -- what stands after some others
-after : {X : Type 0} (xs : List X) (y : X) (ys : List X) → slice_get (xs ++ y ∷ ys) (length xs) ≡ Some y
+pub after : {X : Type 0} (xs : List X) (y : X) (ys : List X) → slice_get (xs ++ y ∷ ys) (length xs) ≡ Some y
 after [] y ys = refl
 after (x ∷ xs) y ys = after xs y ys
 

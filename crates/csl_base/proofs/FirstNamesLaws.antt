@@ -20,7 +20,7 @@ or_same : {Y : Type 0} (a b : Option Y) (y : Y) → is_some a ≡ true → optio
 or_same None b y h e = cc
 or_same (Some x) b y h e = e
 
-neither : {Y : Type 0} (a b : Option Y) → is_some (option_or a b) ≡ false → (is_some a ≡ false) × (is_some b ≡ false)
+pub neither : {Y : Type 0} (a b : Option Y) → is_some (option_or a b) ≡ false → (is_some a ≡ false) × (is_some b ≡ false)
 neither None b e = (refl, e)
 neither (Some x) b e = cc
 

@@ -15,6 +15,7 @@ use Rattle.csl_base.specs.declared.formatting.Formatted.{Formatted}
 use Rattle.csl_base.specs.declared.formatting.Formatting.{Formatting}
 use Rattle.csl_base.specs.declared.formatting.Display.{Display}
 use Rattle.csl_base.specs.declared.elem.ElemMeta.{ElemMeta}
+use Rattle.csl_base.proofs.Nested.{one_before}
 use Rattle.csl_context.specs.Cuts.{cut}
 use Rattle.csl_context.specs.OpenFrames.{Frames, on_last_text, end_sole_text, is_filled, filled, on_filled, top, on_top, below, closed, committed, on_last_child, takes, extended}
 use Rattle.csl_context.proofs.CutSteps.{pieces, cut_pieces, cut_two, cut_joined, cut_below, cut_changed, last_of, last_set, before_last, ChangesEnd, end-length, end-take, end-drop}
@@ -71,11 +72,6 @@ done_along (Ok x) h xs ys F p d = ap h d ∙ p
 pub moved_along : {E : Type 0} (r : Result Bool E) (a b : Bool) → a ≡ b → IfOk r (λ m. m ≡ a) → IfOk r (λ m. m ≡ b)
 moved_along (Err e) a b p d = tt
 moved_along (Ok x) a b p d = d ∙ p
-
--- ---- changes of the last child
-one_before : (c : Child) (cs : List Child) (g : Child → List Child) (o : Option Child) → option_map_or (λ d. c ∷ g d) o (c ∷ cs) ≡ c ∷ option_map_or g o cs
-one_before c cs g None = refl
-one_before c cs g (Some d) = refl
 
 pub on_last_child-end : (f : Child → Child) → ChangesEnd (on_last_child f)
 on_last_child-end f = record {

@@ -4,19 +4,14 @@ use Rattle.std.specs.List.{enumerate_from, flat_map}
 use Rattle.std.proofs.Math.Seq.{length-take-le}
 use Rattle.std.proofs.lemmas.Grind.{flat_map-append}
 use Rattle.std.proofs.lemmas.List.{map-append, take_more}
-
-enumerated-push : {X : Type 0} (n : ℕ) (xs : List X) (x : X) → enumerate_from n (xs ++ x ∷ []) ≡ enumerate_from n xs ++ (n + length xs, x) ∷ []
-enumerated-push n [] x = let e : n ≡ n + 0 = omega arith in ap (λ k. (k, x) ∷ []) e
-enumerated-push n (y ∷ ys) x =
-    let e : n + 1 + length ys ≡ n + length (y ∷ ys) = omega arith in
-    ap (λ l. (n, y) ∷ l) (enumerated-push (n + 1) ys x ∙ ap (λ k. enumerate_from (n + 1) ys ++ (k, x) ∷ []) e)
+use Rattle.csl_grouping.proofs.Entries.{enumerate-push}
 
 module _ {X : Type 0} (xs : List X) (k : ℕ) (x : X) (within : k < length xs) (here : x ≡ get_or xs k x) where
   numbered-more : enumerate_from 0 (take (k + 1) xs) ≡ enumerate_from 0 (take k xs) ++ (k, x) ∷ []
   numbered-more =
       let long = length-take-le k xs (omega (arith, within)) in
       let last : 0 + length (take k xs) ≡ k = omega (arith, long) in
-      ap (enumerate_from 0) (take_more xs k x within ∙ ap (λ y. take k xs ++ y ∷ []) (sym here)) ∙ enumerated-push 0 (take k xs) x
+      ap (enumerate_from 0) (take_more xs k x within ∙ ap (λ y. take k xs ++ y ∷ []) (sym here)) ∙ enumerate-push 0 (take k xs) x
       ∙ ap (λ n. enumerate_from 0 (take k xs) ++ (n, x) ∷ []) last
 
   pub each-more : {A : Type 0} (f : ℕ → X → A) → map (λ p. f p.0 p.1) (enumerate_from 0 (take (k + 1) xs)) ≡ map (λ p. f p.0 p.1) (enumerate_from 0 (take k xs)) ++ f k x ∷ []

@@ -5,6 +5,7 @@ use Rattle.std.specs.List.{AllZip, enumerate_from}
 use Rattle.std.proofs.Math.Seq.{take-append_seam}
 use Rattle.std.proofs.lemmas.List.Elements.{All-cons, All-nil}
 use Rattle.std.proofs.lemmas.Option.{slice_get-map}
+use Rattle.csl_ambiguity.proofs.Sifted.{after}
 use Rattle.csl_writers.specs.Writing.{Writing}
 use Rattle.csl_entries.specs.Entries.{distinct, place}
 use Rattle.csl_entries.specs.PlacedItems.{IsPlaced}
@@ -28,10 +29,6 @@ module _ {X A : Type 0} (f : List X → X → A) (ys : List X) where
   length-from n [] = refl
   length-from n (x ∷ xs) = ap suc (length-from (n + 1) xs)
 
-seam : {X : Type 0} (pre : List X) (x : X) (xs : List X) → slice_get (pre ++ x ∷ xs) (length pre) ≡ Some x
-seam [] x xs = refl
-seam (y ∷ pre) x xs = seam pre x xs
-
 module _ {E P : Type 0} (eq : E → E → Bool) (payload_eq : P → P → Bool) (writing : Writing E P) (number_of : E → ℕ) (entries : List E) where
   module _ (before : List (Request E P)) (r : Request E P) where
     -- of the cites of a request
@@ -52,7 +49,7 @@ module _ {E P : Type 0} (eq : E → E → Bool) (payload_eq : P → P → Bool) 
             ∙ ap (λ m. slice_get (places_in eq entries (pre ++ x ∷ xs)) (length (take m (pre ++ x ∷ xs)))) at
             ∙ ap (λ ys. slice_get (places_in eq entries (pre ++ x ∷ xs)) (length ys)) (take-append_seam pre (x ∷ xs))
             ∙ slice_get-map (λ e. place eq e entries) (entries_of (pre ++ x ∷ xs)) (length pre)
-            ∙ ap (option_map (λ e. place eq e entries)) (slice_get-map (λ c. c.entry) (pre ++ x ∷ xs) (length pre) ∙ ap (option_map (λ c. c.entry)) (seam pre x xs))
+            ∙ ap (option_map (λ e. place eq e entries)) (slice_get-map (λ c. c.entry) (pre ++ x ∷ xs) (length pre) ∙ ap (option_map (λ c. c.entry)) (after pre x xs))
 
     placed-row : All (IsPlaced eq entries (places_in eq entries r.cites)) (first_renders_of writing r (request_properties eq payload_eq number_of before r)).items
     placed-row = placed-from [] r.cites 0 refl refl

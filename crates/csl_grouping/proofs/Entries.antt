@@ -66,7 +66,7 @@ missing-at n len h = by (nat_lt n len) refl h
 length-take-at : {X : Type 0} (k : ℕ) (xs : List X) → k < length xs → length (take k xs) ≡ k
 length-take-at k xs h = grind (arith, common_steps)
 
-enumerate-push : {X : Type 0} (b : ℕ) (xs : List X) (x : X) → enumerate_from b (xs ++ x ∷ []) ≡ enumerate_from b xs ++ (b + length xs, x) ∷ []
+pub enumerate-push : {X : Type 0} (b : ℕ) (xs : List X) (x : X) → enumerate_from b (xs ++ x ∷ []) ≡ enumerate_from b xs ++ (b + length xs, x) ∷ []
 enumerate-push b [] x = let e : b ≡ b + 0 = omega arith in ap (λ n. (n, x) ∷ []) e
 enumerate-push b (y ∷ ys) x =
     let e : b + 1 + length ys ≡ b + suc (length ys) = omega arith in

@@ -6,6 +6,8 @@ use Rattle.std.proofs.lemmas.List.{get_or-map, length-map, take_at, take_more}
 use Rattle.std.proofs.lemmas.List.Folds.{list_any_at}
 use Rattle.csl_entries.specs.Entries.{is_in, place}
 use Rattle.csl_entries.specs.Table.{Table, places_in}
+use Rattle.csl_entries.proofs.ListedPlaces.{place-within}
+use Rattle.csl_entries.proofs.Placed.{map-map}
 use Rattle.csl_passes.specs.Request.{RequestedCite, Request, entries_of}
 use Rattle.csl_positions.specs.Seen.{IsTableOf, seen_of}
 use Rattle.csl_positions.specs.declared.first.Seen.{Seen}
@@ -15,8 +17,7 @@ use Rattle.csl_positions.proofs.LastPlaces.{last_place-below}
 use Rattle.csl_lookup.specs.declared.properties.CertainCiteProperties.{CertainCiteProperties}
 use Rattle.csl_lookup.specs.declared.state.IbidState.{IbidState}
 use Rattle.csl_passes.specs.declared.first.FirstProperties.{FirstProperties}
-use Rattle.csl_positions.proofs.Tables.{map-map, row-is, table-lists, table-once}
-use Rattle.csl_positions.proofs.Updates.{place-within}
+use Rattle.csl_positions.proofs.Tables.{row-is, table-lists, table-once}
 
 -- a member at each place
 pub member-at : {X : Type 0} (xs : List X) (k : ℕ) → k < length xs → (x : X) × (x ≡ get_or xs k x)

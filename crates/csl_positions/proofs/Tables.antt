@@ -12,10 +12,6 @@ use Rattle.csl_entries.proofs.Once.{NoTwoEqual-distinct}
 use Rattle.csl_passes.specs.Request.{Request, cited, cites_of, entries_of}
 use Rattle.csl_positions.specs.Seen.{IsTableOf}
 
-pub map-map : {A B C : Type 0} (f : B → C) (g : A → B) (xs : List A) → map f (map g xs) ≡ map (λ x. f (g x)) xs
-map-map f g [] = refl
-map-map f g (x ∷ xs) = ap (λ t. f (g x) ∷ t) (map-map f g xs)
-
 pub cited-push : {E P : Type 0} (rs : List (Request E P)) (r : Request E P) → cited (rs ++ r ∷ []) ≡ cited rs ++ entries_of r.cites
 cited-push rs r = flat_map-append (λ q. entries_of q.cites) rs (r ∷ []) ∙ ap (λ l. cited rs ++ l) (append-nil (entries_of r.cites))
 
@@ -23,9 +19,6 @@ pub cites-push : {E P : Type 0} (rs : List (Request E P)) (r : Request E P) → 
 cites-push rs r = flat_map-append (λ q. q.cites) rs (r ∷ []) ∙ ap (λ l. cites_of rs ++ l) (append-nil r.cites)
 
 module _ {X : Type 0} (xs : List X) (k : ℕ) (x : X) (within : k < length xs) (here : x ≡ get_or xs k x) where
-  pub grown : {V : Type 0} (view : X → V) → map view (take (k + 1) xs) ≡ map view (take k xs) ++ view x ∷ []
-  grown view = ap (λ l. map view l) (take_more xs k x within ∙ ap (λ y. take k xs ++ y ∷ []) (sym here)) ∙ map-append view (take k xs) (x ∷ [])
-
   pub parted : {V : Type 0} (view : X → V) → map view xs ≡ map view (take k xs) ++ view x ∷ map view (drop (k + 1) xs)
   parted view =
       let rest : drop k xs ≡ x ∷ drop (k + 1) xs = drop_more xs k x within ∙ ap (λ y. y ∷ drop (k + 1) xs) (sym here) in

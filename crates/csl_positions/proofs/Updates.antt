@@ -6,14 +6,6 @@ use Rattle.csl_entries.specs.Laws.{NoTwoEqual}
 use Rattle.csl_entries.proofs.Distinct.{is_in-equal}
 
 module _ {E : Type 0} (eq : E → E → Bool) where
-  pub place-within : (x : E) (es : List E) → is_in eq x es ≡ true → place eq x es < length es
-  place-within x [] there = cc
-  place-within x (d ∷ ds) there = by (eq x d) there (place-within x ds)
-    where
-      by : (b : Bool) → (b || is_in eq x ds) ≡ true → (is_in eq x ds ≡ true → place eq x ds < length ds) → cond (not b) (1 + place eq x ds) 0 < suc (length ds)
-      by true there more = omega arith
-      by false there more = omega (arith, more there)
-
   module _ {S : Type 0} (f : E → S) (x : E) where
     -- what stands at the place of x
     pub map-at : ((d : E) → eq x d ≡ true → f d ≡ f x) → (es : List E) → is_in eq x es ≡ true → (s : S) → get_or (map f es) (place eq x es) s ≡ f x

@@ -7,10 +7,8 @@ use Rattle.csl_base.specs.Tree.{elem_of}
 use Rattle.csl_base.specs.declared.elem.Elem.{Elem}
 use Rattle.csl_base.specs.declared.elem.ElemChild.{ElemChild}
 use Rattle.csl_base.specs.declared.elem.ElemChild.TheVariants as v
+use Rattle.csl_base.proofs.Trees.{elem_back}
 use Rattle.csl_substitution.specs.Names.{is_name, child_names}
-
-elem_back : (e : Elem) → elem_of (kids_of e.children) e.display e.meta ≡ e
-elem_back e = λ i. record { children = list_of-kids_of e.children i; display = e.display; meta = e.meta }
 
 -- a name is the one that a child is
 own_name : (e : Elem) → is_name e ≡ true → child_names (child_view (v.Elem e)) ≡ e ∷ []

@@ -10,12 +10,9 @@ use Rattle.csl_base.specs.ChildView.{child_view}
 use Rattle.csl_base.specs.Tree.{elem_of, find_elem, child_find, kids_find}
 use Rattle.csl_base.specs.declared.elem.ElemChild.{ElemChild}
 use Rattle.csl_base.specs.declared.formatting.Formatted.{Formatted}
+use Rattle.csl_base.proofs.FirstNamesLaws.{neither}
 use Rattle.csl_substitution.specs.Names.{is_name}
 use Rattle.csl_substitution.specs.Rewriting.{holds_name, name_replaced, kids_name_replaced, first_name_replaced, up_to_names}
-
-neither : {Y : Type 0} (a b : Option Y) → is_some (option_or a b) ≡ false → (is_some a ≡ false) × (is_some b ≡ false)
-neither None b e = (refl, e)
-neither (Some x) b e = cc
 
 or_first : {Y : Type 0} (a b : Option Y) → is_some a ≡ true → is_some (option_or a b) ≡ true
 or_first None b e = cc

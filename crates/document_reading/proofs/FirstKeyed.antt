@@ -9,7 +9,7 @@ use Rattle.document_words.specs.Words.{first_of}
 same_bytes : (xs ys : List ℕ) → bytes_eq xs ys ≡ true → xs ≡ ys
 same_bytes xs ys e = (bytes_eq-Decides xs ys).0 e
 
-first_of_none : {A : Type 0} (o : Option A) → first_of o None ≡ o
+pub first_of_none : {A : Type 0} (o : Option A) → first_of o None ≡ o
 first_of_none None = refl
 first_of_none (Some x) = refl
 

@@ -8,7 +8,7 @@ use Rattle.document_words.specs.declared.error.ReadError.{ReadError}
 use Rattle.document_words.specs.declared.error.ReadError.TheVariants as errors
 use Rattle.std.specs.Prelude.{option_and_then}
 
-is_list : (d : Data) (ds : Items) → as_array d ≡ Some ds → d ≡ array ds
+pub is_list : (d : Data) (ds : Items) → as_array d ≡ Some ds → d ≡ array ds
 is_list null ds e = cc
 is_list (boolean b) ds e = cc
 is_list (number n) ds e = cc

@@ -1,6 +1,7 @@
 -- The data of a task reads as the task.
 use Rattle.std.proofs.Common.{◌≡◌, ℕ, List, [], ◌∷◌, ◌++◌, map, Bool, true, false, cond, Option, Some, None, option_map, option_and_then, codes, refl, ap, sym, subst, ◌∙◌}
 use Rattle.std.specs.List.{list_all}
+use Rattle.document_reading.proofs.FirstKeyed.{first_of_none}
 use Rattle.serde_json.specs.Data.{Data, string, no_members}
 use Rattle.serde_json.specs.Find.{get, as_bool, as_str}
 use Rattle.serde_json.specs.View.{items_of}
@@ -130,10 +131,6 @@ standing_back d s h =
     refl))))))))
 
 -- ---- tasks, by their kinds
-
-first_of_none : {A : Type 0} (o : Option A) → first_of o None ≡ o
-first_of_none None = refl
-first_of_none (Some x) = refl
 
 module _ (k : TaskKey) where
   there : (key : List ℕ) → get key (task_data k) ≡ field_at (key_fields k) key None

@@ -6,6 +6,7 @@ use Rattle.std.specs.HashMap.{HashMap, Updates}
 use Rattle.std.specs.List.{list_all}
 use Rattle.std.specs.Map.{lookup}
 use Rattle.std.proofs.lemmas.Bool.{and_from}
+use Rattle.document_reading.proofs.FirstKeyed.{first_of_none}
 use Rattle.csl_base.specs.SameTree.{same_trees-Decides}
 use Rattle.csl_table.specs.Table.{found, key_eq}
 use Rattle.csl_table.specs.contracts.key.TaskKeyEq.TheImpl.Laws.{laws-law}
@@ -30,10 +31,6 @@ first-append (x ∷ xs) ys k = by (key_eq k x.0) (first-append xs ys k)
 
 pub one_more_found : (ws : Written) (w : TaskKey × Cite) → with_first_tree w (first_written ws) ≡ first_written (ws ++ w ∷ [])
 one_more_found ws w = λ i k. sym (first-append ws (w ∷ []) k) i
-
-first_of_none : {A : Type 0} (o : Option A) → first_of o None ≡ o
-first_of_none None = refl
-first_of_none (Some x) = refl
 
 -- ---- what a map finds
 

@@ -60,10 +60,3 @@ pub below : (number n : ℕ) (numbers : List ℕ) (place : ℕ) → IsFound numb
 below number n numbers place found h =
     let p = position-Some (nat_eq number) numbers place 0 (sym h) in
     omega (arith, p.0, found.as_many)
-
--- one number more
-pub range-more : (a n j : ℕ) → a + n ≡ j → range_with_len a (n + 1) ≡ range_with_len a n ++ j ∷ []
-range-more a zero j h = let same : a ≡ j = omega (arith, h) in ap (λ k. k ∷ []) same
-range-more a (suc n) j h =
-    let long : suc n + 1 ≡ suc (n + 1) = omega arith in
-    ap (range_with_len a) long ∙ ap (λ l. a ∷ l) (range-more (a + 1) n j (omega (arith, h)))

@@ -3,6 +3,7 @@ use Rattle.std.specs.List.{last_or}
 use Rattle.std.proofs.lemmas.List.{length-map, map-append, take_all}
 use Rattle.csl_entries.specs.Table.{table_of}
 use Rattle.csl_entries.specs.TableView.{table_view}
+use Rattle.csl_entries.proofs.Placing.{grown}
 use Rattle.csl_passes.specs.Request.{cited, cites_of, entries_of}
 use Rattle.csl_passes.specs.RequestView.{cite_view, request_view, requests_view}
 use Rattle.csl_positions.specs.FirstProperties.{first_properties, numbered_by, request_properties, with_earlier}
@@ -10,7 +11,7 @@ use Rattle.csl_positions.specs.Seen.{seen_of}
 use Rattle.csl_positions.proofs.Earlier.{last-more, last_or-append, with_earlier-push}
 use Rattle.csl_positions.proofs.Known.{unknown}
 use Rattle.csl_positions.proofs.Steps.{refilled}
-use Rattle.csl_positions.proofs.Tables.{cited-push, cites-push, grown, parted}
+use Rattle.csl_positions.proofs.Tables.{cited-push, cites-push, parted}
 use Rattle.csl_positions.proofs.first.first_properties.Goals as goal
 
 pub loop-k-init : goal.loop-k-init

@@ -3,6 +3,7 @@ use Rattle.std.specs.List.{last_or}
 use Rattle.std.proofs.lemmas.List.{length-map, length-take-le, map-append}
 use Rattle.csl_entries.specs.Entries.{place}
 use Rattle.csl_entries.specs.TableView.{table_view}
+use Rattle.csl_entries.proofs.Placing.{grown}
 use Rattle.csl_passes.specs.Positions.{with_last}
 use Rattle.csl_passes.specs.Request.{cited, cites_of, entries_of}
 use Rattle.csl_passes.specs.RequestView.{cite_view, cites_view, request_view, requests_view}
@@ -13,7 +14,6 @@ use Rattle.csl_positions.specs.declared.first.Seen.{Seen}
 use Rattle.csl_positions.proofs.Earlier.{last_or-append, last_or-push, with_earlier-push}
 use Rattle.csl_positions.proofs.Known.{certain-known}
 use Rattle.csl_positions.proofs.Steps.{cite-cited, cite-known, entry-at, entry-within, moved, noted-before, properties-same, row-within, shown-here, shown-within}
-use Rattle.csl_positions.proofs.Tables.{grown}
 use Rattle.csl_positions.proofs.first.request_properties.Goals as goal
 
 pub index-entry-requires : goal.index-entry-requires
