@@ -11,11 +11,11 @@ ghost use Rattle.csl_context.specs.OpenFrames.{on_last_text, end_sole_text, on_e
 ghost use Rattle.csl_context.specs.Quotes.{quotes_view};
 ghost use Rattle.csl_context.specs.Steps.{ends_quoted, pulled, spaced};
 
+use crate::text::ClosingQuotes;
 use crate::tree_end::{
     Edit, add_space_to_tree, children_from, count, edit_last_text, ends_in, extend_last,
     pull_in_tree, push_child, shows, split_off, truncate, wrap,
 };
-use crate::text::ClosingQuotes;
 use csl_base::elem::{ElemChild, ElemChildren, ElemMeta};
 use csl_base::formatting::{Display, Formatted, Formatting};
 use csl_base::text::Text;

@@ -3,10 +3,10 @@
 
 pub mod context;
 mod flat;
-mod tree_end;
 mod pile;
 pub mod room;
 mod text;
 pub mod token;
+mod tree_end;
 pub mod wording;
 pub mod writing;

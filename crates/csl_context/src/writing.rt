@@ -11,7 +11,6 @@ ghost use Rattle.csl_context.specs.Steps.{ends_quoted, pulled, term_text};
 ghost use Rattle.csl_context.specs.WritingState.{state, heights, begun, is_saved, saved, on_text_before, trimmed_for, unrepeated_for, appended, quoted_text, on_quoted_text, may_pull, after_pull, left_by_pull, written, with_child, formatting, after_push_str, verbatim, with_space, asks_nothing, nothing_asked, formatted, cut_formats, unformatted, opened, closed_elem, discarded, prefixed, has_content_since, ends_so, pulling, stripping, not_stripping, deeper, less_deep, delimited, undelimited, with_options, without_options, flushed};
 
 use crate::flat::FlatFrames;
-use crate::tree_end::Edit;
 use crate::pile::Pile;
 use crate::room::Room;
 use crate::text::{
@@ -19,6 +18,7 @@ use crate::text::{
     push_without_periods,
 };
 use crate::token::{DelimiterIdx, DisplayLoc, FormatIdx, Heights};
+use crate::tree_end::Edit;
 use csl_base::elem::{ElemChild, ElemChildren, ElemMeta};
 use csl_base::element::{Affixes, InheritableNameOptions};
 use csl_base::formatting::{Display, Formatting, StyleFormatting};

@@ -2,8 +2,8 @@
 use csl_driver::element::LayoutRenderingElement;
 use csl_driver::style::IndependentStyle;
 use csl_driver::taxonomy::DateVariable;
-use test_styles::styles::{self, authors, bibliography_of, group, layout_of};
 use std::alloc::{AllocError, Global};
+use test_styles::styles::{self, authors, bibliography_of, group, layout_of};
 
 /// The authors and the year of issue.
 fn authors_and_year(alloc: Global) -> Result<LayoutRenderingElement, AllocError> {

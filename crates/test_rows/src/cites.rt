@@ -12,9 +12,9 @@ use csl_writing::cite::Cite;
 use csl_writing::counter::Renders;
 use csl_writing::locator::{LocatorPayload, SpecificLocator, TransparentLocator};
 use csl_writing::properties::CiteProperties;
-use test_styles::styles::{entry, no_affixes, number, text_element, writing};
 use std::alloc::{AllocError, Global};
 use std::test::Fail;
+use test_styles::styles::{entry, no_affixes, number, text_element, writing};
 
 type Properties<'a> = CiteProperties<'a, u8>;
 

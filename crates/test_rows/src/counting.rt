@@ -13,13 +13,13 @@ use csl_driver::request::{BibliographyRequest, CitationRequest};
 use csl_writing::counter::Renders;
 use csl_writing::properties::CiteProperties;
 use csl_writing::purpose::CitePurpose;
-use test_styles::styles::{
-    author_date, bibliography_of, entry, layout_of, no_affixes, no_formatting, text_element,
-};
 use std::alloc::{AllocError, Global};
 use std::cell::Cell;
 use std::convert::Infallible;
 use std::test::Fail;
+use test_styles::styles::{
+    author_date, bibliography_of, entry, layout_of, no_affixes, no_formatting, text_element,
+};
 
 /// An entry that counts how often it is asked for its title.
 #[derive(Drop)]

@@ -13,10 +13,10 @@ use csl_driver::laws::{
 };
 use csl_driver::rendered::Rendered;
 use csl_driver::request::{BibliographyRequest, CitationRequest};
-use test_styles::styles::{entry, numeric, value_style};
 use std::alloc::{AllocError, Global};
 use std::convert::Infallible;
 use std::test::Fail;
+use test_styles::styles::{entry, numeric, value_style};
 
 type Item<'a> = CitationItem<'a, PlainEntry, Infallible>;
 

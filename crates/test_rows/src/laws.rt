@@ -8,10 +8,10 @@ use csl_driver::account::Account;
 use csl_driver::driver::BibliographyDriver;
 use csl_driver::item::CitationItem;
 use csl_driver::request::{BibliographyRequest, CitationRequest};
-use test_styles::styles::{author_date, entry, numeric};
 use std::alloc::{AllocError, Global};
 use std::convert::Infallible;
 use std::test::Fail;
+use test_styles::styles::{author_date, entry, numeric};
 
 /// The account of requests that cite the entries one by one, with numbers from 2 on.
 fn account_of<'a>(

@@ -50,11 +50,11 @@ pub mod of_writing {
     pub use csl_writing::locator::{LocatorPayload, SpecificLocator, TransparentLocator};
     pub use csl_writing::lookup::StyleContext;
     pub use csl_writing::picking::{macros_unfold, suffixes_unfold};
+    pub use csl_writing::prepared::PreparedStyle;
     pub use csl_writing::properties::{
         CertainCiteProperties, CiteProperties, SpeculativeCiteProperties,
     };
     pub use csl_writing::purpose::CitePurpose;
-    pub use csl_writing::prepared::PreparedStyle;
     pub use csl_writing::state::{CollapseVerdict, DisambiguateState, IbidState, IdentifierUsage};
     pub use csl_writing::terms::TermTables;
     pub use csl_writing::token::{DelimiterIdx, DisplayLoc, FormatIdx};
@@ -143,6 +143,7 @@ pub mod of_driver {
     pub use csl_driver::passes::group_cites;
     pub use csl_driver::passes::substitute_subsequent_authors;
     pub use csl_driver::passes::with_last;
+    pub use csl_driver::prepared::PreparedStyle;
     pub use csl_driver::properties::CertainCiteProperties;
     pub use csl_driver::properties::CiteProperties;
     pub use csl_driver::properties::SpeculativeCiteProperties;
@@ -155,7 +156,6 @@ pub mod of_driver {
     pub use csl_driver::request::CitationRequest;
     pub use csl_driver::request::Order;
     pub use csl_driver::seq::Seq;
-    pub use csl_driver::prepared::PreparedStyle;
     pub use csl_driver::stack::NonEmptyStack;
     pub use csl_driver::standalone::standalone_citation;
     pub use csl_driver::state::CollapseVerdict;

@@ -3,14 +3,14 @@ use csl_base::entry::PlainEntry;
 use csl_base::style::IndependentStyle;
 use csl_driver::driver::BibliographyDriver;
 use csl_driver::item::CitationItem;
+use csl_driver::prepared::PreparedStyle;
 use csl_driver::rendered::Rendered;
 use csl_driver::request::{BibliographyRequest, CitationRequest};
-use csl_driver::prepared::PreparedStyle;
 use csl_driver::terms::TermTables;
-use test_styles::styles::{entry, numeric};
 use std::alloc::{AllocError, Global};
 use std::convert::Infallible;
 use std::test::Fail;
+use test_styles::styles::{entry, numeric};
 
 type Request<'a> = CitationRequest<'a, PlainEntry, Infallible>;
 
@@ -75,7 +75,11 @@ fn answer_prepared<'a, 's: 'a>(
 }
 
 /// Whether both answers to a cite are equal.
-fn answers_alike(alloc: Global, prepared: &PreparedStyle<'_>, cited: &PlainEntry) -> Result<bool, Fail> {
+fn answers_alike(
+    alloc: Global,
+    prepared: &PreparedStyle<'_>,
+    cited: &PlainEntry,
+) -> Result<bool, Fail> {
     let files = TermTables::new(alloc, &[])?;
     let answered = answer_prepared(alloc, prepared, &files, cited)?;
     Ok(answered == answer_unprepared(alloc, prepared.style(), cited)?)
