@@ -24,7 +24,8 @@ module _ (groups : List (Option ℕ)) where
 
   -- the cite at k stands in a stretch that begins before it
   abbrev pub is_later_in_stretch : ℕ → Bool
-  is_later_in_stretch k = list_any (λ a. list_any (λ b. is_stretch a b) (places k (length groups))) (places 0 k)
+  is_later_in_stretch k =
+      list_any (λ a. list_any (λ b. is_stretch a b) (places k (length groups))) (places 0 k)
 
   -- a stretch of two or more cites ends right before k
   abbrev pub follows_stretch : ℕ → Bool

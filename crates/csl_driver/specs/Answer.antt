@@ -83,7 +83,8 @@ module _ {E P : Type 0} (eq : E → E → Bool) (payload_eq : P → P → Bool) 
     -- for has one
     abbrev pub rendered : Rendered
     rendered = record {
-      bibliography = option_map (λ b. bibliography_of writing (wanted_source asked.wanted) b listed_first_cites)
+      bibliography = option_map
+          (λ b. bibliography_of writing (wanted_source asked.wanted) b listed_first_cites)
           asked.wanted.style.bibliography;
       citations = citations_of writing (map drawn_together in_the_end);
     }

@@ -33,7 +33,8 @@ module _ {E P : Type 0} (eq : E → E → Bool) (payload_eq : P → P → Bool) 
     -- where the bibliography is written
     abbrev pub listed_tasks : List (TaskValue E P)
     listed_tasks = where_wanted asked.wanted.style.bibliography
-        (bibliography_tasks (wanted_source asked.wanted) (listed_first_cites eq payload_eq writing mode asked))
+        (bibliography_tasks (wanted_source asked.wanted)
+        (listed_first_cites eq payload_eq writing mode asked))
 
     -- all that is asked for: the first renders, those of the rounds, the bibliography, the citations
     abbrev pub tasks : List (TaskValue E P)

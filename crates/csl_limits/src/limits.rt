@@ -70,7 +70,8 @@ fn count_all(
     depth: usize,
     left: usize,
 ) -> Result<usize, Excess>
-    ensures { Counted (prepared_view style.now).macros depth (items (elements_view elements.now)) left result }
+    ensures { Counted (prepared_view style.now).macros depth (items (elements_view elements.now)) left
+        result }
 {
     let mut left = left;
     for element in elements {

@@ -17,7 +17,8 @@ same_persons = pointwise same_person
 
 -- the first i persons of both, cut by the rule of the first member, are the same
 abbrev pub reads_alike : ℕ → NamedCite → NamedCite → Bool
-reads_alike i x y = same_persons (cut_by_rule x.rule (take i x.persons)) (cut_by_rule x.rule (take i y.persons))
+reads_alike i x y =
+    same_persons (cut_by_rule x.rule (take i x.persons)) (cut_by_rule x.rule (take i y.persons))
 
 -- this is the step of a member, if it has one
 abbrev pub is_own_step : ℕ → Option ℕ → Bool

@@ -21,7 +21,11 @@ is_empty_node o h = nat_le (length h.tokens) o.inside
 
 -- the node is taken out again; what was called and noted in it stays
 abbrev pub cut_back : Opened → Held → Held
-cut_back o h = record { tokens = take o.before h.tokens; called = called_by_both o.called h.called; noted = h.noted }
+cut_back o h = record {
+  tokens = take o.before h.tokens;
+  called = called_by_both o.called h.called;
+  noted = h.noted;
+}
 
 abbrev pub closed_as : Called → Opened → Held → Held
 closed_as called o h = record {

@@ -22,7 +22,11 @@ without_content n = record { parts = []; called = Called.Empty; noted = n }
 
 -- one behind the other
 abbrev pub followed : Picked → Picked → Picked
-followed a b = record { parts = a.parts ++ b.parts; called = called_by_both a.called b.called; noted = b.noted }
+followed a b = record {
+  parts = a.parts ++ b.parts;
+  called = called_by_both a.called b.called;
+  noted = b.noted;
+}
 
 -- whether there are parts
 abbrev pub gives : List Part → Bool

@@ -30,7 +30,8 @@ pub(crate) fn greatest_marks(
 
 /// Raises the state of the entry at a place to a mark, if an entry stands there.
 fn raise_at(states: &mut [Option<DisambiguateState>], place: usize, mark: DisambiguateState)
-    ensures { states.new ≡ slice_set states.old place (with_greater (slice_index_or states.old place None) mark) }
+    ensures { states.new
+        ≡ slice_set states.old place (with_greater (slice_index_or states.old place None) mark) }
 {
     if place < states.len() {
         raise(&mut states[place], mark);

@@ -42,7 +42,8 @@ pub fn substitute_subsequent_authors(
 ) -> Result<(), AllocError>
     ensures substituted { OnOk result (rendered_items_view items.new
         ≡ substituted (option_map (λ s. s.now) substitute.entry) rule (rendered_items_view items.old)) }
-    ensures laws { OnOk result (KeepsAllButNames (rendered_items_view items.old) (rendered_items_view items.new)) }
+    ensures laws { OnOk result (KeepsAllButNames (rendered_items_view items.old)
+        (rendered_items_view items.new)) }
 {
     match substitute {
         Some(substitute) => {

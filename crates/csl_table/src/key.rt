@@ -110,7 +110,8 @@ fn key_of<T: EntryLike>(
     place: Option<(usize, usize)>,
     part: TaskPart,
 ) -> Result<TaskKey, AllocError>
-    ensures { IfOk result (λ k. k ≡ key_of_part (source_view source.now) (T.answers entry.now).key place part) }
+    ensures { IfOk result (λ k. k
+        ≡ key_of_part (source_view source.now) (T.answers entry.now).key place part) }
 {
     Ok(TaskKey {
         style: Text::copied(alloc, style_name(source.style))?,

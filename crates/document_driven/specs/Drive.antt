@@ -32,7 +32,8 @@ driven_text (results.Missing missing) = missing_text missing.keys
 
 -- the answer with what the host has written, or what is missing of that
 abbrev pub ComesOf : DrivenDocument → Driven PlainEntry → Type 0
-ComesOf d = IsDriven same_plain_entry same_own_payload plain_answers d.table (d.asked).rounds (asked_by d.asked)
+ComesOf d = IsDriven same_plain_entry same_own_payload plain_answers d.table (d.asked).rounds
+    (asked_by d.asked)
 
 -- the text is that of what comes of the document
 abbrev pub Tells : List ℕ → DrivenDocument → Type 0

@@ -311,8 +311,8 @@ pub fn requests_of<'e>(
     object: &Value,
 ) -> Result<Vec<AskedRequest<'e>>, ReadError>
     ensures read { Reads (λ v. asked_requests_view (map locale_view locales.now) v.items) result
-        (items_of_key (request_form (style_in styles.now) (entry_in entries.now) (map locale_view locales.now))
-        (codes "requests") (view object.now)) }
+        (items_of_key (request_form (style_in styles.now) (entry_in entries.now)
+        (map locale_view locales.now)) (codes "requests") (view object.now)) }
     ensures fault { Faults result (view object.now) }
 {
     let list = required_list(alloc, object, "requests")?;

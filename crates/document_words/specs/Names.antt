@@ -37,7 +37,8 @@ locator_prefix = codes "locator-"
 -- the term of a locator, named by `locator-` and the locator's name
 abbrev pub locator_term_named : List ℕ → Option Term
 locator_term_named name =
-    if starts_with nat_eq name locator_prefix then option_map Term.Locator (value_named locators (drop 8 name))
+    if starts_with nat_eq name locator_prefix
+    then option_map Term.Locator (value_named locators (drop 8 name))
     else None
 
 -- the term of a name: one that is named after nothing else, or a locator's, or a number variable's

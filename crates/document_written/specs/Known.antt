@@ -24,7 +24,8 @@ task_among known d = do
   if known key then Some key else None
 
 -- the style that a map has at a name
-abbrev pub known_style_in : {S : Type 0} → HashMap (Bor (List ℕ)) (Bor NamedStyle) S → List ℕ → Option StyleValue
+abbrev pub known_style_in : {S : Type 0} → HashMap (Bor (List ℕ)) (Bor NamedStyle) S → List ℕ
+    → Option StyleValue
 known_style_in m name = option_map (λ s. style_view s.now.style) (text_in m name)
 
 -- which tasks are of styles and entries that are known

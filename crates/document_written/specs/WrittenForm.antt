@@ -74,7 +74,8 @@ table_of_written ws = if has_one_tree_each ws then Some (first_written ws) else 
 -- the same of what a document with these styles and entries says
 abbrev pub table_form : List NamedStyle → List PlainEntry → Data → Option (TaskKey → Option Cite)
 table_form styles entries d =
-    option_and_then table_of_written (list_form (written_form (is_known (style_named styles) (entry_named entries))) d)
+    option_and_then table_of_written
+    (list_form (written_form (is_known (style_named styles) (entry_named entries))) d)
 
 -- one more, where nothing is there for its task
 abbrev pub with_first_tree : TaskKey × Cite → (TaskKey → Option Cite) → TaskKey → Option Cite

@@ -80,7 +80,8 @@ fn locator_of(alloc: Global, value: &Value) -> Result<(Locator, Text), ReadError
 
 #[tactic(auto, using(document_words::proofs::Ways::fails_outside))]
 fn optional_locator(alloc: Global, object: &Value) -> Result<Option<(Locator, Text)>, ReadError>
-    ensures read { Reads (λ l. l) result (where_present counted_locator_form (codes "locator") (view object.now)) }
+    ensures read { Reads (λ l. l) result
+        (where_present counted_locator_form (codes "locator") (view object.now)) }
     ensures fault { Faults result (view object.now) }
 {
     match object.get("locator") {

@@ -179,7 +179,8 @@ fn add(table: &mut Table, key: TaskKey, cite: Cite) -> Result<(), AllocError>
 #[tactic(auto, using(document_words::proofs::Ways::item_there))]
 fn table_of_items(alloc: Global, known: &Known<'_>, items: &[Value]) -> Result<Table, ReadError>
     ensures read { Reads found result
-        (option_and_then table_of_written (all_items (written_form (knows known.now)) (items_view items.now))) }
+        (option_and_then table_of_written
+        (all_items (written_form (knows known.now)) (items_view items.now))) }
     ensures fault { Faults result (array (items_view items.now)) }
 {
     let mut table = IndexMap::new(alloc);

@@ -32,7 +32,8 @@ by_cite = no_states ∷ table ((0, YearSuffix 1) ∷ (1, YearSuffix 2) ∷ []) �
 
 -- two cites that read differently
 abbrev pub unlike : List (CiteRender Sample ℕ)
-unlike = one_by_one (sample_cite 0 0 (in_year (codes "Doe 1999") ∷ []) ∷ sample_cite 1 1 (in_year (codes "Roe 2000") ∷ [])
+unlike = one_by_one (sample_cite 0 0 (in_year (codes "Doe 1999") ∷ [])
+    ∷ sample_cite 1 1 (in_year (codes "Roe 2000") ∷ [])
     ∷ [])
 
 -- a suffix for each entry, though no cite is ambiguous

@@ -23,6 +23,7 @@ pub fn numbers_before_grouping()
 /// All items are rendered once more in a round that marks nothing: two requests of one cite each take 6
 /// renderings, where they are to take 4.
 pub fn extra_renders()
-    ensures refuted { ¬ (6 ≡ min (cost same_sample nat_eq writing RoundMode.Three sample_asked) (2 ^ 128 - 1)) }
+    ensures refuted { ¬ (6
+        ≡ min (cost same_sample nat_eq writing RoundMode.Three sample_asked) (2 ^ 128 - 1)) }
     ensures right { 4 ≡ min (cost same_sample nat_eq writing RoundMode.Three sample_asked) (2 ^ 128 - 1) }
 {}
