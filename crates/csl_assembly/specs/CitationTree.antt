@@ -1,6 +1,5 @@
 -- The citation of a request, from its cites as they stand in the end.
-use Rattle.std.specs.Prelude.{ℕ, Bool, not, List, [], ◌∷◌, map, filter, Option, Some, None, is_none}
-use Rattle.std.specs.List.{list_all}
+use Rattle.std.specs.Prelude.{ℕ, not, List, [], ◌∷◌, map, filter, Option, Some, None}
 use Rattle.std.specs.Option.{option_or}
 use Rattle.csl_base.specs.Child.{Child, elem, kids_of}
 use Rattle.csl_base.specs.Style.{LayoutValue}
@@ -10,16 +9,13 @@ use Rattle.csl_passes.specs.Renders.{ItemRender, CiteRender}
 use Rattle.csl_passes.specs.Request.{source_of}
 use Rattle.csl_assembly.specs.Assembly.{Shown, assembled}
 use Rattle.csl_assembly.specs.LastTree.{last_task, task_by_purpose, tree_by_purpose}
+use Rattle.csl_passes.specs.Purposes.{has_no_purpose}
 use Rattle.csl_writers.specs.Tasks.{LastPlace, TaskValue}
 use Rattle.csl_writers.specs.Writing.{Writing}
 
 module _ {E P : Type 0} where
   abbrev pub shown : List (ItemRender E P) → List (ItemRender E P)
   shown = filter (λ i. not i.hidden)
-
-  -- no cite is written for a purpose of its own
-  abbrev pub has_no_purpose : List (ItemRender E P) → Bool
-  has_no_purpose = list_all (λ i. is_none i.purpose)
 
   -- what stands before a cite that isn't the first that shows: its override, else the layout's delimiter
   abbrev pub delimiter_before : LayoutValue → ItemRender E P → Option (List ℕ)

@@ -5,9 +5,10 @@ ghost use Rattle.csl_passes.specs.Request.{source_of};
 ghost use Rattle.csl_passes.specs.RequestView.{request_view};
 ghost use Rattle.csl_passes.specs.Renders.{CiteRender};
 ghost use Rattle.csl_passes.specs.RendersView.{item_view, items_view};
-ghost use Rattle.csl_assembly.specs.CitationTree.{citation_tasks, citation_tree, delimiter_before, has_no_purpose, marked_cite, last_place_of, shown, shown_cite};
+ghost use Rattle.csl_assembly.specs.CitationTree.{citation_tasks, citation_tree, delimiter_before, marked_cite, last_place_of, shown, shown_cite};
 ghost use Rattle.csl_assembly.specs.LastTree.{last_task, task_by_purpose, tree_by_purpose};
 ghost use Rattle.csl_assembly.specs.ShownView.{shown_views};
+ghost use Rattle.csl_passes.specs.Purposes.{has_no_purpose};
 ghost use Rattle.csl_writers.specs.Desk.{after, desk};
 ghost use Rattle.csl_writers.specs.Writing.{writing_of};
 
@@ -17,23 +18,12 @@ use csl_base::elem::{Elem, ElemChild, ElemChildren, ElemMeta};
 use csl_base::entry::EntryLike;
 use csl_base::style::Layout;
 use csl_passes::acyclic::AcyclicRequest;
+use csl_passes::purposes::has_no_purpose;
 use csl_passes::renders::SpeculativeItemRender;
 use csl_writers::counter::Renders;
 use csl_writers::pushed::push;
 use csl_writers::writer::CiteWriter;
 use std::alloc::Global;
-
-/// Whether no cite is written for a purpose of its own.
-pub fn has_no_purpose<T, P>(items: &[SpeculativeItemRender<'_, T, P>]) -> bool
-    ensures { result ≡ has_no_purpose (items_view items.now) }
-{
-    for item in items {
-        if item.purpose.is_some() {
-            return false;
-        }
-    }
-    true
-}
 
 /// What stands before a cite that isn't the first that shows: its override, else the layout's delimiter.
 fn delimiter_before<'a, T, P>(

@@ -1,5 +1,5 @@
 -- The cites of a request after collapsing.
-use Rattle.std.specs.Prelude.{ℕ, true, false, Option, None, Some, List}
+use Rattle.std.specs.Prelude.{ℕ, true, false, Option, None, Some, List, if◌then◌else◌}
 use Rattle.csl_base.specs.Style.{CitationValue}
 use Rattle.csl_base.specs.declared.style.Collapse.{Collapse}
 use Rattle.csl_base.specs.declared.style.Collapse.TheVariants.{CitationNumber, Year, YearSuffix, YearSuffixRanged}
@@ -8,6 +8,7 @@ use Rattle.csl_collapse.specs.NumberRuns.{number_collapsed}
 use Rattle.csl_collapse.specs.Stretches.{after_collapse}
 use Rattle.csl_collapse.specs.YearStretches.{year_collapsed}
 use Rattle.csl_passes.specs.ByPlaces.{by_places}
+use Rattle.csl_passes.specs.Purposes.{has_no_purpose}
 
 module _ {E P : Type 0} where
   -- what a kind of collapsing makes of the cite at a place
@@ -26,3 +27,7 @@ module _ {E P : Type 0} where
   abbrev pub collapsed : CiteRender E P → CiteRender E P
   collapsed r = let citation = r.request.style.citation in
       record r { items = collapsed_cites citation.collapse citation r.items }
+
+  -- those of a request of which none has a purpose
+  abbrev pub drawn_together : CiteRender E P → CiteRender E P
+  drawn_together c = if has_no_purpose c.items then collapsed c else c

@@ -2,14 +2,26 @@
 ghost use Rattle.std.specs.Prelude.{◌≡◌, option_map};
 ghost use Rattle.csl_base.specs.StyleView.{citation_view};
 ghost use Rattle.csl_passes.specs.RendersView.{render_view};
-ghost use Rattle.csl_collapse.specs.Collapsed.{collapsed};
+ghost use Rattle.csl_collapse.specs.Collapsed.{collapsed, drawn_together};
 ghost use Rattle.csl_collapse.specs.NumberLaws.{CanBeReadBack};
 ghost use Rattle.csl_collapse.specs.Stretches.{after_collapse};
 
 use crate::numbers::collapse_numbers;
 use crate::years::collapse_years;
 use csl_base::style::{Citation, Collapse};
+use csl_passes::purposes::has_no_purpose;
 use csl_passes::renders::SpeculativeCiteRender;
+
+/// Collapses the cites of a request, as `collapse_items` does, where none of them has a purpose.
+///
+/// It takes no memory.
+pub fn draw_together<T, P>(render: &mut SpeculativeCiteRender<'_, '_, T, P>)
+    ensures { render_view render.new ≡ drawn_together (render_view render.old) }
+{
+    if has_no_purpose(&render.items) {
+        collapse_items(render);
+    }
+}
 
 /// Draws the cites of a request together as its style asks for (CSL 1.0.2, `collapse`). Only hidden
 /// flags, overrides of delimiters and verdicts change; nothing does where the style has no collapse.

@@ -8,12 +8,11 @@ use Rattle.std.proofs.lemmas.List.Elements.{All-cons, All-nil}
 use Rattle.std.proofs.lemmas.List.Sorted.{length_permutation}
 use Rattle.std.proofs.Math.ListN.{length-map}
 use Rattle.std.proofs.lemmas.Bool.{or_left, or_right}
-use Rattle.csl_assembly.specs.CitationTree.{has_no_purpose}
 use Rattle.csl_assembly.specs.declared.rendered.Rendered.{Rendered}
 use Rattle.csl_writers.specs.Writing.{Writing}
-use Rattle.csl_collapse.specs.Collapsed.{collapsed}
+use Rattle.csl_collapse.specs.Collapsed.{collapsed, drawn_together}
 use Rattle.csl_collapse.specs.NumberLaws.{CanBeReadBack}
-use Rattle.csl_driver.specs.Answer.{Asked, drawn_together, entries_listed, final_number, in_final_order, in_the_end, numbered_finally, order_in_use, rendered_first}
+use Rattle.csl_driver.specs.Answer.{Asked, entries_listed, final_number, in_final_order, in_the_end, numbered_finally, order_in_use, rendered_first}
 use Rattle.csl_driver.specs.AnswerLaws.{AreInOrder, ComeFrom, HaveNumbersOnce, IsBroughtTogether, IsReadBack, IsSettled, KeepsLaws, number_in, unsettled}
 use Rattle.csl_driver.specs.AreCitesOf.{AreCitesOf}
 use Rattle.csl_driver.specs.Promised.{IsAnswer, IsExactly}
@@ -28,6 +27,7 @@ use Rattle.csl_entries.proofs.Distinct.{is_in-distinct}
 use Rattle.csl_entries.proofs.Placed.{map-map}
 use Rattle.csl_grouping.specs.Blocks.{grouped, is_grouped}
 use Rattle.csl_grouping.specs.FinalOrder.{HasFinalOrder}
+use Rattle.csl_passes.specs.Purposes.{has_no_purpose}
 use Rattle.csl_passes.specs.Renders.{CiteRender}
 use Rattle.csl_passes.specs.Request.{Request, cited}
 use Rattle.csl_passes.specs.declared.first.FirstProperties.{FirstProperties}

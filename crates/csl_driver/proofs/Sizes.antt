@@ -11,15 +11,15 @@ use Rattle.std.proofs.lemmas.List.Sums.{sum_by-cons}
 use Rattle.csl_writers.specs.Writing.{Writing}
 use Rattle.csl_base.specs.Style.{CitationValue}
 use Rattle.csl_base.specs.declared.style.Collapse.{Collapse}
-use Rattle.csl_assembly.specs.CitationTree.{has_no_purpose}
-use Rattle.csl_collapse.specs.Collapsed.{collapsed, collapsed_cites}
-use Rattle.csl_driver.specs.Answer.{Asked, drawn_together, entries_listed, final_number, in_final_order, in_the_end, rendered_first}
+use Rattle.csl_collapse.specs.Collapsed.{collapsed, collapsed_cites, drawn_together}
+use Rattle.csl_driver.specs.Answer.{Asked, entries_listed, final_number, in_final_order, in_the_end, rendered_first}
 use Rattle.csl_driver.proofs.FirstPlaced.{first-cited}
 use Rattle.csl_entries.specs.Entries.{number}
 use Rattle.csl_grouping.specs.Blocks.{final_order, group_delimiter, grouped, grouped_cites, is_grouped}
 use Rattle.csl_grouping.specs.Laws.{bare}
 use Rattle.csl_grouping.proofs.OrderLaws.{ordered}
 use Rattle.csl_grouping.proofs.Whole.{final-permuted}
+use Rattle.csl_passes.specs.Purposes.{has_no_purpose}
 use Rattle.csl_passes.specs.Renders.{CiteRender, ItemRender}
 use Rattle.csl_passes.specs.Request.{cites_of, entries_of}
 use Rattle.csl_positions.specs.FinalProperties.{items_before, with_final_items}

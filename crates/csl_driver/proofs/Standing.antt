@@ -4,10 +4,9 @@ use Rattle.std.specs.Prelude.{All, flat_map, if◌then◌else◌}
 use Rattle.std.specs.Cmp.{IsEquivalence}
 use Rattle.std.specs.List.{AllZip, enumerate_from}
 use Rattle.std.proofs.lemmas.List.Elements.{All-cons, All-head, All-nil, All-tail}
-use Rattle.csl_assembly.specs.CitationTree.{has_no_purpose}
 use Rattle.csl_writers.specs.Writing.{Writing}
-use Rattle.csl_collapse.specs.Collapsed.{collapsed}
-use Rattle.csl_driver.specs.Answer.{Asked, drawn_together, entries_listed, rendered_first}
+use Rattle.csl_collapse.specs.Collapsed.{collapsed, drawn_together}
+use Rattle.csl_driver.specs.Answer.{Asked, entries_listed, rendered_first}
 use Rattle.csl_driver.specs.AreCitesOf.{AreCitesOf}
 use Rattle.csl_driver.proofs.FirstPlaced.{first-cited, first-placed, first-places, first-requests}
 use Rattle.csl_driver.proofs.Listings.{table-within}
@@ -19,6 +18,7 @@ use Rattle.csl_entries.proofs.Distinct.{is_in-distinct}
 use Rattle.csl_grouping.specs.Blocks.{group_delimiter, grouped, grouped_cites, is_grouped}
 use Rattle.csl_grouping.proofs.Kept.{cited-same, grouped-placed}
 use Rattle.csl_lookup.specs.declared.state.DisambiguateState.{DisambiguateState}
+use Rattle.csl_passes.specs.Purposes.{has_no_purpose}
 use Rattle.csl_passes.specs.Renders.{CiteRender, ItemRender}
 use Rattle.csl_passes.specs.Request.{Request, cited}
 use Rattle.csl_positions.specs.FinalProperties.{items_before, with_final, with_final_items, with_final_properties}

@@ -8,8 +8,9 @@ use Rattle.std.proofs.lemmas.List.Concat.{length-flat_map}
 use Rattle.std.proofs.lemmas.List.Elements.{filter-append}
 use Rattle.std.proofs.lemmas.List.Sums.{sum_by-cons}
 use Rattle.csl_assembly.specs.CitationTree.{citation_tasks}
+use Rattle.csl_collapse.specs.Collapsed.{drawn_together}
 use Rattle.csl_driver.specs.Account.{cost, listed_count, rerendered, where_listed}
-use Rattle.csl_driver.specs.Answer.{Asked, drawn_together, entries_listed, listed_first_cites, in_final_order, in_the_end, order_in_use, rendered_first}
+use Rattle.csl_driver.specs.Answer.{Asked, entries_listed, listed_first_cites, in_final_order, in_the_end, order_in_use, rendered_first}
 use Rattle.csl_driver.specs.WriterTasks.{begun_tasks, last_tasks, listed_tasks, tasks, where_wanted}
 use Rattle.csl_driver.proofs.FirstPlaced.{first-cited}
 use Rattle.csl_driver.proofs.ListedCount.{firsts-counted}

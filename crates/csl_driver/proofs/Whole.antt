@@ -6,8 +6,9 @@ use Rattle.csl_assembly.specs.BibliographyItems.{bibliography_of}
 use Rattle.csl_assembly.specs.declared.rendered.Rendered.{Rendered}
 use Rattle.csl_assembly.specs.declared.rendered.RenderedBibliography.{RenderedBibliography}
 use Rattle.csl_assembly.specs.declared.rendered.RenderedCitation.{RenderedCitation}
+use Rattle.csl_collapse.specs.Collapsed.{drawn_together}
 use Rattle.csl_writers.specs.Writing.{Writing}
-use Rattle.csl_driver.specs.Answer.{Asked, citations_of, drawn_together, entries_listed, in_the_end, rendered}
+use Rattle.csl_driver.specs.Answer.{Asked, citations_of, entries_listed, in_the_end, rendered}
 use Rattle.csl_passes.specs.Renders.{CiteRender}
 use Rattle.csl_passes.specs.Request.{wanted_source}
 use Rattle.csl_positions.specs.FinalProperties.{first_item}

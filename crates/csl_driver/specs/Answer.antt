@@ -2,10 +2,10 @@
 use Rattle.std.specs.Prelude.{ℕ, Bool, List, map, Option, None, Some, if◌then◌else◌, option_map}
 use Rattle.std.specs.List.{enumerate_from, filter_map}
 use Rattle.csl_assembly.specs.BibliographyItems.{bibliography_of}
-use Rattle.csl_assembly.specs.CitationTree.{citation_tree, has_no_purpose}
+use Rattle.csl_assembly.specs.CitationTree.{citation_tree}
 use Rattle.csl_assembly.specs.declared.rendered.Rendered.{Rendered}
 use Rattle.csl_assembly.specs.declared.rendered.RenderedCitation.{RenderedCitation}
-use Rattle.csl_collapse.specs.Collapsed.{collapsed}
+use Rattle.csl_collapse.specs.Collapsed.{drawn_together}
 use Rattle.csl_entries.specs.Entries.{used_order, bibliography_order, distinct, number}
 use Rattle.csl_grouping.specs.Blocks.{grouped}
 use Rattle.csl_passes.specs.Renders.{CiteRender, ItemRender}
@@ -37,10 +37,6 @@ module _ {E P : Type 0} (eq : E → E → Bool) where
   abbrev pub numbered_finally : Option (List E) → List (Request E P) → List (CiteRender E P) → List E
   numbered_finally None requests cites = distinct eq (cited_finally cites)
   numbered_finally (Some order) requests cites = bibliography_order eq (Some order) (cited requests)
-
--- the cites of a request collapsed, where none has a purpose
-abbrev pub drawn_together : {E P : Type 0} → CiteRender E P → CiteRender E P
-drawn_together c = if has_no_purpose c.items then collapsed c else c
 
 module _ {E P : Type 0} (writing : Writing E P) where
   -- the answer to the r-th request, from its cites as they stand in the end

@@ -2,7 +2,6 @@
 use Rattle.std.specs.Prelude.{◌≡◌, ℕ, ◌-◌, ◌^◌, Bool, true, List, None, Some, length, map, min, slice_get, slice_index}
 use Rattle.std.specs.List.{AllZip, range_with_len}
 use Rattle.std.specs.List.Sorted.{IsPermutation}
-use Rattle.csl_assembly.specs.CitationTree.{has_no_purpose}
 use Rattle.csl_assembly.specs.declared.rendered.Rendered.{Rendered}
 use Rattle.csl_assembly.specs.declared.rendered.RenderedCitation.{RenderedCitation}
 use Rattle.csl_writers.specs.Writing.{Writing}
@@ -14,6 +13,7 @@ use Rattle.csl_entries.specs.Laws.{NoTwoEqual}
 use Rattle.csl_grouping.specs.Blocks.{is_grouped}
 use Rattle.csl_grouping.specs.FinalOrder.{HasFinalOrder}
 use Rattle.csl_lookup.specs.declared.state.IbidState.{IbidState}
+use Rattle.csl_passes.specs.Purposes.{has_no_purpose}
 use Rattle.csl_passes.specs.Renders.{CiteRender, ItemRender}
 use Rattle.csl_positions.specs.FinalProperties.{cited_finally, placed_finally}
 use Rattle.csl_round_laws.specs.Rounds.{StateTable, no_states, told_by}

@@ -3,7 +3,8 @@ use Rattle.std.specs.Prelude.{Bool, List, [], ◌++◌, Option, None, Some, map}
 use Rattle.std.specs.List.{enumerate_from, flat_map}
 use Rattle.csl_assembly.specs.BibliographyItems.{bibliography_tasks}
 use Rattle.csl_assembly.specs.CitationTree.{citation_tasks}
-use Rattle.csl_driver.specs.Answer.{Asked, drawn_together, entries_listed, listed_first_cites, in_the_end, rendered_first}
+use Rattle.csl_collapse.specs.Collapsed.{drawn_together}
+use Rattle.csl_driver.specs.Answer.{Asked, entries_listed, listed_first_cites, in_the_end, rendered_first}
 use Rattle.csl_entries.specs.Entries.{number}
 use Rattle.csl_passes.specs.Renders.{CiteRender}
 use Rattle.csl_passes.specs.Request.{wanted_source}

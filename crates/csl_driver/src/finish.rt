@@ -1,6 +1,7 @@
 //! The whole answer, from all requests at once.
 ghost use Rattle.std.specs.Prelude.{◌≡◌, ◌+◌, length, map, OnOk, IfErr, IfOk};
-ghost use Rattle.csl_driver.specs.Answer.{citations_of, drawn_together, numbered_finally, order_in_use, rendered, rendered_first};
+ghost use Rattle.csl_collapse.specs.Collapsed.{drawn_together};
+ghost use Rattle.csl_driver.specs.Answer.{citations_of, numbered_finally, order_in_use, rendered, rendered_first};
 ghost use Rattle.csl_driver.specs.AreCitesOf.{AreCitesOf};
 ghost use Rattle.csl_driver.specs.AskedView.{asked_of};
 ghost use Rattle.csl_driver.specs.DraftView.{asked_in, table_in};
@@ -9,7 +10,7 @@ ghost use Rattle.csl_driver.specs.Promised.{Finishes, IsAnswer};
 ghost use Rattle.csl_driver.specs.WriterTasks.{begun_tasks, last_tasks, tasks};
 ghost use Rattle.csl_entries.specs.Entries.{number};
 ghost use Rattle.csl_grouping.specs.Blocks.{grouped};
-ghost use Rattle.csl_passes.specs.RendersView.{render_view, renders_view};
+ghost use Rattle.csl_passes.specs.RendersView.{renders_view};
 ghost use Rattle.csl_positions.specs.FirstProperties.{numbered_by};
 ghost use Rattle.csl_round_laws.specs.declared.mode.RoundMode.{RoundMode};
 ghost use Rattle.csl_writers.specs.Desk.{after, desk};
@@ -23,11 +24,11 @@ use crate::driver::BibliographyDriver;
 use crate::error::{DriverError, FinishError};
 use crate::laws::answers_keep_laws;
 use crate::rings::without_rings;
-use csl_assembly::citation::{citation_tree, has_no_purpose};
+use csl_assembly::citation::citation_tree;
 use csl_assembly::rendered::{Rendered, RenderedCitation};
 use csl_base::entry::EntryLike;
 use csl_base::seq::Seq;
-use csl_collapse::collapse::collapse_items;
+use csl_collapse::collapse::draw_together;
 use csl_grouping::grouping::group_cites;
 use csl_passes::acyclic::AcyclicRequest;
 use csl_passes::renders::{Cites, SpeculativeCiteRender};
@@ -290,15 +291,6 @@ fn collapse_all<T, P>(cites: &mut [SpeculativeCiteRender<'_, '_, T, P>])
     ensures { renders_view cites.new ≡ map drawn_together (renders_view cites.old) }
 {
     for r in 0..cites.len() {
-        collapse_one(&mut cites[r]);
-    }
-}
-
-/// Collapses the cites of a request, where none of them has a purpose.
-fn collapse_one<T, P>(cite: &mut SpeculativeCiteRender<'_, '_, T, P>)
-    ensures { render_view cite.new ≡ drawn_together (render_view cite.old) }
-{
-    if has_no_purpose(&cite.items) {
-        collapse_items(cite);
+        draw_together(&mut cites[r]);
     }
 }

@@ -6,5 +6,6 @@ pub mod RendersView
 pub mod Places
 pub mod ByPlaces
 pub mod Positions
+pub mod Purposes
 pub mod Same
 pub mod Unprepared

@@ -7,5 +7,6 @@ pub mod item;
 pub mod laws;
 pub mod places;
 pub mod positions;
+pub mod purposes;
 pub mod renders;
 pub mod request;

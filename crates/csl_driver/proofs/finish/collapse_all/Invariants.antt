@@ -1,6 +1,6 @@
 use Rattle.std.proofs.Common.{◌≡◌, ◌++◌, drop, map, take}
+use Rattle.csl_collapse.specs.Collapsed.{drawn_together}
 use Rattle.csl_passes.specs.RendersView.{renders_view}
-use Rattle.csl_driver.specs.Answer.{drawn_together}
 use Rattle.csl_driver.proofs.finish.collapse_all.Given as goal
 
 abbrev pub invariant-loop-r : goal.invariant-loop-r

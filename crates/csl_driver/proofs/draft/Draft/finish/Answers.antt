@@ -2,7 +2,8 @@ use Rattle.std.proofs.Common.{ap, map, subst, sym, ◌∙◌}
 use Rattle.std.specs.List.{filter_map}
 use Rattle.std.specs.Prelude.{option_map}
 use Rattle.csl_assembly.specs.BibliographyItems.{bibliography_of, bibliography_tasks}
-use Rattle.csl_driver.specs.Answer.{citations_of, drawn_together, entries_listed, final_number, in_the_end, numbered_finally, order_in_use, rendered_first}
+use Rattle.csl_collapse.specs.Collapsed.{drawn_together}
+use Rattle.csl_driver.specs.Answer.{citations_of, entries_listed, final_number, in_the_end, numbered_finally, order_in_use, rendered_first}
 use Rattle.csl_driver.specs.DraftView.{asked_in, table_in}
 use Rattle.csl_driver.specs.WriterTasks.{begun_tasks, last_tasks, listed_tasks, where_wanted}
 use Rattle.csl_driver.proofs.ByEntries.{numbers-of, states-of}
