@@ -252,6 +252,17 @@ fn print_trees(
     Ok(())
 }
 
+/// Prints what is written as children.
+fn print_children(
+    rt: &(impl Print + AllocGlobal),
+    style: &IndependentStyle,
+) -> Result<(), AllocError> {
+    let formula = formula(rt.alloc(), "x")?;
+    let tree = written(rt.alloc(), style, Part::Children(&formula))?;
+    let _ = println!(rt; "children: {tree}");
+    Ok(())
+}
+
 /// Makes the calls of a context in this style, and prints what they give.
 pub fn print_contexts(
     rt: &(impl Print + Eprint + AllocGlobal),
@@ -259,9 +270,7 @@ pub fn print_contexts(
     files: &[Locale],
 ) -> Result<(), AllocError> {
     let _ = eprintln!(rt; "context");
-    let formula = formula(rt.alloc(), "x")?;
-    let tree = written(rt.alloc(), style, Part::Children(&formula))?;
-    let _ = println!(rt; "children: {tree}");
+    print_children(rt, style)?;
     print_affixes(rt, style)?;
     print_trees(rt, style)?;
     in_format(rt.alloc(), style)?;

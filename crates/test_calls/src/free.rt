@@ -5,6 +5,7 @@ use crate::calls::Request;
 use crate::passes::{Cite, Cites, Item, all_written};
 use cite_document::error::RunError;
 use csl_base::elem::{BufWriteFormat, Elem, ElemChild, ElemChildren, ElemMeta};
+use csl_base::element::InheritableNameOptions;
 use csl_base::entry::{EntryLike, PlainEntry};
 use csl_base::formatting::{Display, FontStyle, Formatting, StyleFormatting};
 use csl_base::locale::Locale;
@@ -16,6 +17,7 @@ use csl_base::taxonomy::{
     DateVariable, Locator, NameVariable, NumberVariable, OtherTerm, StandardVariable, Term,
     TermForm,
 };
+use csl_context::writing::WritingContext;
 use csl_driver::brackets::Brackets;
 use csl_driver::context::Context;
 use csl_driver::counter::Renders;
@@ -204,6 +206,20 @@ fn language<'l>(locale: &'l Locale) -> Option<&'l str> {
     }
 }
 
+/// What a context finds of an entry of no variables: the `et-al` of its file.
+fn terms<'a>(
+    rt: &(impl Eprint + AllocGlobal),
+    context: StyleContext<'a>,
+    entry: &'a PlainEntry,
+    options: &'a InheritableNameOptions,
+) -> Result<bool, AllocError> {
+    named(rt, "prepare");
+    let properties: CiteProperties<'a, Infallible> = CiteProperties::for_sorting(None, 0);
+    let cite = context.ctx(rt.alloc(), entry, properties, options)?;
+    named(rt, "term");
+    Ok(cite.term(Term::Other(OtherTerm::EtAl), TermForm::Long, false) == Some("and others"))
+}
+
 /// A style's context in these files, which have one language and its `et-al`.
 fn locales<'a>(
     rt: &(impl Eprint + AllocGlobal),
@@ -217,16 +233,38 @@ fn locales<'a>(
     let found = context.lookup_locale(|locale| language(locale)) == Some("en-US");
     named(rt, "locale");
     let code = context.locale() == "en-US";
-    named(rt, "prepare");
-    let properties: CiteProperties<'a, Infallible> = CiteProperties::for_sorting(None, 0);
-    let cite = context.ctx(rt.alloc(), entry, properties, &style.settings.options)?;
-    named(rt, "term");
-    let term = cite.term(Term::Other(OtherTerm::EtAl), TermForm::Long, false);
+    let term = terms(rt, context, entry, &style.settings.options)?;
     named(rt, "punctuation_in_quotes");
-    Ok(found && code && term == Some("and others") && context.punctuation_in_quotes())
+    Ok(found && code && term && context.punctuation_in_quotes())
 }
 
-/// Calls of a writing context, after which it is as high as before.
+/// Name options and a delimiter that are pushed and popped; whether a writing context is then as high as before.
+fn pushed_and_popped<'a>(
+    rt: &impl Eprint,
+    writing: &mut WritingContext<'a>,
+    options: &'a InheritableNameOptions,
+) -> Result<bool, AllocError> {
+    let heights = writing.heights();
+    writing.push_name_options(options)?;
+    let delimiter = writing.push_delimiter(Some("; "))?;
+    named(rt, "pop_name_options");
+    writing.pop_name_options();
+    named(rt, "pop_delimiter");
+    writing.pop_delimiter(delimiter);
+    Ok(writing.heights() == heights)
+}
+
+/// The flags of a context.
+fn flags(rt: &impl Eprint, context: &mut Context<'_, PlainEntry, Infallible>) {
+    named(rt, "may_pull_punctuation");
+    context.may_pull_punctuation();
+    named(rt, "may_strip_periods");
+    context.may_strip_periods(true);
+    named(rt, "stop_stripping_periods");
+    context.stop_stripping_periods();
+}
+
+/// Calls of a context.
 fn contexts<'a>(
     rt: &(impl Eprint + AllocGlobal),
     style: &'a IndependentStyle,
@@ -241,20 +279,9 @@ fn contexts<'a>(
         properties,
         options,
     )?;
-    let heights = context.writing.heights();
-    context.writing.push_name_options(options)?;
-    let delimiter = context.writing.push_delimiter(Some("; "))?;
-    named(rt, "pop_name_options");
-    context.writing.pop_name_options();
-    named(rt, "pop_delimiter");
-    context.writing.pop_delimiter(delimiter);
-    named(rt, "may_pull_punctuation");
-    context.may_pull_punctuation();
-    named(rt, "may_strip_periods");
-    context.may_strip_periods(true);
-    named(rt, "stop_stripping_periods");
-    context.stop_stripping_periods();
-    Ok(context.writing.heights() == heights)
+    let is_level = pushed_and_popped(rt, &mut context.writing, options)?;
+    flags(rt, &mut context);
+    Ok(is_level)
 }
 
 // ---- trees
