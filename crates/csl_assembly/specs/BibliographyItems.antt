@@ -1,12 +1,13 @@
 -- The items of a bibliography, from the first cites of its entries.
 use Rattle.std.specs.Prelude.{Bool, List, [], map, None, if◌then◌else◌, is_some, option_map, unwrap_or}
-use Rattle.std.specs.List.{find, remove, position_or_len}
+use Rattle.std.specs.List.{filter_map, find, remove, position_or_len}
 use Rattle.csl_base.specs.Metas.{child_has_any_meta}
 use Rattle.csl_base.specs.Simplify.{simplified}
 use Rattle.csl_base.specs.Style.{BibliographyValue}
 use Rattle.csl_lookup.specs.Lookup.{Source}
 use Rattle.csl_lookup.specs.Properties.{Properties}
-use Rattle.csl_passes.specs.Renders.{ItemRender}
+use Rattle.csl_passes.specs.Places.{cite_at}
+use Rattle.csl_passes.specs.Renders.{CiteRender, ItemRender, Place}
 use Rattle.csl_substitution.specs.Substitution.{Item, substituted}
 use Rattle.csl_writers.specs.Tasks.{ItemTaskValue, TaskValue, item_task}
 use Rattle.csl_writers.specs.Writing.{Writing}
@@ -24,6 +25,10 @@ with_first_field aligned (tree, key) =
       content = remove tree (position_or_len child_has_any_meta tree);
     }
     else record { key = key; first_field = None; content = tree }
+
+-- the cites at these places
+abbrev pub cites_at : {E P : Type 0} → List (CiteRender E P) → List Place → List (ItemRender E P)
+cites_at renders places = filter_map (λ p. option_map (λ c. c.1) (cite_at renders p)) places
 
 -- what holds of a cite, without its locator
 abbrev pub unlocated : {E P : Type 0} → ItemRender E P → Properties P

@@ -1,9 +1,10 @@
 //! The bibliography of an answer.
-ghost use Rattle.std.specs.Prelude.{◌≡◌, ◌∷◌, [], IfOk, OnOk, map, option_map, Some, string_bytes};
+ghost use Rattle.std.specs.Prelude.{◌≡◌, ◌∷◌, [], IfOk, OnOk, map, option_map, string_bytes};
 ghost use Rattle.csl_base.specs.Metas.{child_has_any_meta};
 ghost use Rattle.csl_base.specs.StyleView.{bibliography_view};
 ghost use Rattle.csl_lookup.specs.PropertiesView.{properties_view};
-ghost use Rattle.csl_passes.specs.RendersView.{item_view, lent_items_view};
+ghost use Rattle.csl_passes.specs.Places.{cite_at};
+ghost use Rattle.csl_passes.specs.RendersView.{item_view, renders_view};
 ghost use Rattle.csl_passes.specs.Request.{wanted_source};
 ghost use Rattle.csl_passes.specs.RequestView.{wanted_view};
 ghost use Rattle.csl_substitution.specs.ItemView.{rendered_items_view};
@@ -11,7 +12,7 @@ ghost use Rattle.csl_writers.specs.Desk.{after, desk};
 ghost use Rattle.csl_writers.specs.Tasks.{item_task};
 ghost use Rattle.std.specs.List.{find, position_or_len, remove};
 ghost use Rattle.csl_assembly.specs.ChildOf.{child_of};
-ghost use Rattle.csl_assembly.specs.BibliographyItems.{bibliography_of, bibliography_tasks, item_of, unlocated, with_first_field, written_item};
+ghost use Rattle.csl_assembly.specs.BibliographyItems.{bibliography_of, bibliography_tasks, cites_at, item_of, unlocated, with_first_field, written_item};
 ghost use Rattle.csl_writers.specs.Writing.{writing_of};
 
 use crate::rendered::{BibliographyItem, RenderedBibliography};
@@ -22,7 +23,7 @@ use csl_base::style::Bibliography;
 use csl_base::text::Text;
 use csl_lookup::properties::CiteProperties;
 use csl_passes::acyclic::AcyclicWanted;
-use csl_passes::renders::SpeculativeItemRender;
+use csl_passes::renders::{SpeculativeCiteRender, SpeculativeItemRender};
 use csl_substitution::substitution::substitute_subsequent_authors;
 use csl_writers::asking;
 use csl_writers::counter::Renders;
@@ -95,26 +96,42 @@ fn written_item<T: EntryLike, P: Drop, W: CiteWriter<T, P>>(
     Ok((content, String::from_str(alloc, first.entry.key())?))
 }
 
-/// The entries of these cites, as the bibliography writes them.
+/// The cite at a place, if one stands there.
+fn cite_at<'c, 'a, T, P>(
+    cites: &'c [SpeculativeCiteRender<'_, 'a, T, P>],
+    place: (usize, usize),
+) -> Option<&'c SpeculativeItemRender<'a, T, P>>
+    ensures { option_map (λ i. item_view i.now) result
+        ≡ option_map (λ c. c.1) (cite_at (renders_view cites.now) place) }
+{
+    let (request, cite) = place;
+    let of_request = cites.get(request)?;
+    of_request.items.get(cite)
+}
+
+/// The entries of the cites at these places, as the bibliography writes them.
 fn written_items<T: EntryLike, P: Drop, W: CiteWriter<T, P>>(
     alloc: Global,
     wanted: AcyclicWanted<'_, '_, '_, T>,
-    firsts: &[&SpeculativeItemRender<'_, T, P>],
+    cites: &[SpeculativeCiteRender<'_, '_, T, P>],
+    firsts: &[(usize, usize)],
     writer: &mut W,
     counter: &mut Renders,
 ) -> Result<Vec<(ElemChildren, String)>, W::Error>
     ensures items { IfOk result (λ made. rendered_items_view made.items
         ≡ map (written_item (writing_of T.answers (W.state writer.old))
         (wanted_source (wanted_view wanted.entry.wanted.now)))
-        (lent_items_view firsts.now)) }
+        (cites_at (renders_view cites.now) firsts.now)) }
     ensures asked { OnOk result (desk (W.state writer.new) counter.new
         ≡ after (bibliography_tasks (wanted_source (wanted_view wanted.entry.wanted.now))
-        (lent_items_view firsts.now)) (desk (W.state writer.old) counter.old)) }
+        (cites_at (renders_view cites.now) firsts.now)) (desk (W.state writer.old) counter.old)) }
 {
     let mut items = Vec::with_capacity(alloc, firsts.len())?;
-    for first in firsts {
-        let item = written_item(alloc, wanted, first, writer, counter)?;
-        push(&mut items, item)?;
+    for place in firsts {
+        if let Some(first) = cite_at(cites, *place) {
+            let item = written_item(alloc, wanted, first, writer, counter)?;
+            push(&mut items, item)?;
+        }
     }
     Ok(items)
 }
@@ -162,10 +179,10 @@ fn with_first_fields(
     Ok(finished)
 }
 
-/// The bibliography of a style: an item for each of these cites, which are the first ones of its entries, in
-/// its order. Each is written by what holds of its cite, but without a locator; then names that it shares
-/// with one before it are substituted, and where second fields are aligned its first field, the first child
-/// of its tree that stands for something, is taken out. Each rendering is counted.
+/// The bibliography of a style: an item for each of the cites at these places, which are the first ones of
+/// its entries, in its order. Each is written by what holds of its cite, but without a locator; then names
+/// that it shares with one before it are substituted, and where second fields are aligned its first field,
+/// the first child of its tree that stands for something, is taken out. Each rendering is counted.
 ///
 /// # Errors
 /// The writer's; a want of memory among others.
@@ -173,19 +190,20 @@ pub fn bibliography_of<T: EntryLike, P: Drop, W: CiteWriter<T, P>>(
     alloc: Global,
     wanted: AcyclicWanted<'_, '_, '_, T>,
     bibliography: &Bibliography,
-    firsts: &[&SpeculativeItemRender<'_, T, P>],
+    cites: &[SpeculativeCiteRender<'_, '_, T, P>],
+    firsts: &[(usize, usize)],
     writer: &mut W,
     counter: &mut Renders,
 ) -> Result<RenderedBibliography, W::Error>
     ensures bibliography { IfOk result (λ r. r
         ≡ bibliography_of (writing_of T.answers (W.state writer.old))
         (wanted_source (wanted_view wanted.entry.wanted.now)) (bibliography_view bibliography.now)
-        (lent_items_view firsts.now)) }
+        (cites_at (renders_view cites.now) firsts.now)) }
     ensures asked { OnOk result (desk (W.state writer.new) counter.new
         ≡ after (bibliography_tasks (wanted_source (wanted_view wanted.entry.wanted.now))
-        (lent_items_view firsts.now)) (desk (W.state writer.old) counter.old)) }
+        (cites_at (renders_view cites.now) firsts.now)) (desk (W.state writer.old) counter.old)) }
 {
-    let mut items = written_items(alloc, wanted, firsts, writer, counter)?;
+    let mut items = written_items(alloc, wanted, cites, firsts, writer, counter)?;
     let substitute = bibliography.subsequent_author_substitute.as_deref();
     let rule = bibliography.subsequent_author_substitute_rule;
     substitute_subsequent_authors(alloc, substitute, rule, &mut items)?;

@@ -2,14 +2,18 @@
 use Rattle.std.proofs.Common.{◌≡◌, ℕ, suc, ◌+◌, ◌<◌, Bool, true, false, not, ◌||◌, cond, List, [], ◌∷◌, ◌++◌, Option, Some, None, length, map, take, get_or, refl, ap, sym, subst, ◌∙◌, arith}
 use Rattle.std.specs.Prelude.{All, find, option_map, slice_get, unwrap_or}
 use Rattle.std.specs.Cmp.{IsEquivalence}
-use Rattle.std.specs.List.{filter_map}
+use Rattle.std.specs.List.{cons_option, filter_map}
 use Rattle.std.specs.Option.{option_and_then}
 use Rattle.std.proofs.Math.ListN.{length-map}
-use Rattle.std.proofs.lemmas.List.Elements.{All-get_or}
-use Rattle.std.proofs.lemmas.Option.{slice_get-get_or, slice_get-map}
+use Rattle.std.proofs.lemmas.List.Elements.{All-get_or, filter_map-append}
 use Rattle.std.proofs.lemmas.Bool.{or_right}
+use Rattle.std.proofs.lemmas.Option.{slice_get-get_or, slice_get-map}
+use Rattle.csl_assembly.specs.BibliographyItems.{cites_at}
 use Rattle.csl_entries.specs.Entries.{is_in, place}
+use Rattle.csl_name_marks.proofs.Marking.{filter_map-more, filter_map-same}
+use Rattle.csl_passes.specs.Places.{cite_at}
 use Rattle.csl_passes.specs.Renders.{CiteRender, ItemRender, Place}
+use Rattle.csl_passes.specs.Request.{Request}
 use Rattle.csl_positions.specs.FinalProperties.{AreFirstItems, first_item, item_at, items_finally}
 
 module _ {E P : Type 0} (eq : E → E → Bool) (entries : List E) (renders : List (CiteRender E P)) where
@@ -17,30 +21,49 @@ module _ {E P : Type 0} (eq : E → E → Bool) (entries : List E) (renders : Li
   abbrev pub first_of : ℕ → Option (ItemRender E P)
   first_of p = option_and_then (first_item eq renders) (slice_get entries p)
 
-  -- is noted with where it stands
-  pub noted : (firsts : List (Option Place)) → AreFirstItems eq entries renders firsts → (p : ℕ) (o : Option Place) → p < length firsts → o ≡ get_or firsts p o
-      → option_and_then (item_at renders) o ≡ first_of p
-  noted firsts are p o within here = by (slice_get entries p) both
+  cite-item : (at : Place) → option_map (λ (c : Request E P × ItemRender E P). c.1) (cite_at renders at) ≡ item_at renders at
+  cite-item at = by (slice_get renders at.0)
     where
-      both : Some (option_map (item_at renders) o) ≡ option_map (λ e. option_map Some (first_item eq renders e)) (slice_get entries p)
-      both =
-          sym (ap (option_map (option_map (item_at renders))) (slice_get-get_or firsts p o within ∙ ap Some (sym here)))
-          ∙ sym (slice_get-map (option_map (item_at renders)) firsts p) ∙ ap (λ l. slice_get l p) are
-          ∙ slice_get-map (λ e. option_map Some (first_item eq renders e)) entries p
+      inner : (r : CiteRender E P) (o : Option (ItemRender E P)) → option_map (λ (c : Request E P × ItemRender E P). c.1) (option_map (λ i. (r.request, i)) o) ≡ o
+      inner r None = refl
+      inner r (Some i) = refl
 
-      there : (a : Option Place) → option_and_then (λ x. x) (option_map (item_at renders) a) ≡ option_and_then (item_at renders) a
-      there None = refl
-      there (Some at) = refl
+      by : (o : Option (CiteRender E P))
+          → option_map (λ (c : Request E P × ItemRender E P). c.1) (option_and_then (λ r. option_map (λ i. (r.request, i)) (slice_get r.items at.1)) o) ≡ option_and_then (λ r. slice_get r.items at.1) o
+      by None = refl
+      by (Some r) = inner r (slice_get r.items at.1)
 
-      back : (i : Option (ItemRender E P)) → option_and_then (λ x. x) (option_map Some i) ≡ i
-      back None = refl
-      back (Some i) = refl
+  module _ (firsts : List (Option Place)) (are : AreFirstItems eq entries renders firsts) (p : ℕ) (within : p < length firsts) where
+    noted : (o : Option Place) → o ≡ get_or firsts p o → option_map (item_at renders) o ≡ option_map Some (first_of p)
+    noted o here = by (slice_get entries p) both
+      where
+        both : Some (option_map (item_at renders) o) ≡ option_map (λ e. option_map Some (first_item eq renders e)) (slice_get entries p)
+        both =
+            sym (ap (option_map (option_map (item_at renders))) (slice_get-get_or firsts p o within ∙ ap Some (sym here)))
+            ∙ sym (slice_get-map (option_map (item_at renders)) firsts p) ∙ ap (λ l. slice_get l p) are
+            ∙ slice_get-map (λ e. option_map Some (first_item eq renders e)) entries p
 
-      by : (d : Option E) → Some (option_map (item_at renders) o) ≡ option_map (λ e. option_map Some (first_item eq renders e)) d
-          → option_and_then (item_at renders) o ≡ option_and_then (first_item eq renders) d
-      by None h = cc
-      by (Some e) h =
-          sym (there o) ∙ ap (λ x. option_and_then (λ y. y) (unwrap_or x (option_map (item_at renders) o))) h ∙ back (first_item eq renders e)
+        by : (d : Option E) → Some (option_map (item_at renders) o) ≡ option_map (λ e. option_map Some (first_item eq renders e)) d
+            → option_map (item_at renders) o ≡ option_map Some (option_and_then (first_item eq renders) d)
+        by None h = cc
+        by (Some e) h = ap (λ x. unwrap_or x (option_map (item_at renders) o)) h
+
+    none-first : None ≡ get_or firsts p None → first_of p ≡ None
+    none-first here = by (first_of p) (noted None here)
+      where
+        by : (o : Option (ItemRender E P)) → None ≡ option_map Some o → o ≡ None
+        by None h = refl
+        by (Some i) h = cc
+
+    some-first : (at : Place) → Some at ≡ get_or firsts p (Some at) → (i : ItemRender E P) × (item_at renders at ≡ Some i) × (first_of p ≡ Some i)
+    some-first at here = by (first_of p) (noted (Some at) here)
+      where
+        by : (o : Option (ItemRender E P)) → Some (item_at renders at) ≡ option_map Some o → (i : ItemRender E P) × (item_at renders at ≡ Some i) × (o ≡ Some i)
+        by None h = absurd (none h)
+          where
+            none : Some (item_at renders at) ≡ None → ⊥
+            none q = cc
+        by (Some i) h = (i, ap (λ x. unwrap_or x None) h, refl)
 
   as-long : (firsts : List (Option Place)) → AreFirstItems eq entries renders firsts → length firsts ≡ length entries
   as-long firsts are =
@@ -49,6 +72,20 @@ module _ {E P : Type 0} (eq : E → E → Bool) (entries : List E) (renders : Li
   -- there is one for each member of an order of places of entries
   pub within-firsts : (firsts : List (Option Place)) → AreFirstItems eq entries renders firsts → (order : List ℕ) (k : ℕ) → All (λ p. p < length entries) order → k < length order → get_or order k 0 < length firsts
   within-firsts firsts are order k below next = subst (λ n. get_or order k 0 < n) (sym (as-long firsts are)) (All-get_or (λ q. q < length entries) order k 0 next below)
+
+  module _ (order : List ℕ) (k : ℕ) (places : List Place) (found : cites_at renders places ≡ filter_map first_of (take k order)) (p : ℕ) (next : k < length order) (here : p ≡ get_or order k p)
+      (firsts : List (Option Place)) (are : AreFirstItems eq entries renders firsts) (within : p < length firsts) where
+    -- an entry that no cite cites
+    pub found-same : None ≡ get_or firsts p None → cites_at renders places ≡ filter_map first_of (take (k + 1) order)
+    found-same none = filter_map-same first_of order k p next here (none-first firsts are p within none) found
+
+    -- an entry with its first cite
+    pub found-more : (at : Place) (more : List Place) → Some at ≡ get_or firsts p (Some at) → more ≡ places ++ at ∷ [] → cites_at renders more ≡ filter_map first_of (take (k + 1) order)
+    found-more at more some made =
+        let there = some-first firsts are p within at some in
+        filter_map-more first_of order k p there.0 next here there.2 found
+        (ap (cites_at renders) made ∙ filter_map-append (λ w. option_map (λ (c : Request E P × ItemRender E P). c.1) (cite_at renders w)) places (at ∷ [])
+        ∙ ap (λ o. cites_at renders places ++ cons_option o []) (cite-item at ∙ there.1))
 
   module _ (laws : IsEquivalence eq) where
     -- equal entries have the same first cite

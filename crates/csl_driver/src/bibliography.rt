@@ -1,14 +1,14 @@
 //! The bibliography of an answer.
-ghost use Rattle.std.specs.Prelude.{◌≡◌, IfOk, OnOk, option_and_then, option_map};
+ghost use Rattle.std.specs.Prelude.{◌≡◌, IfOk, OnOk, option_map};
 ghost use Rattle.std.specs.List.{filter_map};
-ghost use Rattle.csl_assembly.specs.BibliographyItems.{bibliography_of, bibliography_tasks};
+ghost use Rattle.csl_assembly.specs.BibliographyItems.{bibliography_of, bibliography_tasks, cites_at};
 ghost use Rattle.csl_driver.specs.Answer.{entries_listed};
 ghost use Rattle.csl_driver.specs.AreCitesOf.{AreCitesOf};
 ghost use Rattle.csl_driver.specs.DraftView.{asked_in, table_in};
 ghost use Rattle.csl_driver.specs.WriterTasks.{where_wanted};
-ghost use Rattle.csl_passes.specs.RendersView.{item_view, lent_items_view, renders_view};
+ghost use Rattle.csl_passes.specs.RendersView.{renders_view};
 ghost use Rattle.csl_passes.specs.Request.{wanted_source};
-ghost use Rattle.csl_positions.specs.FinalProperties.{first_item, item_at};
+ghost use Rattle.csl_positions.specs.FinalProperties.{first_item};
 ghost use Rattle.csl_writers.specs.Desk.{after, desk};
 ghost use Rattle.csl_writers.specs.Writing.{writing_of};
 
@@ -16,8 +16,8 @@ use crate::draft::Draft;
 use csl_assembly::bibliography::bibliography_of;
 use csl_assembly::rendered::RenderedBibliography;
 use csl_base::entry::EntryLike;
-use csl_passes::renders::{SpeculativeCiteRender, SpeculativeItemRender};
-use csl_positions::final_order::{first_items, item_at};
+use csl_passes::renders::SpeculativeCiteRender;
+use csl_positions::final_order::first_items;
 use csl_writers::counter::Renders;
 use csl_writers::writer::CiteWriter;
 use std::alloc::{AllocError, Global};
@@ -51,22 +51,22 @@ impl<'d, 'o, 'a, T: EntryLike, P: Drop> Draft<'d, 'o, 'a, T, P> {
             Some(style) => {
                 let firsts = self.first_cites(alloc, cites)?;
                 let wanted = self.wanted;
-                let made = bibliography_of(alloc, wanted, style, &firsts, writer, counter)?;
+                let made = bibliography_of(alloc, wanted, style, cites, &firsts, writer, counter)?;
                 Ok(Some(made))
             }
             None => Ok(None),
         }
     }
 
-    /// The first cites, in the final order, of the bibliography's entries.
-    fn first_cites<'c>(
+    /// Where the first cites of the bibliography's entries stand in the final order.
+    fn first_cites(
         self,
         alloc: Global,
-        cites: &'c [SpeculativeCiteRender<'_, 'a, T, P>],
-    ) -> Result<Vec<&'c SpeculativeItemRender<'a, T, P>>, AllocError>
+        cites: &[SpeculativeCiteRender<'_, 'a, T, P>],
+    ) -> Result<Vec<(usize, usize)>, AllocError>
         requires cites { AreCitesOf T.eq (table_in self) (asked_in self).requests (renders_view cites.now) }
         ensures { let asked = asked_in self.entry in
-            IfOk result (λ v. lent_items_view v.items
+            IfOk result (λ v. cites_at (renders_view cites.now) v.items
             ≡ filter_map (first_item T.eq (renders_view cites.now))
             (entries_listed T.eq asked.wanted asked.requests)) }
     {
@@ -74,21 +74,11 @@ impl<'d, 'o, 'a, T: EntryLike, P: Drop> Draft<'d, 'o, 'a, T, P> {
         let order = self.cited.listing.order();
         let mut firsts = Vec::with_capacity(alloc, order.len())?;
         for entry in order {
-            if let Some(first) = first_cite(cites, places[*entry]) {
-                firsts.push(first)?;
+            let first = places[*entry];
+            if let Some(place) = first {
+                firsts.push(place)?;
             }
         }
         Ok(firsts)
     }
-}
-
-/// The cite that stands at the place of a first cite, if there is such a place.
-fn first_cite<'c, 'a, T, P>(
-    cites: &'c [SpeculativeCiteRender<'_, 'a, T, P>],
-    place: Option<(usize, usize)>,
-) -> Option<&'c SpeculativeItemRender<'a, T, P>>
-    ensures { option_map (λ i. item_view i.now) result
-        ≡ option_and_then (item_at (renders_view cites.now)) place }
-{
-    item_at(cites, place?)
 }

@@ -10,7 +10,7 @@ ghost use Rattle.csl_entries.specs.PlacedItems.{ArePlaced};
 ghost use Rattle.csl_entries.specs.TableView.{table_view};
 ghost use Rattle.csl_passes.specs.Positions.{with_last};
 ghost use Rattle.csl_passes.specs.Renders.{ItemRender};
-ghost use Rattle.csl_positions.specs.FinalProperties.{AreFirstItems, as_cite, cited_finally, item_at, items_before, with_final_properties};
+ghost use Rattle.csl_positions.specs.FinalProperties.{AreFirstItems, as_cite, cited_finally, items_before, with_final_properties};
 ghost use Rattle.csl_positions.specs.FinalSteps.{IsPlacedWithin, all_set, first_position, items_at, led_to, placed_item, position_in, stands_of, with_first};
 
 use csl_base::entry::EntryLike;
@@ -138,19 +138,6 @@ pub fn first_items<'a, T: EntryLike, P>(
         note_firsts(&mut firsts, r, &render.items, &places[r]);
     }
     Ok(firsts)
-}
-
-/// The cite at a place, which has the index of its request and its own in the request; none where no cite
-/// stands there.
-pub fn item_at<'c, 'a, T, P>(
-    renders: &'c [SpeculativeCiteRender<'_, 'a, T, P>],
-    place: (usize, usize),
-) -> Option<&'c SpeculativeItemRender<'a, T, P>>
-    ensures { option_map (λ i. item_view i.now) result ≡ item_at (renders_view renders.now) place }
-{
-    let (request, item) = place;
-    let of_request = renders.get(request)?;
-    of_request.items.get(item)
 }
 
 /// The position of a cite behind the last one, which counts as shown.

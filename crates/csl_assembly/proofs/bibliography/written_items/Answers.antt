@@ -1,40 +1,59 @@
-use Rattle.std.proofs.Common.{◌≡◌, List, get_or, map, refl, take, arith, rules}
-use Rattle.std.proofs.lemmas.Grind.{common_steps}
-use Rattle.std.specs.Prelude.{string_bytes}
-use Rattle.csl_passes.specs.Renders.{ItemRender}
-use Rattle.csl_passes.specs.RendersView.{item_view, lent_items_view}
+use Rattle.std.proofs.Common.{◌≡◌, ◌+◌, ◌++◌, ◌∷◌, [], List, Option, Some, None, ap, drop, get_or, map, refl, sym, take, ◌∙◌}
+use Rattle.std.specs.List.{filter_map}
+use Rattle.std.specs.Prelude.{option_map, string_bytes}
+use Rattle.std.proofs.lemmas.List.{map-append}
+use Rattle.csl_passes.specs.Places.{cite_at}
+use Rattle.csl_passes.specs.Renders.{ItemRender, Place}
+use Rattle.csl_passes.specs.RendersView.{item_view, renders_view}
 use Rattle.csl_passes.specs.Request.{wanted_source}
 use Rattle.csl_passes.specs.RequestView.{wanted_view}
+use Rattle.csl_substitution.specs.ItemView.{rendered_items_view}
 use Rattle.csl_substitution.specs.Substitution.{Item}
 use Rattle.csl_writers.specs.Desk.{desk}
 use Rattle.csl_writers.specs.Tasks.{TaskValue, item_task}
 use Rattle.csl_writers.specs.Writing.{Writing, writing_of}
 use Rattle.csl_writers.proofs.TasksDone.{writes-same}
 use Rattle.csl_assembly.specs.BibliographyItems.{item_of, written_item}
-use Rattle.csl_assembly.proofs.Asked.{asked-each, written_by_same}
+use Rattle.csl_assembly.proofs.Asked.{asked-found, asked-none, made-more, made-none, written_by_same}
+use Rattle.csl_assembly.proofs.bibliography.written_items.Goals.{in-Some+in_ok-item+in_ok-push, in_default}
 use Rattle.csl_assembly.proofs.bibliography.written_items.Goals as goal
 
-pub loop-first-preserved : goal.loop-first-preserved
-loop-first-preserved g c =
+pub loop-place-preserved : goal.loop-place-preserved
+loop-place-preserved g c =
     let E = g.row.T.Denot in
     let P = g.row.P.Denot in
     let firsts = c.args.firsts.now in
-    let k = c.loop-first.first-index in
-    let first = c.first-item.result in
+    let k = c.loop-place.place-index in
+    let within = c.loop-place-test.true in
+    let place : Place = get_or firsts k (0, 0) in
+    let found_at : Place → Option (ItemRender E P) = λ p. option_map (λ r. r.1) (cite_at (renders_view c.args.cites.now) p) in
     let source = wanted_source (wanted_view c.args.wanted.wanted.now) in
     let old = desk (g.W.CiteWriter.state c.args.writer.now) c.args.counter.now in
-    let before = desk (g.W.CiteWriter.state c.loop-first.writer) c.loop-first.counter in
-    let new = desk (g.W.CiteWriter.state c.written_item.new.writer) c.written_item.new.counter in
-    let was = c.loop-first.invariant in
+    let before = desk (g.W.CiteWriter.state c.loop-place.writer) c.loop-place.counter in
+    let was = c.loop-place.invariant in
     let task_of : ItemRender E P → TaskValue E P = λ i. item_task (item_of source i) in
-    let asked : List (TaskValue E P) = map task_of (lent_items_view (take k firsts)) in
+    let asked : List (TaskValue E P) = map task_of (filter_map found_at (take k firsts)) in
     let written = writing_of g.T.EntryLike.answers old.writer in
     let writes = writing_of g.T.EntryLike.answers before.writer in
-    let made : Item = (c.in_ok-item.item.0, string_bytes c.in_ok-item.item.1) in
-    let item : made ≡ written_item written source (item_view first.now) =
-    written_by_same (λ (w : Writing E P). written_item w source (item_view first.now)) writes written made (writes-same g.T.EntryLike.answers asked old before was.asked) c.in_ok-item.ensures.item in
-    record {
-      items = first_of (search (rules, common_steps), grind (arith, common_steps));
-      asked = asked-each firsts k first first c.loop-first-test.true c.first-item.is task_of old before new (λ i. item_view i.now)
-          was.asked c.in_ok-item.ensures.asked;
-    }
+    elim c.match-cite_at.branch [
+      | in-Some+in_ok-item+in_ok-push w ↦
+          let first = item_view w.in-Some.first.now in
+          let there : found_at place ≡ Some first = sym c.cite_at.ensures ∙ ap (option_map (λ i. item_view i.now)) w.in-Some.is in
+          let made : Item = (w.in_ok-item.item.0, string_bytes w.in_ok-item.item.1) in
+          let item : made ≡ written_item written source first =
+          written_by_same (λ (v : Writing E P). written_item v source first) writes written made (writes-same g.T.EntryLike.answers asked old before was.asked) w.in_ok-item.ensures.item in
+          record {
+            items = made-more found_at (written_item written source) firsts k (0, 0) place within refl (rendered_items_view c.loop-place.items.items) _ was.items first _ there
+                (ap (λ v. rendered_items_view v.items) w.items-is ∙ ap rendered_items_view w.in_ok-push.ensures
+                ∙ map-append (λ p. (p.0, string_bytes p.1)) c.loop-place.items.items (w.in_ok-item.item ∷ []) ∙ ap (λ z. rendered_items_view c.loop-place.items.items ++ z ∷ []) item);
+            asked = (λ i. desk (g.W.CiteWriter.state (w.writer-is i)) (w.counter-is i))
+                ∙ asked-found firsts k (0, 0) place within refl task_of old before _ found_at first there was.asked w.in_ok-item.ensures.asked;
+          }
+      | in_default w ↦
+          let none : found_at place ≡ None = sym c.cite_at.ensures ∙ ap (option_map (λ i. item_view i.now)) w.in_default.is in
+          record {
+            items = ap (λ v. rendered_items_view v.items ++ map (written_item written source) (filter_map found_at (drop (k + 1) firsts))) w.items-is
+                ∙ made-none found_at (written_item written source) firsts k (0, 0) place within refl (rendered_items_view c.loop-place.items.items) _ was.items none;
+            asked = (λ i. desk (g.W.CiteWriter.state (w.writer-is i)) (w.counter-is i)) ∙ asked-none firsts k (0, 0) place within refl task_of old before before found_at none was.asked;
+          }
+    ]

@@ -1,19 +1,19 @@
 use Rattle.std.proofs.Common.{◌≡◌, ◌++◌, drop, map, take}
-use Rattle.csl_passes.specs.RendersView.{lent_items_view}
+use Rattle.csl_passes.specs.RendersView.{renders_view}
 use Rattle.csl_passes.specs.Request.{wanted_source}
 use Rattle.csl_passes.specs.RequestView.{wanted_view}
 use Rattle.csl_substitution.specs.ItemView.{rendered_items_view}
-use Rattle.csl_assembly.specs.BibliographyItems.{bibliography_tasks, written_item}
+use Rattle.csl_assembly.specs.BibliographyItems.{bibliography_tasks, cites_at, written_item}
 use Rattle.csl_writers.specs.Desk.{after, desk}
 use Rattle.csl_writers.specs.Writing.{writing_of}
 use Rattle.csl_assembly.proofs.bibliography.written_items.Given as goal
 
-abbrev pub invariant-loop-first : goal.invariant-loop-first
-invariant-loop-first g l =
+abbrev pub invariant-loop-place : goal.invariant-loop-place
+invariant-loop-place g l =
     let source = wanted_source (wanted_view l.wanted.wanted.now) in
     let written = written_item (writing_of g.T.EntryLike.answers (g.W.CiteWriter.state l.fn.writer)) source in
     record {
-      items : rendered_items_view l.items.items ++ map written (lent_items_view (drop l.first-index l.firsts)) ≡ map written (lent_items_view l.firsts);
+      items : rendered_items_view l.items.items ++ map written (cites_at (renders_view l.cites) (drop l.place-index l.firsts)) ≡ map written (cites_at (renders_view l.cites) l.firsts);
       asked : desk (g.W.CiteWriter.state l.writer) l.counter
-          ≡ after (bibliography_tasks source (lent_items_view (take l.first-index l.firsts))) (desk (g.W.CiteWriter.state l.fn.writer) l.fn.counter);
+          ≡ after (bibliography_tasks source (cites_at (renders_view l.cites) (take l.place-index l.firsts))) (desk (g.W.CiteWriter.state l.fn.writer) l.fn.counter);
     }

@@ -1,12 +1,12 @@
 use Rattle.std.proofs.Common.{Some, ap, sym, ◌∙◌}
 use Rattle.std.specs.List.{filter_map}
 use Rattle.std.specs.Prelude.{option_map}
-use Rattle.csl_assembly.specs.BibliographyItems.{bibliography_of, bibliography_tasks}
+use Rattle.csl_assembly.specs.BibliographyItems.{bibliography_of, bibliography_tasks, cites_at}
 use Rattle.csl_base.specs.StyleView.{bibliography_view}
 use Rattle.csl_driver.specs.Answer.{entries_listed}
 use Rattle.csl_driver.specs.DraftView.{asked_in}
 use Rattle.csl_driver.specs.WriterTasks.{where_wanted}
-use Rattle.csl_passes.specs.RendersView.{lent_items_view, renders_view}
+use Rattle.csl_passes.specs.RendersView.{renders_view}
 use Rattle.csl_passes.specs.Request.{wanted_source}
 use Rattle.csl_positions.specs.FinalProperties.{first_item}
 use Rattle.csl_writers.specs.Desk.{after, desk}
@@ -18,7 +18,7 @@ returns-in_ok-made-in-Some-clause-bibliography g c =
     let asked = asked_in c.args.self in
     let cites = renders_view c.args.cites.now in
     let written = bibliography_of (writing_of g.T.EntryLike.answers (g.W.CiteWriter.state c.args.writer.now)) (wanted_source asked.wanted) in
-    ap Some (c.in_ok-made-in-Some.ensures.bibliography ∙ ap (written (bibliography_view c.in-Some.style)) (ap lent_items_view c.deref.ensures.value ∙ c.in_ok-firsts-in-Some.ensures))
+    ap Some (c.in_ok-made-in-Some.ensures.bibliography ∙ ap (written (bibliography_view c.in-Some.style)) (ap (cites_at cites) c.deref.ensures.value ∙ c.in_ok-firsts-in-Some.ensures))
     ∙ sym (ap (λ o. option_map (λ b. written b (filter_map (first_item g.T.PartialEq.eq cites) (entries_listed g.T.PartialEq.eq asked.wanted asked.requests))) (option_map bibliography_view o)) c.in-Some.is)
 
 pub returns-in_ok-made-in-Some-clause-asked : goal.returns-in_ok-made-in-Some-clause-asked
@@ -27,7 +27,7 @@ returns-in_ok-made-in-Some-clause-asked g c =
     let cites = renders_view c.args.cites.now in
     let begun = desk (g.W.CiteWriter.state c.args.writer.now) c.args.counter.now in
     c.in_ok-made-in-Some.ensures.asked
-    ∙ ap (λ is. after (bibliography_tasks (wanted_source asked.wanted) is) begun) (ap lent_items_view c.deref.ensures.value ∙ c.in_ok-firsts-in-Some.ensures)
+    ∙ ap (λ is. after (bibliography_tasks (wanted_source asked.wanted) is) begun) (ap (cites_at cites) c.deref.ensures.value ∙ c.in_ok-firsts-in-Some.ensures)
     ∙ sym (ap (λ o. after (where_wanted (option_map bibliography_view o) (bibliography_tasks (wanted_source asked.wanted) (filter_map (first_item g.T.PartialEq.eq cites) (entries_listed g.T.PartialEq.eq asked.wanted asked.requests)))) begun) c.in-Some.is)
 
 pub returns-in-None-clause-asked : goal.returns-in-None-clause-asked

@@ -1,6 +1,7 @@
-use Rattle.std.proofs.Common.{◌+◌, ◌≤◌, All, arith, Some, None, ap, get_or, length, subst, sym, ◌∙◌, ◌<◌}
+use Rattle.std.proofs.Common.{◌≡◌, ◌+◌, ◌≤◌, take, All, arith, Some, None, ap, get_or, length, subst, sym, ◌∙◌, ◌<◌}
 use Rattle.std.proofs.lemmas.List.{take_all}
 use Rattle.std.specs.List.{filter_map}
+use Rattle.csl_assembly.specs.BibliographyItems.{cites_at}
 use Rattle.csl_driver.specs.Answer.{order_in_use}
 use Rattle.csl_entries.specs.Entries.{bibliography_order}
 use Rattle.csl_entries.specs.Listed.{Listed}
@@ -8,7 +9,7 @@ use Rattle.csl_driver.specs.DraftView.{asked_in, table_in}
 use Rattle.csl_passes.specs.Request.{cited}
 use Rattle.csl_passes.specs.RendersView.{renders_view}
 use Rattle.csl_name_marks.proofs.Marking.{same-default}
-use Rattle.csl_driver.proofs.FirstCites.{Found, first-cites, first_of, found-more, found-same, within-firsts}
+use Rattle.csl_driver.proofs.FirstCites.{first-cites, first_of, found-more, found-same, within-firsts}
 use Rattle.csl_driver.proofs.Listings.{known-listed, known-within, table-once}
 use Rattle.csl_driver.proofs.draft.Draft.first_cites.Goals.{in-Some+in_ok-push, in_default}
 use Rattle.csl_driver.proofs.draft.Draft.first_cites.Goals as goal
@@ -36,13 +37,19 @@ loop-entry-preserved g c =
     let p = get_or order k 0 in
     let firsts = c.in_ok-places.places.items in
     let next = c.loop-entry-test.true in
-    let first = first_of eq entries cites in
     let listed = subst (λ ps. All (λ q. q < length entries) ps) (sym c.order-order.ensures) (known-within c.args.self.known g.met.T.Eq.laws) in
     let within = within-firsts eq entries cites firsts c.in_ok-places.ensures order k listed next in
-    let here = same-default order k 0 p next in
-    let noted-is : option_map (λ i. item_view i.now) c.first_cite.result ≡ first p =
-    c.first_cite.ensures ∙ noted eq entries cites firsts c.in_ok-places.ensures p _ within (c.index-first_cite.is) in
-    ?
+    elim c.match-first.branch [
+      | in-Some+in_ok-push w ↦
+          let some = sym w.in-Some.is ∙ c.index-first.ensures ∙ same-default firsts p _ (Some w.in-Some.place) within in
+          subst (λ ps. cites_at cites ps ≡ filter_map (first_of eq entries cites) (take (k + 1) order)) (sym (ap (λ (v : _). v.items) w.firsts-is))
+          (found-more eq entries cites order k c.loop-entry.firsts.items c.loop-entry.invariant p next (same-default order k 0 p next) firsts c.in_ok-places.ensures within
+          w.in-Some.place w.push.new.self.items some w.in_ok-push.ensures.items)
+      | in_default w ↦
+          let none = sym w.in_default.is ∙ c.index-first.ensures ∙ same-default firsts p _ None within in
+          subst (λ ps. cites_at cites ps ≡ filter_map (first_of eq entries cites) (take (k + 1) order)) (sym (ap (λ (v : _). v.items) w.firsts-is))
+          (found-same eq entries cites order k c.loop-entry.firsts.items c.loop-entry.invariant p next (same-default order k 0 p next) firsts c.in_ok-places.ensures within none)
+    ]
 
 pub returns : goal.returns
 returns g c =

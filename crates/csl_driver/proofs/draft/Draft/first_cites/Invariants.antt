@@ -1,11 +1,12 @@
 use Rattle.std.proofs.Common.{◌≡◌, take}
 use Rattle.std.specs.List.{filter_map}
+use Rattle.csl_assembly.specs.BibliographyItems.{cites_at}
 use Rattle.csl_entries.specs.TableView.{table_view}
-use Rattle.csl_passes.specs.RendersView.{lent_items_view, renders_view}
+use Rattle.csl_passes.specs.RendersView.{renders_view}
 use Rattle.csl_driver.proofs.FirstCites.{first_of}
 use Rattle.csl_driver.proofs.draft.Draft.first_cites.Given as goal
 
 abbrev pub invariant-loop-entry : goal.invariant-loop-entry
 invariant-loop-entry g l =
-    lent_items_view l.firsts.items
+    cites_at (renders_view l.cites) l.firsts.items
     ≡ filter_map (first_of g.T.PartialEq.eq (table_view l.self.cited.now.table).entries (renders_view l.cites)) (take l.entry-index l.order)
