@@ -48,7 +48,7 @@ module _ {E P : Type 0} (eq : E → E → Bool) (laws : IsEquivalence eq) (befor
         ∙ get_or-map (λ d. place eq d.entry table.entries) r.cites k c p within ∙ ap (λ d. place eq d.entry table.entries) (sym here)
 
     pub cite-within : (p n : ℕ) → p ≡ place eq c.entry table.entries → length table.entries ≡ n → p < n
-    cite-within p n at count = omega (arith, place-within eq c.entry table.entries cite-there)
+    cite-within p n at count = omega (arith, place-within eq laws c.entry table.entries cite-there)
 
     -- what is known of its entry
     pub cite-known : (cs : List E) (rs : List (Request E P)) (p : ℕ) → p ≡ place eq c.entry table.entries → (seen : List Seen) → seen ≡ map (seen_of eq cs rs) table.entries
