@@ -9,7 +9,7 @@ use Rattle.csl_lookup.specs.declared.state.DisambiguateState.{DisambiguateState}
 use Rattle.csl_passes.specs.Renders.{CiteRender}
 use Rattle.csl_round_laws.specs.FirstRenders.{AreBegun}
 use Rattle.csl_round_laws.specs.RoundMarks.{has_any, round_marks}
-use Rattle.csl_round_laws.specs.Rounds.{StateTable, at_table, entries_cited, with_marks}
+use Rattle.csl_round_laws.specs.Rounds.{StateTable, at_table, entries_cited, no_states, with_marks}
 use Rattle.csl_round_laws.specs.Tables.{marked_at, marks_at, most_forms, most_rounds}
 use Rattle.csl_round_laws.specs.declared.mode.RoundMode.{RoundMode}
 use Rattle.csl_round_laws.proofs.RankSums.{HaveRisen, cite-ranks, cites-most, cites-rise, ranks, risen-begun, risen-more, risen-within}
@@ -76,7 +76,7 @@ module _ {E P N : Type 0} (mode : RoundMode) (eq : E → E → Bool) (answers : 
     risen = by mode;
   }
     where
-      by : (m : RoundMode) → Risen writing firsts eq laws m 0 _
+      by : (m : RoundMode) → Risen writing firsts eq laws m 0 no_states
       by RoundMode.Three = tt
       by RoundMode.Full = λ untold. risen-begun writing firsts untold eq laws
 

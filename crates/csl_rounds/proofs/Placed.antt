@@ -1,5 +1,5 @@
 -- The states of entries by their places are those of the entries.
-use Rattle.std.proofs.Common.{◌≡◌, ℕ, suc, ◌+◌, ◌<◌, Bool, true, false, cond, not, ◌||◌, Option, Some, None, List, [], ◌∷◌, length, map, filter, get_or, refl, ap, sym, subst, ◌∙◌, arith}
+use Rattle.std.proofs.Common.{◌≡◌, ℕ, suc, ◌+◌, ◌<◌, Bool, true, false, cond, not, ◌||◌, Option, Some, None, List, [], ◌∷◌, ◌++◌, length, map, filter, get_or, refl, ap, sym, subst, ◌∙◌, arith}
 use Rattle.std.specs.Prelude.{All, nat_eq, option_map, slice_get}
 use Rattle.std.specs.Cmp.{IsEquivalence}
 use Rattle.std.specs.List.{enumerate_from, flat_map, list_any}

@@ -33,7 +33,7 @@ abbrev pub raised : Option ℕ → DisambiguateState → List (Option Disambigua
 raised None s states = states
 raised (Some p) s states = set states p (with_greater (get_or states p None) s)
 
-length-raised : (o : Option ℕ) (s : DisambiguateState) (states : List (Option DisambiguateState)) → length (raised o s states) ≡ length states
+pub length-raised : (o : Option ℕ) (s : DisambiguateState) (states : List (Option DisambiguateState)) → length (raised o s states) ≡ length states
 length-raised None s states = refl
 length-raised (Some p) s states = length-set states p (with_greater (get_or states p None) s)
 

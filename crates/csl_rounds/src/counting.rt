@@ -112,7 +112,7 @@ pub(crate) fn note(places: &[Vec<usize>], marked: &mut [bool], marks: &Marks)
 fn note_at(marked: &mut [bool], place: Option<usize>)
     ensures long { length marked.new ≡ length marked.old }
     ensures noted { (p : ℕ) → p < length marked.old → slice_index_or marked.new p false
-        ≡ (slice_index_or marked.old p false || option_map_or (λ n. nat_eq n p) place.entry false) }
+        ≡ (slice_index_or marked.old p false || option_map_or (λ n. nat_eq n p) place false) }
 {
     if let Some(place) = place {
         if place < marked.len() {

@@ -87,7 +87,7 @@ impl<'a, T: EntryLike> Subject<'a, T> {
         ensures env { input.env_of (T.answers result.entry.now) result.setting
             ≡ plain.env (subject_view T.answers self.now)
             (options_view layout_options.now) form is_bibliography }
-        ensures macros { input.macros_of result.setting
+        ensures macros { input.macros_in result.setting
             ≡ (subject_view T.answers self.now).source.style.macros }
     {
         Input {

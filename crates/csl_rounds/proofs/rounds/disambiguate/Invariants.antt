@@ -5,12 +5,12 @@ use Rattle.csl_rounds.specs.CitesOfTable.{AreCitesOfTable}
 use Rattle.csl_rounds.proofs.InMode.{InMode, left_for}
 use Rattle.csl_rounds.proofs.rounds.disambiguate.Given as goal
 
-abbrev pub invariant-loop-has_round_left : goal.invariant-loop-has_round_left
-invariant-loop-has_round_left g l = record {
+abbrev pub invariant-loop-alloc : goal.invariant-loop-alloc
+invariant-loop-alloc g l = record {
   cites : AreCitesOfTable g.T.PartialEq.eq (table_view l.table) (renders_view l.cites);
   rounds : InMode l.mode g.T.PartialEq.eq g.T.EntryLike.answers (renders_view l.initial.cites) (table_view l.table).entries (desk (g.W.CiteWriter.state l.fn.writer) l.fn.counter) g.met.T.Eq.laws
       (renders_view l.cites) l.rounds.states.items l.rounds.marked (desk (g.W.CiteWriter.state l.writer) l.counter);
 }
 
-abbrev pub decreases-loop-has_round_left : goal.decreases-loop-has_round_left
-decreases-loop-has_round_left g l = left_for l.mode (renders_view l.initial.cites) l.rounds.marked (renders_view l.cites)
+abbrev pub decreases-loop-alloc : goal.decreases-loop-alloc
+decreases-loop-alloc g l = left_for l.mode (renders_view l.initial.cites) l.rounds.marked (renders_view l.cites)
