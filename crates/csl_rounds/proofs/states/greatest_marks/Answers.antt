@@ -20,3 +20,9 @@ loop-at-preserved c =
     let place = c.in_default.is in
     one-more (map (λ ps. ps.items) c.args.places.now) c.args.count c.args.marks.items c.loop-at.states.items c.loop-at.states.items (c.in-Some.at, c.in-Some.mark) (into_iter_items c.next.new.self)
     (into_iter_items c.loop-at.at-iterator) c.in-Some.ensures.steps.0 (ap (λ o. raised o c.in-Some.mark c.loop-at.states.items) (sym place ∙ c.entry_place.ensures)) c.loop-at.invariant
+
+pub loop-at-preserved-in_default : goal.loop-at-preserved-in_default
+loop-at-preserved-in_default c =
+    let place = c.in_default.is in
+    one-more (map (λ ps. ps.items) c.args.places.now) c.args.count c.args.marks.items c.loop-at.states.items c.loop-at.states.items (c.in-Some.at, c.in-Some.mark) (into_iter_items c.next.new.self)
+    (into_iter_items c.loop-at.at-iterator) c.in-Some.ensures.steps.0 (ap (λ o. raised o c.in-Some.mark c.loop-at.states.items) (sym place ∙ c.entry_place.ensures)) c.loop-at.invariant
