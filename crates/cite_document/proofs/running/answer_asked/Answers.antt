@@ -1,13 +1,12 @@
 -- What the driver answers, or why it refuses, is of the document.
-use Rattle.std.proofs.Common.{◌≡◌, map, refl, subst, ◌∙◌}
+use Rattle.std.proofs.Common.{◌≡◌, map, refl, rules, ◌∙◌}
 use Rattle.csl_base.specs.StyleView.{locale_view}
 use Rattle.csl_driver.specs.DriverView.{driver_view}
 use Rattle.csl_passes.specs.RequestView.{wanted_view}
 use Rattle.document_reading.specs.AskedView.{asked_requests_view}
 use Rattle.document_reading.specs.DocumentView.{document_view}
-use Rattle.csl_driver.specs.Rings.{Refuses}
 use Rattle.cite_document.specs.Run.{accepted, same_plain_entry, wanted_of}
-use Rattle.cite_document.proofs.Refusals.{has_answer, is_answer, first_ring, too_large}
+use Rattle.cite_document.proofs.Refusals.{has_answer, is_answer, refused-for}
 use Rattle.cite_document.proofs.running.answer_asked.Goals as goal
 
 pub returns : goal.returns
@@ -33,4 +32,5 @@ returns-in_err-rendered c =
     c.in_ok-driver.ensures.filled
     ∙ (λ i. record { requests = accepted (asked_requests_view (map locale_view (c.in_ok-files.ensures i)) (c.deref.ensures.value i)); offset = asked.offset }) in
     let wanted : w ≡ wanted_of d = c.in_ok-request.ensures ∙ (λ i. record (wanted_of d) { locales = map locale_view (c.in_ok-files.ensures i) }) in
-    ?
+    let h = refused-for v w d made wanted (λ x. x) d refl c.in_err-rendered.field-0.0 c.in_err-rendered.ensures.refused in
+    search (rules, h)

@@ -1,14 +1,13 @@
 -- What comes of the table, or why the driver refuses, is of the document.
-use Rattle.std.proofs.Common.{◌≡◌, map, refl, subst, ◌∙◌}
+use Rattle.std.proofs.Common.{◌≡◌, map, refl, rules, ◌∙◌}
 use Rattle.csl_base.specs.StyleView.{locale_view}
 use Rattle.csl_driver.specs.DriverView.{driver_view}
-use Rattle.csl_driver.specs.Rings.{Refuses}
 use Rattle.csl_passes.specs.RequestView.{wanted_view}
 use Rattle.csl_table.specs.Table.{found}
 use Rattle.document_reading.specs.AskedView.{asked_requests_view}
 use Rattle.document_reading.specs.DocumentView.{document_view}
-use Rattle.cite_document.specs.Run.{accepted, same_plain_entry, wanted_of}
-use Rattle.cite_document.proofs.Refusals.{first_ring, too_large}
+use Rattle.cite_document.specs.Run.{accepted, wanted_of}
+use Rattle.cite_document.proofs.Refusals.{refused-for}
 use Rattle.document_driven.specs.DrivenForm.{DrivenDocument}
 use Rattle.document_driven.proofs.AskedBy.{comes}
 use Rattle.document_driven.proofs.driving.drive_asked.Goals as goal
@@ -36,4 +35,6 @@ returns-in_err-driven c =
     c.in_ok-driver.ensures.filled
     ∙ (λ i. record { requests = accepted (asked_requests_view (map locale_view (c.in_ok-files.ensures i)) (c.deref.ensures.value i)); offset = asked.offset }) in
     let wanted : w ≡ wanted_of d = c.in_ok-request.ensures ∙ (λ i. record (wanted_of d) { locales = map locale_view (c.in_ok-files.ensures i) }) in
-    ?
+    let x : DrivenDocument = record { asked = d; table = found c.args.table.now } in
+    let h = refused-for v w d made wanted (λ y. y.asked) x refl c.in_err-driven.field-0.0 c.in_err-driven.ensures.refused in
+    search (rules, h)
