@@ -10,7 +10,7 @@ loop-r-preserved g c =
     let first = c.args.cites.now in
     let long = length-map first render_view in
     let within : c.loop-r.r < length (renders_view first) = omega (arith, c.loop-r-test.true, long) in
-    changed-more render_view drawn_together c.loop-r.cites (renders_view first) c.loop-r.r c.loop-r.invariant c.index-cites-r.result c.draw_together.new.cite within c.index-cites-r.is
+    changed-more render_view drawn_together c.loop-r.cites (renders_view first) c.loop-r.r c.loop-r.invariant c.index-cites-r.result c.draw_together.new.render within c.index-cites-r.is
     (c.draw_together.ensures ∙ ap (λ x. drawn_together (render_view x)) (sym c.index-cites-r.is))
 
 pub returns : goal.returns
