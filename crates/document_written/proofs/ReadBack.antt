@@ -107,7 +107,7 @@ record SaysStanding (d : Data) (s : Standing) : Type 0 where
   first_note : get (codes "first_note") d ≡ option_map count_data s.first_note_number
   near_note : get (codes "near_note") d ≡ true_if s.is_near_note
   first : get (codes "first") d ≡ true_if s.is_first
-  ibid : get (codes "ibid_states") d ≡ option_map string (repeats_name s.ibid)
+  ibid : get (codes "repeats") d ≡ option_map string (repeats_name s.ibid)
   number : get (codes "number") d ≡ Some (count_data s.citation_number)
   locator : get (codes "locator") d ≡ option_map locator_data s.locator
   state : get (codes "state") d ≡ state_data s.disambiguation
@@ -123,7 +123,7 @@ standing_back d s h =
     (then (where_present whole (codes "first_note") d) s.first_note_number _ _ (ap (or_default None (present whole)) h.first_note ∙ absent_back whole count_data s.first_note_number (λ n. refl))
     (then (flag (codes "near_note") d) s.is_near_note _ _ (ap (or_default false as_bool) h.near_note ∙ flag_back s.is_near_note)
     (then (flag (codes "first") d) s.is_first _ _ (ap (or_default false as_bool) h.first ∙ flag_back s.is_first)
-    (then (optional IbidState.Different (one_of ibid_states) (codes "ibid_states") d) s.ibid _ _ (ap (or_default IbidState.Different (one_of ibid_states)) h.ibid ∙ ibid_back s.ibid)
+    (then (optional IbidState.Different (one_of ibid_states) (codes "repeats") d) s.ibid _ _ (ap (or_default IbidState.Different (one_of ibid_states)) h.ibid ∙ ibid_back s.ibid)
     (then (required whole (codes "number") d) s.citation_number _ _ (ap (option_and_then whole) h.number)
     (then (where_present counted_locator_form (codes "locator") d) s.locator _ _ (ap (or_default None (present counted_locator_form)) h.locator ∙ absent_back counted_locator_form locator_data s.locator locator_back)
     (then (optional DisambiguateState.None state_form (codes "state") d) s.disambiguation _ _ (ap (or_default DisambiguateState.None state_form) h.state ∙ state_back s.disambiguation)
@@ -158,7 +158,7 @@ cite_says k s purpose verdict =
       first_note = there t (codes "first_note") ∙ first_of_none (option_map count_data s.first_note_number);
       near_note = there t (codes "near_note") ∙ first_of_none (true_if s.is_near_note);
       first = there t (codes "first") ∙ first_of_none (true_if s.is_first);
-      ibid = there t (codes "ibid_states") ∙ first_of_none (option_map string (repeats_name s.ibid));
+      ibid = there t (codes "repeats") ∙ first_of_none (option_map string (repeats_name s.ibid));
       number = there t (codes "number");
       locator = there t (codes "locator") ∙ first_of_none (option_map locator_data s.locator);
       state = there t (codes "state") ∙ first_of_none (state_data s.disambiguation);
@@ -173,7 +173,7 @@ item_says k s =
       first_note = there t (codes "first_note") ∙ first_of_none (option_map count_data s.first_note_number);
       near_note = there t (codes "near_note") ∙ first_of_none (true_if s.is_near_note);
       first = there t (codes "first") ∙ first_of_none (true_if s.is_first);
-      ibid = there t (codes "ibid_states") ∙ first_of_none (option_map string (repeats_name s.ibid));
+      ibid = there t (codes "repeats") ∙ first_of_none (option_map string (repeats_name s.ibid));
       number = there t (codes "number");
       locator = there t (codes "locator") ∙ first_of_none (option_map locator_data s.locator);
       state = there t (codes "state") ∙ first_of_none (state_data s.disambiguation);

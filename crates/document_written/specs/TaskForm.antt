@@ -55,7 +55,7 @@ standing_form o = do
   first_note ← where_present whole (codes "first_note") o
   near_note ← flag (codes "near_note") o
   first ← flag (codes "first") o
-  ibid ← optional IbidState.Different (one_of ibid_states) (codes "ibid_states") o
+  ibid ← optional IbidState.Different (one_of ibid_states) (codes "repeats") o
   number ← required whole (codes "number") o
   locator ← where_present counted_locator_form (codes "locator") o
   state ← optional DisambiguateState.None state_form (codes "state") o
@@ -78,7 +78,7 @@ abbrev pub task_keys : List (List ℕ)
 task_keys = codes "kind" ∷ codes "style" ∷ codes "locale" ∷ codes "entry" ∷ []
 
 abbrev pub standing_keys : List (List ℕ)
-standing_keys = codes "note" ∷ codes "first_note" ∷ codes "near_note" ∷ codes "first" ∷ codes "ibid_states"
+standing_keys = codes "note" ∷ codes "first_note" ∷ codes "near_note" ∷ codes "first" ∷ codes "repeats"
     ∷ codes "number" ∷ codes "locator" ∷ codes "state" ∷ codes "usage" ∷ []
 
 unfoldable pub cite_task_form : Data → Option TaskPart
