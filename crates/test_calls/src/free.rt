@@ -17,7 +17,6 @@ use csl_base::taxonomy::{
     DateVariable, Locator, NameVariable, NumberVariable, OtherTerm, StandardVariable, Term,
     TermForm,
 };
-use csl_context::writing::WritingContext;
 use csl_driver::brackets::Brackets;
 use csl_driver::context::Context;
 use csl_driver::counter::Renders;
@@ -238,22 +237,6 @@ fn locales<'a>(
     Ok(found && code && term && context.punctuation_in_quotes())
 }
 
-/// Name options and a delimiter that are pushed and popped; whether a writing context is then as high as before.
-fn pushed_and_popped<'a>(
-    rt: &impl Eprint,
-    writing: &mut WritingContext<'a>,
-    options: &'a InheritableNameOptions,
-) -> Result<bool, AllocError> {
-    let heights = writing.heights();
-    writing.push_name_options(options)?;
-    let delimiter = writing.push_delimiter(Some("; "))?;
-    named(rt, "pop_name_options");
-    writing.pop_name_options();
-    named(rt, "pop_delimiter");
-    writing.pop_delimiter(delimiter);
-    Ok(writing.heights() == heights)
-}
-
 /// The flags of a context.
 fn flags(rt: &impl Eprint, context: &mut Context<'_, PlainEntry, Infallible>) {
     named(rt, "may_pull_punctuation");
@@ -264,7 +247,7 @@ fn flags(rt: &impl Eprint, context: &mut Context<'_, PlainEntry, Infallible>) {
     context.stop_stripping_periods();
 }
 
-/// Calls of a context.
+/// Calls of a writing context, after which it is as high as before.
 fn contexts<'a>(
     rt: &(impl Eprint + AllocGlobal),
     style: &'a IndependentStyle,
@@ -279,9 +262,15 @@ fn contexts<'a>(
         properties,
         options,
     )?;
-    let is_level = pushed_and_popped(rt, &mut context.writing, options)?;
+    let heights = context.writing.heights();
+    context.writing.push_name_options(options)?;
+    let delimiter = context.writing.push_delimiter(Some("; "))?;
+    named(rt, "pop_name_options");
+    context.writing.pop_name_options();
+    named(rt, "pop_delimiter");
+    context.writing.pop_delimiter(delimiter);
     flags(rt, &mut context);
-    Ok(is_level)
+    Ok(context.writing.heights() == heights)
 }
 
 // ---- trees
