@@ -190,7 +190,7 @@ def by_calls(calls, way, base, status, text):
         raise Failed(difference(text, got[1]))
 
 
-def by_calls(calls, bases):
+def tests_of_calls(calls, bases):
     """What the program of calls is to do with the documents that are of their form."""
     made = []
     for base in bases:
@@ -796,7 +796,7 @@ def main():
             tests += sweeps(program, calls)
         except Failed as error:
             tests.append(('growths of memory', cannot, str(error)))
-        tests += by_calls(calls, bases)
+        tests += tests_of_calls(calls, bases)
         tests += faults(calls, bases)
         tests += [('process: ' + it.__name__.replace('_', ' '), it, calls) for it in (failing_writer, slow_reader, most_reads)]
     else:
