@@ -16,11 +16,11 @@ import tempfile
 
 HERE = os.path.dirname(os.path.abspath(__file__))
 ROOT = os.path.dirname(os.path.dirname(HERE))
-OUT_OF_MEMORY = 'Err(DriverError::OutOfMemory(std::alloc::AllocError))'
+OUT_OF_MEMORY = 'DriverError::OutOfMemory(std::alloc::AllocError)'
 # The file, what stands there once, and what stands there in its place.
 FINISH = [
-    ('csl_driver/src/finish.rt', 'let alloc = self.alloc;', 'if true { return %s; } let alloc = self.alloc;' % OUT_OF_MEMORY),
-    ('csl_driver/src/standalone.rt', 'let cites = lone_cites(alloc, acyclic)?;', 'if true { return %s; } let cites = lone_cites(alloc, acyclic)?;' % OUT_OF_MEMORY),
+    ('csl_driver/src/finish.rt', 'let alloc = self.alloc;', 'if true { return Err(FinishError::Driver(%s)); } let alloc = self.alloc;' % OUT_OF_MEMORY),
+    ('csl_driver/src/standalone.rt', 'let cites = lone_cites(alloc, acyclic)?;', 'if true { return Err(%s); } let cites = lone_cites(alloc, acyclic)?;' % OUT_OF_MEMORY),
 ]
 CITATION = [('csl_driver/src/driver.rt', 'if let Err(_) = self.citations.try_reserve(1) {', 'if true {')]
 RUN = [('cite_document/src/running.rt', 'let text = print_bytes(alloc, bytes)?;', 'if true { return Err(RunError::OutOfMemory); } let text = print_bytes(alloc, bytes)?;')]
