@@ -2,7 +2,7 @@
 use Rattle.std.proofs.Common.{◌≡◌, ℕ, ◌+◌, ◌<◌, List, [], ◌∷◌, ◌++◌, Vec, Global, length, take, get_or, map, true, inl, inr, sym, ap, ◌∙◌, subst, arith}
 use Rattle.std.proofs.lemmas.List.{length-map, get_or-map, get_or_default, take_more}
 use Rattle.csl_base.specs.Places.{Places, has_place, steps_from, IsPath, IsOnRound, IsWithin, IsClosed, LeadsUp}
-use Rattle.csl_base.proofs.Reached.{has-at, has-either, has-same, place_within}
+use Rattle.csl_base.proofs.Reached.{has-at, has-either, has-same}
 
 abbrev pub rows_of : List (Vec ℕ Global) → List Places
 rows_of = map (λ row. row.items)
@@ -10,13 +10,11 @@ rows_of = map (λ row. row.items)
 pub row_read : (rows : List (Vec ℕ Global)) (i : ℕ) (row : Vec ℕ Global) → i < length rows → row ≡ get_or rows i row → row.items ≡ steps_from (rows_of rows) i
 row_read rows i row h e = ap (λ (r : Vec ℕ Global). r.items) e ∙ sym (get_or-map (λ (r : Vec ℕ Global). r.items) rows i row [] h)
 
-pub row_within : (rows : List (Vec ℕ Global)) (i : ℕ) (row : Vec ℕ Global) → IsClosed (rows_of rows) → i < length rows → row ≡ get_or rows i row → IsWithin (length rows) row.items
-row_within rows i row closed h e =
-    subst (λ n. IsWithin n row.items) (length-map rows (λ (r : Vec ℕ Global). r.items)) (subst (IsWithin (length (rows_of rows))) (sym (row_read rows i row h e)) (closed i))
-
--- the next place of a row
-pub next_place : (n : ℕ) (ps row : Places) (i : ℕ) → ps ≡ row → IsWithin n row → i < length ps → get_or ps i 0 < n
-next_place n ps row i same within lt = place_within n ps i (subst (IsWithin n) (sym same) within) lt
+-- a row that is read stays within bounds
+pub row_within : (rows : List (Vec ℕ Global)) (i n : ℕ) (row : Vec ℕ Global) (ps : Places) → IsClosed (rows_of rows) → i < length rows → row ≡ get_or rows i row → ps ≡ row.items → n ≡ length rows → IsWithin n ps
+row_within rows i n row ps closed h e held same =
+    let within = subst (IsWithin (length (rows_of rows))) (sym (held ∙ row_read rows i row h e)) (closed i) in
+    subst (λ m. IsWithin m ps) (length-map rows (λ (r : Vec ℕ Global). r.items) ∙ sym same) within
 
 -- one more place within bounds
 pub one_more : (n p : ℕ) (ps : Places) → IsWithin n ps → p < n → IsWithin n (ps ++ p ∷ [])

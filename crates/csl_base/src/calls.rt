@@ -45,10 +45,10 @@ pub fn add_calls<'a>(
 #[cycle(calls)]
 pub fn add_all_calls<'a>(
     names: &mut Vec<&'a str>,
-    elements: &'a Vec<LayoutRenderingElement>,
+    elements: &'a [LayoutRenderingElement],
 ) -> Result<(), AllocError>
     ensures { OnOk result (map (λ s. s.now) names.new.items
-        ≡ map (λ s. s.now) names.old.items ++ calls_of_all (elements_view elements.now.items)) }
+        ≡ map (λ s. s.now) names.old.items ++ calls_of_all (elements_view elements.now)) }
 {
     for element in elements {
         add_calls(names, element)?;
@@ -59,12 +59,12 @@ pub fn add_all_calls<'a>(
 #[cycle(calls)]
 fn add_branch_calls<'a>(
     names: &mut Vec<&'a str>,
-    branches: &'a Vec<ChooseBranch>,
-    otherwise: &'a Vec<LayoutRenderingElement>,
+    branches: &'a [ChooseBranch],
+    otherwise: &'a [LayoutRenderingElement],
 ) -> Result<(), AllocError>
     ensures { OnOk result (map (λ s. s.now) names.new.items
         ≡ map (λ s. s.now) names.old.items
-        ++ calls_of_branches (branches_view branches.now.items otherwise.now.items)) }
+        ++ calls_of_branches (branches_view branches.now otherwise.now)) }
 {
     for branch in branches {
         add_all_calls(names, &branch.children)?;

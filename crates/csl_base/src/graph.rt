@@ -8,11 +8,11 @@ use std::alloc::{AllocError, Global};
 fn add_places(
     found: &mut Vec<usize>,
     marks: &mut Vec<bool>,
-    places: &Vec<usize>,
+    places: &[usize],
 ) -> Result<(), AllocError>
-    requires within { IsWithin (length marks.old.items) places.now.items }
+    requires within { IsWithin (length marks.old.items) places.now }
     requires marked { IsMarked marks.old.items found.old.items }
-    ensures found { OnOk result (found.new.items ≡ add_each places.now.items found.old.items) }
+    ensures found { OnOk result (found.new.items ≡ add_each places.now found.old.items) }
     ensures marked { OnOk result (IsMarked marks.new.items found.new.items) }
     ensures length { length marks.new.items ≡ length marks.old.items }
 {
@@ -29,13 +29,13 @@ fn add_places(
 // one step; each row is gone through once at most.
 pub(crate) fn is_on_round(
     alloc: Global,
-    rows: &Vec<Vec<usize>>,
+    rows: &[Vec<usize>],
     start: usize,
 ) -> Result<bool, AllocError>
-    requires start { start < length rows.now.items }
-    requires closed { IsClosed (map (λ row. row.items) rows.now.items) }
-    ensures yes { IfOk result (λ b. b ≡ true → IsOnRound (map (λ row. row.items) rows.now.items) start) }
-    ensures no { IfOk result (λ b. b ≡ false → IsOnRound (map (λ row. row.items) rows.now.items) start → ⊥) }
+    requires start { start < length rows.now }
+    requires closed { IsClosed (map (λ row. row.items) rows.now) }
+    ensures yes { IfOk result (λ b. b ≡ true → IsOnRound (map (λ row. row.items) rows.now) start) }
+    ensures no { IfOk result (λ b. b ≡ false → IsOnRound (map (λ row. row.items) rows.now) start → ⊥) }
 {
     let mut found = Vec::new(alloc);
     let mut marks = vec![in alloc; false; rows.len()]?;

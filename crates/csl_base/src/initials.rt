@@ -7,6 +7,13 @@ use crate::entry::Person;
 use crate::text::Text;
 use std::alloc::{AllocError, Global};
 
+/// Whether a character stands between the parts of a given name: white space or a hyphen.
+pub fn parts_name(c: char) -> bool
+    ensures { result ≡ parts_name c }
+{
+    c.is_whitespace() || c == '-'
+}
+
 impl Person {
     /// The first character of each part of the given name, one after the other. Parts stand between
     /// white space and hyphens. Empty without a given name.
@@ -22,13 +29,6 @@ impl Person {
             None => Ok(Text::new(String::new(alloc))),
         }
     }
-}
-
-// Whether a character stands between the parts of a name.
-fn parts_name(c: char) -> bool
-    ensures { result ≡ parts_name c }
-{
-    c.is_whitespace() || c == '-'
 }
 
 fn initials_of(alloc: Global, name: &str) -> Result<String, AllocError>

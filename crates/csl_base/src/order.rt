@@ -6,8 +6,8 @@ ghost use Rattle.csl_base.specs.Places.{has_place, IsWithin, IsClosed, IsOnRound
 use std::alloc::{AllocError, Global};
 
 // Counts the steps of a row, each at the place to which it leads.
-fn count_steps(counts: &mut Vec<usize>, row: &Vec<usize>)
-    requires { IsWithin (length counts.old.items) row.now.items }
+fn count_steps(counts: &mut Vec<usize>, row: &[usize])
+    requires { IsWithin (length counts.old.items) row.now }
     ensures { length counts.new.items ≡ length counts.old.items }
 {
     for place in row {
@@ -16,9 +16,9 @@ fn count_steps(counts: &mut Vec<usize>, row: &Vec<usize>)
 }
 
 // How many steps lead to each place.
-fn step_counts(alloc: Global, rows: &Vec<Vec<usize>>) -> Result<Vec<usize>, AllocError>
-    requires { IsClosed (map (λ row. row.items) rows.now.items) }
-    ensures { IfOk result (λ counts. length counts.items ≡ length rows.now.items) }
+fn step_counts(alloc: Global, rows: &[Vec<usize>]) -> Result<Vec<usize>, AllocError>
+    requires { IsClosed (map (λ row. row.items) rows.now) }
+    ensures { IfOk result (λ counts. length counts.items ≡ length rows.now) }
 {
     let mut counts = vec![in alloc; 0; rows.len()]?;
     for i in 0..rows.len() {
@@ -28,8 +28,8 @@ fn step_counts(alloc: Global, rows: &Vec<Vec<usize>>) -> Result<Vec<usize>, Allo
 }
 
 // The places to which no step leads.
-fn free_places(alloc: Global, counts: &Vec<usize>) -> Result<Vec<usize>, AllocError>
-    ensures { IfOk result (λ free. IsWithin (length counts.now.items) free.items) }
+fn free_places(alloc: Global, counts: &[usize]) -> Result<Vec<usize>, AllocError>
+    ensures { IfOk result (λ free. IsWithin (length counts.now) free.items) }
 {
     let mut free = Vec::new(alloc);
     for place in 0..counts.len() {
@@ -44,9 +44,9 @@ fn free_places(alloc: Global, counts: &Vec<usize>) -> Result<Vec<usize>, AllocEr
 fn take_away(
     counts: &mut Vec<usize>,
     free: &mut Vec<usize>,
-    row: &Vec<usize>,
+    row: &[usize],
 ) -> Result<(), AllocError>
-    requires row { IsWithin (length counts.old.items) row.now.items }
+    requires row { IsWithin (length counts.old.items) row.now }
     requires free { IsWithin (length counts.old.items) free.old.items }
     ensures length { length counts.new.items ≡ length counts.old.items }
     ensures free { OnOk result (IsWithin (length counts.old.items) free.new.items) }
@@ -64,9 +64,9 @@ fn take_away(
 // Ranks the places in the order in which they are taken away: first those to which no step leads,
 // then those to which none from the others does. Places that steps lead round are never taken, and
 // stay at 0.
-fn ranks(alloc: Global, rows: &Vec<Vec<usize>>) -> Result<Vec<usize>, AllocError>
-    requires { IsClosed (map (λ row. row.items) rows.now.items) }
-    ensures { IfOk result (λ ranks. length ranks.items ≡ length rows.now.items) }
+fn ranks(alloc: Global, rows: &[Vec<usize>]) -> Result<Vec<usize>, AllocError>
+    requires { IsClosed (map (λ row. row.items) rows.now) }
+    ensures { IfOk result (λ ranks. length ranks.items ≡ length rows.now) }
 {
     let mut counts = step_counts(alloc, rows)?;
     let mut free = free_places(alloc, &counts)?;
@@ -83,9 +83,9 @@ fn ranks(alloc: Global, rows: &Vec<Vec<usize>>) -> Result<Vec<usize>, AllocError
 }
 
 // Whether a row leads to places above that rank alone.
-fn row_leads_up(ranks: &Vec<usize>, rank: usize, row: &Vec<usize>) -> bool
-    requires { IsWithin (length ranks.now.items) row.now.items }
-    ensures { result ≡ true → (j : ℕ) → has_place j row.now.items ≡ true → rank < get_or ranks.now.items j 0 }
+fn row_leads_up(ranks: &[usize], rank: usize, row: &[usize]) -> bool
+    requires { IsWithin (length ranks.now) row.now }
+    ensures { result ≡ true → (j : ℕ) → has_place j row.now ≡ true → rank < get_or ranks.now j 0 }
 {
     for place in row {
         if ranks[*place] <= rank {
@@ -95,10 +95,10 @@ fn row_leads_up(ranks: &Vec<usize>, rank: usize, row: &Vec<usize>) -> bool
     true
 }
 
-fn leads_up(ranks: &Vec<usize>, rows: &Vec<Vec<usize>>) -> bool
-    requires closed { IsClosed (map (λ row. row.items) rows.now.items) }
-    requires length { length ranks.now.items ≡ length rows.now.items }
-    ensures { result ≡ true → LeadsUp (map (λ row. row.items) rows.now.items) ranks.now.items }
+fn leads_up(ranks: &[usize], rows: &[Vec<usize>]) -> bool
+    requires closed { IsClosed (map (λ row. row.items) rows.now) }
+    requires length { length ranks.now ≡ length rows.now }
+    ensures { result ≡ true → LeadsUp (map (λ row. row.items) rows.now) ranks.now }
 {
     for i in 0..rows.len() {
         if !row_leads_up(ranks, ranks[i], &rows[i]) {
@@ -110,9 +110,9 @@ fn leads_up(ranks: &Vec<usize>, rows: &Vec<Vec<usize>>) -> bool
 
 // Whether the order shows that no steps lead from a place back to it. `rows` has for each place
 // those to which it leads in one step.
-pub(crate) fn has_order(alloc: Global, rows: &Vec<Vec<usize>>) -> Result<bool, AllocError>
-    requires { IsClosed (map (λ row. row.items) rows.now.items) }
-    ensures { IfOk result (λ b. b ≡ true → (i : ℕ) → IsOnRound (map (λ row. row.items) rows.now.items) i
+pub(crate) fn has_order(alloc: Global, rows: &[Vec<usize>]) -> Result<bool, AllocError>
+    requires { IsClosed (map (λ row. row.items) rows.now) }
+    ensures { IfOk result (λ b. b ≡ true → (i : ℕ) → IsOnRound (map (λ row. row.items) rows.now) i
         → ⊥) }
 {
     let ranks = ranks(alloc, rows)?;

@@ -1,5 +1,5 @@
 //! Rings of macros that call each other.
-ghost use Rattle.std.specs.Prelude.{◌≡◌, ◌+◌, ℕ, IfOk, None, map, take, not, true, false, ◌≤◌, vec_len, option_map, length};
+ghost use Rattle.std.specs.Prelude.{◌≡◌, ◌+◌, ℕ, IfOk, None, map, take, not, true, false, ◌≤◌, option_map, length};
 ghost use Rattle.std.specs.List.{filter_map};
 ghost use Rattle.csl_base.specs.Element.{Name};
 ghost use Rattle.csl_base.specs.NamedPlaces.{place_named};
@@ -16,9 +16,9 @@ use std::alloc::{AllocError, Global};
 use std::collections::HashMap;
 
 /// The children of the first macro of a name; none without such a macro.
-pub fn body_of<'a>(macros: &'a Vec<CslMacro>, name: &str) -> Option<&'a Vec<LayoutRenderingElement>>
-    ensures { option_map (λ v. elements_view v.now.items) result
-        ≡ body_of name.now (macros_view macros.now.items) }
+pub fn body_of<'a>(macros: &'a [CslMacro], name: &str) -> Option<&'a [LayoutRenderingElement]>
+    ensures { option_map (λ v. elements_view v.now) result
+        ≡ body_of name.now (macros_view macros.now) }
 {
     for each in macros {
         if each.name.as_str() == name {
@@ -35,10 +35,10 @@ pub fn body_of<'a>(macros: &'a Vec<CslMacro>, name: &str) -> Option<&'a Vec<Layo
 /// Where memory is refused.
 pub fn first_places<'a>(
     alloc: Global,
-    macros: &'a Vec<CslMacro>,
+    macros: &'a [CslMacro],
 ) -> Result<HashMap<&'a str, usize>, AllocError>
     ensures { IfOk result (λ places. (name : Name)
-        → place_named places name ≡ place_of_macro name (macros_view macros.now.items)) }
+        → place_named places name ≡ place_of_macro name (macros_view macros.now)) }
 {
     let mut places = HashMap::new(alloc);
     for i in 0..macros.len() {
@@ -54,10 +54,10 @@ pub fn first_places<'a>(
 fn called_places<'a>(
     alloc: Global,
     places: &HashMap<&'a str, usize>,
-    elements: &'a Vec<LayoutRenderingElement>,
+    elements: &'a [LayoutRenderingElement],
 ) -> Result<Vec<usize>, AllocError>
     ensures { IfOk result (λ called. called.items
-        ≡ filter_map (place_named places.now) (calls_of_all (elements_view elements.now.items))) }
+        ≡ filter_map (place_named places.now) (calls_of_all (elements_view elements.now))) }
 {
     let mut names = Vec::new(alloc);
     add_all_calls(&mut names, elements)?;
@@ -71,9 +71,9 @@ fn called_places<'a>(
 }
 
 // For each macro the places of those that it calls.
-fn call_places(alloc: Global, macros: &Vec<CslMacro>) -> Result<Vec<Vec<usize>>, AllocError>
+fn call_places(alloc: Global, macros: &[CslMacro]) -> Result<Vec<Vec<usize>>, AllocError>
     ensures { IfOk result (λ rows. map (λ row. row.items) rows.items
-        ≡ call_places (macros_view macros.now.items)) }
+        ≡ call_places (macros_view macros.now)) }
 {
     let places = first_places(alloc, macros)?;
     let mut rows = Vec::new(alloc);
@@ -84,9 +84,9 @@ fn call_places(alloc: Global, macros: &Vec<CslMacro>) -> Result<Vec<Vec<usize>>,
 }
 
 // Whether no macro before `i` has that name.
-fn is_new_name(macros: &Vec<CslMacro>, i: usize, name: &str) -> bool
-    requires { i ≤ vec_len macros.now }
-    ensures { result ≡ not (has_name name.now (map (λ m. m.name) (macros_view (take i macros.now.items)))) }
+fn is_new_name(macros: &[CslMacro], i: usize, name: &str) -> bool
+    requires { i ≤ length macros.now }
+    ensures { result ≡ not (has_name name.now (map (λ m. m.name) (macros_view (take i macros.now)))) }
 {
     for each in &macros[..i] {
         if each.name.as_str() == name {
@@ -100,11 +100,11 @@ fn is_new_name(macros: &Vec<CslMacro>, i: usize, name: &str) -> bool
 // macros of which some do.
 fn first_ring(
     alloc: Global,
-    macros: &Vec<CslMacro>,
-    rows: &Vec<Vec<usize>>,
+    macros: &[CslMacro],
+    rows: &[Vec<usize>],
 ) -> Result<Option<usize>, AllocError>
-    requires { map (λ row. row.items) rows.now.items ≡ call_places (macros_view macros.now.items) }
-    ensures { IfOk result (IsFirstRing (macros_view macros.now.items)) }
+    requires { map (λ row. row.items) rows.now ≡ call_places (macros_view macros.now) }
+    ensures { IfOk result (IsFirstRing (macros_view macros.now)) }
 {
     for i in 0..macros.len() {
         let name = macros[i].name.as_str();

@@ -145,12 +145,12 @@ impl<T> NonEmptyStack<T> {
 }
 
 // The place of the last item that satisfies a test.
-fn topmost<T, F: Fn(&T) -> bool>(items: &Vec<T>, f: &F) -> Option<usize>
+fn topmost<T, F: Fn(&T) -> bool>(items: &[T], f: &F) -> Option<usize>
     requires { F.IsAlwaysCallable f.now }
-    ensures exact { (p : T → Bool) → AnswersAs (F.post f.now) p → result ≡ topmost p items.now.items }
-    ensures within { IfSome result (λ place. place < length items.now.items) }
-    ensures accepted { IfSome result (IsTopmostAccepted (F.post f.now) items.now.items) }
-    ensures refused { result ≡ None → All (Gave (F.post f.now) false) items.now.items }
+    ensures exact { (p : T → Bool) → AnswersAs (F.post f.now) p → result ≡ topmost p items.now }
+    ensures within { IfSome result (λ place. place < length items.now) }
+    ensures accepted { IfSome result (IsTopmostAccepted (F.post f.now) items.now) }
+    ensures refused { result ≡ None → All (Gave (F.post f.now) false) items.now }
 {
     let mut height = items.len();
     while height > 0 {

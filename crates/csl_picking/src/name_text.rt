@@ -2,7 +2,7 @@
 ghost use Rattle.std.specs.Prelude.{◌≡◌, ◌++◌, OnOk, IfOk, Some, option_map, encode_utf8};
 ghost use Rattle.std.specs.List.{flat_map};
 ghost use Rattle.std.specs.Str.{chars};
-ghost use Rattle.csl_base.specs.Initials.{parts_name, initials};
+ghost use Rattle.csl_base.specs.Initials.{initials};
 ghost use Rattle.csl_picking.specs.NameText.{whole_name, ended_initials, name_leaf};
 ghost use Rattle.csl_picking.specs.PiecesView.{leaf_view};
 ghost use Rattle.csl_picking.specs.Variables.{text_leaves};
@@ -10,16 +10,10 @@ ghost use Rattle.csl_picking.specs.Variables.{text_leaves};
 use crate::pieces::Leaf;
 use crate::variables::text_leaf;
 use csl_base::entry::Person;
+use csl_base::initials::parts_name;
 use csl_base::names::DisambiguatedNameForm;
 use csl_base::text::Text;
 use std::alloc::{AllocError, Global};
-
-// Whether a character stands between the parts of a given name.
-fn parts_name(c: char) -> bool
-    ensures { result ≡ parts_name c }
-{
-    c.is_whitespace() || c == '-'
-}
 
 // Adds an initial, and this text behind it.
 fn push_initial(initials: &mut Text, initial: char, end: &str) -> Result<(), AllocError>

@@ -1,6 +1,6 @@
 use Rattle.std.proofs.Common.{◌≡◌, ◌<◌, ◌+◌, ◌∙◌, ℕ, Vec, Global, sym, ap, subst, length, drop, set, slice_index_or, Bool, true, false, arith}
 use Rattle.std.proofs.lemmas.List.{length-set}
-use Rattle.csl_base.specs.Places.{has_place, add_each, IsWithin, IsMarked}
+use Rattle.csl_base.specs.Places.{has_place, add_each, IsMarked}
 use Rattle.csl_base.proofs.Reached.{place_within, mark_read, mark_new, add_next, new_is, old_is}
 use Rattle.csl_base.proofs.graph.add_places.Goals as goal
 use Rattle.csl_base.proofs.graph.add_places.Goals.{then-not-index+in_ok-push, else-not-index}
@@ -8,25 +8,25 @@ use Rattle.csl_base.proofs.graph.add_places.Goals.{then-not-index+in_ok-push, el
 pub index-requires : goal.index-requires
 index-requires c =
     let l = c.loop-place in
-    let ps = c.deref-place-items.result.now in
-    let within = subst (IsWithin (length c.args.marks.now.items)) (sym c.deref-place-items.ensures.value) c.requires.within in
+    let ps = c.args.places.now in
+    let within = c.requires.within in
     let lt = place_within (length c.args.marks.now.items) ps l.place-index within c.loop-place-test.true in
     omega (arith, lt, l.invariant.2, l.marks.ok.0)
 
 pub index_mut-requires : goal.index_mut-requires
 index_mut-requires c =
     let l = c.loop-place in
-    let ps = c.deref-place-items.result.now in
-    let within = subst (IsWithin (length c.args.marks.now.items)) (sym c.deref-place-items.ensures.value) c.requires.within in
+    let ps = c.args.places.now in
+    let within = c.requires.within in
     let lt = place_within (length c.args.marks.now.items) ps l.place-index within c.loop-place-test.true in
     omega (arith, lt, l.invariant.2, l.marks.ok.0)
 
 pub loop-place-preserved : goal.loop-place-preserved
 loop-place-preserved c =
     let l = c.loop-place in
-    let ps = c.deref-place-items.result.now in
+    let ps = c.args.places.now in
     let p = slice_index_or ps l.place-index 0 in
-    let within = subst (IsWithin (length c.args.marks.now.items)) (sym c.deref-place-items.ensures.value) c.requires.within in
+    let within = c.requires.within in
     let lt = place_within (length c.args.marks.now.items) ps l.place-index within c.loop-place-test.true in
     let below : p < length l.marks.items = omega (arith, lt, l.invariant.2) in
     let next = add_next ps l.found.items l.place-index c.loop-place-test.true in

@@ -4,6 +4,6 @@ use Rattle.csl_base.proofs.graph.add_places.Given as goal
 
 abbrev pub invariant-loop-place : goal.invariant-loop-place
 invariant-loop-place l =
-    (add_each (drop l.place-index l.place-items) l.found.items ≡ add_each l.place-items l.initial.found.items)
+    (add_each (drop l.place-index l.places) l.found.items ≡ add_each l.places l.initial.found.items)
     × IsMarked l.marks.items l.found.items
     × (length l.marks.items ≡ length l.initial.marks.items)

@@ -5,9 +5,9 @@ use Rattle.csl_base.proofs.graph.is_on_round.Given as goal
 
 abbrev pub invariant-loop-at : goal.invariant-loop-at
 invariant-loop-at l =
-    IsReached (map (λ row. row.items) l.rows.items) l.start l.found.items l.at
+    IsReached (map (λ row. row.items) l.rows) l.start l.found.items l.at
     × IsMarked l.marks.items l.found.items
-    × (length l.marks.items ≡ length l.rows.items)
+    × (length l.marks.items ≡ length l.rows)
 
 abbrev pub decreases-loop-at : goal.decreases-loop-at
-decreases-loop-at l = left (length l.rows.items) l.found.items + (length l.found.items - l.at)
+decreases-loop-at l = left (length l.rows) l.found.items + (length l.found.items - l.at)

@@ -4,4 +4,4 @@ use Rattle.csl_base.proofs.order.leads_up.Given as goal
 
 abbrev pub invariant-loop-i : goal.invariant-loop-i
 invariant-loop-i l =
-    (i : ℕ) (j : ℕ) → i < l.i → has_place j (steps_from (map (λ row. row.items) l.rows.items) i) ≡ true → get_or l.ranks.items i 0 < get_or l.ranks.items j 0
+    (i : ℕ) (j : ℕ) → i < l.i → has_place j (steps_from (map (λ row. row.items) l.rows) i) ≡ true → get_or l.ranks i 0 < get_or l.ranks j 0

@@ -4,4 +4,4 @@ use Rattle.csl_base.proofs.order.ranks.Given as goal
 
 abbrev pub invariant-loop-at : goal.invariant-loop-at
 invariant-loop-at l =
-    (length l.counts.items ≡ length l.rows.items) × (length l.ranks.items ≡ length l.rows.items) × IsWithin (length l.rows.items) l.free.items
+    (length l.counts.items ≡ length l.rows) × (length l.ranks.items ≡ length l.rows) × IsWithin (length l.rows) l.free.items

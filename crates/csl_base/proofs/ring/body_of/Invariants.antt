@@ -4,4 +4,4 @@ use Rattle.csl_base.specs.ElementView.{macros_view}
 use Rattle.csl_base.proofs.ring.body_of.Given as goal
 
 abbrev pub invariant-loop-each : goal.invariant-loop-each
-invariant-loop-each l = body_of l.name (macros_view (drop l.each-index l.each-items)) ≡ body_of l.name (macros_view l.each-items)
+invariant-loop-each l = body_of l.name (macros_view (drop l.each-index l.macros)) ≡ body_of l.name (macros_view l.macros)

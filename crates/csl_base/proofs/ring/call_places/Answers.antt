@@ -16,9 +16,9 @@ same_rows named ms e = λ i. map (λ (m : Macro). filter_map (λ name. e name i)
 pub returns : goal.returns
 returns c =
     let l = c.loop-each in
-    let xs = c.deref-each-items.result.now in
+    let xs = c.args.macros.now in
     let row : Macro → Places = λ m. filter_map (place_named c.in_ok-places.places) (calls_of_all m.children) in
     let none = ap (λ ys. map row (macros_view ys)) (drop_all l.each-index xs (omega (arith, c.loop-each-test.false))) in
     let rows : List Places = map (λ row. row.items) l.rows.items in
-    sym (append-nil rows) ∙ ap (λ ys. rows ++ ys) (sym none) ∙ l.invariant ∙ ap (λ ys. map row (macros_view ys)) c.deref-each-items.ensures.value
-    ∙ same_rows (place_named c.in_ok-places.places) (macros_view c.args.macros.now.items) c.in_ok-places.ensures
+    sym (append-nil rows) ∙ ap (λ ys. rows ++ ys) (sym none) ∙ l.invariant
+    ∙ same_rows (place_named c.in_ok-places.places) (macros_view c.args.macros.now) c.in_ok-places.ensures

@@ -10,4 +10,4 @@ use Rattle.csl_base.proofs.ring.call_places.Given as goal
 abbrev pub invariant-loop-each : goal.invariant-loop-each
 invariant-loop-each l =
     let row : Macro → Places = λ m. filter_map (place_named l.places) (calls_of_all m.children) in
-    map (λ row. row.items) l.rows.items ++ map row (macros_view (drop l.each-index l.each-items)) ≡ map row (macros_view l.each-items)
+    map (λ row. row.items) l.rows.items ++ map row (macros_view (drop l.each-index l.macros)) ≡ map row (macros_view l.macros)

@@ -6,4 +6,4 @@ use Rattle.csl_base.specs.Ring.{place_of_macro}
 use Rattle.csl_base.proofs.ring.first_places.Given as goal
 
 abbrev pub invariant-loop-i : goal.invariant-loop-i
-invariant-loop-i l = (name : Name) → place_named l.places name ≡ place_of_macro name (macros_view (take l.i l.macros.items))
+invariant-loop-i l = (name : Name) → place_named l.places name ≡ place_of_macro name (macros_view (take l.i l.macros))

@@ -28,16 +28,16 @@ true_of_not false e = cc
 
 pub is_on_round-requires-clause-closed : goal.is_on_round-requires-clause-closed
 is_on_round-requires-clause-closed c =
-    subst IsClosed (sym c.requires) (calls_closed (macros_view c.args.macros.now.items))
+    subst IsClosed (sym c.requires) (calls_closed (macros_view c.args.macros.now))
 
 pub returns-then-branch : goal.returns-then-branch
 returns-then-branch c =
     let ms = c.args.macros.now in
-    let all = macros_view ms.items in
-    let m = c.index.result.now in
-    let here = got macro_view ms.items c.loop-i.i m (omega (arith, ms.ok.0, c.len-i-end.ensures)) c.index.ensures in
-    let n = c.as_str-name.ensures.value in
-    let before = sym (take-map macro_view c.loop-i.i ms.items) in
+    let all = macros_view ms in
+    let m = c.index-macros-i.result in
+    let here = got macro_view ms c.loop-i.i m (omega (arith, c.loop-i-test.true)) c.index-macros-i.is in
+    let n : c.as_str-name.result.now ≡ (macro_view m).name = c.as_str-name.ensures.value ∙ ap (λ x. (macro_view x).name) (sym c.index-macros-i.is) in
+    let before = sym (take-map macro_view c.loop-i.i ms) in
     let out = false_of_not _ (sym c.if-is_new_name.true ∙ c.is_new_name.ensures) in
     let new : has_name (macro_view m).name (map (λ (m : Macro). m.name) (take c.loop-i.i all)) ≡ false = subst (λ x. has_name x (map (λ (m : Macro). m.name) (take c.loop-i.i all)) ≡ false) n (subst (λ (xs : List Macro). has_name c.as_str-name.result.now (map (λ (m : Macro). m.name) xs) ≡ false) before out) in
     let place = place_found all c.loop-i.i (macro_view m) here new in
@@ -49,11 +49,11 @@ returns-then-branch c =
 pub loop-i-preserved : goal.loop-i-preserved
 loop-i-preserved c =
     let ms = c.args.macros.now in
-    let all = macros_view ms.items in
-    let m = c.index.result.now in
-    let here = got macro_view ms.items c.loop-i.i m (omega (arith, ms.ok.0, c.len-i-end.ensures)) c.index.ensures in
-    let n = c.as_str-name.ensures.value in
-    let before = sym (take-map macro_view c.loop-i.i ms.items) in
+    let all = macros_view ms in
+    let m = c.index-macros-i.result in
+    let here = got macro_view ms c.loop-i.i m (omega (arith, c.loop-i-test.true)) c.index-macros-i.is in
+    let n : c.as_str-name.result.now ≡ (macro_view m).name = c.as_str-name.ensures.value ∙ ap (λ x. (macro_view x).name) (sym c.index-macros-i.is) in
+    let before = sym (take-map macro_view c.loop-i.i ms) in
     below_more (λ k. IsRingAt all k → ⊥) c.loop-i.i c.loop-i.invariant (λ r.
     let same : r.0 ≡ macro_view m = let e = r.1 in cc in
     let named : r.0.name ≡ c.as_str-name.result.now = ap (λ (m : Macro). m.name) same ∙ sym n in
@@ -72,4 +72,4 @@ loop-i-preserved c =
 pub returns : goal.returns
 returns c =
     let ms = c.args.macros.now in
-    none_past (macros_view ms.items) c.loop-i.i (omega (arith, ms.ok.0, c.len-i-end.ensures, len macro_view ms.items)) c.loop-i.invariant
+    none_past (macros_view ms) c.loop-i.i (omega (arith, c.loop-i-test.false, len macro_view ms)) c.loop-i.invariant

@@ -5,9 +5,9 @@ use Rattle.csl_base.proofs.stack.topmost.Given as goal
 
 abbrev pub invariant-loop-height : goal.invariant-loop-height
 invariant-loop-height g l =
-    (l.height ≤ length l.items.items)
-    × ((p : g.row.T.Denot → Bool) → AnswersAs (goal.F-post g l.f) p → topmost p (take l.height l.items.items) ≡ topmost p l.items.items)
-    × All (Gave (goal.F-post g l.f) false) (drop l.height l.items.items)
+    (l.height ≤ length l.items)
+    × ((p : g.row.T.Denot → Bool) → AnswersAs (goal.F-post g l.f) p → topmost p (take l.height l.items) ≡ topmost p l.items)
+    × All (Gave (goal.F-post g l.f) false) (drop l.height l.items)
 
 abbrev pub decreases-loop-height : goal.decreases-loop-height
 decreases-loop-height g l = l.height

@@ -8,9 +8,10 @@ use Rattle.csl_base.proofs.stack.NonEmptyStack.last_mut_predicate.Goals as goal
 pub returns-in-Some : goal.returns-in-Some
 returns-in-Some g c =
     let gives = given.F-post g c.args.f in
+    let held = c.deref.ensures.value ∙ c.self.view_is in
     let i = c.in-Some.place in
-    let accepted : IsTopmostAccepted gives c.args.self.now i = subst (λ xs. IsTopmostAccepted gives xs i) c.self.view_is c.in-Some.ensures.accepted in
-    let top : (p : g.row.T.Denot → Bool) → AnswersAs gives p → topmost p c.args.self.now ≡ Some i = λ p k. ap (topmost p) (sym c.self.view_is) ∙ sym (c.in-Some.ensures.exact p k) in (
+    let accepted : IsTopmostAccepted gives c.args.self.now i = subst (λ xs. IsTopmostAccepted gives xs i) held c.in-Some.ensures.accepted in
+    let top : (p : g.row.T.Denot → Bool) → AnswersAs gives p → topmost p c.args.self.now ≡ Some i = λ p k. ap (topmost p) (sym held) ∙ sym (c.in-Some.ensures.exact p k) in (
       (refl, λ w. (λ _. (i, accepted, refl), λ p k. rw (top p k)), refl),
       record {
         writes_back = tt;
@@ -23,8 +24,9 @@ returns-in-Some g c =
 pub returns : goal.returns
 returns g c =
     let gives = given.F-post g c.args.f in
-    let refused = subst (All (Gave gives false)) c.self.view_is (c.in-None.ensures.refused refl) in
-    let top : (p : g.row.T.Denot → Bool) → AnswersAs gives p → topmost p c.args.self.now ≡ None = λ p k. ap (topmost p) (sym c.self.view_is) ∙ sym (c.in-None.ensures.exact p k) in (
+    let held = c.deref.ensures.value ∙ c.self.view_is in
+    let refused = subst (All (Gave gives false)) held (c.in-None.ensures.refused refl) in
+    let top : (p : g.row.T.Denot → Bool) → AnswersAs gives p → topmost p c.args.self.now ≡ None = λ p k. ap (topmost p) (sym held) ∙ sym (c.in-None.ensures.exact p k) in (
       (refl, λ w. (λ h. cc, λ p k. rw (top p k)), refl),
       record {
         writes_back = tt;

@@ -1,9 +1,10 @@
 -- Where an order was found, and where the first ring was looked for.
-use Rattle.std.proofs.Common.{◌≡◌, ℕ, List, Option, None, Some, Result, Ok, Err, IfOk, sym, subst}
+use Rattle.std.proofs.Common.{◌≡◌, ◌∙◌, ℕ, List, Option, None, Some, Result, Ok, Err, IfOk, ap, sym, subst}
 use Rattle.csl_base.specs.Element.{Macro}
 use Rattle.csl_base.specs.ElementView.{macros_view}
 use Rattle.csl_base.specs.Ring.{IsFirstRing, IsRingAt, HasNoRing, call_places}
 use Rattle.csl_base.specs.Places.{Places, IsClosed, IsOnRound}
+use Rattle.csl_base.proofs.Rows.{rows_of}
 use Rattle.csl_base.proofs.Rings.{place_found, calls_closed, round_of_ring, no_ring}
 use Rattle.csl_base.proofs.style.IndependentStyle.ring.Goals as goal
 
@@ -17,14 +18,23 @@ first_is_none (Ok (Some i)) ms h = λ e. cc
 first_is_none (Err e) ms h = tt
 
 pub has_order-requires : goal.has_order-requires
-has_order-requires c = subst IsClosed (sym c.in_ok-rows.ensures) (calls_closed (macros_view c.args.self.now.macros.items))
+has_order-requires c =
+    let rows = ap rows_of c.deref-2.ensures.value ∙ c.in_ok-rows.ensures in
+    subst IsClosed (sym rows) (calls_closed (macros_view c.deref.result.now))
 
 pub returns-then-branch-clause-first : goal.returns-then-branch-clause-first
-returns-then-branch-clause-first c = none_at (macros_view c.args.self.now.macros.items) _ c.in_ok-rows.ensures (c.in_ok-has_order.ensures c.if-branch.true)
+returns-then-branch-clause-first c =
+    let rows = ap rows_of c.deref-2.ensures.value ∙ c.in_ok-rows.ensures in
+    subst (λ ms. (i : ℕ) → IsRingAt (macros_view ms) i → ⊥) c.deref.ensures.value
+    (none_at (macros_view c.deref.result.now) _ rows (c.in_ok-has_order.ensures c.if-branch.true))
 
 pub returns-then-branch-clause-none : goal.returns-then-branch-clause-none
 returns-then-branch-clause-none c = λ _.
-    no_ring (macros_view c.args.self.now.macros.items) (none_at (macros_view c.args.self.now.macros.items) _ c.in_ok-rows.ensures (c.in_ok-has_order.ensures c.if-branch.true))
+    let rows = ap rows_of c.deref-2.ensures.value ∙ c.in_ok-rows.ensures in
+    subst (λ ms. HasNoRing (macros_view ms)) c.deref.ensures.value
+    (no_ring (macros_view c.deref.result.now) (none_at (macros_view c.deref.result.now) _ rows (c.in_ok-has_order.ensures c.if-branch.true)))
 
 pub returns-clause-none : goal.returns-clause-none
-returns-clause-none c = first_is_none c.first_ring.result (macros_view c.args.self.now.macros.items) c.first_ring.ensures
+returns-clause-none c =
+    first_is_none c.first_ring.result (macros_view c.args.self.now.macros.items)
+    (subst (λ ms. IfOk c.first_ring.result (IsFirstRing (macros_view ms))) c.deref-3.ensures.value c.first_ring.ensures)
