@@ -60,14 +60,14 @@ module _ {E P : Type 0} where
       (All-map (λ p. m.place ≢ p) place_of ms (λ k d within. h zero (suc k) d (omega arith) (omega arith)))
       (places-apart ms (λ i j d below within. h (suc i) (suc j) d (omega arith) (omega arith)))
 
-  pub classes-apart : (renders : List (CiteRender E P)) → AllByRecursion (λ c. AreDistinct (map place_of c)) (classes (without_suffix (document renders)))
-  classes-apart renders = by (seconds (without_suffix (document renders)))
+  pub classes-apart : (cites : List (CiteRender E P)) → AllByRecursion (λ c. AreDistinct (map place_of c)) (classes (without_suffix (document cites)))
+  classes-apart cites = by (seconds (without_suffix (document cites)))
     where
-      by : (ms : List (Member E P)) → AllByRecursion (λ c. AreDistinct (map place_of c)) (map (λ m. class_of (without_suffix (document renders)) (shown_text m)) ms)
+      by : (ms : List (Member E P)) → AllByRecursion (λ c. AreDistinct (map place_of c)) (map (λ m. class_of (without_suffix (document cites)) (shown_text m)) ms)
       by [] = tt
       by (m ∷ ms) = (
-        places-apart (class_of (without_suffix (document renders)) (shown_text m))
-            (AllPairs-filter StandApart (λ x. bytes_eq (shown_text m) (shown_text x)) (without_suffix (document renders))
-            (AllPairs-filter StandApart (λ x. may_get_suffix (state_of x)) (document renders) (document-apart 0 renders))),
+        places-apart (class_of (without_suffix (document cites)) (shown_text m))
+            (AllPairs-filter StandApart (λ x. bytes_eq (shown_text m) (shown_text x)) (without_suffix (document cites))
+            (AllPairs-filter StandApart (λ x. may_get_suffix (state_of x)) (document cites) (document-apart 0 cites))),
         by ms,
       )

@@ -35,11 +35,11 @@ module _ {E P : Type 0} (eq : E → E → Bool) (laws : IsEquivalence eq) where
       by true h = refl
       by false h = sym (none-differs (entry_of m) (m ∷ ms) ms h ((or_parts (not (eq (entry_of m) (entry_of m))) (differs (entry_of m) ms) h).1))
 
-  pub different : (renders : List (CiteRender E P)) (ps : List Place) (p : Place) (i : ItemRender E P) (b : Bool) → Some p ≡ slice_get ps 0 → option_map (λ m. m.item) (member_at renders p) ≡ Some i
-      → b ≡ differs i.entry (members renders ps) → b ≡ cite_different eq (members renders ps)
-  different renders [] p i b first known h = cc
-  different renders (q ∷ ps) p i b first known h =
+  pub different : (cites : List (CiteRender E P)) (ps : List Place) (p : Place) (i : ItemRender E P) (b : Bool) → Some p ≡ slice_get ps 0 → option_map (λ m. m.item) (member_at cites p) ≡ Some i
+      → b ≡ differs i.entry (members cites ps) → b ≡ cite_different eq (members cites ps)
+  different cites [] p i b first known h = cc
+  different cites (q ∷ ps) p i b first known h =
       let same : p ≡ q = cc in
-      let n : IsNext renders (q ∷ ps) 0 q (λ m. m.item) i = next renders (λ m. m.item) (q ∷ ps) 0 q i (omega arith) (ap (λ x. option_map (λ m. m.item) (member_at renders x)) (sym same) ∙ known) in
-      h ∙ ap (λ e. differs e (members renders (q ∷ ps))) (sym (ap (λ x. x.entry) n.known))
+      let n : IsNext cites (q ∷ ps) 0 q (λ m. m.item) i = next cites (λ m. m.item) (q ∷ ps) 0 q i (omega arith) (ap (λ x. option_map (λ m. m.item) (member_at cites x)) (sym same) ∙ known) in
+      h ∙ ap (λ e. differs e (members cites (q ∷ ps))) (sym (ap (λ x. x.entry) n.known))
       ∙ ap (differs (entry_of n.cite)) n.split ∙ from-first n.cite _ ∙ ap (cite_different eq) (sym n.split)

@@ -5,8 +5,8 @@ use Rattle.std.proofs.lemmas.Grind.{flat_map-append}
 use Rattle.std.proofs.lemmas.List.{map-append, take-map}
 use Rattle.csl_passes.specs.Renders.{CiteRender}
 use Rattle.csl_passes.specs.RendersView.{item_view, items_view, render_view, renders_view}
-use Rattle.csl_passes.specs.declared.renders.SpeculativeCiteRender.{SpeculativeCiteRender}
-use Rattle.csl_passes.specs.declared.renders.SpeculativeItemRender.{SpeculativeItemRender}
+use Rattle.csl_passes.specs.declared.cites.SpeculativeCiteRender.{SpeculativeCiteRender}
+use Rattle.csl_passes.specs.declared.cites.SpeculativeItemRender.{SpeculativeItemRender}
 use Rattle.csl_ambiguity.specs.Ambiguity.{without_suffix}
 use Rattle.csl_ambiguity.specs.ClassesSoFar.{AreClassesOf}
 use Rattle.csl_ambiguity.specs.Members.{Member, document, request_cites}
@@ -50,17 +50,17 @@ module _ {T P : Type 0} where
   no-cite-added c cites h = subst (λ ms. AreClassesOf (without_suffix ms) c) (sym (append-nil cites)) h
 
   abbrev pub cites_upto : List (SpeculativeCiteRender T P) → ℕ → List (Member T P)
-  cites_upto renders k = flat_map (λ p. request_cites p.0 p.1) (take k (enumerate_from 0 (renders_view renders)))
+  cites_upto cites k = flat_map (λ p. request_cites p.0 p.1) (take k (enumerate_from 0 (renders_view cites)))
 
   -- one more request
-  pub request-added : (renders : List (SpeculativeCiteRender T P)) (k : ℕ) (render : SpeculativeCiteRender T P) (c : Classes) → k < length renders → render ≡ get_or renders k render
-      → AreClassesOf (without_suffix (cites_upto renders k ++ request_cites k (render_view render))) c → AreClassesOf (without_suffix (cites_upto renders (k + 1))) c
-  request-added renders k render c within here h =
+  pub request-added : (cites : List (SpeculativeCiteRender T P)) (k : ℕ) (render : SpeculativeCiteRender T P) (c : Classes) → k < length cites → render ≡ get_or cites k render
+      → AreClassesOf (without_suffix (cites_upto cites k ++ request_cites k (render_view render))) c → AreClassesOf (without_suffix (cites_upto cites (k + 1))) c
+  request-added cites k render c within here h =
       let g : ℕ × CiteRender T P → List (Member T P) = λ p. request_cites p.0 p.1 in
       subst (λ ms. AreClassesOf (without_suffix ms) c)
-      (sym (ap (flat_map g) (enumerated-more render_view renders k render within here)
-      ∙ flat_map-append g (take k (enumerate_from 0 (renders_view renders))) ((k, render_view render) ∷ [])
-      ∙ ap (λ ms. cites_upto renders k ++ ms) (append-nil (request_cites k (render_view render))))) h
+      (sym (ap (flat_map g) (enumerated-more render_view cites k render within here)
+      ∙ flat_map-append g (take k (enumerate_from 0 (renders_view cites))) ((k, render_view render) ∷ [])
+      ∙ ap (λ ms. cites_upto cites k ++ ms) (append-nil (request_cites k (render_view render))))) h
 
-  pub all-added : (renders : List (SpeculativeCiteRender T P)) (k : ℕ) → length renders ≤ k → cites_upto renders k ≡ document (renders_view renders)
-  all-added renders k all = ap (flat_map (λ p. request_cites p.0 p.1)) (enumerated-all render_view renders k all)
+  pub all-added : (cites : List (SpeculativeCiteRender T P)) (k : ℕ) → length cites ≤ k → cites_upto cites k ≡ document (renders_view cites)
+  all-added cites k all = ap (flat_map (λ p. request_cites p.0 p.1)) (enumerated-all render_view cites k all)

@@ -22,18 +22,18 @@ same_entry-laws eq laws = record {
   congr = λ p q r. laws.congr p.0 q.0 r.0;
 }
 
-module _ {T P : Type 0} (eq : T → T → Bool) (renders : List (CiteRender T P)) (ps : List Place) (k : ℕ) where
+module _ {T P : Type 0} (eq : T → T → Bool) (cites : List (CiteRender T P)) (ps : List Place) (k : ℕ) where
   -- what the gathered cites come to, with those from the k-th place on
   abbrev pub gathered : List (T × Place) → ℕ → List (T × Place)
-  gathered firsts n = with_all_new (same_entry eq) firsts (map first_cite_of (members renders (drop n ps)))
+  gathered firsts n = with_all_new (same_entry eq) firsts (map first_cite_of (members cites (drop n ps)))
 
   -- one more cite
-  pub first-more : (d : Place) (i : ItemRender T P) (x : FirstCite T) (keys new : List (FirstCite T)) (all : List (T × Place)) → IsNext renders ps k d (λ m. m.item) i
+  pub first-more : (d : Place) (i : ItemRender T P) (x : FirstCite T) (keys new : List (FirstCite T)) (all : List (T × Place)) → IsNext cites ps k d (λ m. m.item) i
       → i.entry ≡ x.entry.now → get_or ps k d ≡ x.place
       → new ≡ cond (list_any (λ f. eq x.entry.now f.entry.now) keys) keys (keys ++ x ∷ [])
       → gathered (firsts_view keys) k ≡ all → gathered (firsts_view new) (k + 1) ≡ all
   first-more d i x keys new all n entry at inserted so_far =
-      let later : List (Member T P) = members renders (drop (k + 1) ps) in
+      let later : List (Member T P) = members cites (drop (k + 1) ps) in
       let first : (x.entry.now, x.place) ≡ first_cite_of n.cite = λ j. (sym (ap (λ y. y.entry) n.known ∙ entry) j, sym (n.place ∙ at) j) in
       ap (λ fs. with_all_new (same_entry eq) fs (map first_cite_of later)) (insert-view (λ f. (f.entry.now, f.place)) (same_entry eq) x keys new inserted)
       ∙ ap (λ p. with_all_new (same_entry eq) (with_new (same_entry eq) (firsts_view keys) p) (map first_cite_of later)) first
@@ -42,11 +42,11 @@ module _ {T P : Type 0} (eq : T → T → Bool) (renders : List (CiteRender T P)
 
   -- all of them
   pub first-all : (laws : IsEquivalence eq) (firsts : List (T × Place)) → length ps ≤ k
-      → gathered firsts k ≡ with_all_new (same_entry eq) [] (map first_cite_of (members renders ps)) → firsts ≡ map first_cite_of (first_cites eq (members renders ps))
+      → gathered firsts k ≡ with_all_new (same_entry eq) [] (map first_cite_of (members cites ps)) → firsts ≡ map first_cite_of (first_cites eq (members cites ps))
   first-all laws firsts h so_far =
-      ap (λ ms. with_all_new (same_entry eq) firsts (map first_cite_of ms)) (sym (rest-end renders ps k h)) ∙ so_far
-      ∙ all_new_is_distinct (same_entry eq) (same_entry-laws eq laws) (map first_cite_of (members renders ps))
-      ∙ distinct-map first_cite_of (same_entry eq) (members renders ps)
+      ap (λ ms. with_all_new (same_entry eq) firsts (map first_cite_of ms)) (sym (rest-end cites ps k h)) ∙ so_far
+      ∙ all_new_is_distinct (same_entry eq) (same_entry-laws eq laws) (map first_cite_of (members cites ps))
+      ∙ distinct-map first_cite_of (same_entry eq) (members cites ps)
 
 module _ {T P : Type 0} (eq : T → T → Bool) (laws : IsEquivalence eq) (cites : List (Member T P)) where
   abbrev pub Mark : Type 0

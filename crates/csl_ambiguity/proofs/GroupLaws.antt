@@ -78,23 +78,23 @@ module _ {E P : Type 0} where
             (distinct-part (IsBare cites) (λ a b. eq (entry_of a) (entry_of b)) cites (all-bare cites h)))
         by false = All-nil (IsMarkOf cites)
 
-    module _ (renders : List (CiteRender E P)) where
+    module _ (cites : List (CiteRender E P)) where
       abbrev bare : List (Member E P)
-      bare = without_suffix (document renders)
+      bare = without_suffix (document cites)
 
-      class-bare : (t : List ℕ) → HaveNoSuffix (members renders (map place_of (class_of bare t)))
+      class-bare : (t : List ℕ) → HaveNoSuffix (members cites (map place_of (class_of bare t)))
       class-bare t =
-          let there = members-there renders (class_of bare t)
-          (all-filter (StandsThere renders) (λ x. bytes_eq t (shown_text x)) bare (all-filter (StandsThere renders) (λ x. may_get_suffix (state_of x)) (document renders) (document-stands renders [] renders refl))) in
-          subst HaveNoSuffix (sym there) (All-filter (λ x. bytes_eq t (shown_text x)) (λ m. may_get_suffix (state_of m) ≡ true) bare (filter_passes (λ m. may_get_suffix (state_of m)) (document renders)))
+          let there = members-there cites (class_of bare t)
+          (all-filter (StandsThere cites) (λ x. bytes_eq t (shown_text x)) bare (all-filter (StandsThere cites) (λ x. may_get_suffix (state_of x)) (document cites) (document-stands cites [] cites refl))) in
+          subst HaveNoSuffix (sym there) (All-filter (λ x. bytes_eq t (shown_text x)) (λ m. may_get_suffix (state_of m) ≡ true) bare (filter_passes (λ m. may_get_suffix (state_of m)) (document cites)))
 
-      pub no-suffix : GroupsHaveNoSuffix eq renders
+      pub no-suffix : GroupsHaveNoSuffix eq cites
       no-suffix =
-          All-map (λ group. HaveNoSuffix (members renders group)) (map place_of) (filter (cite_different eq) (classes bare))
-          (All-filter (cite_different eq) (λ c. HaveNoSuffix (members renders (map place_of c))) (classes bare)
-          (All-map (λ c. HaveNoSuffix (members renders (map place_of c))) (λ m. class_of bare (shown_text m)) (seconds bare) (λ k d w. class-bare (shown_text (get_or (seconds bare) k d)))))
+          All-map (λ group. HaveNoSuffix (members cites group)) (map place_of) (filter (cite_different eq) (classes bare))
+          (All-filter (cite_different eq) (λ c. HaveNoSuffix (members cites (map place_of c))) (classes bare)
+          (All-map (λ c. HaveNoSuffix (members cites (map place_of c))) (λ m. class_of bare (shown_text m)) (seconds bare) (λ k d w. class-bare (shown_text (get_or (seconds bare) k d)))))
 
-      module _ (laws : IsEquivalence eq) (a b : Member E P) (h : AreAmbiguous eq renders a b) where
+      module _ (laws : IsEquivalence eq) (a b : Member E P) (h : AreAmbiguous eq cites a b) where
         abbrev text : List ℕ
         text = shown_text a
 
@@ -112,11 +112,11 @@ module _ {E P : Type 0} where
             only m x (suc k, w, e) = absurd (omega (arith, w))
         two (m ∷ n ∷ ms) u v = refl
 
-        in-class : (x : Member E P) → Contains (document renders) x → may_get_suffix (state_of x) ≡ true → text ≡ shown_text x → Contains (class_of bare text) x
+        in-class : (x : Member E P) → Contains (document cites) x → may_get_suffix (state_of x) ≡ true → text ≡ shown_text x → Contains (class_of bare text) x
         in-class x cited without alike =
-            in-filter (λ m. bytes_eq text (shown_text m)) bare x (in-filter (λ m. may_get_suffix (state_of m)) (document renders) x cited without) ((bytes_eq-Decides text (shown_text x)).1 alike)
+            in-filter (λ m. bytes_eq text (shown_text m)) bare x (in-filter (λ m. may_get_suffix (state_of m)) (document cites) x cited without) ((bytes_eq-Decides text (shown_text x)).1 alike)
 
-        pub together : StandInOneGroup (ambiguous_groups eq renders) (place_of a) (place_of b)
+        pub together : StandInOneGroup (ambiguous_groups eq cites) (place_of a) (place_of b)
         together =
             let one = in-class a h.one_cited h.one_without refl in
             let other = in-class b h.other_cited h.other_without h.read_alike in
@@ -139,8 +139,8 @@ module _ {E P : Type 0} where
             any-of [] = refl
             any-of (m ∷ ms) = ap (λ b. bytes_eq text (shown_text m) || b) (any-of ms)
 
-    pub stand-together : IsEquivalence eq → (renders : List (CiteRender E P)) → AmbiguousStandTogether eq renders
-    stand-together laws renders a b h = together renders laws a b h
+    pub stand-together : IsEquivalence eq → (cites : List (CiteRender E P)) → AmbiguousStandTogether eq cites
+    stand-together laws cites a b h = together cites laws a b h
 
     pub count-entries : IsEquivalence eq → (cites : List (Member E P)) → SuffixesCountEntries eq cites
     count-entries laws cites = record {

@@ -23,20 +23,20 @@ pub after : {X : Type 0} (xs : List X) (y : X) (ys : List X) → slice_get (xs +
 after [] y ys = refl
 after (x ∷ xs) y ys = after xs y ys
 
-module _ {E P : Type 0} (renders : List (CiteRender E P)) where
+module _ {E P : Type 0} (cites : List (CiteRender E P)) where
   -- the cite stands at its place
   abbrev pub StandsThere : Member E P → Type 0
-  StandsThere m = member_at renders m.place ≡ Some m
+  StandsThere m = member_at cites m.place ≡ Some m
 
-  cite-stands : (r k : ℕ) (c : CiteRender E P) (i : ItemRender E P) → slice_get renders r ≡ Some c → slice_get c.items k ≡ Some i
-      → member_at renders (r, k) ≡ Some (record { place = (r, k); item = i; style = c.request.style })
+  cite-stands : (r k : ℕ) (c : CiteRender E P) (i : ItemRender E P) → slice_get cites r ≡ Some c → slice_get c.items k ≡ Some i
+      → member_at cites (r, k) ≡ Some (record { place = (r, k); item = i; style = c.request.style })
   cite-stands r k c i at there =
       let with_request : CiteRender E P → ItemRender E P → Request E P × ItemRender E P = λ x j. (x.request, j) in
-      let found : cite_at renders (r, k) ≡ Some (c.request, i) =
+      let found : cite_at cites (r, k) ≡ Some (c.request, i) =
       ap (option_and_then (λ x. option_map (with_request x) (slice_get x.items k))) at ∙ ap (option_map (with_request c)) there in
       ap (option_map (λ (x : Request E P × ItemRender E P). record { place = (r, k); item = x.1; style = x.0.style })) found
 
-  cites-stand : (r : ℕ) (c : CiteRender E P) (before items : List (ItemRender E P)) → slice_get renders r ≡ Some c → c.items ≡ before ++ items
+  cites-stand : (r : ℕ) (c : CiteRender E P) (before items : List (ItemRender E P)) → slice_get cites r ≡ Some c → c.items ≡ before ++ items
       → AllByRecursion StandsThere (map (λ p. record { place = (r, p.0); item = p.1; style = c.request.style }) (enumerate_from (length before) items))
   cites-stand r c before [] at e = tt
   cites-stand r c before (i ∷ is) at e =
@@ -46,61 +46,61 @@ module _ {E P : Type 0} (renders : List (CiteRender E P)) where
       (cites-stand r c (before ++ i ∷ []) is at (e ∙ sym (append_assoc before (i ∷ []) is))) in
       (cite-stands r (length before) c i at there, rest)
 
-  pub document-stands : (before cs : List (CiteRender E P)) → renders ≡ before ++ cs → AllByRecursion StandsThere (flat_map (λ p. request_cites p.0 p.1) (enumerate_from (length before) cs))
+  pub document-stands : (before cs : List (CiteRender E P)) → cites ≡ before ++ cs → AllByRecursion StandsThere (flat_map (λ p. request_cites p.0 p.1) (enumerate_from (length before) cs))
   document-stands before [] e = tt
   document-stands before (c ∷ cs) e =
-      let there : slice_get renders (length before) ≡ Some c = ap (λ xs. slice_get xs (length before)) e ∙ after before c cs in
+      let there : slice_get cites (length before) ≡ Some c = ap (λ xs. slice_get xs (length before)) e ∙ after before c cs in
       all-append StandsThere (request_cites (length before) c) (flat_map (λ p. request_cites p.0 p.1) (enumerate_from (length before + 1) cs))
       (cites-stand (length before) c [] c.items there refl)
       (subst (λ n. AllByRecursion StandsThere (flat_map (λ p. request_cites p.0 p.1) (enumerate_from n cs))) (length-append before (c ∷ []))
       (document-stands (before ++ c ∷ []) cs (e ∙ sym (append_assoc before (c ∷ []) cs))))
 
-  pub classes-stand : AllByRecursion (AllByRecursion StandsThere) (classes (without_suffix (document renders)))
-  classes-stand = by (seconds (without_suffix (document renders)))
+  pub classes-stand : AllByRecursion (AllByRecursion StandsThere) (classes (without_suffix (document cites)))
+  classes-stand = by (seconds (without_suffix (document cites)))
     where
-      by : (ms : List (Member E P)) → AllByRecursion (AllByRecursion StandsThere) (map (λ m. class_of (without_suffix (document renders)) (shown_text m)) ms)
+      by : (ms : List (Member E P)) → AllByRecursion (AllByRecursion StandsThere) (map (λ m. class_of (without_suffix (document cites)) (shown_text m)) ms)
       by [] = tt
       by (m ∷ ms) = (
-        all-filter StandsThere (λ x. bytes_eq (shown_text m) (shown_text x)) (without_suffix (document renders))
-            (all-filter StandsThere (λ x. may_get_suffix (state_of x)) (document renders) (document-stands [] renders refl)),
+        all-filter StandsThere (λ x. bytes_eq (shown_text m) (shown_text x)) (without_suffix (document cites))
+            (all-filter StandsThere (λ x. may_get_suffix (state_of x)) (document cites) (document-stands [] cites refl)),
         by ms,
       )
 
   -- the cites at the places of cites that stand there
-  pub members-there : (ms : List (Member E P)) → AllByRecursion StandsThere ms → members renders (map place_of ms) ≡ ms
+  pub members-there : (ms : List (Member E P)) → AllByRecursion StandsThere ms → members cites (map place_of ms) ≡ ms
   members-there [] h = refl
-  members-there (m ∷ ms) h = by (member_at renders m.place) h.0 (members-there ms h.1)
+  members-there (m ∷ ms) h = by (member_at cites m.place) h.0 (members-there ms h.1)
     where
-      by : (o : Option (Member E P)) → o ≡ Some m → members renders (map place_of ms) ≡ ms → one_or_none o ++ members renders (map place_of ms) ≡ m ∷ ms
+      by : (o : Option (Member E P)) → o ≡ Some m → members cites (map place_of ms) ≡ ms → one_or_none o ++ members cites (map place_of ms) ≡ m ∷ ms
       by None e k = cc
       by (Some n) e k =
           let same : n ≡ m = cc in
           λ i. same i ∷ k i
 
-  are-places : (ms : List (Member E P)) → AllByRecursion StandsThere ms → All (IsPlace renders) (map place_of ms)
+  are-places : (ms : List (Member E P)) → AllByRecursion StandsThere ms → All (IsPlace cites) (map place_of ms)
   are-places [] h = λ k d within. absurd (omega (arith, within))
-  are-places (m ∷ ms) h = All-cons (IsPlace renders) m.place (map place_of ms) (by (cite_at renders m.place) h.0) (are-places ms h.1)
+  are-places (m ∷ ms) h = All-cons (IsPlace cites) m.place (map place_of ms) (by (cite_at cites m.place) h.0) (are-places ms h.1)
     where
       by : (o : Option (Request E P × ItemRender E P)) → option_map (λ c. record { place = m.place; item = c.1; style = c.0.style }) o ≡ Some m → IsSome o
       by None e = cc
       by (Some c) e = refl
 
-  places-exist : (cs : List (List (Member E P))) → AllByRecursion (AllByRecursion StandsThere) cs → AllByRecursion (λ c. All (IsPlace renders) (map place_of c)) cs
+  places-exist : (cs : List (List (Member E P))) → AllByRecursion (AllByRecursion StandsThere) cs → AllByRecursion (λ c. All (IsPlace cites) (map place_of c)) cs
   places-exist [] h = tt
   places-exist (c ∷ cs) h = (are-places c h.0, places-exist cs h.1)
 
   module _ (eq : E → E → Bool) where
     -- the cites at these places cite different entries
     abbrev pub differ : List Place → Bool
-    differ ps = cite_different eq (members renders ps)
+    differ ps = cite_different eq (members cites ps)
 
     -- the groups that were made, and the classes that are left
     pub record IsSifted (made left : List (List Place)) : Type 0 where
-      pub groups : made ++ filter differ left ≡ ambiguous_groups eq renders
-      pub exist : AllByRecursion (All (IsPlace renders)) left
+      pub groups : made ++ filter differ left ≡ ambiguous_groups eq cites
+      pub exist : AllByRecursion (All (IsPlace cites)) left
 
     sifted-classes : (cs : List (List (Member E P))) → AllByRecursion (AllByRecursion StandsThere) cs
-        → (filter differ (map (map place_of) cs) ≡ map (map place_of) (filter (cite_different eq) cs)) × AllByRecursion (All (IsPlace renders)) (map (map place_of) cs)
+        → (filter differ (map (map place_of) cs) ≡ map (map place_of) (filter (cite_different eq) cs)) × AllByRecursion (All (IsPlace cites)) (map (map place_of) cs)
     sifted-classes [] h = (refl, tt)
     sifted-classes (c ∷ cs) h =
         let rest = sifted-classes cs h.1 in
@@ -115,40 +115,40 @@ module _ {E P : Type 0} (renders : List (CiteRender E P)) where
         by true false e k = cc
         by false true e k = cc
 
-    pub sift-start : (made left : List (List Place)) → made ≡ [] → left ≡ map (map place_of) (classes (without_suffix (document renders))) → IsSifted made left
+    pub sift-start : (made left : List (List Place)) → made ≡ [] → left ≡ map (map place_of) (classes (without_suffix (document cites))) → IsSifted made left
     sift-start made left none all =
-        let s = sifted-classes (classes (without_suffix (document renders))) classes-stand in
+        let s = sifted-classes (classes (without_suffix (document cites))) classes-stand in
         record {
           groups = ap (λ gs. gs ++ filter differ left) none ∙ ap (filter differ) all ∙ s.0;
-          exist = subst (AllByRecursion (All (IsPlace renders))) (sym all) s.1;
+          exist = subst (AllByRecursion (All (IsPlace cites))) (sym all) s.1;
         }
 
     module _ (made left later : List (List Place)) (c : List Place) (split : left ≡ c ∷ later) (h : IsSifted made left) where
-      pub next-exists : All (IsPlace renders) c
-      next-exists = (subst (AllByRecursion (All (IsPlace renders))) split h.exist).0
+      pub next-exists : All (IsPlace cites) c
+      next-exists = (subst (AllByRecursion (All (IsPlace cites))) split h.exist).0
 
       pub sift-more : (more : List (List Place)) → more ≡ made ++ cond (differ c) (c ∷ []) [] → IsSifted more later
       sift-more more e = record {
         groups = ap (λ gs. gs ++ filter differ later) e ∙ by (differ c) ∙ ap (λ gs. made ++ filter differ gs) (sym split) ∙ h.groups;
-        exist = (subst (AllByRecursion (All (IsPlace renders))) split h.exist).1;
+        exist = (subst (AllByRecursion (All (IsPlace cites))) split h.exist).1;
       }
         where
           by : (b : Bool) → (made ++ cond b (c ∷ []) []) ++ filter differ later ≡ made ++ cond b (c ∷ filter differ later) (filter differ later)
           by true = append_assoc made (c ∷ []) (filter differ later)
           by false = append_assoc made [] (filter differ later)
 
-    pub sift-end : (made left : List (List Place)) → left ≡ [] → IsSifted made left → made ≡ ambiguous_groups eq renders
+    pub sift-end : (made left : List (List Place)) → left ≡ [] → IsSifted made left → made ≡ ambiguous_groups eq cites
     sift-end made left none h = sym (append-nil made) ∙ ap (λ gs. made ++ filter differ gs) (sym none) ∙ h.groups
 
     -- what holds of the places of each class holds of those of each group
-    module _ (Q : List Place → Type 0) (h : AllByRecursion (λ c. Q (map place_of c)) (classes (without_suffix (document renders)))) where
+    module _ (Q : List Place → Type 0) (h : AllByRecursion (λ c. Q (map place_of c)) (classes (without_suffix (document cites)))) where
       of-places : (cs : List (List (Member E P))) → AllByRecursion (λ c. Q (map place_of c)) cs → AllByRecursion Q (map (map place_of) cs)
       of-places [] k = tt
       of-places (c ∷ cs) k = (k.0, of-places cs k.1)
 
-      each-group : {V : Type 0} (items : V → List Place) (vs : List V) → map items vs ≡ ambiguous_groups eq renders → All (λ v. Q (items v)) vs
+      each-group : {V : Type 0} (items : V → List Place) (vs : List V) → map items vs ≡ ambiguous_groups eq cites → All (λ v. Q (items v)) vs
       each-group {V} items vs same =
-          let all = classes (without_suffix (document renders)) in
+          let all = classes (without_suffix (document cites)) in
           let kept = filter (cite_different eq) all in
           by vs (subst (AllByRecursion Q) (sym same) (of-places kept (all-filter (λ c. Q (map place_of c)) (cite_different eq) all h)))
         where
@@ -157,9 +157,9 @@ module _ {E P : Type 0} (renders : List (CiteRender E P)) where
           by (w ∷ ws) k = All-cons (λ v. Q (items v)) w ws k.0 (by ws k.1)
 
     -- the cites of the groups exist
-    pub groups-exist : {V : Type 0} (items : V → List Place) (vs : List V) → map items vs ≡ ambiguous_groups eq renders → All (λ v. All (IsPlace renders) (items v)) vs
-    groups-exist items vs same = each-group (All (IsPlace renders)) (places-exist _ classes-stand) items vs same
+    pub groups-exist : {V : Type 0} (items : V → List Place) (vs : List V) → map items vs ≡ ambiguous_groups eq cites → All (λ v. All (IsPlace cites) (items v)) vs
+    groups-exist items vs same = each-group (All (IsPlace cites)) (places-exist _ classes-stand) items vs same
 
     -- no place stands twice in a group
-    pub groups-distinct : {V : Type 0} (items : V → List Place) (vs : List V) → map items vs ≡ ambiguous_groups eq renders → All (λ v. AreDistinct (items v)) vs
-    groups-distinct items vs same = each-group AreDistinct (classes-apart renders) items vs same
+    pub groups-distinct : {V : Type 0} (items : V → List Place) (vs : List V) → map items vs ≡ ambiguous_groups eq cites → All (λ v. AreDistinct (items v)) vs
+    groups-distinct items vs same = each-group AreDistinct (classes-apart cites) items vs same

@@ -33,5 +33,5 @@ module _ {E P : Type 0} where
 
     -- the ambiguous groups of a document, as places
     abbrev pub ambiguous_groups : List (CiteRender E P) → List (List Place)
-    ambiguous_groups renders =
-        map (map place_of) (filter cite_different (classes (without_suffix (document renders))))
+    ambiguous_groups cites =
+        map (map place_of) (filter cite_different (classes (without_suffix (document cites))))

@@ -33,9 +33,9 @@ module _ {E P : Type 0} where
 
   module _ (eq : E → E → Bool) where
     -- two cites, of different entries, that read alike and whose entries have no suffix
-    pub record AreAmbiguous (renders : List (CiteRender E P)) (a b : Member E P) : Type 0 where
-      pub one_cited : Contains (document renders) a
-      pub other_cited : Contains (document renders) b
+    pub record AreAmbiguous (cites : List (CiteRender E P)) (a b : Member E P) : Type 0 where
+      pub one_cited : Contains (document cites) a
+      pub other_cited : Contains (document cites) b
       pub read_alike : shown_text a ≡ shown_text b
       pub differ : eq (entry_of a) (entry_of b) ≡ false
       pub one_without : may_get_suffix (state_of a) ≡ true
@@ -43,13 +43,13 @@ module _ {E P : Type 0} where
 
     -- the cites of the ambiguous groups have no suffix
     abbrev pub GroupsHaveNoSuffix : List (CiteRender E P) → Type 0
-    GroupsHaveNoSuffix renders =
-        All (λ group. HaveNoSuffix (members renders group)) (ambiguous_groups eq renders)
+    GroupsHaveNoSuffix cites =
+        All (λ group. HaveNoSuffix (members cites group)) (ambiguous_groups eq cites)
 
     -- two such cites stand in one of these groups
     abbrev pub AmbiguousStandTogether : List (CiteRender E P) → Type 0
-    AmbiguousStandTogether renders = (a b : Member E P) → AreAmbiguous renders a b
-        → StandInOneGroup (ambiguous_groups eq renders) (place_of a) (place_of b)
+    AmbiguousStandTogether cites = (a b : Member E P) → AreAmbiguous cites a b
+        → StandInOneGroup (ambiguous_groups eq cites) (place_of a) (place_of b)
 
     -- of cites without suffix each choose mark, and each suffix mark, is a mark to which the state of its
     -- cite goes on

@@ -34,12 +34,12 @@ module _ {E P : Type 0} where
 
   -- the cites of the whole document, in order
   abbrev pub document : List (CiteRender E P) → List (Member E P)
-  document renders = flat_map (λ p. request_cites p.0 p.1) (enumerate_from 0 renders)
+  document cites = flat_map (λ p. request_cites p.0 p.1) (enumerate_from 0 cites)
 
   -- the cite at a place, if there is one
   abbrev pub member_at : List (CiteRender E P) → Place → Option (Member E P)
-  member_at renders place = option_map (λ cite. record { place = place; item = cite.1; style = cite.0.style })
-      (cite_at renders place)
+  member_at cites place = option_map (λ cite. record { place = place; item = cite.1; style = cite.0.style })
+      (cite_at cites place)
 
   -- a list of it, if there is one
   abbrev pub one_or_none : Option (Member E P) → List (Member E P)
@@ -48,4 +48,4 @@ module _ {E P : Type 0} where
 
   -- the cites at these places
   abbrev pub members : List (CiteRender E P) → List Place → List (Member E P)
-  members renders places = flat_map (λ p. one_or_none (member_at renders p)) places
+  members cites places = flat_map (λ p. one_or_none (member_at cites p)) places

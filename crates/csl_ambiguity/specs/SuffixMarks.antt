@@ -31,7 +31,7 @@ module _ {E P : Type 0} where
 
   -- some cite of the whole document does
   abbrev pub shows_dates : (E → Answers) → List (CiteRender E P) → Bool
-  shows_dates answers renders = list_any (shows_date answers) (flat_map (λ c. c.items) renders)
+  shows_dates answers cites = list_any (shows_date answers) (flat_map (λ c. c.items) cites)
 
   -- the style of some of the cites adds suffixes
   abbrev pub adds_suffix : List (Member E P) → Bool

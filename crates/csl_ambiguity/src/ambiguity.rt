@@ -9,7 +9,7 @@ ghost use Rattle.csl_passes.specs.Places.{AreDistinct, IsPlace};
 ghost use Rattle.csl_passes.specs.RendersView.{item_view, render_view, renders_view};
 
 use crate::classes::Classes;
-use crate::members::cite_at;
+use crate::members::member_at;
 use csl_base::entry::EntryLike;
 use csl_passes::renders::{AmbiguousGroup, SpeculativeCiteRender, SpeculativeItemRender};
 use std::alloc::{AllocError, Global};
@@ -64,14 +64,14 @@ fn add_cites<T, P>(
 /// second ones.
 fn classes<T, P>(
     alloc: Global,
-    renders: &[SpeculativeCiteRender<'_, '_, T, P>],
+    cites: &[SpeculativeCiteRender<'_, '_, T, P>],
 ) -> Result<Vec<AmbiguousGroup>, AllocError>
     ensures { IfOk result (λ v. map (λ g. g.items) v.items
-        ≡ map (map place_of) (classes (without_suffix (document (renders_view renders.now))))) }
+        ≡ map (map place_of) (classes (without_suffix (document (renders_view cites.now))))) }
 {
     let mut classes = Classes::new(alloc);
     let mut text = String::new(alloc);
-    for (r, render) in renders.iter().enumerate() {
+    for (r, render) in cites.iter().enumerate() {
         add_cites(alloc, &mut classes, r, render, &mut text)?;
     }
     Ok(classes.groups)
@@ -79,16 +79,16 @@ fn classes<T, P>(
 
 /// Whether one of the cites at these places cites another entry than this.
 fn cites_another<T: EntryLike, P>(
-    renders: &[SpeculativeCiteRender<'_, '_, T, P>],
+    cites: &[SpeculativeCiteRender<'_, '_, T, P>],
     places: &[(usize, usize)],
     entry: &T,
 ) -> bool
-    requires exist { All (IsPlace (renders_view renders.now)) places.now }
+    requires exist { All (IsPlace (renders_view cites.now)) places.now }
     ensures { result ≡ list_any (λ m. not (T.eq entry.now (entry_of m)))
-        (members (renders_view renders.now) places.now) }
+        (members (renders_view cites.now) places.now) }
 {
     for place in places {
-        if !(*entry == *cite_at(renders, *place).entry) {
+        if !(*entry == *member_at(cites, *place).entry) {
             return true;
         }
     }
@@ -97,31 +97,31 @@ fn cites_another<T: EntryLike, P>(
 
 /// Whether the cites at these places cite different entries.
 fn cite_different<T: EntryLike, P>(
-    renders: &[SpeculativeCiteRender<'_, '_, T, P>],
+    cites: &[SpeculativeCiteRender<'_, '_, T, P>],
     places: &[(usize, usize)],
 ) -> bool
-    requires exist { All (IsPlace (renders_view renders.now)) places.now }
-    ensures { result ≡ cite_different T.eq (members (renders_view renders.now) places.now) }
+    requires exist { All (IsPlace (renders_view cites.now)) places.now }
+    ensures { result ≡ cite_different T.eq (members (renders_view cites.now) places.now) }
 {
     match places.first() {
-        Some(first) => cites_another(renders, places, cite_at(renders, *first).entry),
+        Some(first) => cites_another(cites, places, member_at(cites, *first).entry),
         None => false,
     }
 }
 
 /// Adds the places to the groups, if the cites there cite different entries.
 fn keep_if_different<T: EntryLike, P>(
-    renders: &[SpeculativeCiteRender<'_, '_, T, P>],
+    cites: &[SpeculativeCiteRender<'_, '_, T, P>],
     places: AmbiguousGroup,
     groups: &mut Vec<AmbiguousGroup>,
 ) -> Result<(), AllocError>
-    requires exist { All (IsPlace (renders_view renders.now)) places.items }
+    requires exist { All (IsPlace (renders_view cites.now)) places.items }
     ensures { OnOk result (map (λ g. g.items) groups.new.items
         ≡ map (λ g. g.items) groups.old.items
-        ++ (if cite_different T.eq (members (renders_view renders.now) places.items) then places.items ∷ []
+        ++ (if cite_different T.eq (members (renders_view cites.now) places.items) then places.items ∷ []
         else [])) }
 {
-    if cite_different(renders, &places) {
+    if cite_different(cites, &places) {
         groups.push(places)?;
     }
     Ok(())
@@ -137,16 +137,16 @@ fn keep_if_different<T: EntryLike, P>(
 /// Fails where memory is refused.
 pub fn find_ambiguous_sets<T: EntryLike, P>(
     alloc: Global,
-    renders: &[SpeculativeCiteRender<'_, '_, T, P>],
+    cites: &[SpeculativeCiteRender<'_, '_, T, P>],
 ) -> Result<Vec<AmbiguousGroup>, AllocError>
     ensures groups { IfOk result (λ v. map (λ g. g.items) v.items
-        ≡ ambiguous_groups T.eq (renders_view renders.now)) }
-    ensures exist { IfOk result (λ v. All (λ g. All (IsPlace (renders_view renders.now)) g.items) v.items) }
+        ≡ ambiguous_groups T.eq (renders_view cites.now)) }
+    ensures exist { IfOk result (λ v. All (λ g. All (IsPlace (renders_view cites.now)) g.items) v.items) }
     ensures distinct { IfOk result (λ v. All (λ g. AreDistinct g.items) v.items) }
 {
     let mut groups = Vec::new(alloc);
-    for class in classes(alloc, renders)? {
-        keep_if_different(renders, class, &mut groups)?;
+    for class in classes(alloc, cites)? {
+        keep_if_different(cites, class, &mut groups)?;
     }
     Ok(groups)
 }

@@ -7,7 +7,7 @@ ghost use Rattle.csl_lookup.specs.declared.state.DisambiguateState.TheVariants.{
 ghost use Rattle.csl_passes.specs.Places.{IsPlace};
 ghost use Rattle.csl_passes.specs.RendersView.{renders_view};
 
-use crate::members::cite_at;
+use crate::members::member_at;
 use csl_base::entry::EntryLike;
 use csl_lookup::state::DisambiguateState;
 use csl_passes::renders::{AmbiguousGroup, Marks, SpeculativeCiteRender, SpeculativeItemRender};
@@ -24,14 +24,14 @@ fn may_ask<T, P>(item: &SpeculativeItemRender<'_, T, P>) -> bool
 
 /// Whether one of the cites at these places does and is.
 fn may_be_chosen<T, P>(
-    renders: &[SpeculativeCiteRender<'_, '_, T, P>],
+    cites: &[SpeculativeCiteRender<'_, '_, T, P>],
     group: &[(usize, usize)],
 ) -> bool
-    requires exist { All (IsPlace (renders_view renders.now)) group.now }
-    ensures { result ≡ may_be_chosen (members (renders_view renders.now) group.now) }
+    requires exist { All (IsPlace (renders_view cites.now)) group.now }
+    ensures { result ≡ may_be_chosen (members (renders_view cites.now) group.now) }
 {
     for place in group {
-        if may_ask(cite_at(renders, *place)) {
+        if may_ask(member_at(cites, *place)) {
             return true;
         }
     }
@@ -40,15 +40,15 @@ fn may_be_chosen<T, P>(
 
 /// The entry of the first cite that asks.
 fn first_asking<'a, T, P>(
-    renders: &[SpeculativeCiteRender<'_, 'a, T, P>],
+    cites: &[SpeculativeCiteRender<'_, 'a, T, P>],
     group: &[(usize, usize)],
 ) -> Option<&'a T>
-    requires exist { All (IsPlace (renders_view renders.now)) group.now }
+    requires exist { All (IsPlace (renders_view cites.now)) group.now }
     ensures { option_map (λ e. e.now) result
-        ≡ option_map entry_of (find asks (members (renders_view renders.now) group.now)) }
+        ≡ option_map entry_of (find asks (members (renders_view cites.now) group.now)) }
 {
     for place in group {
-        let item = cite_at(renders, *place);
+        let item = member_at(cites, *place);
         if item.checked_disambiguate {
             return Some(item.entry);
         }
@@ -66,19 +66,19 @@ fn asks_for_another<T: EntryLike, P>(item: &SpeculativeItemRender<'_, T, P>, spa
 /// The marks of the cites that do.
 fn marks_of_others<T: EntryLike, P>(
     alloc: Global,
-    renders: &[SpeculativeCiteRender<'_, '_, T, P>],
+    cites: &[SpeculativeCiteRender<'_, '_, T, P>],
     group: &[(usize, usize)],
     spared: &T,
 ) -> Result<Marks, AllocError>
-    requires exist { All (IsPlace (renders_view renders.now)) group.now }
+    requires exist { All (IsPlace (renders_view cites.now)) group.now }
     ensures { IfOk result (λ v. v.items
         ≡ map (λ m. (m.place, Choose))
         (filter (λ m. asks m && not (T.eq spared.now (entry_of m)))
-        (members (renders_view renders.now) group.now))) }
+        (members (renders_view cites.now) group.now))) }
 {
     let mut marks = Vec::new(alloc);
     for place in group {
-        if asks_for_another(cite_at(renders, *place), spared) {
+        if asks_for_another(member_at(cites, *place), spared) {
             marks.push((*place, DisambiguateState::Choose))?;
         }
     }
@@ -88,17 +88,17 @@ fn marks_of_others<T: EntryLike, P>(
 /// The marks of the cites at these places.
 fn choose_marks<T: EntryLike, P>(
     alloc: Global,
-    renders: &[SpeculativeCiteRender<'_, '_, T, P>],
+    cites: &[SpeculativeCiteRender<'_, '_, T, P>],
     group: &[(usize, usize)],
 ) -> Result<Marks, AllocError>
-    requires exist { All (IsPlace (renders_view renders.now)) group.now }
-    ensures { IfOk result (λ v. v.items ≡ choose_marks T.eq (members (renders_view renders.now) group.now)) }
+    requires exist { All (IsPlace (renders_view cites.now)) group.now }
+    ensures { IfOk result (λ v. v.items ≡ choose_marks T.eq (members (renders_view cites.now) group.now)) }
 {
-    if !may_be_chosen(renders, group) {
+    if !may_be_chosen(cites, group) {
         return Ok(Vec::new(alloc));
     }
-    match first_asking(renders, group) {
-        Some(spared) => marks_of_others(alloc, renders, group, spared),
+    match first_asking(cites, group) {
+        Some(spared) => marks_of_others(alloc, cites, group, spared),
         None => Ok(Vec::new(alloc)),
     }
 }
@@ -112,12 +112,12 @@ fn choose_marks<T: EntryLike, P>(
 /// Fails where memory is refused.
 pub fn disambiguate_with_choose<T: EntryLike, P>(
     alloc: Global,
-    renders: &[SpeculativeCiteRender<'_, '_, T, P>],
+    cites: &[SpeculativeCiteRender<'_, '_, T, P>],
     group: &AmbiguousGroup,
 ) -> Result<Marks, AllocError>
-    requires exist { All (IsPlace (renders_view renders.now)) group.now.items }
+    requires exist { All (IsPlace (renders_view cites.now)) group.now.items }
     ensures { IfOk result (λ v. v.items
-        ≡ choose_marks T.eq (members (renders_view renders.now) group.now.items)) }
+        ≡ choose_marks T.eq (members (renders_view cites.now) group.now.items)) }
 {
-    choose_marks(alloc, renders, group)
+    choose_marks(alloc, cites, group)
 }

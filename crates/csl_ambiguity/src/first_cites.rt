@@ -6,7 +6,7 @@ ghost use Rattle.csl_ambiguity.specs.SuffixMarks.{first_cites};
 ghost use Rattle.csl_passes.specs.Places.{IsPlace};
 ghost use Rattle.csl_passes.specs.RendersView.{renders_view};
 
-use crate::members::cite_at;
+use crate::members::member_at;
 use csl_base::entry::EntryLike;
 use csl_passes::renders::SpeculativeCiteRender;
 use indexmap::IndexSet;
@@ -56,17 +56,17 @@ impl<'a, T: EntryLike> Hash for FirstCite<'a, T> {
 /// The first cite of each entry that is cited at these places, in order.
 pub(crate) fn first_cites<'a, T: EntryLike, P>(
     alloc: Global,
-    renders: &[SpeculativeCiteRender<'_, 'a, T, P>],
+    cites: &[SpeculativeCiteRender<'_, 'a, T, P>],
     group: &[(usize, usize)],
 ) -> Result<IndexSet<FirstCite<'a, T>>, AllocError>
-    requires exist { All (IsPlace (renders_view renders.now)) group.now }
+    requires exist { All (IsPlace (renders_view cites.now)) group.now }
     ensures { IfOk result (λ v. firsts_view v.keys
-        ≡ map first_cite_of (first_cites T.eq (members (renders_view renders.now) group.now))) }
+        ≡ map first_cite_of (first_cites T.eq (members (renders_view cites.now) group.now))) }
 {
     let mut firsts = IndexSet::new(alloc);
     for place in group {
         firsts.insert(FirstCite {
-            entry: cite_at(renders, *place).entry,
+            entry: member_at(cites, *place).entry,
             place: *place,
         })?;
     }

@@ -9,8 +9,8 @@ use csl_base::entry::EntryLike;
 /// A law: the cites of ambiguous groups have no suffix; and two cites that read alike, of different entries
 /// and without suffix, stand in one group.
 pub fn ambiguous_stand_together<T: EntryLike, P>()
-    ensures without_suffix { (renders : List (CiteRender T P)) → GroupsHaveNoSuffix T.eq renders }
-    ensures together { (renders : List (CiteRender T P)) → AmbiguousStandTogether T.eq renders }
+    ensures without_suffix { (cites : List (CiteRender T P)) → GroupsHaveNoSuffix T.eq cites }
+    ensures together { (cites : List (CiteRender T P)) → AmbiguousStandTogether T.eq cites }
 {}
 
 /// A law: of cites without suffix each choose mark and each suffix mark stands at one of them, whose state

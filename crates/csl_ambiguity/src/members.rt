@@ -9,27 +9,27 @@ use csl_base::style::IndependentStyle;
 use csl_passes::renders::{SpeculativeCiteRender, SpeculativeItemRender};
 
 /// The cite at a place.
-pub(crate) fn cite_at<'x, 'a, T, P>(
-    renders: &'x [SpeculativeCiteRender<'_, 'a, T, P>],
+pub(crate) fn member_at<'x, 'a, T, P>(
+    cites: &'x [SpeculativeCiteRender<'_, 'a, T, P>],
     place: (usize, usize),
 ) -> &'x SpeculativeItemRender<'a, T, P>
-    requires exists { IsPlace (renders_view renders.now) place }
-    ensures { option_map (λ m. m.item) (member_at (renders_view renders.now) place)
+    requires exists { IsPlace (renders_view cites.now) place }
+    ensures { option_map (λ m. m.item) (member_at (renders_view cites.now) place)
         ≡ Some (item_view result.now) }
 {
     let (request, cite) = place;
-    &renders[request].items[cite]
+    &cites[request].items[cite]
 }
 
 /// The style of the cite at a place.
 pub(crate) fn style_at<'a, T, P>(
-    renders: &[SpeculativeCiteRender<'_, 'a, T, P>],
+    cites: &[SpeculativeCiteRender<'_, 'a, T, P>],
     place: (usize, usize),
 ) -> &'a IndependentStyle
-    requires exists { IsPlace (renders_view renders.now) place }
-    ensures { option_map (λ m. m.style) (member_at (renders_view renders.now) place)
+    requires exists { IsPlace (renders_view cites.now) place }
+    ensures { option_map (λ m. m.style) (member_at (renders_view cites.now) place)
         ≡ Some (style_view result.now) }
 {
     let (request, _) = place;
-    renders[request].request.style()
+    cites[request].request.style()
 }

@@ -68,10 +68,10 @@ fn some_shows_date<T: EntryLike, P>(items: &[SpeculativeItemRender<'_, T, P>]) -
 
 /// Whether some cite of the document shows a date, or the citation label of an entry that has one:
 /// where none does, no suffix is given.
-pub fn shows_dates<T: EntryLike, P>(renders: &[SpeculativeCiteRender<'_, '_, T, P>]) -> bool
-    ensures { result ≡ shows_dates T.answers (renders_view renders.now) }
+pub fn shows_dates<T: EntryLike, P>(cites: &[SpeculativeCiteRender<'_, '_, T, P>]) -> bool
+    ensures { result ≡ shows_dates T.answers (renders_view cites.now) }
 {
-    for render in renders {
+    for render in cites {
         if some_shows_date(&render.items) {
             return true;
         }
@@ -81,14 +81,14 @@ pub fn shows_dates<T: EntryLike, P>(renders: &[SpeculativeCiteRender<'_, '_, T, 
 
 /// Whether the style of one of the cites at these places adds suffixes.
 fn adds_suffix<T, P>(
-    renders: &[SpeculativeCiteRender<'_, '_, T, P>],
+    cites: &[SpeculativeCiteRender<'_, '_, T, P>],
     group: &[(usize, usize)],
 ) -> bool
-    requires exist { All (IsPlace (renders_view renders.now)) group.now }
-    ensures { result ≡ adds_suffix (members (renders_view renders.now) group.now) }
+    requires exist { All (IsPlace (renders_view cites.now)) group.now }
+    ensures { result ≡ adds_suffix (members (renders_view cites.now) group.now) }
 {
     for place in group {
-        if style_at(renders, *place)
+        if style_at(cites, *place)
             .citation
             .disambiguate_add_year_suffix
         {
@@ -113,13 +113,13 @@ fn numbered<T>(alloc: Global, firsts: &[FirstCite<'_, T>]) -> Result<Marks, Allo
 /// A suffix mark for each entry that is cited at these places, at its first cite.
 fn suffix_marks<T: EntryLike, P>(
     alloc: Global,
-    renders: &[SpeculativeCiteRender<'_, '_, T, P>],
+    cites: &[SpeculativeCiteRender<'_, '_, T, P>],
     group: &[(usize, usize)],
 ) -> Result<Marks, AllocError>
-    requires exist { All (IsPlace (renders_view renders.now)) group.now }
-    ensures { IfOk result (λ v. v.items ≡ suffix_marks T.eq (members (renders_view renders.now) group.now)) }
+    requires exist { All (IsPlace (renders_view cites.now)) group.now }
+    ensures { IfOk result (λ v. v.items ≡ suffix_marks T.eq (members (renders_view cites.now) group.now)) }
 {
-    let firsts = first_cites(alloc, renders, group)?;
+    let firsts = first_cites(alloc, cites, group)?;
     numbered(alloc, firsts.as_slice())
 }
 
@@ -133,15 +133,15 @@ fn suffix_marks<T: EntryLike, P>(
 /// Fails where memory is refused.
 pub fn disambiguate_year_suffix<T: EntryLike, P>(
     alloc: Global,
-    renders: &[SpeculativeCiteRender<'_, '_, T, P>],
+    cites: &[SpeculativeCiteRender<'_, '_, T, P>],
     group: &AmbiguousGroup,
 ) -> Result<Marks, AllocError>
-    requires exist { All (IsPlace (renders_view renders.now)) group.now.items }
+    requires exist { All (IsPlace (renders_view cites.now)) group.now.items }
     ensures { IfOk result (λ v. v.items
-        ≡ year_suffix_marks T.eq (shows_dates T.answers (renders_view renders.now))
-        (members (renders_view renders.now) group.now.items)) }
+        ≡ year_suffix_marks T.eq (shows_dates T.answers (renders_view cites.now))
+        (members (renders_view cites.now) group.now.items)) }
 {
-    disambiguate_dated_year_suffix(alloc, renders, group, shows_dates(renders))
+    disambiguate_dated_year_suffix(alloc, cites, group, shows_dates(cites))
 }
 
 /// The same, where `shows_dates` was asked before. The answer is the same for all groups of a round.
@@ -151,16 +151,16 @@ pub fn disambiguate_year_suffix<T: EntryLike, P>(
 /// Fails where memory is refused.
 pub fn disambiguate_dated_year_suffix<T: EntryLike, P>(
     alloc: Global,
-    renders: &[SpeculativeCiteRender<'_, '_, T, P>],
+    cites: &[SpeculativeCiteRender<'_, '_, T, P>],
     group: &AmbiguousGroup,
     dated: bool,
 ) -> Result<Marks, AllocError>
-    requires exist { All (IsPlace (renders_view renders.now)) group.now.items }
+    requires exist { All (IsPlace (renders_view cites.now)) group.now.items }
     ensures { IfOk result (λ v. v.items
-        ≡ year_suffix_marks T.eq dated (members (renders_view renders.now) group.now.items)) }
+        ≡ year_suffix_marks T.eq dated (members (renders_view cites.now) group.now.items)) }
 {
-    if dated && adds_suffix(renders, group) {
-        suffix_marks(alloc, renders, group)
+    if dated && adds_suffix(cites, group) {
+        suffix_marks(alloc, cites, group)
     } else {
         Ok(Vec::new(alloc))
     }

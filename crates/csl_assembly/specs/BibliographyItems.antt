@@ -28,7 +28,7 @@ with_first_field aligned (tree, key) =
 
 -- the cites at these places
 abbrev pub cites_at : {E P : Type 0} → List (CiteRender E P) → List Place → List (ItemRender E P)
-cites_at renders places = filter_map (λ p. option_map (λ c. c.1) (cite_at renders p)) places
+cites_at cites places = filter_map (λ p. option_map (λ c. c.1) (cite_at cites p)) places
 
 -- what holds of a cite, without its locator
 abbrev pub unlocated : {E P : Type 0} → ItemRender E P → Properties P

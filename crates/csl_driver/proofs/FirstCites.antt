@@ -16,13 +16,13 @@ use Rattle.csl_passes.specs.Renders.{CiteRender, ItemRender, Place}
 use Rattle.csl_passes.specs.Request.{Request}
 use Rattle.csl_positions.specs.FinalProperties.{AreFirstItems, first_item, item_at, items_finally}
 
-module _ {E P : Type 0} (eq : E → E → Bool) (entries : List E) (renders : List (CiteRender E P)) where
+module _ {E P : Type 0} (eq : E → E → Bool) (entries : List E) (cites : List (CiteRender E P)) where
   -- the first cite of the entry at a place
   abbrev pub first_of : ℕ → Option (ItemRender E P)
-  first_of p = option_and_then (first_item eq renders) (slice_get entries p)
+  first_of p = option_and_then (first_item eq cites) (slice_get entries p)
 
-  cite-item : (at : Place) → option_map (λ (c : Request E P × ItemRender E P). c.1) (cite_at renders at) ≡ item_at renders at
-  cite-item at = by (slice_get renders at.0)
+  cite-item : (at : Place) → option_map (λ (c : Request E P × ItemRender E P). c.1) (cite_at cites at) ≡ item_at cites at
+  cite-item at = by (slice_get cites at.0)
     where
       inner : (r : CiteRender E P) (o : Option (ItemRender E P)) → option_map (λ (c : Request E P × ItemRender E P). c.1) (option_map (λ i. (r.request, i)) o) ≡ o
       inner r None = refl
@@ -33,20 +33,20 @@ module _ {E P : Type 0} (eq : E → E → Bool) (entries : List E) (renders : Li
       by None = refl
       by (Some r) = inner r (slice_get r.items at.1)
 
-  module _ (firsts : List (Option Place)) (are : AreFirstItems eq entries renders firsts) (p : ℕ) (within : p < length firsts) where
-    noted : (o : Option Place) → o ≡ get_or firsts p o → option_map (item_at renders) o ≡ option_map Some (first_of p)
+  module _ (firsts : List (Option Place)) (are : AreFirstItems eq entries cites firsts) (p : ℕ) (within : p < length firsts) where
+    noted : (o : Option Place) → o ≡ get_or firsts p o → option_map (item_at cites) o ≡ option_map Some (first_of p)
     noted o here = by (slice_get entries p) both
       where
-        both : Some (option_map (item_at renders) o) ≡ option_map (λ e. option_map Some (first_item eq renders e)) (slice_get entries p)
+        both : Some (option_map (item_at cites) o) ≡ option_map (λ e. option_map Some (first_item eq cites e)) (slice_get entries p)
         both =
-            sym (ap (option_map (option_map (item_at renders))) (slice_get-get_or firsts p o within ∙ ap Some (sym here)))
-            ∙ sym (slice_get-map (option_map (item_at renders)) firsts p) ∙ ap (λ l. slice_get l p) are
-            ∙ slice_get-map (λ e. option_map Some (first_item eq renders e)) entries p
+            sym (ap (option_map (option_map (item_at cites))) (slice_get-get_or firsts p o within ∙ ap Some (sym here)))
+            ∙ sym (slice_get-map (option_map (item_at cites)) firsts p) ∙ ap (λ l. slice_get l p) are
+            ∙ slice_get-map (λ e. option_map Some (first_item eq cites e)) entries p
 
-        by : (d : Option E) → Some (option_map (item_at renders) o) ≡ option_map (λ e. option_map Some (first_item eq renders e)) d
-            → option_map (item_at renders) o ≡ option_map Some (option_and_then (first_item eq renders) d)
+        by : (d : Option E) → Some (option_map (item_at cites) o) ≡ option_map (λ e. option_map Some (first_item eq cites e)) d
+            → option_map (item_at cites) o ≡ option_map Some (option_and_then (first_item eq cites) d)
         by None h = cc
-        by (Some e) h = ap (λ x. unwrap_or x (option_map (item_at renders) o)) h
+        by (Some e) h = ap (λ x. unwrap_or x (option_map (item_at cites) o)) h
 
     none-first : None ≡ get_or firsts p None → first_of p ≡ None
     none-first here = by (first_of p) (noted None here)
@@ -55,37 +55,37 @@ module _ {E P : Type 0} (eq : E → E → Bool) (entries : List E) (renders : Li
         by None h = refl
         by (Some i) h = cc
 
-    some-first : (at : Place) → Some at ≡ get_or firsts p (Some at) → (i : ItemRender E P) × (item_at renders at ≡ Some i) × (first_of p ≡ Some i)
+    some-first : (at : Place) → Some at ≡ get_or firsts p (Some at) → (i : ItemRender E P) × (item_at cites at ≡ Some i) × (first_of p ≡ Some i)
     some-first at here = by (first_of p) (noted (Some at) here)
       where
-        by : (o : Option (ItemRender E P)) → Some (item_at renders at) ≡ option_map Some o → (i : ItemRender E P) × (item_at renders at ≡ Some i) × (o ≡ Some i)
+        by : (o : Option (ItemRender E P)) → Some (item_at cites at) ≡ option_map Some o → (i : ItemRender E P) × (item_at cites at ≡ Some i) × (o ≡ Some i)
         by None h = absurd (none h)
           where
-            none : Some (item_at renders at) ≡ None → ⊥
+            none : Some (item_at cites at) ≡ None → ⊥
             none q = cc
         by (Some i) h = (i, ap (λ x. unwrap_or x None) h, refl)
 
-  as-long : (firsts : List (Option Place)) → AreFirstItems eq entries renders firsts → length firsts ≡ length entries
+  as-long : (firsts : List (Option Place)) → AreFirstItems eq entries cites firsts → length firsts ≡ length entries
   as-long firsts are =
-      sym (length-map firsts (option_map (item_at renders))) ∙ ap length are ∙ length-map entries (λ e. option_map Some (first_item eq renders e))
+      sym (length-map firsts (option_map (item_at cites))) ∙ ap length are ∙ length-map entries (λ e. option_map Some (first_item eq cites e))
 
   -- there is one for each member of an order of places of entries
-  pub within-firsts : (firsts : List (Option Place)) → AreFirstItems eq entries renders firsts → (order : List ℕ) (k : ℕ) → All (λ p. p < length entries) order → k < length order → get_or order k 0 < length firsts
+  pub within-firsts : (firsts : List (Option Place)) → AreFirstItems eq entries cites firsts → (order : List ℕ) (k : ℕ) → All (λ p. p < length entries) order → k < length order → get_or order k 0 < length firsts
   within-firsts firsts are order k below next = subst (λ n. get_or order k 0 < n) (sym (as-long firsts are)) (All-get_or (λ q. q < length entries) order k 0 next below)
 
-  module _ (order : List ℕ) (k : ℕ) (places : List Place) (found : cites_at renders places ≡ filter_map first_of (take k order)) (p : ℕ) (next : k < length order) (here : p ≡ get_or order k p)
-      (firsts : List (Option Place)) (are : AreFirstItems eq entries renders firsts) (within : p < length firsts) where
+  module _ (order : List ℕ) (k : ℕ) (places : List Place) (found : cites_at cites places ≡ filter_map first_of (take k order)) (p : ℕ) (next : k < length order) (here : p ≡ get_or order k p)
+      (firsts : List (Option Place)) (are : AreFirstItems eq entries cites firsts) (within : p < length firsts) where
     -- an entry that no cite cites
-    pub found-same : None ≡ get_or firsts p None → cites_at renders places ≡ filter_map first_of (take (k + 1) order)
+    pub found-same : None ≡ get_or firsts p None → cites_at cites places ≡ filter_map first_of (take (k + 1) order)
     found-same none = filter_map-same first_of order k p next here (none-first firsts are p within none) found
 
     -- an entry with its first cite
-    pub found-more : (at : Place) (more : List Place) → Some at ≡ get_or firsts p (Some at) → more ≡ places ++ at ∷ [] → cites_at renders more ≡ filter_map first_of (take (k + 1) order)
+    pub found-more : (at : Place) (more : List Place) → Some at ≡ get_or firsts p (Some at) → more ≡ places ++ at ∷ [] → cites_at cites more ≡ filter_map first_of (take (k + 1) order)
     found-more at more some made =
         let there = some-first firsts are p within at some in
         filter_map-more first_of order k p there.0 next here there.2 found
-        (ap (cites_at renders) made ∙ filter_map-append (λ w. option_map (λ (c : Request E P × ItemRender E P). c.1) (cite_at renders w)) places (at ∷ [])
-        ∙ ap (λ o. cites_at renders places ++ cons_option o []) (cite-item at ∙ there.1))
+        (ap (cites_at cites) made ∙ filter_map-append (λ w. option_map (λ (c : Request E P × ItemRender E P). c.1) (cite_at cites w)) places (at ∷ [])
+        ∙ ap (λ o. cites_at cites places ++ cons_option o []) (cite-item at ∙ there.1))
 
   module _ (laws : IsEquivalence eq) where
     -- equal entries have the same first cite
@@ -110,12 +110,12 @@ module _ {E P : Type 0} (eq : E → E → Bool) (entries : List E) (renders : Li
 
     -- those of entries that are listed by their places
     pub first-cites : (order : List E) → ((e : E) → is_in eq e order ≡ true → is_in eq e entries ≡ true)
-        → filter_map first_of (map (λ e. place eq e entries) order) ≡ filter_map (first_item eq renders) order
+        → filter_map first_of (map (λ e. place eq e entries) order) ≡ filter_map (first_item eq cites) order
     first-cites [] h = refl
     first-cites (e ∷ order) h =
         let own : is_in eq e (e ∷ order) ≡ true = rw (laws.refl e) refl in
         let there = at-place entries e (h e own) in
-        rw (ap (option_and_then (first_item eq renders)) there.1 ∙ sym (same-first (items_finally renders) e there.0 there.2), first-cites order rest) refl
+        rw (ap (option_and_then (first_item eq cites)) there.1 ∙ sym (same-first (items_finally cites) e there.0 there.2), first-cites order rest) refl
       where
         rest : (d : E) → is_in eq d order ≡ true → is_in eq d entries ≡ true
         rest d inside = h d (or_right (eq d e) (is_in eq d order) inside)

@@ -35,24 +35,24 @@ module _ {E P : Type 0} (eq : E → E → Bool) where
       by true more = refl
       by false more = more
 
-  entries-joined : (renders : List (CiteRender E P)) → map (λ i. i.entry) (items_finally renders) ≡ cited_finally renders
+  entries-joined : (cites : List (CiteRender E P)) → map (λ i. i.entry) (items_finally cites) ≡ cited_finally cites
   entries-joined [] = refl
   entries-joined (c ∷ cs) = map-append (λ i. i.entry) c.items (items_finally cs) ∙ ap (λ l. map (λ i. i.entry) c.items ++ l) (entries-joined cs)
 
-  module _ (laws : IsEquivalence eq) (renders : List (CiteRender E P)) where
-    each-found : (order xs : List E) → ((e : E) → is_in eq e order ≡ is_in eq e (cited_finally renders)) → all_in eq laws order xs ≡ true → All (λ e. is_some (first_item eq renders e) ≡ true) xs
-    each-found order [] same h = All-nil (λ e. is_some (first_item eq renders e) ≡ true)
+  module _ (laws : IsEquivalence eq) (cites : List (CiteRender E P)) where
+    each-found : (order xs : List E) → ((e : E) → is_in eq e order ≡ is_in eq e (cited_finally cites)) → all_in eq laws order xs ≡ true → All (λ e. is_some (first_item eq cites e) ≡ true) xs
+    each-found order [] same h = All-nil (λ e. is_some (first_item eq cites e) ≡ true)
     each-found order (x ∷ xs) same h =
-        All-cons (λ e. is_some (first_item eq renders e) ≡ true) x xs
-        (find-in x (items_finally renders) ∙ ap (is_in eq x) (entries-joined renders) ∙ sym (same x) ∙ left (is_in eq x order) (all_in eq laws order xs) h)
+        All-cons (λ e. is_some (first_item eq cites e) ≡ true) x xs
+        (find-in x (items_finally cites) ∙ ap (is_in eq x) (entries-joined cites) ∙ sym (same x) ∙ left (is_in eq x order) (all_in eq laws order xs) h)
         (each-found order xs same (right (is_in eq x order) (all_in eq laws order xs) h))
 
     -- there are as many first cites as entries
-    pub firsts-counted : (requests : List (Request E P)) (order : Option (List E)) (table : Table E) → table ≡ table_of eq requests → AreCitesOf eq table requests renders
-        → length (filter_map (first_item eq renders) (bibliography_order eq order (cited requests))) ≡ length (bibliography_order eq order (cited requests))
+    pub firsts-counted : (requests : List (Request E P)) (order : Option (List E)) (table : Table E) → table ≡ table_of eq requests → AreCitesOf eq table requests cites
+        → length (filter_map (first_item eq cites) (bibliography_order eq order (cited requests))) ≡ length (bibliography_order eq order (cited requests))
     firsts-counted requests order table is are =
         let listed = bibliography_order eq order (cited requests) in
-        all-found (first_item eq renders) listed
+        all-found (first_item eq cites) listed
         (each-found listed listed
         (λ e. (holds_each_once eq laws order (cited requests)).same e ∙ sym (is_in-distinct eq laws e (cited requests)) ∙ sym (ap (λ (t : Table E). is_in eq e t.entries) is) ∙ sym (are.same e))
         (all-cited eq laws listed listed (λ e. refl)))

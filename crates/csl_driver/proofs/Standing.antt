@@ -87,13 +87,13 @@ drawn-request c = by (has_no_purpose c.items)
     by false = refl
 
 -- drawing together keeps the requests
-pub drawn-requests : {E P : Type 0} (renders : List (CiteRender E P)) → map (λ c. c.request) (map drawn_together renders) ≡ map (λ c. c.request) renders
-drawn-requests renders = same-mapped drawn_together (λ c. c.request) drawn-request renders
+pub drawn-requests : {E P : Type 0} (cites : List (CiteRender E P)) → map (λ c. c.request) (map drawn_together cites) ≡ map (λ c. c.request) cites
+drawn-requests cites = same-mapped drawn_together (λ c. c.request) drawn-request cites
 
 -- what is asked of requests holds of the requests of their cites
-pub of-requests : {E P : Type 0} (Q : Request E P → Type 0) (renders : List (CiteRender E P)) (requests : List (Request E P))
-    → map (λ c. c.request) renders ≡ requests → All Q requests → All (λ c. Q c.request) renders
-of-requests {E} {P} Q renders requests same all = from renders (subst (All Q) (sym same) all)
+pub of-requests : {E P : Type 0} (Q : Request E P → Type 0) (cites : List (CiteRender E P)) (requests : List (Request E P))
+    → map (λ c. c.request) cites ≡ requests → All Q requests → All (λ c. Q c.request) cites
+of-requests {E} {P} Q cites requests same all = from cites (subst (All Q) (sym same) all)
   where
     from : (cs : List (CiteRender E P)) → All Q (map (λ c. c.request) cs) → All (λ c. Q c.request) cs
     from [] a = All-nil (λ c. Q c.request)
@@ -109,7 +109,7 @@ module _ {E P : Type 0} (eq : E → E → Bool) (laws : IsEquivalence eq) (writi
     same = λ e. ap (is_in eq e) (first-cited eq payload_eq writing number_of (distinct eq (cited requests)) requests) ∙ sym (is_in-distinct eq laws e (cited requests));
   }
 
-  module _ (entered : Table E) (requests : List (Request E P)) (renders : List (CiteRender E P)) (h : AreCitesOf eq entered requests renders) where
+  module _ (entered : Table E) (requests : List (Request E P)) (cites : List (CiteRender E P)) (h : AreCitesOf eq entered requests cites) where
     entry-again : (table : StateTable E) (r : Request E P) (s : Option DisambiguateState) (i : ItemRender E P) → (with_any writing r s i).entry ≡ i.entry
     entry-again table r None i = refl
     entry-again table r (Some s) i = refl
@@ -120,44 +120,44 @@ module _ {E P : Type 0} (eq : E → E → Bool) (laws : IsEquivalence eq) (writi
     placed-again entries places r (Some s) i a = a
 
     -- rendered again
-    pub again-stand : (table : StateTable E) → AreCitesOf eq entered requests (at_table writing table renders)
+    pub again-stand : (table : StateTable E) → AreCitesOf eq entered requests (at_table writing table cites)
     again-stand table = record {
-      of = same-mapped (request_at writing table) (λ c. c.request) (λ c. refl) renders ∙ h.of;
+      of = same-mapped (request_at writing table) (λ c. c.request) (λ c. refl) cites ∙ h.of;
       placed = zip-mapped (request_at writing table) (λ places c. All (IsPlaced eq entered.entries places) c.items)
           (λ places c a. all-mapped (λ i. with_any writing c.request (table i.entry) i) (IsPlaced eq entered.entries places)
-          (λ i b. placed-again entered.entries places c.request (table i.entry) i b) c.items a) entered.places renders h.placed;
+          (λ i b. placed-again entered.entries places c.request (table i.entry) i b) c.items a) entered.places cites h.placed;
       same = λ e. ap (is_in eq e) (flat-mapped (request_at writing table) (λ c. map (λ i. i.entry) c.items)
-          (λ c. same-mapped (λ i. with_any writing c.request (table i.entry) i) (λ i. i.entry) (λ i. entry-again table c.request (table i.entry) i) c.items) renders) ∙ h.same e;
+          (λ c. same-mapped (λ i. with_any writing c.request (table i.entry) i) (λ i. i.entry) (λ i. entry-again table c.request (table i.entry) i) c.items) cites) ∙ h.same e;
     }
 
     -- disambiguated
-    pub disambiguated-stand : (mode : RoundMode) → AreCitesOf eq entered requests (disambiguated mode eq writing renders)
+    pub disambiguated-stand : (mode : RoundMode) → AreCitesOf eq entered requests (disambiguated mode eq writing cites)
     unfolding disambiguated
-    disambiguated-stand mode = again-stand (last_states mode eq writing renders)
+    disambiguated-stand mode = again-stand (last_states mode eq writing cites)
 
     -- in their blocks
-    pub grouped-stand : AreCitesOf eq entered requests (map grouped renders)
+    pub grouped-stand : AreCitesOf eq entered requests (map grouped cites)
     grouped-stand = record {
-      of = same-mapped grouped (λ c. c.request) grouped-request renders ∙ h.of;
-      placed = grouped-placed eq entered renders h.placed;
-      same = λ e. cited-same eq laws e renders ∙ h.same e;
+      of = same-mapped grouped (λ c. c.request) grouped-request cites ∙ h.of;
+      placed = grouped-placed eq entered cites h.placed;
+      same = λ e. cited-same eq laws e cites ∙ h.same e;
     }
 
     -- with their final properties
-    pub final-stand : (payload_eq : P → P → Bool) (number_of : E → ℕ) → AreCitesOf eq entered requests (with_final_properties eq payload_eq number_of renders)
+    pub final-stand : (payload_eq : P → P → Bool) (number_of : E → ℕ) → AreCitesOf eq entered requests (with_final_properties eq payload_eq number_of cites)
     final-stand payload_eq number_of = record {
-      of = same-changed settled (λ c. c.request) (λ k c. refl) 0 renders ∙ h.of;
+      of = same-changed settled (λ c. c.request) (λ k c. refl) 0 cites ∙ h.of;
       placed = zip-changed settled (λ places c. All (IsPlaced eq entered.entries places) c.items)
-          (λ k places c a. all-changed (item k c) (IsPlaced eq entered.entries places) (λ j i b. b) 0 c.items a) 0 entered.places renders h.placed;
+          (λ k places c a. all-changed (item k c) (IsPlaced eq entered.entries places) (λ j i b. b) 0 c.items a) 0 entered.places cites h.placed;
       same = λ e. ap (is_in eq e) (flat-changed settled (λ c. map (λ i. i.entry) c.items)
-          (λ k c. same-changed (item k c) (λ i. i.entry) (λ j i. refl) 0 c.items) 0 renders) ∙ h.same e;
+          (λ k c. same-changed (item k c) (λ i. i.entry) (λ j i. refl) 0 c.items) 0 cites) ∙ h.same e;
     }
       where
         item : ℕ → CiteRender E P → ℕ → ItemRender E P → ItemRender E P
-        item k c j i = with_final eq payload_eq number_of (items_before renders k ++ take j c.items) i
+        item k c j i = with_final eq payload_eq number_of (items_before cites k ++ take j c.items) i
 
         settled : ℕ → CiteRender E P → CiteRender E P
-        settled k c = record c { items = with_final_items eq payload_eq number_of (items_before renders k) c.items }
+        settled k c = record c { items = with_final_items eq payload_eq number_of (items_before cites k) c.items }
 
 module _ {E P : Type 0} {eq : E → E → Bool} (laws : IsEquivalence eq) (writing : Writing E P) (payload_eq : P → P → Bool) (asked : Asked E P)
     {table : Table E} (is : table ≡ table_of eq asked.requests) {begun : List (CiteRender E P)} (first : begun ≡ rendered_first eq payload_eq writing asked) where

@@ -8,10 +8,10 @@ use Rattle.csl_passes.specs.Request.{Request}
 use Rattle.csl_positions.specs.FinalProperties.{cited_finally}
 
 pub record AreCitesOf {E P : Type 0} (eq : E → E
-    → Bool) (table : Table E) (requests : List (Request E P)) (renders : List (CiteRender E P)) : Type 0 where
+    → Bool) (table : Table E) (requests : List (Request E P)) (cites : List (CiteRender E P)) : Type 0 where
   -- they are those of the requests, one after another
-  pub of : map (λ c. c.request) renders ≡ requests
+  pub of : map (λ c. c.request) cites ≡ requests
   -- each knows where its entry stands in the table
-  pub placed : ArePlaced eq table renders
+  pub placed : ArePlaced eq table cites
   -- and they cite the entries of the table
-  pub same : (e : E) → is_in eq e (cited_finally renders) ≡ is_in eq e table.entries
+  pub same : (e : E) → is_in eq e (cited_finally cites) ≡ is_in eq e table.entries

@@ -14,5 +14,5 @@ module _ {E P : Type 0} (eq : E → E → Bool) where
 
   -- so does that of each cite of each request
   abbrev pub ArePlaced : Table E → List (CiteRender E P) → Type 0
-  ArePlaced table renders = AllZip
-      (λ places r. All (IsPlaced table.entries places) r.items) table.places renders
+  ArePlaced table cites = AllZip
+      (λ places r. All (IsPlaced table.entries places) r.items) table.places cites

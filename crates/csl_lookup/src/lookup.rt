@@ -84,8 +84,8 @@ impl<'a> StyleLocales<'a> {
     }
 
     /// The children of the style's first macro of a name; none without such a macro.
-    pub fn body_of(&self, name: &str) -> Option<&'a Vec<LayoutRenderingElement>>
-        ensures { option_map (λ v. elements_view v.now.items) result
+    pub fn body_of(&self, name: &str) -> Option<&'a [LayoutRenderingElement]>
+        ensures { option_map (λ v. elements_view v.now) result
             ≡ body_of name.now (source_view self.now).style.macros }
     {
         match self.prepared {

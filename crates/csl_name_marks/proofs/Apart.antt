@@ -19,37 +19,37 @@ use Rattle.csl_name_marks.specs.declared.named_cite.NamedCite.{NamedCite}
 pub places_find : Finds same_place
 places_find = pairs_find (finds unsigned_Decides) (finds unsigned_Decides)
 
-module _ {E P : Type 0} (renders : List (CiteRender E P)) where
-  own-place : (p : Place) (m : NamedCite) → named_cite_at renders p ≡ Some m → m.place ≡ p
-  own-place p m = by (cite_at renders p)
+module _ {E P : Type 0} (cites : List (CiteRender E P)) where
+  own-place : (p : Place) (m : NamedCite) → named_cite_at cites p ≡ Some m → m.place ≡ p
+  own-place p m = by (cite_at cites p)
     where
       by : (o : Option (Request E P × ItemRender E P)) → option_map (λ cite. named_cite p cite.0 cite.1) o ≡ Some m → m.place ≡ p
       by None e = cc
       by (Some cite) e = let same : m ≡ named_cite p cite.0 cite.1 = cc in ap (λ x. x.place) same
 
-  elsewhere : (p : Place) (ps : List Place) → AllByRecursion (λ q. same_place p q ≡ false) ps → AllByRecursion (λ x. same_place p x.place ≡ false) (named_cites renders ps)
+  elsewhere : (p : Place) (ps : List Place) → AllByRecursion (λ q. same_place p q ≡ false) ps → AllByRecursion (λ x. same_place p x.place ≡ false) (named_cites cites ps)
   elsewhere p [] h = tt
-  elsewhere p (q ∷ qs) h = by (named_cite_at renders q) (own-place q) (elsewhere p qs h.1)
+  elsewhere p (q ∷ qs) h = by (named_cite_at cites q) (own-place q) (elsewhere p qs h.1)
     where
-      by : (o : Option NamedCite) → ((m : NamedCite) → o ≡ Some m → m.place ≡ q) → AllByRecursion (λ x. same_place p x.place ≡ false) (named_cites renders qs)
-          → AllByRecursion (λ x. same_place p x.place ≡ false) (cons_option o (named_cites renders qs))
+      by : (o : Option NamedCite) → ((m : NamedCite) → o ≡ Some m → m.place ≡ q) → AllByRecursion (λ x. same_place p x.place ≡ false) (named_cites cites qs)
+          → AllByRecursion (λ x. same_place p x.place ≡ false) (cons_option o (named_cites cites qs))
       by None e rest = rest
       by (Some m) e rest = (ap (same_place p) (e m refl) ∙ h.0, rest)
 
-  members-distinct : (ps : List Place) → IsDistinct same_place ps → StandApart (named_cites renders ps)
+  members-distinct : (ps : List Place) → IsDistinct same_place ps → StandApart (named_cites cites ps)
   unfolding IsDistinct
   members-distinct [] h = tt
   members-distinct (p ∷ ps) h =
-      by (named_cite_at renders p) (own-place p) (elsewhere p ps (IsDistinct-head same_place p ps h)) (members-distinct ps (IsDistinct-tail same_place p ps h))
+      by (named_cite_at cites p) (own-place p) (elsewhere p ps (IsDistinct-head same_place p ps h)) (members-distinct ps (IsDistinct-tail same_place p ps h))
     where
-      by : (o : Option NamedCite) → ((m : NamedCite) → o ≡ Some m → m.place ≡ p) → AllByRecursion (λ x. same_place p x.place ≡ false) (named_cites renders ps)
-          → StandApart (named_cites renders ps) → StandApart (cons_option o (named_cites renders ps))
+      by : (o : Option NamedCite) → ((m : NamedCite) → o ≡ Some m → m.place ≡ p) → AllByRecursion (λ x. same_place p x.place ≡ false) (named_cites cites ps)
+          → StandApart (named_cites cites ps) → StandApart (cons_option o (named_cites cites ps))
       by None e others rest = rest
       by (Some m) e others rest =
-          IsDistinct-cons (λ x y. same_place x.place y.place) m (named_cites renders ps)
-          (subst (λ q. AllByRecursion (λ x. same_place q x.place ≡ false) (named_cites renders ps)) (sym (e m refl)) others) rest
+          IsDistinct-cons (λ x y. same_place x.place y.place) m (named_cites cites ps)
+          (subst (λ q. AllByRecursion (λ x. same_place q x.place ≡ false) (named_cites cites ps)) (sym (e m refl)) others) rest
 
-  pub members-apart : (ps : List Place) → AreDistinct ps → StandApart (named_cites renders ps)
+  pub members-apart : (ps : List Place) → AreDistinct ps → StandApart (named_cites cites ps)
   members-apart ps h = members-distinct ps (IsDistinct-from_AllPairs (decides places_find) ps h)
 
 -- members apart, all in requests before this one

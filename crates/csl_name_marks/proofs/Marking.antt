@@ -14,8 +14,8 @@ use Rattle.csl_passes.specs.Renders.{CiteRender, ItemRender, Place}
 use Rattle.csl_passes.specs.RendersView.{item_view, items_view, render_view, renders_view}
 use Rattle.csl_passes.specs.Request.{Request}
 use Rattle.csl_passes.specs.RequestView.{request_view}
-use Rattle.csl_passes.specs.declared.renders.SpeculativeCiteRender.{SpeculativeCiteRender}
-use Rattle.csl_passes.specs.declared.renders.SpeculativeItemRender.{SpeculativeItemRender}
+use Rattle.csl_passes.specs.declared.cites.SpeculativeCiteRender.{SpeculativeCiteRender}
+use Rattle.csl_passes.specs.declared.cites.SpeculativeItemRender.{SpeculativeItemRender}
 use Rattle.csl_passes.specs.Places.{IsPlace, cite_at}
 use Rattle.csl_name_marks.specs.NamedCites.{first_adds_names, greatest_step, named_cite, named_cite_at, named_cites}
 use Rattle.csl_name_marks.specs.NameMarks.{mark, marks_after, name_marks}
@@ -84,16 +84,16 @@ module _ {X Y Z : Type 0} (v : X → Y) where
 seen-at : {X Y : Type 0} (v : X → Y) (xs : List X) (i : ℕ) (x : X) → i < length xs → x ≡ get_or xs i x → slice_get (map v xs) i ≡ Some (v x)
 seen-at v xs i x h e = slice_get-map v xs i ∙ ap (option_map v) (slice_get-get_or xs i x h) ∙ ap (λ y. Some (v y)) (sym e)
 
-module _ {T P : Type 0} (renders : List (SpeculativeCiteRender T P)) (place : Place) (cite : SpeculativeCiteRender T P) (item : SpeculativeItemRender T P) where
+module _ {T P : Type 0} (cites : List (SpeculativeCiteRender T P)) (place : Place) (cite : SpeculativeCiteRender T P) (item : SpeculativeItemRender T P) where
   -- the member at a place, from the cite and the item there
-  pub named_cite-found : (m : NamedCite) → IsPlace (renders_view renders) place → cite ≡ get_or renders place.0 cite
+  pub named_cite-found : (m : NamedCite) → IsPlace (renders_view cites) place → cite ≡ get_or cites place.0 cite
       → item ≡ get_or cite.items.items place.1 item → m ≡ named_cite place (request_view cite.request.now) (item_view item)
-      → named_cite_at (renders_view renders) place ≡ Some m
+      → named_cite_at (renders_view cites) place ≡ Some m
   named_cite-found m some c i e =
       let request = request_view cite.request.now in
-      let within : place.0 < length renders = inside-then render_view renders place.0 _ some in
-      let here : slice_get (renders_view renders) place.0 ≡ Some (render_view cite) = seen-at render_view renders place.0 cite within c in
-      let there : cite_at (renders_view renders) place ≡ option_map (λ (it : ItemRender T P). (request, it)) (slice_get (items_view cite.items.items) place.1) =
+      let within : place.0 < length cites = inside-then render_view cites place.0 _ some in
+      let here : slice_get (renders_view cites) place.0 ≡ Some (render_view cite) = seen-at render_view cites place.0 cite within c in
+      let there : cite_at (renders_view cites) place ≡ option_map (λ (it : ItemRender T P). (request, it)) (slice_get (items_view cite.items.items) place.1) =
       ap (option_and_then (λ (r : CiteRender T P). option_map (λ (it : ItemRender T P). (r.request, it)) (slice_get r.items place.1))) here in
       let among : place.1 < length cite.items.items = inside-map item_view cite.items.items place.1 (λ (it : ItemRender T P). (request, it)) (subst IsSome there some) in
       ap (option_map (λ (x : Request T P × ItemRender T P). named_cite place x.0 x.1))
@@ -130,13 +130,13 @@ pub in_other_words : {V E Y : Type 0} (r : Result V E) (items : V → Y) (a b : 
 in_other_words r items a b e h = IfOk-weaker r (λ v. items v ≡ a) (λ v. items v ≡ b) (λ v i. i ∙ e) h
 
 -- the marks of a group, from its members
-pub marks-are : {E P : Type 0} (renders : List (CiteRender E P)) (places : List Place) (group : List NamedCite) (greatest : ℕ) → group ≡ named_cites renders places
-    → greatest ≡ greatest_step (first_adds_names renders) group
-    → marks_after group (steps group greatest) (step group greatest) ≡ name_marks renders places
+pub marks-are : {E P : Type 0} (cites : List (CiteRender E P)) (places : List Place) (group : List NamedCite) (greatest : ℕ) → group ≡ named_cites cites places
+    → greatest ≡ greatest_step (first_adds_names cites) group
+    → marks_after group (steps group greatest) (step group greatest) ≡ name_marks cites places
 unfolding name_marks
-marks-are renders places group greatest g m =
+marks-are cites places group greatest g m =
     let all : List NamedCite → ℕ → List (Place × DisambiguateState) = λ l n. marks_after l (steps l n) (step l n) in
-    let most = greatest_step (first_adds_names renders) in
+    let most = greatest_step (first_adds_names cites) in
     ap (all group) m ∙ ap (λ l. all l (most l)) g
 
 -- an empty list, by its length

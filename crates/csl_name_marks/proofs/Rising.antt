@@ -104,18 +104,18 @@ from-start (DisambiguateState.NameDisambiguation forms) first begun fs e h =
 from-start DisambiguateState.Choose first begun fs e h = cc
 from-start (DisambiguateState.YearSuffix suffix) first begun fs e h = cc
 
-module _ {E P : Type 0} (renders : List (CiteRender E P)) (places : List Place) where
+module _ {E P : Type 0} (cites : List (CiteRender E P)) (places : List Place) where
   -- a member of the group, from the cite at its place
   record IsNamed (x : NamedCite) : Type 0 where
     in_group : Contains places x.place
     cite : Request E P × ItemRender E P
-    stands_there : cite_at renders x.place ≡ Some cite
+    stands_there : cite_at cites x.place ≡ Some cite
     own : x ≡ named_cite x.place cite.0 cite.1
 
-  named : (p : Place) → Contains places p → (x : NamedCite) → named_cite_at renders p ≡ Some x → IsNamed x
-  named p inside x e = by (cite_at renders p) refl e
+  named : (p : Place) → Contains places p → (x : NamedCite) → named_cite_at cites p ≡ Some x → IsNamed x
+  named p inside x e = by (cite_at cites p) refl e
     where
-      by : (o : Option (Request E P × ItemRender E P)) → cite_at renders p ≡ o → option_map (λ (c : Request E P × ItemRender E P). named_cite p c.0 c.1) o ≡ Some x → IsNamed x
+      by : (o : Option (Request E P × ItemRender E P)) → cite_at cites p ≡ o → option_map (λ (c : Request E P × ItemRender E P). named_cite p c.0 c.1) o ≡ Some x → IsNamed x
       by None q h = cc
       by (Some c) q h =
           let same : named_cite p c.0 c.1 ≡ x = cc in
@@ -123,7 +123,7 @@ module _ {E P : Type 0} (renders : List (CiteRender E P)) (places : List Place) 
           record {
             in_group = subst (Contains places) there inside;
             cite = c;
-            stands_there = subst (λ r. cite_at renders r ≡ Some c) there q;
+            stands_there = subst (λ r. cite_at cites r ≡ Some c) there q;
             own = sym same ∙ ap (λ r. named_cite r c.0 c.1) there;
           }
 
@@ -136,15 +136,15 @@ module _ {E P : Type 0} (renders : List (CiteRender E P)) (places : List Place) 
       by None e rest = rest
       by (Some y) e rest = All-cons Q y (filter_map h xs) (each x (all 0 x (omega arith)) y e) rest
 
-  all-named : All IsNamed (named_cites renders places)
-  all-named = found-all (Contains places) IsNamed (named_cite_at renders) (λ p inside x e. named p inside x e) places (All-contains_itself places)
+  all-named : All IsNamed (named_cites cites places)
+  all-named = found-all (Contains places) IsNamed (named_cite_at cites) (λ p inside x e. named p inside x e) places (All-contains_itself places)
 
   module _ (law : GoesOn) (group : List NamedCite) (is : List ℕ) where
-    mark-goes-on : (x : NamedCite) (own : Option ℕ) → IsNamed x → (m : Place × DisambiguateState) → mark group is x own ≡ Some m → IsNameMark renders places m
+    mark-goes-on : (x : NamedCite) (own : Option ℕ) → IsNamed x → (m : Place × DisambiguateState) → mark group is x own ≡ Some m → IsNameMark cites places m
     mark-goes-on x own n m e = by x.start refl e
       where
         by : (o : Option NameDisambiguationProperties) → x.start ≡ o
-            → option_map (λ begun. (x.place, Names (fold (after_step group x own) begun.forms is))) o ≡ Some m → IsNameMark renders places m
+            → option_map (λ begun. (x.place, Names (fold (after_step group x own) begun.forms is))) o ≡ Some m → IsNameMark cites places m
         by None q h = cc
         by (Some begun) q h =
             let made : Place × DisambiguateState = (x.place, Names (fold (after_step group x own) begun.forms is)) in
@@ -152,17 +152,17 @@ module _ {E P : Type 0} (renders : List (CiteRender E P)) (places : List Place) 
             let state = n.cite.1.properties.speculative.disambiguation in
             let from : start state n.cite.1.first_name ≡ Some begun = sym (ap (λ y. y.start) n.own) ∙ q in
             let r = from-start state n.cite.1.first_name begun (fold (after_step group x own) begun.forms is) from (steps-rise law group x own is begun.forms) in
-            subst (IsNameMark renders places) same
+            subst (IsNameMark cites places) same
             (record { in_group = n.in_group; cite = n.cite; stands_there = n.stands_there; may_be_named = r.room; goes_on = r.goes_on })
 
-  after-go-on : (law : GoesOn) (group : List NamedCite) (is : List ℕ) (step_of : NamedCite → Option ℕ) → All IsNamed group → All (IsNameMark renders places) (marks_after group is step_of)
-  after-go-on law group [] step_of all = All-nil (IsNameMark renders places)
+  after-go-on : (law : GoesOn) (group : List NamedCite) (is : List ℕ) (step_of : NamedCite → Option ℕ) → All IsNamed group → All (IsNameMark cites places) (marks_after group is step_of)
+  after-go-on law group [] step_of all = All-nil (IsNameMark cites places)
   after-go-on law group (i ∷ is) step_of all =
-      found-all IsNamed (IsNameMark renders places) (λ x. mark group (i ∷ is) x (step_of x)) (λ x n m e. mark-goes-on law group (i ∷ is) x (step_of x) n m e) group all
+      found-all IsNamed (IsNameMark cites places) (λ x. mark group (i ∷ is) x (step_of x)) (λ x n m e. mark-goes-on law group (i ∷ is) x (step_of x) n m e) group all
 
-pub marks-go-on : GoesOn → {E P : Type 0} (renders : List (CiteRender E P)) (group : List Place) → NameMarksGoOn renders group
+pub marks-go-on : GoesOn → {E P : Type 0} (cites : List (CiteRender E P)) (group : List Place) → NameMarksGoOn cites group
 unfolding name_marks
-marks-go-on law renders group =
-    let found = named_cites renders group in
-    let m = greatest_step (first_adds_names renders) found in
-    after-go-on renders group law found (steps found m) (step found m) (all-named renders group)
+marks-go-on law cites group =
+    let found = named_cites cites group in
+    let m = greatest_step (first_adds_names cites) found in
+    after-go-on cites group law found (steps found m) (step found m) (all-named cites group)

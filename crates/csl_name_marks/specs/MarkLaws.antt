@@ -11,14 +11,14 @@ use Rattle.csl_name_marks.specs.NameMarks.{name_marks}
 module _ {E P : Type 0} where
   -- the mark stands at a place of the group, at a cite without a state or in a state of names, which goes on
   -- to the mark
-  pub record IsNameMark (renders : List (CiteRender E P)) (group : List Place) (mark : Place
+  pub record IsNameMark (cites : List (CiteRender E P)) (group : List Place) (mark : Place
       × DisambiguateState) : Type 0 where
     pub in_group : Contains group mark.0
     pub cite : Request E P × ItemRender E P
-    pub stands_there : cite_at renders mark.0 ≡ Some cite
+    pub stands_there : cite_at cites mark.0 ≡ Some cite
     pub may_be_named : may_get_names cite.1.properties.speculative.disambiguation ≡ true
     pub goes_on : GoesOnTo cite.1.properties.speculative.disambiguation mark.1
 
   -- so is each name mark of a group
   abbrev pub NameMarksGoOn : List (CiteRender E P) → List Place → Type 0
-  NameMarksGoOn renders group = All (IsNameMark renders group) (name_marks renders group)
+  NameMarksGoOn cites group = All (IsNameMark cites group) (name_marks cites group)

@@ -37,7 +37,7 @@ marks_after group (i ∷ is) step_of = filter_map (λ x. mark group (i ∷ is) x
 -- the marks of a group, in its order
 unfoldable pub name_marks : {E P : Type 0} → List (CiteRender E P) → List Place
     → List (Place × DisambiguateState)
-name_marks renders group =
-    let found = named_cites renders group in
-    let m = greatest_step (first_adds_names renders) found in
+name_marks cites group =
+    let found = named_cites cites group in
+    let m = greatest_step (first_adds_names cites) found in
     marks_after found (steps found m) (step found m)

@@ -37,10 +37,10 @@ module _ {E P : Type 0} where
   }
 
   abbrev pub named_cite_at : List (CiteRender E P) → Place → Option NamedCite
-  named_cite_at renders place = option_map (λ cite. named_cite place cite.0 cite.1) (cite_at renders place)
+  named_cite_at cites place = option_map (λ cite. named_cite place cite.0 cite.1) (cite_at cites place)
 
   abbrev pub named_cites : List (CiteRender E P) → List Place → List NamedCite
-  named_cites renders group = filter_map (named_cite_at renders) group
+  named_cites cites group = filter_map (named_cite_at cites) group
 
   -- the style of the document's first request adds names
   abbrev pub first_adds_names : List (CiteRender E P) → Bool

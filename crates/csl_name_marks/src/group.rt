@@ -32,15 +32,15 @@ fn named_cite<T, P>(
 /// The members of a group, in its order.
 pub(crate) fn named_cites<T, P>(
     alloc: Global,
-    renders: &[SpeculativeCiteRender<'_, '_, T, P>],
+    cites: &[SpeculativeCiteRender<'_, '_, T, P>],
     group: &[(usize, usize)],
 ) -> Result<Vec<NamedCite>, AllocError>
-    requires exist { All (IsPlace (renders_view renders.now)) group.now }
-    ensures { IfOk result (λ v. v.items ≡ named_cites (renders_view renders.now) group.now) }
+    requires exist { All (IsPlace (renders_view cites.now)) group.now }
+    ensures { IfOk result (λ v. v.items ≡ named_cites (renders_view cites.now) group.now) }
 {
     let mut found = Vec::new(alloc);
     for place in group {
-        let cite = &renders[place.0];
+        let cite = &cites[place.0];
         let item = &cite.items[place.1];
         found.push(named_cite(alloc, *place, cite.request, item)?)?;
     }
@@ -48,10 +48,10 @@ pub(crate) fn named_cites<T, P>(
 }
 
 /// Whether the style of the first request adds names.
-pub(crate) fn first_adds_names<T, P>(renders: &[SpeculativeCiteRender<'_, '_, T, P>]) -> bool
-    ensures { result ≡ first_adds_names (renders_view renders.now) }
+pub(crate) fn first_adds_names<T, P>(cites: &[SpeculativeCiteRender<'_, '_, T, P>]) -> bool
+    ensures { result ≡ first_adds_names (renders_view cites.now) }
 {
-    match renders.first() {
+    match cites.first() {
         Some(cite) => cite.request.style().citation.disambiguate_add_names,
         None => false,
     }

@@ -140,14 +140,14 @@ fn group_marks(alloc: Global, group: &[NamedCite], greatest: usize) -> Result<Ma
 /// Where memory is refused.
 pub fn disambiguate_names<T, P>(
     alloc: Global,
-    renders: &[SpeculativeCiteRender<'_, '_, T, P>],
+    cites: &[SpeculativeCiteRender<'_, '_, T, P>],
     group: &AmbiguousGroup,
 ) -> Result<Marks, AllocError>
-    requires exist { All (IsPlace (renders_view renders.now)) group.now.items }
+    requires exist { All (IsPlace (renders_view cites.now)) group.now.items }
     requires distinct { AreDistinct group.now.items }
-    ensures { IfOk result (λ marks. marks.items ≡ name_marks (renders_view renders.now) group.now.items) }
+    ensures { IfOk result (λ marks. marks.items ≡ name_marks (renders_view cites.now) group.now.items) }
 {
-    let members = named_cites(alloc, renders, group)?;
-    let greatest = greatest_step(first_adds_names(renders), &members);
+    let members = named_cites(alloc, cites, group)?;
+    let greatest = greatest_step(first_adds_names(cites), &members);
     group_marks(alloc, &members, greatest)
 }

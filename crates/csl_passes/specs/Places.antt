@@ -7,13 +7,13 @@ use Rattle.csl_passes.specs.Request.{Request}
 module _ {E P : Type 0} where
   -- the cite at a place, with its request, if there is one
   abbrev pub cite_at : List (CiteRender E P) → Place → Option (Request E P × ItemRender E P)
-  cite_at renders place =
+  cite_at cites place =
       option_and_then (λ cite. option_map (λ item. (cite.request, item)) (slice_get cite.items place.1))
-      (slice_get renders place.0)
+      (slice_get cites place.0)
 
   -- a cite stands at the place
   abbrev pub IsPlace : List (CiteRender E P) → Place → Type 0
-  IsPlace renders place = IsSome (cite_at renders place)
+  IsPlace cites place = IsSome (cite_at cites place)
 
 -- no place stands twice
 abbrev pub AreDistinct : List Place → Type 0

@@ -109,14 +109,13 @@ module _ (env : Env) (ms : List Macro) (depth : ℕ) where
         (fits_more env ms a b (steps.CloseGroup o) (done env ms (step_view (steps.Elements slice depth)) now) e (subst (AllFit env ms (steps_view a)) (sym group_is) all) tt) tt
 
   -- a macro, which is opened
-  module _ (a b c : List Step) (slice : Bor (List LayoutRenderingElement)) (items : List LayoutRenderingElement) (call : OpenMacro) (node around : NodeValue) (s now : Held)
-      (e : b ≡ a ++ steps.CloseMacro call ∷ []) (f : c ≡ b ++ steps.Elements slice (call.depth - 1) ∷ []) (v : slice.now ≡ items) (w : around ≡ node) (x : now ≡ inside around s)
-      (y : call.opened ≡ remembered s) (deep : 0 < call.depth) (found : Some (elements_view items) ≡ body_of call.name.now ms) where
+  module _ (a b c : List Step) (slice : Bor (List LayoutRenderingElement)) (call : OpenMacro) (node around : NodeValue) (s now : Held)
+      (e : b ≡ a ++ steps.CloseMacro call ∷ []) (f : c ≡ b ++ steps.Elements slice (call.depth - 1) ∷ []) (w : around ≡ node) (x : now ≡ inside around s)
+      (y : call.opened ≡ remembered s) (deep : 0 < call.depth) (found : Some (elements_view slice.now) ≡ body_of call.name.now ms) where
     macro_is : macro_closed call.opened (done env ms (step_view (steps.Elements slice (call.depth - 1))) now) ≡ added (called_macro env ms call.depth call.name.now node s.noted) s
     macro_is =
-        ap (λ xs. macro_closed call.opened (added (picks_all env ms (call.depth - 1) (elements_view xs) now.noted) now)) v
-        ∙ macro_step (λ n. picks_all env ms (call.depth - 1) (elements_view items) n) node around s now _ _ call.opened w x y refl refl
-        ∙ ap (λ p. added p s) (macro_called env ms call.depth call.name.now node s.noted (elements_view items) deep found)
+        macro_step (λ n. picks_all env ms (call.depth - 1) (elements_view slice.now) n) node around s now _ _ call.opened w x y refl refl
+        ∙ ap (λ p. added p s) (macro_called env ms call.depth call.name.now node s.noted (elements_view slice.now) deep found)
 
     pub macro_pushed : all_done env ms (steps_view c) now ≡ all_done env ms (steps_view a) (added (called_macro env ms call.depth call.name.now node s.noted) s)
     macro_pushed =
@@ -124,16 +123,16 @@ module _ (env : Env) (ms : List Macro) (depth : ℕ) where
 
     pub macro_fits : call.seen ≡ seen s.noted → AllFit env ms (steps_view a) (added (called_macro env ms call.depth call.name.now node s.noted) s) → AllFit env ms (steps_view c) now
     macro_fits noted all =
-        let inner : Notes → Picked = λ n. picks_all env ms (call.depth - 1) (elements_view items) n in
+        let inner : Notes → Picked = λ n. picks_all env ms (call.depth - 1) (elements_view slice.now) n in
         let opened : IsOpened (called_macro env ms) call.name.now call.depth call.seen call.opened (done env ms (step_view (steps.Elements slice (call.depth - 1))) now) = record {
           node = node;
           outside = s;
           inner = inner;
-          means = λ k n. sym (macro_called env ms call.depth call.name.now k n (elements_view items) deep found);
+          means = λ k n. sym (macro_called env ms call.depth call.name.now k n (elements_view slice.now) deep found);
           opened = y;
           noted = noted;
-          keeps = picks-kept env ms (call.depth - 1) (elements_view items) s.noted;
-          holds = ap (λ xs. added (picks_all env ms (call.depth - 1) (elements_view xs) now.noted) now) v ∙ ap (λ h. added (inner h.noted) h) (x ∙ ap (λ k. inside k s) w);
+          keeps = picks-kept env ms (call.depth - 1) (elements_view slice.now) s.noted;
+          holds = ap (λ h. added (inner h.noted) h) (x ∙ ap (λ k. inside k s) w);
         } in
         fits_more env ms b c (steps.Elements slice (call.depth - 1)) now f
         (fits_more env ms a b (steps.CloseMacro call) (done env ms (step_view (steps.Elements slice (call.depth - 1))) now) e (subst (AllFit env ms (steps_view a)) (sym macro_is) all) opened) tt

@@ -1,5 +1,5 @@
 -- How one name is written (CSL 1.0.2, name).
-use Rattle.std.specs.Prelude.{ℕ, List, [], ◌∷◌, ◌++◌, Option, Some, None, unwrap_or, encode_utf8}
+use Rattle.std.specs.Prelude.{ℕ, List, [], ◌∷◌, ◌++◌, Option, Some, None, unwrap_or, encode_utf8, codes}
 use Rattle.std.specs.List.{flat_map}
 use Rattle.std.specs.Str.{chars, trim_end}
 use Rattle.csl_base.specs.declared.entry.Person.{Person}
@@ -11,7 +11,7 @@ use Rattle.csl_picking.specs.Variables.{text_leaves}
 -- a given name, a space and the family name; where nothing is given the family name alone
 abbrev pub whole_name : List ℕ → List ℕ → List ℕ
 whole_name [] family = family
-whole_name (b ∷ bs) family = (b ∷ bs) ++ 32 ∷ family
+whole_name (b ∷ bs) family = (b ∷ bs) ++ codes " " ++ family
 
 -- each initial followed by this text, and no white space at the end
 abbrev pub ended_initials : List ℕ → Option (List ℕ) → List ℕ

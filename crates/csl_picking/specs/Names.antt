@@ -13,7 +13,7 @@ use Rattle.csl_base.specs.declared.names.DisambiguatedNameForm.{DisambiguatedNam
 use Rattle.csl_base.specs.Answers.{Answers}
 use Rattle.csl_base.specs.Element.{NameOptions, Look}
 use Rattle.csl_base.specs.Forms.{Forms}
-use Rattle.csl_base.specs.PlainLook.{no_affix, no_look}
+use Rattle.csl_base.specs.PlainLook.{no_look}
 use Rattle.csl_picking.specs.declared.notes.Form.{Form}
 use Rattle.csl_picking.specs.declared.notes.Notes.{Notes}
 use Rattle.csl_lookup.specs.declared.state.DisambiguateState.{DisambiguateState}
@@ -93,7 +93,7 @@ abbrev pub last_joint : Terms → Rules → ℕ → List ℕ
 last_joint terms r count =
     elim r.and [
       | None ↦ r.name_delimiter
-      | Some and ↦ (if count == 2 then 32 ∷ [] else r.name_delimiter) ++ and_words terms and ++ 32 ∷ []
+      | Some and ↦ (if count == 2 then codes " " else r.name_delimiter) ++ and_words terms and ++ codes " "
     ]
 
 abbrev pub is_count : DisambiguatedNameForm → Bool
@@ -117,7 +117,7 @@ last_words terms r cut count = if cut then r.name_delimiter else last_joint term
 -- behind names that are cut, a space and the term
 abbrev pub et_al_parts : Terms → Bool → List Part
 et_al_parts terms false = []
-et_al_parts terms true = joint_part (32 ∷ words_for terms OtherTerm.EtAl (codes "et al.")) ∷ []
+et_al_parts terms true = joint_part (codes " " ++ words_for terms OtherTerm.EtAl (codes "et al.")) ∷ []
 
 -- names, with what stands between and behind them; where some are cut the term stands also if none is written
 abbrev pub joined_names : Terms → Rules → Bool → List Part → List Part

@@ -64,13 +64,13 @@ fn holds<T: EntryLike>(input: &Input<T>, condition: Condition) -> bool
 /// Tests all conditions of a branch, and tells whether its test holds.
 pub fn passes<T: EntryLike>(
     input: &Input<T>,
-    conditions: &Vec<Condition>,
+    conditions: &[Condition],
     rule: ChooseMatch,
     notes: &mut Notes,
 ) -> bool
     ensures value { result ≡ passes
-        (env_of (T.answers input.now.entry.now) input.now.setting) rule conditions.now.items }
-    ensures after { notes.new ≡ tested conditions.now.items notes.old }
+        (env_of (T.answers input.now.entry.now) input.now.setting) rule conditions.now }
+    ensures after { notes.new ≡ tested conditions.now notes.old }
 {
     let (mut some, mut all) = (false, true);
     for condition in conditions {

@@ -275,15 +275,15 @@ fn close_node(pieces: &mut Vec<Piece>, start: usize, given: bool) -> Result<(), 
 /// A names element.
 pub(crate) fn pick_names<'a, T: EntryLike>(
     input: &Input<'a, T>,
-    variables: &'a Vec<NameVariable>,
-    substitute: &'a Vec<NameVariable>,
+    variables: &'a [NameVariable],
+    substitute: &'a [NameVariable],
     options: &'a InheritableNameOptions,
     shape: Shape<'a>,
     picking: &mut Picking<'a>,
 ) -> Result<(), AllocError>
     ensures { let env = env_of (T.answers input.now.entry.now) input.now.setting in
         OnOk result (held picking.new
-        ≡ added (pick_names env variables.now.items substitute.now.items (options_view options.now)
+        ≡ added (pick_names env variables.now substitute.now (options_view options.now)
         (shape_look shape.entry) picking.old.notes) (held picking.old)) }
 {
     let alloc = *picking.pieces.allocator();

@@ -134,17 +134,17 @@ fn pick_plain<'a, T: EntryLike>(
 // branch that is reached are tested.
 fn chosen_children<'a, T: EntryLike>(
     input: &Input<'a, T>,
-    branches: &'a Vec<ChooseBranch>,
-    otherwise: &'a Vec<LayoutRenderingElement>,
+    branches: &'a [ChooseBranch],
+    otherwise: &'a [LayoutRenderingElement],
     notes: &mut Notes,
-) -> &'a Vec<LayoutRenderingElement>
+) -> &'a [LayoutRenderingElement]
     ensures chosen { let env = env_in T.answers input.now in (call : Call)
-        → pick_first_with env call (branches_view branches.now.items otherwise.now.items) notes.old
-        ≡ pick_all_with env call (elements_view result.now.items) notes.new }
+        → pick_first_with env call (branches_view branches.now otherwise.now) notes.old
+        ≡ pick_all_with env call (elements_view result.now) notes.new }
     ensures keeps { Keeps notes.old notes.new }
     ensures lighter { (call : Name → ℕ)
-        → weight_all_with call (elements_view result.now.items)
-        < weight_branches_with call (branches_view branches.now.items otherwise.now.items) }
+        → weight_all_with call (elements_view result.now)
+        < weight_branches_with call (branches_view branches.now otherwise.now) }
 {
     for branch in branches {
         if passes(input, &branch.conditions, branch.rule, notes) {
@@ -187,7 +187,7 @@ fn step_inside<'a, T: EntryLike>(
             otherwise,
         } => {
             let children = chosen_children(input, branches, otherwise, &mut picking.notes);
-            steps.push(Step::Elements(children.as_slice(), depth))?;
+            steps.push(Step::Elements(children, depth))?;
             Ok(())
         }
         _ => Ok(()),
@@ -230,7 +230,7 @@ fn step_macro<'a, T: EntryLike>(
                 opened,
             };
             steps.push(Step::CloseMacro(call))?;
-            steps.push(Step::Elements(elements.as_slice(), depth - 1))?;
+            steps.push(Step::Elements(elements, depth - 1))?;
             Ok(())
         }
     }
@@ -386,19 +386,19 @@ pub fn macros_unfold()
 /// Where memory is refused; the picking may then only be dropped.
 pub fn pick_layout<'a, T: EntryLike>(
     input: &Input<'a, T>,
-    elements: &'a Vec<LayoutRenderingElement>,
+    elements: &'a [LayoutRenderingElement],
     picking: &mut Picking<'a>,
 ) -> Result<(), AllocError>
     ensures { let env = env_of (T.answers input.now.entry.now) input.now.setting in
         OnOk result (held picking.new
-        ≡ added (pick_layout env (macros_in input.now.setting) (elements_view elements.now.items)
+        ≡ added (pick_layout env (macros_in input.now.setting) (elements_view elements.now)
         (held picking.old).noted) (held picking.old)) }
 {
     let depth = input.setting.context.style.macros.len();
     let alloc = *picking.pieces.allocator();
     let mut quiet = QuietMacros::new(alloc, &picking.notes);
     let mut steps = Vec::with_capacity(alloc, DEPTH)?;
-    steps.push(Step::Elements(elements.as_slice(), depth))?;
+    steps.push(Step::Elements(elements, depth))?;
     while let Some(step) = steps.pop() {
         take_step(input, step, &mut steps, &mut quiet, picking)?;
     }

@@ -117,9 +117,9 @@ module _ {E P : Type 0} where
 
   -- those of all requests from the one at b on
   abbrev located : ℕ → List (CiteRender E P) → List (Place × ItemRender E P)
-  located b renders = flat_map (λ p. here p.0 0 p.1.items) (enumerate_from b renders)
+  located b cites = flat_map (λ p. here p.0 0 p.1.items) (enumerate_from b cites)
 
-  located-push : (b : ℕ) (renders : List (CiteRender E P)) (x : CiteRender E P) → located b (renders ++ x ∷ []) ≡ located b renders ++ here (b + length renders) 0 x.items
+  located-push : (b : ℕ) (cites : List (CiteRender E P)) (x : CiteRender E P) → located b (cites ++ x ∷ []) ≡ located b cites ++ here (b + length cites) 0 x.items
   located-push b [] x = let n : b ≡ b + 0 = omega arith in append-nil (here b 0 x.items) ∙ ap (λ m. here m 0 x.items) n
   located-push b (y ∷ ys) x =
       let n : b + 1 + length ys ≡ b + suc (length ys) = omega arith in
@@ -130,19 +130,19 @@ module _ {E P : Type 0} where
   seconds r c [] = refl
   seconds r c (i ∷ items) = ap (λ l. i ∷ l) (seconds r (c + 1) items)
 
-  items-located : (b : ℕ) (renders : List (CiteRender E P)) → map (λ w. w.1) (located b renders) ≡ items_finally renders
+  items-located : (b : ℕ) (cites : List (CiteRender E P)) → map (λ w. w.1) (located b cites) ≡ items_finally cites
   items-located b [] = refl
   items-located b (y ∷ ys) = map-append (λ w. w.1) (here b 0 y.items) (located (b + 1) ys) ∙ (λ i. seconds b 0 y.items i ++ items-located (b + 1) ys i)
 
-  cited-items : (renders : List (CiteRender E P)) → cited_finally renders ≡ map (λ i. i.entry) (items_finally renders)
+  cited-items : (cites : List (CiteRender E P)) → cited_finally cites ≡ map (λ i. i.entry) (items_finally cites)
   cited-items [] = refl
   cited-items (y ∷ ys) = ap (λ l. map (λ i. i.entry) y.items ++ l) (cited-items ys) ∙ sym (map-append (λ i. i.entry) y.items (items_finally ys))
 
-  module _ (renders : List (CiteRender E P)) where
+  module _ (cites : List (CiteRender E P)) where
     abbrev Stands : Place × ItemRender E P → Type 0
-    Stands w = item_at renders w.0 ≡ Some w.1
+    Stands w = item_at cites w.0 ≡ Some w.1
 
-    here-stands : (r : ℕ) (x : CiteRender E P) → slice_get renders r ≡ Some x → (c : ℕ) (items : List (ItemRender E P))
+    here-stands : (r : ℕ) (x : CiteRender E P) → slice_get cites r ≡ Some x → (c : ℕ) (items : List (ItemRender E P))
         → ((k : ℕ) (i : ItemRender E P) → slice_get items k ≡ Some i → slice_get x.items (c + k) ≡ Some i) → Every Stands (here r c items)
     here-stands r x at c [] h = tt
     here-stands r x at c (i ∷ items) h = (
@@ -150,13 +150,13 @@ module _ {E P : Type 0} where
       here-stands r x at (c + 1) items (λ k j q. let n : c + 1 + k ≡ c + suc k = omega arith in ap (slice_get x.items) n ∙ h (suc k) j q),
     )
 
-    all-stand : (b : ℕ) (xs : List (CiteRender E P)) → ((k : ℕ) (x : CiteRender E P) → slice_get xs k ≡ Some x → slice_get renders (b + k) ≡ Some x) → Every Stands (located b xs)
+    all-stand : (b : ℕ) (xs : List (CiteRender E P)) → ((k : ℕ) (x : CiteRender E P) → slice_get xs k ≡ Some x → slice_get cites (b + k) ≡ Some x) → Every Stands (located b xs)
     all-stand b [] h = tt
     all-stand b (x ∷ xs) h =
         let n : b ≡ b + 0 = omega arith in
         every-append Stands (here b 0 x.items) (located (b + 1) xs)
-        (here-stands b x (ap (slice_get renders) n ∙ h 0 x refl) 0 x.items (λ k i q. let m : 0 + k ≡ k = omega arith in ap (slice_get x.items) m ∙ q))
-        (all-stand (b + 1) xs (λ k y q. let m : b + 1 + k ≡ b + suc k = omega arith in ap (slice_get renders) m ∙ h (suc k) y q))
+        (here-stands b x (ap (slice_get cites) n ∙ h 0 x refl) 0 x.items (λ k i q. let m : 0 + k ≡ k = omega arith in ap (slice_get x.items) m ∙ q))
+        (all-stand (b + 1) xs (λ k y q. let m : b + 1 + k ≡ b + suc k = omega arith in ap (slice_get cites) m ∙ h (suc k) y q))
 
 module _ {E P : Type 0} (eq : E → E → Bool) (laws : IsEquivalence eq) (es : List E) where
   abbrev stand_of : Place × ItemRender E P → ℕ × Place
@@ -164,7 +164,7 @@ module _ {E P : Type 0} (eq : E → E → Bool) (laws : IsEquivalence eq) (es : 
 
   -- the places of the entries of all cites, and where these stand
   abbrev pub stands : List (CiteRender E P) → List (ℕ × Place)
-  stands renders = map stand_of (located 0 renders)
+  stands cites = map stand_of (located 0 cites)
 
   stands-here : (r c : ℕ) (row : List ℕ) (items : List (ItemRender E P)) → All (IsPlaced eq es row) items
       → map (λ p. let s : ℕ × Place = (led_to row p.1, (r, p.0)) in s) (enumerate_from c items) ≡ map stand_of (here r c items)
@@ -174,20 +174,20 @@ module _ {E P : Type 0} (eq : E → E → Bool) (laws : IsEquivalence eq) (es : 
       (λ j. (first j, (r, c)) ∷ stands-here r (c + 1) row items (all-rest (IsPlaced eq es row) i items all) j)
 
   -- one more request
-  pub requests-more : {X : Type 0} (view : X → CiteRender E P) (renders : List X) (r : ℕ) (x : X) → r < length renders → x ≡ get_or renders r x
-      → (row : List ℕ) (base now more : List (Option Place)) → RowPlaced eq es row (view x) → now ≡ fold with_first base (stands (map view (take r renders)))
-      → more ≡ fold with_first now (stands_of r row (view x).items) → more ≡ fold with_first base (stands (map view (take (r + 1) renders)))
-  requests-more view renders r x w h row base now more placed so-far next =
-      let ys = map view (take r renders) in
-      let counted : 0 + length ys ≡ r = omega (arith, length-map (take r renders) view ∙ length-take-le r renders (omega arith)) in
-      let flat : stands (map view (take (r + 1) renders)) ≡ stands ys ++ stands_of r row (view x).items =
-      ap stands (grown renders r x w h view) ∙ ap (map stand_of) (located-push 0 ys (view x) ∙ ap (λ n. located 0 ys ++ here n 0 (view x).items) counted)
+  pub requests-more : {X : Type 0} (view : X → CiteRender E P) (cites : List X) (r : ℕ) (x : X) → r < length cites → x ≡ get_or cites r x
+      → (row : List ℕ) (base now more : List (Option Place)) → RowPlaced eq es row (view x) → now ≡ fold with_first base (stands (map view (take r cites)))
+      → more ≡ fold with_first now (stands_of r row (view x).items) → more ≡ fold with_first base (stands (map view (take (r + 1) cites)))
+  requests-more view cites r x w h row base now more placed so-far next =
+      let ys = map view (take r cites) in
+      let counted : 0 + length ys ≡ r = omega (arith, length-map (take r cites) view ∙ length-take-le r cites (omega arith)) in
+      let flat : stands (map view (take (r + 1) cites)) ≡ stands ys ++ stands_of r row (view x).items =
+      ap stands (grown cites r x w h view) ∙ ap (map stand_of) (located-push 0 ys (view x) ∙ ap (λ n. located 0 ys ++ here n 0 (view x).items) counted)
       ∙ map-append stand_of (located 0 ys) (here r 0 (view x).items) ∙ ap (λ l. stands ys ++ l) (sym (stands-here r 0 row (view x).items placed)) in
       next ∙ ap (λ l. fold with_first l (stands_of r row (view x).items)) so-far ∙ sym (fold-append with_first base (stands ys) (stands_of r row (view x).items))
       ∙ ap (fold with_first base) (sym flat)
 
-  pub length-stands : (base now : List (Option Place)) (renders : List (CiteRender E P)) → now ≡ fold with_first base (stands renders) → length now ≡ length base
-  length-stands base now renders h = ap length h ∙ length-noted base (stands renders)
+  pub length-stands : (base now : List (Option Place)) (cites : List (CiteRender E P)) → now ≡ fold with_first base (stands cites) → length now ≡ length base
+  length-stands base now cites h = ap length h ∙ length-noted base (stands cites)
 
   among : (ws : List (Place × ItemRender E P)) → all_in eq laws es (map (λ i. i.entry) (map (λ w. w.1) ws)) ≡ true → Every (λ w. is_in eq w.1.entry es ≡ true) ws
   among [] h = tt
@@ -196,24 +196,24 @@ module _ {E P : Type 0} (eq : E → E → Bool) (laws : IsEquivalence eq) (es : 
       rest : List E
       rest = map (λ i. i.entry) (map (λ w. w.1) ws)
 
-  module _ (renders : List (CiteRender E P)) (known : all_in eq laws es (cited_finally renders) ≡ true) where
+  module _ (cites : List (CiteRender E P)) (known : all_in eq laws es (cited_finally cites) ≡ true) where
     at-place : (e : E) (k : ℕ) → is_in eq e es ≡ true → k ≡ place eq e es
-        → option_map (item_at renders) (first_at k (stands renders)) ≡ option_map Some (first_item eq renders e)
+        → option_map (item_at cites) (first_at k (stands cites)) ≡ option_map Some (first_item eq cites e)
     at-place e k there at =
-        let ws = located 0 renders in
+        let ws = located 0 cites in
         let known-in : Every (λ w. is_in eq w.1.entry es ≡ true) ws =
-        among ws (ap (λ l. all_in eq laws es l) (ap (map (λ i. i.entry)) (items-located 0 renders) ∙ sym (cited-items renders)) ∙ known) in
+        among ws (ap (λ l. all_in eq laws es l) (ap (map (λ i. i.entry)) (items-located 0 cites) ∙ sym (cited-items cites)) ∙ known) in
         let same : Every (λ w. nat_eq k (place eq w.1.entry es) ≡ eq e w.1.entry) ws =
         every-map (λ w. is_in eq w.1.entry es ≡ true) (λ w. nat_eq k (place eq w.1.entry es) ≡ eq e w.1.entry)
         (λ w inside. ap (λ n. nat_eq n (place eq w.1.entry es)) at ∙ same-place eq laws es e w.1.entry es there inside) ws known-in in
-        let stand : Every (λ w. item_at renders w.0 ≡ Some w.1) ws = all-stand renders 0 renders (λ n x q. let m : 0 + n ≡ n = omega arith in ap (slice_get renders) m ∙ q) in
-        ap (λ o. option_map (item_at renders) (option_map (λ s. s.1) o)) (find-map stand_of (λ s. nat_eq k s.0) ws)
+        let stand : Every (λ w. item_at cites w.0 ≡ Some w.1) ws = all-stand cites 0 cites (λ n x q. let m : 0 + n ≡ n = omega arith in ap (slice_get cites) m ∙ q) in
+        ap (λ o. option_map (item_at cites) (option_map (λ s. s.1) o)) (find-map stand_of (λ s. nat_eq k s.0) ws)
         ∙ thrice (find (λ w. nat_eq k (place eq w.1.entry es)) ws)
-        ∙ ap (option_map (λ w. item_at renders w.0)) (find-same (λ w. nat_eq k (place eq w.1.entry es)) (λ w. eq e w.1.entry) ws same)
-        ∙ find-through (λ w. item_at renders w.0) (λ w. Some w.1) (λ w. eq e w.1.entry) ws stand
-        ∙ sym (twice (find (λ w. eq e w.1.entry) ws)) ∙ ap (option_map Some) (sym (find-map (λ w. w.1) (λ i. eq e i.entry) ws) ∙ ap (find (λ i. eq e i.entry)) (items-located 0 renders))
+        ∙ ap (option_map (λ w. item_at cites w.0)) (find-same (λ w. nat_eq k (place eq w.1.entry es)) (λ w. eq e w.1.entry) ws same)
+        ∙ find-through (λ w. item_at cites w.0) (λ w. Some w.1) (λ w. eq e w.1.entry) ws stand
+        ∙ sym (twice (find (λ w. eq e w.1.entry) ws)) ∙ ap (option_map Some) (sym (find-map (λ w. w.1) (λ i. eq e i.entry) ws) ∙ ap (find (λ i. eq e i.entry)) (items-located 0 cites))
       where
-        thrice : (o : Option (Place × ItemRender E P)) → option_map (item_at renders) (option_map (λ s. s.1) (option_map stand_of o)) ≡ option_map (λ w. item_at renders w.0) o
+        thrice : (o : Option (Place × ItemRender E P)) → option_map (item_at cites) (option_map (λ s. s.1) (option_map stand_of o)) ≡ option_map (λ w. item_at cites w.0) o
         thrice None = refl
         thrice (Some w) = refl
 
@@ -222,26 +222,26 @@ module _ {E P : Type 0} (eq : E → E → Bool) (laws : IsEquivalence eq) (es : 
         twice (Some w) = refl
 
     -- what is noted behind all requests
-    pub firsts-are : NoTwoEqual eq es → (base firsts : List (Option Place)) → base ≡ replicate (length es) None → firsts ≡ fold with_first base (stands renders)
-        → AreFirstItems eq es renders firsts
+    pub firsts-are : NoTwoEqual eq es → (base firsts : List (Option Place)) → base ≡ replicate (length es) None → firsts ≡ fold with_first base (stands cites)
+        → AreFirstItems eq es cites firsts
     firsts-are once base firsts blank made =
-        same_lists (map (option_map (item_at renders)) firsts) (map (λ e. option_map Some (first_item eq renders e)) es)
-        (length-map firsts (option_map (item_at renders)) ∙ counted ∙ sym (length-map es (λ e. option_map Some (first_item eq renders e))))
-        (λ k d w. each es refl k d (subst (λ n. k < n) (length-map firsts (option_map (item_at renders))) w))
+        same_lists (map (option_map (item_at cites)) firsts) (map (λ e. option_map Some (first_item eq cites e)) es)
+        (length-map firsts (option_map (item_at cites)) ∙ counted ∙ sym (length-map es (λ e. option_map Some (first_item eq cites e))))
+        (λ k d w. each es refl k d (subst (λ n. k < n) (length-map firsts (option_map (item_at cites))) w))
       where
         counted : length firsts ≡ length es
-        counted = length-stands base firsts renders made ∙ ap length blank ∙ length-replicate (length es) None
+        counted = length-stands base firsts cites made ∙ ap length blank ∙ length-replicate (length es) None
 
         each : (fs : List E) → fs ≡ es → (k : ℕ) (d : Option (Option (ItemRender E P))) → k < length firsts
-            → get_or (map (option_map (item_at renders)) firsts) k d ≡ get_or (map (λ e. option_map Some (first_item eq renders e)) es) k d
+            → get_or (map (option_map (item_at cites)) firsts) k d ≡ get_or (map (λ e. option_map Some (first_item eq cites e)) es) k d
         each [] h k d w = let none : length es ≡ 0 = ap length (sym h) in absurd (omega (arith, w, counted, none))
         each (f ∷ fs) h k d w =
             let e = get_or es k f in
             let inside : k < length es = subst (λ n. k < n) counted w in
             let within : k < length base = subst (λ n. k < n) (sym (ap length blank ∙ length-replicate (length es) None)) inside in
             let own = own-place eq laws es k f once inside in
-            let noted-is : get_or firsts k None ≡ first_at k (stands renders) =
-            ap (λ l. get_or l k None) made ∙ all-noted k base (stands renders) within
-            ∙ ap (λ o. option_or o (first_at k (stands renders))) (ap (λ l. get_or l k None) blank ∙ get_or-replicate (length es) k None None inside) in
-            get_or-map (option_map (item_at renders)) firsts k None d w ∙ ap (option_map (item_at renders)) noted-is ∙ at-place e k own.listed own.at
-            ∙ sym (get_or-map (λ e. option_map Some (first_item eq renders e)) es k f d inside)
+            let noted-is : get_or firsts k None ≡ first_at k (stands cites) =
+            ap (λ l. get_or l k None) made ∙ all-noted k base (stands cites) within
+            ∙ ap (λ o. option_or o (first_at k (stands cites))) (ap (λ l. get_or l k None) blank ∙ get_or-replicate (length es) k None None inside) in
+            get_or-map (option_map (item_at cites)) firsts k None d w ∙ ap (option_map (item_at cites)) noted-is ∙ at-place e k own.listed own.at
+            ∙ sym (get_or-map (λ e. option_map Some (first_item eq cites e)) es k f d inside)

@@ -47,22 +47,22 @@ seen-through view (Some x) = refl
 
 module _ {E P X I : Type 0} (view : X → CiteRender E P) (item : I → ItemRender E P) where
   -- the cites of the request before
-  before-is : (renders : List X) (r : ℕ) (x : X) → r < length renders → 0 < r → x ≡ get_or renders (r - 1) x → items_before (map view renders) r ≡ (view x).items
-  before-is renders zero x w p h = absurd (omega arith)
-  before-is renders (suc j) x w p h =
+  before-is : (cites : List X) (r : ℕ) (x : X) → r < length cites → 0 < r → x ≡ get_or cites (r - 1) x → items_before (map view cites) r ≡ (view x).items
+  before-is cites zero x w p h = absurd (omega arith)
+  before-is cites (suc j) x w p h =
       let at : suc j - 1 ≡ j = omega arith in
-      let inside : j < length (map view renders) = subst (λ n. j < n) (sym (length-map renders view)) (omega arith) in
-      ap (λ o. option_map_or (λ before. before.items) o []) (last-taken None (map view renders) j (view x) inside)
-      ∙ ap (λ z. z.items) (get_or-map view renders j x ∙ ap view (ap (λ n. get_or renders n x) (sym at) ∙ sym h))
+      let inside : j < length (map view cites) = subst (λ n. j < n) (sym (length-map cites view)) (omega arith) in
+      ap (λ o. option_map_or (λ before. before.items) o []) (last-taken None (map view cites) j (view x) inside)
+      ∙ ap (λ z. z.items) (get_or-map view cites j x ∙ ap view (ap (λ n. get_or cites n x) (sym at) ∙ sym h))
 
   -- the last of them, as it is read
-  pub last-before : (renders : List X) (r : ℕ) (x : X) (ys : List I) (o : Option (Bor I)) → r < length renders → 0 < r → x ≡ get_or renders (r - 1) x → map item ys ≡ (view x).items
-      → option_copied o ≡ slice_get ys (length ys - 1) → option_map (λ (i : Bor I). item i.now) o ≡ last_or None (items_before (map view renders) r)
-  last-before renders r x ys o w p h same read =
-      seen-through item o ∙ ap (option_map item) (read ∙ last-is ys) ∙ last-map item None ys ∙ ap (last_or None) (same ∙ sym (before-is renders r x w p h))
+  pub last-before : (cites : List X) (r : ℕ) (x : X) (ys : List I) (o : Option (Bor I)) → r < length cites → 0 < r → x ≡ get_or cites (r - 1) x → map item ys ≡ (view x).items
+      → option_copied o ≡ slice_get ys (length ys - 1) → option_map (λ (i : Bor I). item i.now) o ≡ last_or None (items_before (map view cites) r)
+  last-before cites r x ys o w p h same read =
+      seen-through item o ∙ ap (option_map item) (read ∙ last-is ys) ∙ last-map item None ys ∙ ap (last_or None) (same ∙ sym (before-is cites r x w p h))
 
-  pub items-at : (renders : List X) (r : ℕ) (x : X) → r < length renders → x ≡ get_or renders r x → items_at (map view renders) r ≡ (view x).items
-  items-at renders r x w h = ap (λ o. option_map_or (λ render. render.items) o []) (seen-at view renders r x w h)
+  pub items-at : (cites : List X) (r : ℕ) (x : X) → r < length cites → x ≡ get_or cites r x → items_at (map view cites) r ≡ (view x).items
+  items-at cites r x w h = ap (λ o. option_map_or (λ render. render.items) o []) (seen-at view cites r x w h)
 
 module _ {E P : Type 0} (eq : E → E → Bool) (payload_eq : P → P → Bool) where
   -- the position of the first cite, as it is found
@@ -165,25 +165,25 @@ zip-length R (a ∷ xs) (b ∷ ys) h = ap suc (zip-length R xs ys h.1)
 abbrev pub RowPlaced : {E P : Type 0} → (E → E → Bool) → List E → List ℕ → CiteRender E P → Type 0
 RowPlaced eq entries places r = All (IsPlaced eq entries places) r.items
 
-pub placed-at : {E P V : Type 0} (eq : E → E → Bool) (entries : List E) (list : V → List ℕ) (places : List V) (rows : List (List ℕ)) (renders : List (CiteRender E P)) (r : ℕ) (v : V) (x : CiteRender E P)
-    → map list places ≡ rows → AllZip (RowPlaced eq entries) rows renders → r < length renders → v ≡ get_or places r v → x ≡ get_or renders r x → RowPlaced eq entries (list v) x
-placed-at eq entries list places rows renders r v x made all w q h =
+pub placed-at : {E P V : Type 0} (eq : E → E → Bool) (entries : List E) (list : V → List ℕ) (places : List V) (rows : List (List ℕ)) (cites : List (CiteRender E P)) (r : ℕ) (v : V) (x : CiteRender E P)
+    → map list places ≡ rows → AllZip (RowPlaced eq entries) rows cites → r < length cites → v ≡ get_or places r v → x ≡ get_or cites r x → RowPlaced eq entries (list v) x
+placed-at eq entries list places rows cites r v x made all w q h =
     let row : get_or rows r (list v) ≡ list v = ap (λ ps. get_or ps r (list v)) (sym made) ∙ get_or-map list places r v ∙ ap list (sym q) in
     subst (λ ps. RowPlaced eq entries ps x) row
-    (subst (λ y. RowPlaced eq entries (get_or rows r (list v)) y) (sym h) (zip-at (RowPlaced eq entries) rows renders r (list v) x all w))
+    (subst (λ y. RowPlaced eq entries (get_or rows r (list v)) y) (sym h) (zip-at (RowPlaced eq entries) rows cites r (list v) x all w))
 
 -- there is a row of places for each request
-pub row-within : {E P V X : Type 0} (eq : E → E → Bool) (entries : List E) (list : V → List ℕ) (view : X → CiteRender E P) (places : List V) (rows : List (List ℕ)) (renders : List X) (r : ℕ)
-    → map list places ≡ rows → AllZip (RowPlaced eq entries) rows (map view renders) → r < length renders → r < length places
-row-within eq entries list view places rows renders r made all w =
-    subst (λ n. r < n) (sym (length-map renders view) ∙ sym (zip-length (RowPlaced eq entries) rows (map view renders) all) ∙ sym (ap length made) ∙ length-map places list) w
+pub row-within : {E P V X : Type 0} (eq : E → E → Bool) (entries : List E) (list : V → List ℕ) (view : X → CiteRender E P) (places : List V) (rows : List (List ℕ)) (cites : List X) (r : ℕ)
+    → map list places ≡ rows → AllZip (RowPlaced eq entries) rows (map view cites) → r < length cites → r < length places
+row-within eq entries list view places rows cites r made all w =
+    subst (λ n. r < n) (sym (length-map cites view) ∙ sym (zip-length (RowPlaced eq entries) rows (map view cites) all) ∙ sym (ap length made) ∙ length-map places list) w
 
 -- a place that leads somewhere is within
 pub placed-within : {E P : Type 0} (eq : E → E → Bool) (entries : List E) (places : List ℕ) (items : List (ItemRender E P)) → All (IsPlaced eq entries places) items → All (IsPlacedWithin places) items
 placed-within eq entries places items all = λ k d w. slice_get_within places (get_or items k d).properties.certain.initial_idx (place eq (get_or items k d).entry entries) (all k d w)
 
-pub placed-seen : {E P V X : Type 0} (eq : E → E → Bool) (entries : List E) (list : V → List ℕ) (view : X → CiteRender E P) (places : List V) (rows : List (List ℕ)) (renders : List X) (r : ℕ) (v : V) (x : X)
-    → map list places ≡ rows → AllZip (RowPlaced eq entries) rows (map view renders) → r < length renders → v ≡ get_or places r v → x ≡ get_or renders r x → RowPlaced eq entries (list v) (view x)
-placed-seen eq entries list view places rows renders r v x made all w q h =
-    placed-at eq entries list places rows (map view renders) r v (view x) made all (subst (λ n. r < n) (sym (length-map renders view)) w) q
-    (ap view h ∙ sym (get_or-map view renders r x))
+pub placed-seen : {E P V X : Type 0} (eq : E → E → Bool) (entries : List E) (list : V → List ℕ) (view : X → CiteRender E P) (places : List V) (rows : List (List ℕ)) (cites : List X) (r : ℕ) (v : V) (x : X)
+    → map list places ≡ rows → AllZip (RowPlaced eq entries) rows (map view cites) → r < length cites → v ≡ get_or places r v → x ≡ get_or cites r x → RowPlaced eq entries (list v) (view x)
+placed-seen eq entries list view places rows cites r v x made all w q h =
+    placed-at eq entries list places rows (map view cites) r v (view x) made all (subst (λ n. r < n) (sym (length-map cites view)) w) q
+    (ap view h ∙ sym (get_or-map view cites r x))

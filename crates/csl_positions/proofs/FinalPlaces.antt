@@ -33,21 +33,21 @@ module _ {E P : Type 0} (eq : E → E → Bool) (es : List E) where
       λ j. first j ∷ led-all row items (all-rest (IsPlaced eq es row) i items all) j
 
   -- one more request
-  pub places-more : {X : Type 0} (view : X → CiteRender E P) (renders : List X) (r : ℕ) (x : X) → r < length renders → x ≡ get_or renders r x
-      → (row all more : List ℕ) → RowPlaced eq es row (view x) → all ≡ map (λ e. place eq e es) (cited_finally (map view (take r renders)))
-      → more ≡ all ++ map (led_to row) (view x).items → more ≡ map (λ e. place eq e es) (cited_finally (map view (take (r + 1) renders)))
-  places-more view renders r x w h row all more placed so-far next =
-      let before = cited_finally (map view (take r renders)) in
+  pub places-more : {X : Type 0} (view : X → CiteRender E P) (cites : List X) (r : ℕ) (x : X) → r < length cites → x ≡ get_or cites r x
+      → (row all more : List ℕ) → RowPlaced eq es row (view x) → all ≡ map (λ e. place eq e es) (cited_finally (map view (take r cites)))
+      → more ≡ all ++ map (led_to row) (view x).items → more ≡ map (λ e. place eq e es) (cited_finally (map view (take (r + 1) cites)))
+  places-more view cites r x w h row all more placed so-far next =
+      let before = cited_finally (map view (take r cites)) in
       let entries = map (λ i. i.entry) (view x).items in
-      let flat : cited_finally (map view (take (r + 1) renders)) ≡ before ++ entries =
-      ap cited_finally (grown renders r x w h view) ∙ flat_map-append (λ y. map (λ i. i.entry) y.items) (map view (take r renders)) (view x ∷ [])
+      let flat : cited_finally (map view (take (r + 1) cites)) ≡ before ++ entries =
+      ap cited_finally (grown cites r x w h view) ∙ flat_map-append (λ y. map (λ i. i.entry) y.items) (map view (take r cites)) (view x ∷ [])
       ∙ ap (λ l. before ++ l) (append-nil entries) in
       next ∙ (λ j. so-far j ++ led-all row (view x).items placed j) ∙ sym (map-append (λ e. place eq e es) before entries) ∙ ap (map (λ e. place eq e es)) (sym flat)
 
   module _ (laws : IsEquivalence eq) where
     -- the entries of a request are among those of all
-    row-in : (renders : List (CiteRender E P)) (r : ℕ) (x : CiteRender E P) → all_in eq laws es (cited_finally renders) ≡ true → r < length renders
-        → all_in eq laws es (map (λ i. i.entry) (get_or renders r x).items) ≡ true
+    row-in : (cites : List (CiteRender E P)) (r : ℕ) (x : CiteRender E P) → all_in eq laws es (cited_finally cites) ≡ true → r < length cites
+        → all_in eq laws es (map (λ i. i.entry) (get_or cites r x).items) ≡ true
     row-in [] r x h w = absurd (omega (arith, w))
     row-in (y ∷ ys) zero x h w = all_in-front eq laws es (map (λ i. i.entry) y.items) (cited_finally ys) h
     row-in (y ∷ ys) (suc r) x h w = row-in ys r x (all_in-behind eq laws es (map (λ i. i.entry) y.items) (cited_finally ys) h) (omega (arith, w))
@@ -64,9 +64,9 @@ module _ {E P : Type 0} (eq : E → E → Bool) (es : List E) where
             at items (all-rest (IsPlaced eq es row) i items all) (right _ (all_in eq laws es (map (λ i. i.entry) items)) h) k d (omega (arith, w))
 
     -- each cite of a request leads to a place of an entry
-    pub row-below : {X : Type 0} (view : X → CiteRender E P) (renders : List X) (r : ℕ) (x : X) (row : List ℕ) → all_in eq laws es (cited_finally (map view renders)) ≡ true
-        → r < length renders → x ≡ get_or renders r x → RowPlaced eq es row (view x) → All (λ i. led_to row i < length es) (view x).items
-    row-below view renders r x row h w here placed =
-        let inside : r < length (map view renders) = subst (λ n. r < n) (sym (length-map renders view)) w in
-        let at : get_or (map view renders) r (view x) ≡ view x = get_or-map view renders r x ∙ ap view (sym here) in
-        below row (view x).items placed (subst (λ y. all_in eq laws es (map (λ i. i.entry) y.items) ≡ true) at (row-in (map view renders) r (view x) h inside))
+    pub row-below : {X : Type 0} (view : X → CiteRender E P) (cites : List X) (r : ℕ) (x : X) (row : List ℕ) → all_in eq laws es (cited_finally (map view cites)) ≡ true
+        → r < length cites → x ≡ get_or cites r x → RowPlaced eq es row (view x) → All (λ i. led_to row i < length es) (view x).items
+    row-below view cites r x row h w here placed =
+        let inside : r < length (map view cites) = subst (λ n. r < n) (sym (length-map cites view)) w in
+        let at : get_or (map view cites) r (view x) ≡ view x = get_or-map view cites r x ∙ ap view (sym here) in
+        below row (view x).items placed (subst (λ y. all_in eq laws es (map (λ i. i.entry) y.items) ≡ true) at (row-in (map view cites) r (view x) h inside))

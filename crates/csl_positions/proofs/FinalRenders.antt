@@ -31,10 +31,10 @@ before-cites xs r =
 module _ {E P : Type 0} (eq : E → E → Bool) (payload_eq : P → P → Bool) (number_of : E → ℕ) where
   -- a request at a place among these, with its final properties
   abbrev pub finally_at : List (CiteRender E P) → ℕ → CiteRender E P → CiteRender E P
-  finally_at renders r x = record x { items = with_final_items eq payload_eq number_of (items_before renders r) x.items }
+  finally_at cites r x = record x { items = with_final_items eq payload_eq number_of (items_before cites r) x.items }
 
-  cites-kept : (renders : List (CiteRender E P)) (r : ℕ) (x : CiteRender E P) → as_cites (finally_at renders r x) ≡ as_cites x
-  cites-kept renders r x = changed-kept (λ k i. with_final eq payload_eq number_of (items_before renders r ++ take k x.items) i) as_cite (λ k i. refl) 0 x.items
+  cites-kept : (cites : List (CiteRender E P)) (r : ℕ) (x : CiteRender E P) → as_cites (finally_at cites r x) ≡ as_cites x
+  cites-kept cites r x = changed-kept (λ k i. with_final eq payload_eq number_of (items_before cites r ++ take k x.items) i) as_cite (λ k i. refl) 0 x.items
 
   module _ {X : Type 0} (view : X → CiteRender E P) (old now : List X) (r : ℕ) (found : X) (within : r < length old) (counted : length now ≡ length old) (here : found ≡ get_or now r found)
       (so-far : map view now ≡ half (finally_at (map view old)) r (map view old)) where

@@ -16,11 +16,11 @@ placed_finally ibid number p =
 module _ {E P : Type 0} where
   -- the cites of all requests
   abbrev pub items_finally : List (CiteRender E P) → List (ItemRender E P)
-  items_finally renders = flat_map (λ r. r.items) renders
+  items_finally cites = flat_map (λ r. r.items) cites
 
   -- the entries that they cite
   abbrev pub cited_finally : List (CiteRender E P) → List E
-  cited_finally renders = flat_map (λ r. map (λ i. i.entry) r.items) renders
+  cited_finally cites = flat_map (λ r. map (λ i. i.entry) r.items) cites
 
   -- a rendered cite as a cite, which counts as shown
   abbrev pub as_cite : ItemRender E P → RequestedCite E P
@@ -35,21 +35,21 @@ module _ {E P : Type 0} where
 
   -- the cite at a place
   abbrev pub item_at : List (CiteRender E P) → Place → Option (ItemRender E P)
-  item_at renders at = option_and_then (λ r. slice_get r.items at.1) (slice_get renders at.0)
+  item_at cites at = option_and_then (λ r. slice_get r.items at.1) (slice_get cites at.0)
 
   -- the cites of the request directly before the one at r; none where there is no such request
   abbrev pub items_before : List (CiteRender E P) → ℕ → List (ItemRender E P)
-  items_before renders r = option_map_or (λ before. before.items) (last_or None (take r renders)) []
+  items_before cites r = option_map_or (λ before. before.items) (last_or None (take r cites)) []
 
 module _ {E P : Type 0} (eq : E → E → Bool) where
   -- the first cite of an entry
   abbrev pub first_item : List (CiteRender E P) → E → Option (ItemRender E P)
-  first_item renders e = find (λ i. eq e i.entry) (items_finally renders)
+  first_item cites e = find (λ i. eq e i.entry) (items_finally cites)
 
   -- by these entries, where the first cite of each stands; none for an entry that no cite cites
   abbrev pub AreFirstItems : List E → List (CiteRender E P) → List (Option Place) → Type 0
-  AreFirstItems entries renders firsts = map (option_map (item_at renders)) firsts
-      ≡ map (λ e. option_map Some (first_item renders e)) entries
+  AreFirstItems entries cites firsts = map (option_map (item_at cites)) firsts
+      ≡ map (λ e. option_map Some (first_item cites e)) entries
 
   module _ (payload_eq : P → P → Bool) where
     -- the position of a cite against the last of those before it
@@ -72,6 +72,6 @@ module _ {E P : Type 0} (eq : E → E → Bool) where
       -- all cites with their final properties: of a cite before, only those of its request and of the one
       -- directly before that count
       abbrev pub with_final_properties : List (CiteRender E P) → List (CiteRender E P)
-      with_final_properties renders =
-          map (λ p. record p.1 { items = with_final_items (items_before renders p.0) p.1.items })
-          (enumerate_from 0 renders)
+      with_final_properties cites =
+          map (λ p. record p.1 { items = with_final_items (items_before cites p.0) p.1.items })
+          (enumerate_from 0 cites)

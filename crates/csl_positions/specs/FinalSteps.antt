@@ -23,7 +23,7 @@ module _ {E P : Type 0} where
 
   -- the cites of a request; none where there is no such request
   abbrev pub items_at : List (CiteRender E P) → ℕ → List (ItemRender E P)
-  items_at renders r = option_map_or (λ render. render.items) (slice_get renders r) []
+  items_at cites r = option_map_or (λ render. render.items) (slice_get cites r) []
 
   -- the places of the entries of the cites of the request at r, and where these stand
   abbrev pub stands_of : ℕ → List ℕ → List (ItemRender E P) → List (ℕ × Place)

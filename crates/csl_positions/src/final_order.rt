@@ -47,16 +47,16 @@ fn push_places<T, P>(
 /// The places of the entries of all cites, in the final order.
 fn places_finally<'a, T: EntryLike, P>(
     alloc: Global,
-    renders: &[SpeculativeCiteRender<'_, 'a, T, P>],
+    cites: &[SpeculativeCiteRender<'_, 'a, T, P>],
     table: &EntryTable<'a, T>,
 ) -> Result<Vec<usize>, AllocError>
-    requires placed { ArePlaced T.eq (table_view table.now) (renders_view renders.now) }
+    requires placed { ArePlaced T.eq (table_view table.now) (renders_view cites.now) }
     ensures { IfOk result (λ v. v.items
-        ≡ map (λ e. place T.eq e (table_view table.now).entries) (cited_finally (renders_view renders.now))) }
+        ≡ map (λ e. place T.eq e (table_view table.now).entries) (cited_finally (renders_view cites.now))) }
 {
     let places = table.places();
     let mut all = Vec::new(alloc);
-    for (r, render) in renders.iter().enumerate() {
+    for (r, render) in cites.iter().enumerate() {
         push_places(&mut all, &render.items, &places[r])?;
     }
     Ok(all)
@@ -68,17 +68,17 @@ fn places_finally<'a, T: EntryLike, P>(
 /// Where memory is refused.
 pub fn final_listing<'a, T: EntryLike, P>(
     alloc: Global,
-    renders: &[SpeculativeCiteRender<'_, 'a, T, P>],
+    cites: &[SpeculativeCiteRender<'_, 'a, T, P>],
     table: &EntryTable<'a, T>,
 ) -> Result<Listing, AllocError>
-    requires placed { ArePlaced T.eq (table_view table.now) (renders_view renders.now) }
+    requires placed { ArePlaced T.eq (table_view table.now) (renders_view cites.now) }
     requires once { NoTwoEqual T.eq (table_view table.now).entries }
-    requires same { (e : T) → is_in T.eq e (cited_finally (renders_view renders.now))
+    requires same { (e : T) → is_in T.eq e (cited_finally (renders_view cites.now))
         ≡ is_in T.eq e (table_view table.now).entries }
     ensures { IfOk result (λ l. IsListingOf T.eq (table_view table.now).entries
-        (distinct T.eq (cited_finally (renders_view renders.now))) (listing_view l)) }
+        (distinct T.eq (cited_finally (renders_view cites.now))) (listing_view l)) }
 {
-    let places = places_finally(alloc, renders, table)?;
+    let places = places_finally(alloc, cites, table)?;
     Listing::of_places(alloc, table.len(), &places)
 }
 
@@ -122,19 +122,19 @@ fn no_firsts(alloc: Global, count: usize) -> Result<Vec<Option<(usize, usize)>>,
 /// Where memory is refused.
 pub fn first_items<'a, T: EntryLike, P>(
     alloc: Global,
-    renders: &[SpeculativeCiteRender<'_, 'a, T, P>],
+    cites: &[SpeculativeCiteRender<'_, 'a, T, P>],
     table: &EntryTable<'a, T>,
 ) -> Result<Vec<Option<(usize, usize)>>, AllocError>
-    requires placed { ArePlaced T.eq (table_view table.now) (renders_view renders.now) }
+    requires placed { ArePlaced T.eq (table_view table.now) (renders_view cites.now) }
     requires once { NoTwoEqual T.eq (table_view table.now).entries }
-    requires same { (e : T) → is_in T.eq e (cited_finally (renders_view renders.now))
+    requires same { (e : T) → is_in T.eq e (cited_finally (renders_view cites.now))
         ≡ is_in T.eq e (table_view table.now).entries }
     ensures { IfOk result (λ firsts. AreFirstItems T.eq (table_view table.now).entries
-        (renders_view renders.now) firsts.items) }
+        (renders_view cites.now) firsts.items) }
 {
     let places = table.places();
     let mut firsts = no_firsts(alloc, table.len())?;
-    for (r, render) in renders.iter().enumerate() {
+    for (r, render) in cites.iter().enumerate() {
         note_firsts(&mut firsts, r, &render.items, &places[r]);
     }
     Ok(firsts)
@@ -157,31 +157,31 @@ fn position_behind<T: PartialEq, P: PartialEq>(
 
 /// The last cite of the request directly before; none where it has none, or there is no such request.
 fn last_before<'x, 'a, T, P>(
-    renders: &'x [SpeculativeCiteRender<'_, 'a, T, P>],
+    cites: &'x [SpeculativeCiteRender<'_, 'a, T, P>],
     r: usize,
 ) -> Option<&'x SpeculativeItemRender<'a, T, P>>
-    requires { r < length renders.now }
+    requires { r < length cites.now }
     ensures { option_map (λ i. item_view i.now) result
-        ≡ last_or None (items_before (renders_view renders.now) r) }
+        ≡ last_or None (items_before (renders_view cites.now) r) }
 {
     if r == 0 {
         None
     } else {
-        renders[r - 1].items.last()
+        cites[r - 1].items.last()
     }
 }
 
 /// The position of the first cite of a request; `Different` where it has none.
 fn first_position<T: PartialEq, P: PartialEq>(
-    renders: &[SpeculativeCiteRender<'_, '_, T, P>],
+    cites: &[SpeculativeCiteRender<'_, '_, T, P>],
     r: usize,
 ) -> IbidState
-    requires { r < length renders.now }
-    ensures { result ≡ first_position T.eq P.eq (items_before (renders_view renders.now) r)
-        (items_at (renders_view renders.now) r) }
+    requires { r < length cites.now }
+    ensures { result ≡ first_position T.eq P.eq (items_before (renders_view cites.now) r)
+        (items_at (renders_view cites.now) r) }
 {
-    match renders[r].items.first() {
-        Some(this) => position_behind(this, last_before(renders, r)),
+    match cites[r].items.first() {
+        Some(this) => position_behind(this, last_before(cites, r)),
         None => IbidState::Different,
     }
 }
@@ -247,19 +247,19 @@ fn set_items<T: PartialEq, P: PartialEq>(
 /// one of the request directly before, and the number of its entry, by the places of the entries in the
 /// table. Nothing else changes. Hidden cites count as shown. It takes no memory.
 pub fn set_final_properties<'a, T: EntryLike, P: PartialEq>(
-    renders: &mut [SpeculativeCiteRender<'_, 'a, T, P>],
+    cites: &mut [SpeculativeCiteRender<'_, 'a, T, P>],
     table: &EntryTable<'a, T>,
     numbers: &[usize],
 )
-    requires placed { ArePlaced T.eq (table_view table.now) (renders_view renders.old) }
-    ensures { renders_view renders.new
+    requires placed { ArePlaced T.eq (table_view table.now) (renders_view cites.old) }
+    ensures { renders_view cites.new
         ≡ with_final_properties T.eq P.eq
         (λ e. slice_index_or numbers.now (place T.eq e (table_view table.now).entries) 0)
-        (renders_view renders.old) }
+        (renders_view cites.old) }
 {
     let places = table.places();
-    for r in 0..renders.len() {
-        let first = first_position(renders, r);
-        set_items(&mut renders[r].items, first, &places[r], numbers);
+    for r in 0..cites.len() {
+        let first = first_position(cites, r);
+        set_items(&mut cites[r].items, first, &places[r], numbers);
     }
 }

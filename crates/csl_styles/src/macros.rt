@@ -38,8 +38,8 @@ impl<'a> MacroTable<'a> {
     }
 
     /// The children of the first macro of a name; none without such a macro.
-    pub(crate) fn body_of(&self, name: &str) -> Option<&'a Vec<LayoutRenderingElement>>
-        ensures { option_map (λ v. elements_view v.now.items) result ≡ body_of name.now (macros_of self.now) }
+    pub(crate) fn body_of(&self, name: &str) -> Option<&'a [LayoutRenderingElement]>
+        ensures { option_map (λ v. elements_view v.now) result ≡ body_of name.now (macros_of self.now) }
     {
         match self.places.get(&name) {
             Some(place) => Some(&self.style.macros[*place].children),

@@ -81,8 +81,8 @@ impl<'a> PreparedStyle<'a> {
     }
 
     /// The children of the first macro of a name; none without such a macro.
-    pub fn body_of(&self, name: &str) -> Option<&'a Vec<LayoutRenderingElement>>
-        ensures { option_map (λ v. elements_view v.now.items) result
+    pub fn body_of(&self, name: &str) -> Option<&'a [LayoutRenderingElement]>
+        ensures { option_map (λ v. elements_view v.now) result
             ≡ body_of name.now (prepared_view self.now).macros }
     {
         self.macros.body_of(name)

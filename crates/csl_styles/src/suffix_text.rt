@@ -37,8 +37,8 @@ fn has_suffix(element: &LayoutRenderingElement) -> bool
 }
 
 #[cycle(suffix)]
-fn have_suffix(elements: &Vec<LayoutRenderingElement>) -> bool
-    ensures { result ≡ suffix_in_all no_call (elements_view elements.now.items) }
+fn have_suffix(elements: &[LayoutRenderingElement]) -> bool
+    ensures { result ≡ suffix_in_all no_call (elements_view elements.now) }
 {
     for element in elements {
         if has_suffix(element) {
@@ -49,11 +49,8 @@ fn have_suffix(elements: &Vec<LayoutRenderingElement>) -> bool
 }
 
 #[cycle(suffix)]
-fn branches_have_suffix(
-    branches: &Vec<ChooseBranch>,
-    otherwise: &Vec<LayoutRenderingElement>,
-) -> bool
-    ensures { result ≡ suffix_in_branches no_call (branches_view branches.now.items otherwise.now.items) }
+fn branches_have_suffix(branches: &[ChooseBranch], otherwise: &[LayoutRenderingElement]) -> bool
+    ensures { result ≡ suffix_in_branches no_call (branches_view branches.now otherwise.now) }
 {
     for branch in branches {
         if have_suffix(&branch.children) {
@@ -82,11 +79,11 @@ fn add_new<'a>(
 fn add_called<'a>(
     alloc: Global,
     macros: &MacroTable<'a>,
-    elements: &'a Vec<LayoutRenderingElement>,
+    elements: &'a [LayoutRenderingElement],
     names: &mut IndexSet<&'a str>,
 ) -> Result<(), AllocError>
     ensures { OnOk result (map (λ s. s.now) names.new.keys
-        ≡ gather_each (macros_of macros.now) (calls_of_all (elements_view elements.now.items))
+        ≡ gather_each (macros_of macros.now) (calls_of_all (elements_view elements.now))
         (map (λ s. s.now) names.old.keys)) }
 {
     let mut called = Vec::new(alloc);
@@ -128,10 +125,10 @@ fn look_at<'a>(
 fn suffix_stands<'a>(
     alloc: Global,
     macros: &MacroTable<'a>,
-    elements: &'a Vec<LayoutRenderingElement>,
+    elements: &'a [LayoutRenderingElement],
 ) -> Result<bool, AllocError>
     requires { HasNoRing (macros_of macros.now) }
-    ensures { IfOk result (λ b. b ≡ suffix_stands (macros_of macros.now) (elements_view elements.now.items)) }
+    ensures { IfOk result (λ b. b ≡ suffix_stands (macros_of macros.now) (elements_view elements.now)) }
 {
     if have_suffix(elements) {
         return Ok(true);

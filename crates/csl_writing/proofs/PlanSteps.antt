@@ -63,10 +63,10 @@ alone_carried k f s r m n a b e is done = done (f n) (subst (λ x. IsSection s (
 pub prose_carried : (k : Lookup) (cite : Subject) (verdict : Option CollapseVerdict) (n m o : Notes) (s : declared.Section) (a b c d e f : State)
     → IsCarriedOut k (plan_of (author_section cite n)) a b m
     → IsWritten k (gap_steps cite.source.style.citation.layout) b c
-    → IsWritten k (text_steps (enclosing cite.source.style cite.source.style.citation.layout.prefix (40 ∷ []))) c d
+    → IsWritten k (text_steps (enclosing cite.source.style cite.source.style.citation.layout.prefix (codes "("))) c d
     → IsSection s (rest_section cite verdict m)
     → ((value : Section) → IsSection s value → IsCarriedOut k (plan_of value) d e o)
-    → IsWritten k (text_steps (enclosing cite.source.style cite.source.style.citation.layout.suffix (41 ∷ []))) e f
+    → IsWritten k (text_steps (enclosing cite.source.style cite.source.style.citation.layout.suffix (codes ")"))) e f
     → IsCarriedOut k (prose_plan cite verdict n) a f o
 prose_carried k cite verdict n m o s a b c d e f author gap before is rest after =
     let section = rest_section cite verdict (author_section cite n).picked.noted in

@@ -1,5 +1,5 @@
 -- In which steps a cite is written for a purpose.
-use Rattle.std.specs.Prelude.{ℕ, ◌∷◌, ◌++◌, List, [], Bool, true, false, Option, None, Some}
+use Rattle.std.specs.Prelude.{ℕ, ◌∷◌, ◌++◌, List, [], Bool, true, false, Option, None, Some, codes}
 use Rattle.std.specs.Str.{chars}
 use Rattle.std.specs.Bool.{if◌then◌else◌}
 use Rattle.std.specs.List.{list_any}
@@ -81,8 +81,8 @@ prose_plan s verdict n =
     let author = author_section s n in
     let rest = rest_section s verdict author.picked.noted in
     record {
-      steps = step_of author ∷ (gap_steps layout ++ text_steps (enclosing style layout.prefix (40 ∷ []))
-          ++ step_of rest ∷ text_steps (enclosing style layout.suffix (41 ∷ [])));
+      steps = step_of author ∷ (gap_steps layout ++ text_steps (enclosing style layout.prefix (codes "("))
+          ++ step_of rest ∷ text_steps (enclosing style layout.suffix (codes ")")));
       noted = rest.picked.noted;
     }
 

@@ -178,15 +178,15 @@ impl<'a> StyleContext<'a> {
         _term_locale: Option<&LocaleCode>,
         purpose: Option<CitePurpose>,
         verdict: Option<CollapseVerdict>,
-        renders: &mut Renders,
+        counter: &mut Renders,
     ) -> Result<Cite, AllocError>
         requires { HasNoRing (context_source self.now).style.macros }
         ensures cite { IfOk result (λ c. c
             ≡ rendered.cite (context_source self.now) (T.answers entry.now)
             (properties_view props.now) purpose verdict) }
-        ensures count { renders.new ≡ counted renders.old }
+        ensures count { counter.new ≡ counted counter.old }
     {
-        renders.add_one();
+        counter.add_one();
         self.cite_of(
             alloc,
             entry,
@@ -213,15 +213,15 @@ impl<'a> StyleContext<'a> {
         _term_locale: Option<&LocaleCode>,
         purpose: Option<CitePurpose>,
         verdict: Option<CollapseVerdict>,
-        renders: &mut Renders,
+        counter: &mut Renders,
     ) -> Result<ElemChildren, AllocError>
         requires { HasNoRing (context_source self.now).style.macros }
         ensures cite { IfOk result (λ tree. tree
             ≡ rendered.cite_text (context_source self.now) (T.answers entry.now)
             (properties_view props.now) purpose verdict) }
-        ensures count { renders.new ≡ counted renders.old }
+        ensures count { counter.new ≡ counted counter.old }
     {
-        renders.add_one();
+        counter.add_one();
         let mut spare = SpareRoom::none();
         let cite = self.cite_of(alloc, entry, props, purpose, verdict, &mut spare)?;
         Ok(cite.children)
@@ -242,13 +242,13 @@ impl<'a> StyleContext<'a> {
         _props: &CiteProperties<'_, P>,
         _locale: Option<&LocaleCode>,
         _term_locale: Option<&LocaleCode>,
-        renders: &mut Renders,
+        counter: &mut Renders,
     ) -> Result<ElemChildren, AllocError>
         ensures date { IfOk result (λ tree. tree
             ≡ rendered.date_text (context_source self.now) (T.answers entry.now)) }
-        ensures count { renders.new ≡ counted renders.old }
+        ensures count { counter.new ≡ counted counter.old }
     {
-        renders.add_one();
+        counter.add_one();
         date_text(&self.locales, alloc, entry)
     }
 
@@ -317,15 +317,15 @@ impl<'a> StyleContext<'a> {
         props: &CiteProperties<'_, P>,
         _locale: Option<&LocaleCode>,
         _term_locale: Option<&LocaleCode>,
-        renders: &mut Renders,
+        counter: &mut Renders,
     ) -> Result<Option<ElemChildren>, AllocError>
         requires { HasNoRing (context_source self.now).style.macros }
         ensures item { IfOk result (λ item. item
             ≡ rendered.bibliography_text (context_source self.now) (T.answers entry.now)
             (properties_view props.now)) }
-        ensures count { renders.new ≡ counted renders.old }
+        ensures count { counter.new ≡ counted counter.old }
     {
-        renders.add_one();
+        counter.add_one();
         self.listed(alloc, entry, props, &mut SpareRoom::none())
     }
 }

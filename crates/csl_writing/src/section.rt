@@ -75,12 +75,12 @@ fn pick_section<'a, T: EntryLike>(
     alloc: Global,
     input: &Input<'a, T>,
     formatting: StyleFormatting,
-    elements: &'a Vec<LayoutRenderingElement>,
+    elements: &'a [LayoutRenderingElement],
     notes: Notes,
 ) -> Result<Section<'a>, AllocError>
     ensures { IfOk result (λ s. IsSection s
         (sections.picked_section formatting (env_of (T.answers input.now.entry.now) input.now.setting)
-        (macros_in input.now.setting) (elements_view elements.now.items) notes)) }
+        (macros_in input.now.setting) (elements_view elements.now) notes)) }
 {
     let mut picking = Picking {
         pieces: Vec::with_capacity(alloc, ROOM)?,
@@ -207,10 +207,10 @@ impl<'a, T: EntryLike> Subject<'a, T> {
     fn names_section(
         &self,
         alloc: Global,
-        alone: &'a Vec<LayoutRenderingElement>,
+        alone: &'a [LayoutRenderingElement],
         form: Form,
     ) -> Result<Section<'a>, AllocError>
-        requires { elements_view alone.now.items ≡ sections.names_alone }
+        requires { elements_view alone.now ≡ sections.names_alone }
         ensures { IfOk result (λ s. IsSection s
             (sections.names_section (subject_view T.answers self.now) form
             (first_notes self.now.cite.usage))) }
@@ -225,10 +225,10 @@ impl<'a, T: EntryLike> Subject<'a, T> {
     fn author_listed(
         &self,
         alloc: Global,
-        alone: &'a Vec<LayoutRenderingElement>,
+        alone: &'a [LayoutRenderingElement],
         form: Form,
     ) -> Result<Section<'a>, AllocError>
-        requires { elements_view alone.now.items ≡ sections.names_alone }
+        requires { elements_view alone.now ≡ sections.names_alone }
         ensures { IfOk result (λ s. IsSection s
             (sections.author_listed (subject_view T.answers self.now) form
             (first_notes self.now.cite.usage))) }
@@ -245,10 +245,10 @@ impl<'a, T: EntryLike> Subject<'a, T> {
     fn author_anew(
         &self,
         alloc: Global,
-        alone: &'a Vec<LayoutRenderingElement>,
+        alone: &'a [LayoutRenderingElement],
         form: Form,
     ) -> Result<Section<'a>, AllocError>
-        requires { elements_view alone.now.items ≡ sections.names_alone }
+        requires { elements_view alone.now ≡ sections.names_alone }
         ensures { IfOk result (λ s. IsSection s
             (sections.author_anew (subject_view T.answers self.now) form (first_notes self.now.cite.usage))) }
     {
@@ -264,10 +264,10 @@ impl<'a, T: EntryLike> Subject<'a, T> {
     fn author_in_form(
         &self,
         alloc: Global,
-        alone: &'a Vec<LayoutRenderingElement>,
+        alone: &'a [LayoutRenderingElement],
         form: Form,
     ) -> Result<Section<'a>, AllocError>
-        requires names { elements_view alone.now.items ≡ sections.names_alone }
+        requires names { elements_view alone.now ≡ sections.names_alone }
         requires form { form ≡ sections.author_form (subject_view T.answers self.now) }
         ensures { IfOk result (λ s. IsSection s
             (sections.author_section (subject_view T.answers self.now) (first_notes self.now.cite.usage))) }
@@ -285,9 +285,9 @@ impl<'a, T: EntryLike> Subject<'a, T> {
     pub(crate) fn author_section(
         &self,
         alloc: Global,
-        alone: &'a Vec<LayoutRenderingElement>,
+        alone: &'a [LayoutRenderingElement],
     ) -> Result<Section<'a>, AllocError>
-        requires { elements_view alone.now.items ≡ sections.names_alone }
+        requires { elements_view alone.now ≡ sections.names_alone }
         ensures { IfOk result (λ s. IsSection s
             (sections.author_section (subject_view T.answers self.now) (first_notes self.now.cite.usage))) }
     {

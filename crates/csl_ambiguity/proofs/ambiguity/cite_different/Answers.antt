@@ -4,5 +4,5 @@ use Rattle.csl_ambiguity.proofs.ambiguity.cite_different.Goals as goal
 
 pub returns-in-Some : goal.returns-in-Some
 returns-in-Some g c =
-    different g.T.PartialEq.eq g.met.T.Eq.laws (renders_view c.args.renders.now) c.args.places.now c.in-Some.first.now (item_view c.cite_at.result.now) c.cites_another.result
-    c.in-Some.ensures.value c.cite_at.ensures c.cites_another.ensures
+    different g.T.PartialEq.eq g.met.T.Eq.laws (renders_view c.args.cites.now) c.args.places.now c.in-Some.first.now (item_view c.member_at.result.now) c.cites_another.result
+    c.in-Some.ensures.value c.member_at.ensures c.cites_another.ensures

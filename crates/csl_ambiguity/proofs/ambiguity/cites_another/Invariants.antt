@@ -6,5 +6,5 @@ use Rattle.csl_ambiguity.proofs.ambiguity.cites_another.Given as goal
 
 abbrev pub invariant-loop-place : goal.invariant-loop-place
 invariant-loop-place g l =
-    list_any (λ m. not (g.T.PartialEq.eq l.entry (entry_of m))) (members (renders_view l.renders) l.places)
-    ≡ list_any (λ m. not (g.T.PartialEq.eq l.entry (entry_of m))) (members (renders_view l.renders) (drop l.place-index l.places))
+    list_any (λ m. not (g.T.PartialEq.eq l.entry (entry_of m))) (members (renders_view l.cites) l.places)
+    ≡ list_any (λ m. not (g.T.PartialEq.eq l.entry (entry_of m))) (members (renders_view l.cites) (drop l.place-index l.places))

@@ -9,9 +9,9 @@ loop-r-init g c = record { groups = c.new-classes.ensures.groups; at = c.new-cla
 
 pub loop-r-preserved : goal.loop-r-preserved
 loop-r-preserved g c =
-    request-added c.args.renders.now c.loop-r.r c.index-renders-r.result c.add_cites.new.classes c.loop-r-test.true c.index-renders-r.is
-    (c.in_ok-add_cites.ensures (cites_upto c.args.renders.now c.loop-r.r) c.loop-r.invariant)
+    request-added c.args.cites.now c.loop-r.r c.index-cites-r.result c.add_cites.new.classes c.loop-r-test.true c.index-cites-r.is
+    (c.in_ok-add_cites.ensures (cites_upto c.args.cites.now c.loop-r.r) c.loop-r.invariant)
 
 pub returns : goal.returns
 returns g c =
-    c.loop-r.invariant.groups ∙ ap (λ ms. map (map place_of) (classes (without_suffix ms))) (all-added c.args.renders.now c.loop-r.r c.loop-r-test.false)
+    c.loop-r.invariant.groups ∙ ap (λ ms. map (map place_of) (classes (without_suffix ms))) (all-added c.args.cites.now c.loop-r.r c.loop-r-test.false)

@@ -8,4 +8,4 @@ use Rattle.csl_ambiguity.proofs.ambiguity.classes.Given as goal
 
 abbrev pub invariant-loop-r : goal.invariant-loop-r
 invariant-loop-r g l =
-    AreClassesOf (without_suffix (flat_map (λ p. request_cites p.0 p.1) (take l.r (enumerate_from 0 (renders_view l.renders))))) l.classes
+    AreClassesOf (without_suffix (flat_map (λ p. request_cites p.0 p.1) (take l.r (enumerate_from 0 (renders_view l.cites))))) l.classes

@@ -6,4 +6,4 @@ use Rattle.csl_ambiguity.proofs.ambiguity.find_ambiguous_sets.Given as goal
 
 abbrev pub invariant-loop-class : goal.invariant-loop-class
 invariant-loop-class g l =
-    IsSifted (renders_view l.renders) g.T.PartialEq.eq (map (λ v. v.items) l.groups.items) (map (λ v. v.items) (into_iter_items l.class-iterator))
+    IsSifted (renders_view l.cites) g.T.PartialEq.eq (map (λ v. v.items) l.groups.items) (map (λ v. v.items) (into_iter_items l.class-iterator))

@@ -7,5 +7,5 @@ use Rattle.csl_ambiguity.proofs.choose.first_asking.Given as goal
 
 abbrev pub invariant-loop-place : goal.invariant-loop-place
 invariant-loop-place g l =
-    option_map entry_of (find asks (members (renders_view l.renders) l.group))
-    ≡ option_map entry_of (find asks (members (renders_view l.renders) (drop l.place-index l.group)))
+    option_map entry_of (find asks (members (renders_view l.cites) l.group))
+    ≡ option_map entry_of (find asks (members (renders_view l.cites) (drop l.place-index l.group)))

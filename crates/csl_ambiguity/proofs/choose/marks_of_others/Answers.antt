@@ -10,16 +10,16 @@ use Rattle.csl_ambiguity.proofs.choose.marks_of_others.Goals.{then-asks_for_anot
 pub loop-place-preserved : goal.loop-place-preserved
 loop-place-preserved g c = elim c.if-asks_for_another.branch [
   | then-asks_for_another+in_ok-push w ↦
-      marks-more (renders_view c.args.renders.now) (λ m. m.item) c.args.group.now c.loop-place.place-index (0, 0) (item_view c.cite_at.result.now) c.loop-place-test.true c.cite_at.ensures
+      marks-more (renders_view c.args.cites.now) (λ m. m.item) c.args.group.now c.loop-place.place-index (0, 0) (item_view c.member_at.result.now) c.loop-place-test.true c.member_at.ensures
       (λ i. i.checked_disambiguate && not (g.T.PartialEq.eq c.args.spared.now i.entry)) Choose c.loop-place.marks.items c.if-asks_for_another.marks.items _ c.loop-place.invariant
       (sym c.asks_for_another.ensures ∙ w.if-asks_for_another.true) (ap (λ v. v.items) w.marks-is ∙ w.in_ok-push.ensures.items)
   | else-asks_for_another w ↦
-      marks-skip (renders_view c.args.renders.now) (λ m. m.item) c.args.group.now c.loop-place.place-index (0, 0) (item_view c.cite_at.result.now) c.loop-place-test.true c.cite_at.ensures
+      marks-skip (renders_view c.args.cites.now) (λ m. m.item) c.args.group.now c.loop-place.place-index (0, 0) (item_view c.member_at.result.now) c.loop-place-test.true c.member_at.ensures
       (λ i. i.checked_disambiguate && not (g.T.PartialEq.eq c.args.spared.now i.entry)) Choose c.loop-place.marks.items c.if-asks_for_another.marks.items _ c.loop-place.invariant
       (sym c.asks_for_another.ensures ∙ w.if-asks_for_another.false) (ap (λ v. v.items) w.marks-is)
 ]
 
 pub returns : goal.returns
 returns g c =
-    marks-end (renders_view c.args.renders.now) (λ m. asks m && not (g.T.PartialEq.eq c.args.spared.now (entry_of m))) Choose c.args.group.now c.loop-place.place-index c.loop-place.marks.items _
+    marks-end (renders_view c.args.cites.now) (λ m. asks m && not (g.T.PartialEq.eq c.args.spared.now (entry_of m))) Choose c.args.group.now c.loop-place.place-index c.loop-place.marks.items _
     c.loop-place-test.false c.loop-place.invariant

@@ -8,5 +8,5 @@ use Rattle.csl_ambiguity.proofs.choose.marks_of_others.Given as goal
 abbrev pub invariant-loop-place : goal.invariant-loop-place
 invariant-loop-place g l =
     l.marks.items
-    ++ map (λ m. (m.place, Choose)) (filter (λ m. asks m && not (g.T.PartialEq.eq l.spared (entry_of m))) (members (renders_view l.renders) (drop l.place-index l.group)))
-    ≡ map (λ m. (m.place, Choose)) (filter (λ m. asks m && not (g.T.PartialEq.eq l.spared (entry_of m))) (members (renders_view l.renders) l.group))
+    ++ map (λ m. (m.place, Choose)) (filter (λ m. asks m && not (g.T.PartialEq.eq l.spared (entry_of m))) (members (renders_view l.cites) (drop l.place-index l.group)))
+    ≡ map (λ m. (m.place, Choose)) (filter (λ m. asks m && not (g.T.PartialEq.eq l.spared (entry_of m))) (members (renders_view l.cites) l.group))

@@ -6,4 +6,4 @@ use Rattle.csl_ambiguity.proofs.choose.may_be_chosen.Given as goal
 
 abbrev pub invariant-loop-place : goal.invariant-loop-place
 invariant-loop-place g l =
-    may_be_chosen (members (renders_view l.renders) l.group) ≡ may_be_chosen (members (renders_view l.renders) (drop l.place-index l.group))
+    may_be_chosen (members (renders_view l.cites) l.group) ≡ may_be_chosen (members (renders_view l.cites) (drop l.place-index l.group))

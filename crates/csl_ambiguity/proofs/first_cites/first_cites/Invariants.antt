@@ -7,5 +7,5 @@ use Rattle.csl_ambiguity.proofs.first_cites.first_cites.Given as goal
 
 abbrev pub invariant-loop-place : goal.invariant-loop-place
 invariant-loop-place g l =
-    with_all_new (same_entry g.T.PartialEq.eq) (firsts_view l.firsts.keys) (map first_cite_of (members (renders_view l.renders) (drop l.place-index l.group)))
-    ≡ with_all_new (same_entry g.T.PartialEq.eq) [] (map first_cite_of (members (renders_view l.renders) l.group))
+    with_all_new (same_entry g.T.PartialEq.eq) (firsts_view l.firsts.keys) (map first_cite_of (members (renders_view l.cites) (drop l.place-index l.group)))
+    ≡ with_all_new (same_entry g.T.PartialEq.eq) [] (map first_cite_of (members (renders_view l.cites) l.group))

@@ -5,10 +5,10 @@ use Rattle.csl_ambiguity.proofs.suffixes.adds_suffix.Goals as goal
 
 pub loop-place-preserved : goal.loop-place-preserved
 loop-place-preserved g c =
-    any-skip (renders_view c.args.renders.now) (λ m. m.style) c.args.group.now c.loop-place.place-index (0, 0) (style_view c.style_at.result.now) c.loop-place-test.true c.style_at.ensures
+    any-skip (renders_view c.args.cites.now) (λ m. m.style) c.args.group.now c.loop-place.place-index (0, 0) (style_view c.style_at.result.now) c.loop-place-test.true c.style_at.ensures
     (λ s. s.citation.disambiguate_add_year_suffix) _ c.loop-place.invariant c.if-style_at.false
 
 pub returns-then-style_at : goal.returns-then-style_at
 returns-then-style_at g c =
-    any-found (renders_view c.args.renders.now) (λ m. m.style) c.args.group.now c.loop-place.place-index (0, 0) (style_view c.style_at.result.now) c.loop-place-test.true c.style_at.ensures
+    any-found (renders_view c.args.cites.now) (λ m. m.style) c.args.group.now c.loop-place.place-index (0, 0) (style_view c.style_at.result.now) c.loop-place-test.true c.style_at.ensures
     (λ s. s.citation.disambiguate_add_year_suffix) _ c.loop-place.invariant c.if-style_at.true

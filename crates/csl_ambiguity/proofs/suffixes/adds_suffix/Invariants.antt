@@ -6,4 +6,4 @@ use Rattle.csl_ambiguity.proofs.suffixes.adds_suffix.Given as goal
 
 abbrev pub invariant-loop-place : goal.invariant-loop-place
 invariant-loop-place g l =
-    adds_suffix (members (renders_view l.renders) l.group) ≡ adds_suffix (members (renders_view l.renders) (drop l.place-index l.group))
+    adds_suffix (members (renders_view l.cites) l.group) ≡ adds_suffix (members (renders_view l.cites) (drop l.place-index l.group))

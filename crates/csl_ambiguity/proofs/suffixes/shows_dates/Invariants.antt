@@ -5,4 +5,4 @@ use Rattle.csl_ambiguity.proofs.suffixes.shows_dates.Given as goal
 
 abbrev pub invariant-loop-render : goal.invariant-loop-render
 invariant-loop-render g l =
-    shows_dates g.T.EntryLike.answers (renders_view l.renders) ≡ shows_dates g.T.EntryLike.answers (renders_view (drop l.render-index l.renders))
+    shows_dates g.T.EntryLike.answers (renders_view l.cites) ≡ shows_dates g.T.EntryLike.answers (renders_view (drop l.render-index l.cites))

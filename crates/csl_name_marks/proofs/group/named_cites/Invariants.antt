@@ -4,4 +4,4 @@ use Rattle.csl_name_marks.specs.NamedCites.{named_cites}
 use Rattle.csl_name_marks.proofs.group.named_cites.Given as goal
 
 abbrev pub invariant-loop-place : goal.invariant-loop-place
-invariant-loop-place g l = l.found.items ≡ named_cites (renders_view l.renders) (take l.place-index l.group)
+invariant-loop-place g l = l.found.items ≡ named_cites (renders_view l.cites) (take l.place-index l.group)

@@ -24,16 +24,11 @@ returns g c =
     let r = rules_view c.new-rules.result in
     let vs = c.as_slice-blocks.result.now in
     let ps = blocks_parts env r n vs in
-    let kept : vs ≡ written_blocks setting.form (author_variable answers) (blocks answers n c.args.variables.now.items c.args.substitute.now.items) =
+    let kept : vs ≡ written_blocks setting.form (author_variable answers) (blocks answers n c.args.variables.now c.args.substitute.now) =
     c.as_slice-blocks.ensures ∙ c.in_ok-written.ensures
     ∙ ap (λ (a : NameVariable). written_blocks setting.form a (variables_view c.in_ok-chosen.chosen.variables)) c.author_variable-author.ensures
-    ∙ ap (λ (bs : List NameVariable). written_blocks setting.form (author_variable answers) bs) c.in_ok-chosen.ensures.variables
-    ∙ ap (λ (bs : List NameVariable). written_blocks setting.form (author_variable answers) (blocks answers n bs c.deref-2.result.now)) c.deref.ensures.value
-    ∙ ap (λ (bs : List NameVariable). written_blocks setting.form (author_variable answers) (blocks answers n c.args.variables.now.items bs)) c.deref-2.ensures.value in
-    let stands : c.in_ok-chosen.chosen.stand_in ≡ stand_in answers n c.args.variables.now.items c.args.substitute.now.items =
-    c.in_ok-chosen.ensures.stand_in
-    ∙ ap (λ (bs : List NameVariable). stand_in answers n bs c.deref-2.result.now) c.deref.ensures.value
-    ∙ ap (λ (bs : List NameVariable). stand_in answers n c.args.variables.now.items bs) c.deref-2.ensures.value in
+    ∙ ap (λ (bs : List NameVariable). written_blocks setting.form (author_variable answers) bs) c.in_ok-chosen.ensures.variables in
+    let stands : c.in_ok-chosen.chosen.stand_in ≡ stand_in answers n c.args.variables.now c.args.substitute.now = c.in_ok-chosen.ensures.stand_in in
     let opened : tokens_of c.push_opening.new.pieces.items ≡ old ++ opening (names_node answers look vs) ∷ [] =
     c.in_ok-push_opening.ensures
     ∙ ap (λ (m : NodeValue). old ++ opening m ∷ []) c.names_node.ensures
@@ -41,7 +36,7 @@ returns g c =
     let start : c.len-start.result ≡ length old = c.len-start.ensures ∙ c.args.picking.now.pieces.ok.0 ∙ sym (length-mapped token_of c.args.picking.now.pieces.items) in
     let closed = node_closed (names_node answers look vs) ps c.in_ok-given.given c.len-start.result old (tokens_of c.push_opening.new.pieces.items) (tokens_of c.push_blocks.new.picking.pieces.items)
     (tokens_of c.close_node.new.pieces.items) c.in_ok-given.ensures.given start opened c.in_ok-given.ensures.pieces c.in_ok-close_node.ensures in
-    names_picked env c.args.variables.now.items c.args.substitute.now.items (options_view c.args.options.now) look n old c.args.picking.now.called
+    names_picked env c.args.variables.now c.args.substitute.now (options_view c.args.options.now) look n old c.args.picking.now.called
     r vs c.in_ok-chosen.chosen.stand_in c.in_ok-given.given (tokens_of c.close_node.new.pieces.items) c.push_blocks.new.picking.called c.and-picking.result
     c.push_blocks.new.picking.notes c.note_stand_in.new.self
     c.new-rules.ensures kept stands c.in_ok-given.ensures.given closed c.in_ok-given.ensures.called

@@ -10,6 +10,6 @@ invariant-loop-branch g l =
     let env = env_of (g.T.EntryLike.answers l.input.entry.now) l.input.setting in
     record {
       chosen : (call : Call)
-          → pick_first_with env call (branches_view (drop l.branch-index l.branch-items) l.otherwise.items) l.notes ≡ pick_first_with env call (branches_view l.branch-items l.otherwise.items) l.initial.notes;
+          → pick_first_with env call (branches_view (drop l.branch-index l.branches) l.otherwise) l.notes ≡ pick_first_with env call (branches_view l.branches l.otherwise) l.initial.notes;
       keeps : Keeps l.initial.notes l.notes;
     }

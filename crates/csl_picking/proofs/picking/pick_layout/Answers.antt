@@ -47,7 +47,6 @@ returns g c =
     let deep : d ≡ length ms = omega (arith, macros_length macros.items, macros.ok.0, c.len-depth.ensures) in
     ap (λ xs. all_done env ms (steps_view xs) (held c.loop-step.picking)) (sym empty)
     ∙ c.loop-step.invariant.all
-    ∙ pushed env ms c.in_ok-steps.steps.items c.push.new.self.items (steps.Elements c.as_slice.result d) h c.in_ok-push.ensures.items
-    ∙ ap (λ xs. all_done env ms (steps_view xs) (added (picks_all env ms d (elements_view c.as_slice.result.now) h.noted) h)) c.in_ok-steps.ensures.items
-    ∙ ap (λ xs. added (picks_all env ms d (elements_view xs) h.noted) h) c.as_slice.ensures.value
-    ∙ ap (λ k. added (picks_all env ms k (elements_view c.args.elements.now.items) h.noted) h) deep
+    ∙ pushed env ms c.in_ok-steps.steps.items c.push.new.self.items (steps.Elements c.args.elements d) h c.in_ok-push.ensures.items
+    ∙ ap (λ xs. all_done env ms (steps_view xs) (added (picks_all env ms d (elements_view c.args.elements.now) h.noted) h)) c.in_ok-steps.ensures.items
+    ∙ ap (λ k. added (picks_all env ms k (elements_view c.args.elements.now) h.noted) h) deep

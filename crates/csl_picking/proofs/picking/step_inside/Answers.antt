@@ -1,4 +1,4 @@
-use Rattle.std.proofs.Common.{◌≡◌, ap, sym, ◌∙◌, subst, arith}
+use Rattle.std.proofs.Common.{◌≡◌, ◌<◌, ap, ap₂, sym, ◌∙◌, subst, arith}
 use Rattle.csl_base.specs.ElementView.{elements_view, branches_view, text_view, look}
 use Rattle.csl_base.proofs.Views.{group_view, choose_view}
 use Rattle.csl_picking.specs.declared.picking.Step.TheVariants as steps
@@ -6,8 +6,9 @@ use Rattle.csl_picking.specs.InputView.{macros_in}
 use Rattle.csl_picking.specs.HeldView.{held}
 use Rattle.csl_picking.specs.Picked.{Held, added}
 use Rattle.csl_picking.specs.PiecesView.{node_view}
-use Rattle.csl_picking.specs.Pick.{group_node, called_macro, picks_all, picks_first}
+use Rattle.csl_picking.specs.Pick.{group_node, called_macro, picks_first}
 use Rattle.csl_picking.specs.Work.{steps_view, step_view, done, all_done, AllFit, macro_weight, weight_all}
+use Rattle.csl_base.specs.Weight.{weight_branches_with}
 use Rattle.csl_picking.specs.Walk.{env_in}
 use Rattle.csl_picking.proofs.WorkSteps.{group_pushed, group_fits, pushed, fits_more, pushed-work}
 use Rattle.csl_picking.proofs.picking.step_inside.Goals as goal
@@ -48,16 +49,16 @@ returns-in_ok-push-in-Choose-clause-steps g c =
     let b = c.push-in-Choose.new.self.items in
     let s = held c.args.picking.now in
     let now : Held = record s { noted = c.chosen_children-children.new.notes } in
-    let step = steps.Elements c.as_slice-in-Choose.result d in
+    let step = steps.Elements c.chosen_children-children.result d in
     let added_last = c.in_ok-push-in-Choose.ensures.items in
+    let parts = ap₂ branches_view c.deref.ensures.value c.deref-in-Choose.ensures.value in
     let is : added (picks_first env ms d (branches_view e.branches.items e.otherwise.items) s.noted) s ≡ done env ms (step_view step) now =
-    ap (λ p. added p s) (c.chosen_children-children.ensures.chosen (called_macro env ms d))
-    ∙ sym (ap (λ xs. added (picks_all env ms d (elements_view xs) now.noted) now) c.as_slice-in-Choose.ensures.value) in
+    ap (λ bs. added (picks_first env ms d bs s.noted) s) (sym parts) ∙ ap (λ p. added p s) (c.chosen_children-children.ensures.chosen (called_macro env ms d)) in
     let one = pushed-work ms a b step added_last in
-    let same = ap (λ xs. weight_all ms d (elements_view xs)) c.as_slice-in-Choose.ensures.value in
-    let lighter = c.chosen_children-children.ensures.lighter (macro_weight ms d) in
+    let lighter = subst (λ bs. weight_all ms d (elements_view c.chosen_children-children.result.now) < weight_branches_with (macro_weight ms d) bs) parts
+    (c.chosen_children-children.ensures.lighter (macro_weight ms d)) in
     rw (e.is, choose_view e.branches e.otherwise) (record {
       done = pushed env ms a b step now added_last ∙ ap (all_done env ms (steps_view a)) (sym is);
       fit = λ all. fits_more env ms a b step now added_last (subst (AllFit env ms (steps_view a)) is all) tt;
-      falls = omega (arith, one, same, lighter);
+      falls = omega (arith, one, lighter);
     })

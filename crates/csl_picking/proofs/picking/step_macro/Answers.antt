@@ -1,4 +1,4 @@
-use Rattle.std.proofs.Common.{◌-◌, ◌<◌, ap, None, arith}
+use Rattle.std.proofs.Common.{◌-◌, ◌<◌, None, arith}
 use Rattle.csl_base.specs.Element.{macro_target}
 use Rattle.csl_base.specs.ElementView.{elements_view}
 use Rattle.csl_picking.specs.declared.picking.OpenMacro.{OpenMacro}
@@ -9,7 +9,6 @@ use Rattle.csl_picking.specs.Pick.{called_macro}
 use Rattle.csl_picking.specs.Picked.{Held}
 use Rattle.csl_picking.specs.Pieces.{plain_node}
 use Rattle.csl_picking.specs.PiecesView.{node_view, shape_look}
-use Rattle.csl_picking.specs.Work.{weight_all}
 use Rattle.csl_picking.specs.Walk.{env_in, text_of}
 use Rattle.csl_picking.proofs.WorkSteps.{no_macro, passed_over, picked_at_once, macro_pushed, macro_fits, pushed-work, macro_weighs}
 use Rattle.csl_picking.proofs.picking.step_macro.Goals as goal
@@ -48,20 +47,18 @@ returns-in_ok-push-in-Some-body_of-2-clause-steps g c =
     let all = c.push-in-Some-body_of.new.self.items in
     let s = held c.args.picking.now in
     let now = held c.open.new.self in
-    let slice = c.as_slice.result in
-    let body = c.in-Some-body_of.elements.now.items in
+    let slice = c.in-Some-body_of.elements in
     let closed = c.in_ok-push-in-Some-body_of.ensures.items in
     let inside = c.in_ok-push-in-Some-body_of-2.ensures.items in
     let deep : 0 < d = omega arith in
     let call : OpenMacro = record { name = c.args.name; depth = d; seen = c.of-seen.result; opened = o.opened } in
     let one = pushed-work ms a b (steps.CloseMacro call) closed in
     let two = pushed-work ms b all (steps.Elements slice (d - 1)) inside in
-    let same = ap (λ xs. weight_all ms (d - 1) (elements_view xs)) c.as_slice.ensures.value in
-    let weighs = macro_weighs ms d c.args.name.now (elements_view body) deep c.in-Some-body_of.ensures in
+    let weighs = macro_weighs ms d c.args.name.now (elements_view slice.now) deep c.in-Some-body_of.ensures in
     record {
-      done = macro_pushed env ms d a b all slice body call node (node_view c.node.result) s now
-          closed inside c.as_slice.ensures.value c.node.ensures o.ensures.inside o.ensures.opened deep c.in-Some-body_of.ensures;
-      fit = macro_fits env ms d a b all slice body call node (node_view c.node.result) s now
-          closed inside c.as_slice.ensures.value c.node.ensures o.ensures.inside o.ensures.opened deep c.in-Some-body_of.ensures c.of-seen.ensures;
-      falls = omega (arith, one, two, same, weighs);
+      done = macro_pushed env ms d a b all slice call node (node_view c.node.result) s now
+          closed inside c.node.ensures o.ensures.inside o.ensures.opened deep c.in-Some-body_of.ensures;
+      fit = macro_fits env ms d a b all slice call node (node_view c.node.result) s now
+          closed inside c.node.ensures o.ensures.inside o.ensures.opened deep c.in-Some-body_of.ensures c.of-seen.ensures;
+      falls = omega (arith, one, two, weighs);
     }

@@ -8,4 +8,4 @@ use Rattle.csl_positions.proofs.final_order.first_items.Given as goal
 abbrev pub invariant-loop-r : goal.invariant-loop-r
 invariant-loop-r g l =
     l.firsts.items
-    ≡ fold with_first l.initial.firsts.items (stands g.T.PartialEq.eq g.met.T.Eq.laws (table_view l.table).entries (renders_view (take l.r l.renders)))
+    ≡ fold with_first l.initial.firsts.items (stands g.T.PartialEq.eq g.met.T.Eq.laws (table_view l.table).entries (renders_view (take l.r l.cites)))

@@ -5,7 +5,7 @@ use Rattle.csl_positions.proofs.final_order.last_before.Goals as goal
 
 pub returns-else-r-eq0 : goal.returns-else-r-eq0
 returns-else-r-eq0 g c =
-    let renders = c.args.renders.now in
+    let cites = c.args.cites.now in
     let before = c.args.r - 1 in
-    last-before render_view item_view renders c.args.r (get_or renders before c.index-renders-r.result) c.deref.result.now c.last.result c.requires (omega arith)
-    (ap (get_or renders before) c.index-renders-r.is) (ap items_view c.deref.ensures.value) c.last.ensures.value
+    last-before render_view item_view cites c.args.r (get_or cites before c.index-cites-r.result) c.deref.result.now c.last.result c.requires (omega arith)
+    (ap (get_or cites before) c.index-cites-r.is) (ap items_view c.deref.ensures.value) c.last.ensures.value

@@ -6,4 +6,4 @@ use Rattle.csl_positions.specs.FinalProperties.{cited_finally}
 use Rattle.csl_positions.proofs.final_order.places_finally.Given as goal
 
 abbrev pub invariant-loop-r : goal.invariant-loop-r
-invariant-loop-r g l = l.all.items ≡ map (λ e. place g.T.PartialEq.eq e (table_view l.table).entries) (cited_finally (renders_view (take l.r l.renders)))
+invariant-loop-r g l = l.all.items ≡ map (λ e. place g.T.PartialEq.eq e (table_view l.table).entries) (cited_finally (renders_view (take l.r l.cites)))

@@ -9,6 +9,6 @@ use Rattle.csl_positions.proofs.final_order.set_final_properties.Given as goal
 
 abbrev pub invariant-loop-r : goal.invariant-loop-r
 invariant-loop-r g l =
-    renders_view l.renders
-    ≡ half (finally_at g.T.PartialEq.eq g.P.PartialEq.eq (λ e. slice_index_or l.numbers (place g.T.PartialEq.eq e (table_view l.table).entries) 0) (renders_view l.initial.renders)) l.r
-    (renders_view l.initial.renders)
+    renders_view l.cites
+    ≡ half (finally_at g.T.PartialEq.eq g.P.PartialEq.eq (λ e. slice_index_or l.numbers (place g.T.PartialEq.eq e (table_view l.table).entries) 0) (renders_view l.initial.cites)) l.r
+    (renders_view l.initial.cites)

@@ -21,11 +21,11 @@ names_len (x ∷ xs) = ap (λ n. suc n) (names_len xs)
 
 pub returns-then-have_suffix : goal.returns-then-have_suffix
 returns-then-have_suffix c =
-    at_once (macros_of c.args.macros.now) c.requires (elements_view c.args.elements.now.items) (sym c.have_suffix.ensures ∙ c.if-have_suffix.true)
+    at_once (macros_of c.args.macros.now) c.requires (elements_view c.args.elements.now) (sym c.have_suffix.ensures ∙ c.if-have_suffix.true)
 
 pub loop-at-init : goal.loop-at-init
 loop-at-init c =
-    rw (c.in_ok-add_called.ensures, c.new-names.ensures.empty) (gathered-start (macros_of c.args.macros.now) c.requires (calls_of_all (elements_view c.args.elements.now.items)))
+    rw (c.in_ok-add_called.ensures, c.new-names.ensures.empty) (gathered-start (macros_of c.args.macros.now) c.requires (calls_of_all (elements_view c.args.elements.now)))
 
 pub loop-at-smaller : goal.loop-at-smaller
 loop-at-smaller c =
@@ -40,7 +40,7 @@ pub loop-at-preserved : goal.loop-at-preserved
 loop-at-preserved c =
     let l = c.loop-at in
     let ms = macros_of c.args.macros.now in
-    let first = calls_of_all (elements_view c.args.elements.now.items) in
+    let first = calls_of_all (elements_view c.args.elements.now) in
     let names = map (λ (s : Bor Name). s.now) l.names.keys in
     let n = names_len l.names.keys in
     let next = c.unwrap-next.result.now in
@@ -56,12 +56,12 @@ returns-then-found c =
     let n = names_len l.names.keys in
     let next = c.unwrap-next.result.now in
     let there = sym (ap (option_map (λ (s : Bor (Bor Name)). s.now)) (sym c.unwrap-next.ensures) ∙ c.get_index.ensures.key) in
-    at_name (macros_of c.args.macros.now) c.requires (elements_view c.args.elements.now.items) names l.at next.now l.invariant (omega (arith, n, c.loop-at-test.true, c.len.ensures.len))
+    at_name (macros_of c.args.macros.now) c.requires (elements_view c.args.elements.now) names l.at next.now l.invariant (omega (arith, n, c.loop-at-test.true, c.len.ensures.len))
     (name_at l.names.keys l.at next there) (sym c.in_ok-found.ensures.found ∙ c.if-found.true)
 
 pub returns : goal.returns
 returns c =
     let l = c.loop-at in
     let n = names_len l.names.keys in
-    at_end (macros_of c.args.macros.now) c.requires (elements_view c.args.elements.now.items) (map (λ (s : Bor Name). s.now) l.names.keys) l.at l.invariant (omega (arith, n, c.loop-at-test.false, c.len.ensures.len))
+    at_end (macros_of c.args.macros.now) c.requires (elements_view c.args.elements.now) (map (λ (s : Bor Name). s.now) l.names.keys) l.at l.invariant (omega (arith, n, c.loop-at-test.false, c.len.ensures.len))
     (sym c.have_suffix.ensures ∙ c.if-have_suffix.false)

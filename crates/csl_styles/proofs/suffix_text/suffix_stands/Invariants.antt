@@ -7,7 +7,7 @@ use Rattle.csl_styles.proofs.Suffixes.{IsGathered}
 use Rattle.csl_styles.proofs.suffix_text.suffix_stands.Given as goal
 
 abbrev pub invariant-loop-at : goal.invariant-loop-at
-invariant-loop-at l = IsGathered (macros_of l.macros) (calls_of_all (elements_view l.elements.items)) (map (λ s. s.now) l.names.keys) l.at
+invariant-loop-at l = IsGathered (macros_of l.macros) (calls_of_all (elements_view l.elements)) (map (λ s. s.now) l.names.keys) l.at
 
 abbrev pub decreases-loop-at : goal.decreases-loop-at
 decreases-loop-at l =

@@ -1,10 +1,10 @@
 -- A name that the table has, and one that it doesn't have.
-use Rattle.std.proofs.Common.{◌<◌, ◌∙◌, length, option_map, sym, ap, refl, arith}
+use Rattle.std.proofs.Common.{◌<◌, ◌∙◌, length, Some, option_map, sym, ap, refl, arith}
 use Rattle.std.proofs.lemmas.List.{length-map}
 use Rattle.std.proofs.lemmas.Option.{slice_get-map, slice_get_read}
 use Rattle.std.specs.Prelude.{bytes_eq}
 use Rattle.csl_base.specs.Element.{Macro}
-use Rattle.csl_base.specs.ElementView.{macro_view, macros_view}
+use Rattle.csl_base.specs.ElementView.{elements_view, macro_view, macros_view}
 use Rattle.csl_styles.proofs.FoundPlaces.{place_within}
 use Rattle.csl_styles.proofs.PlacedBodies.{body_at, body_of-place}
 use Rattle.csl_styles.proofs.macros.MacroTable.body_of.Goals as goal
@@ -25,7 +25,8 @@ returns-in-Some c =
     let there = sym (s.table name) ∙ sym c.in-Some.ensures.value in
     let lt : i < length xs = omega (arith, place_within (λ (m : Macro). bytes_eq m.name name) (macros_view xs) i there, length-map xs macro_view) in
     let read = slice_get-map macro_view xs i ∙ ap (option_map macro_view) (slice_get_read xs (length xs) i c.index.result.now refl lt c.index.ensures) in
-    sym (body_of-place name (macros_view xs) ∙ ap (body_at (macros_view xs)) there ∙ ap (option_map (λ (m : Macro). m.children)) read)
+    ap (λ es. Some (elements_view es)) c.deref.ensures.value
+    ∙ sym (body_of-place name (macros_view xs) ∙ ap (body_at (macros_view xs)) there ∙ ap (option_map (λ (m : Macro). m.children)) read)
 
 pub returns-in-None : goal.returns-in-None
 returns-in-None c =
