@@ -4,6 +4,7 @@ use Rattle.std.specs.Fmt.{decimal}
 use Rattle.std.specs.List.{flat_map}
 use Rattle.std.specs.Char.{encode_utf8}
 use Rattle.std.specs.Str.{chars}
+use Prim.Native.Char.{code}
 use Rattle.serde_json.specs.Data.{Data, string, object, no_members, member}
 use Rattle.serde_json.specs.Written.{compact_text}
 use Rattle.document_words.specs.declared.fault.Fault.{Fault}
@@ -18,7 +19,7 @@ use Rattle.document_words.specs.declared.fault.Wanted.TheVariants as wanted
 
 -- `~0` stands for `~`, and `~1` for `/`
 abbrev pub escaped : ℕ → List ℕ
-escaped c = if c == 126 then codes "~0" else (if c == 47 then codes "~1" else encode_utf8 c)
+escaped c = if c == code "~" then codes "~0" else (if c == code "/" then codes "~1" else encode_utf8 c)
 
 abbrev pub step_text : Step → List ℕ
 step_text (steps.Key k) = codes "/" ++ flat_map escaped (chars (string_bytes k))

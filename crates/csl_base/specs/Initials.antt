@@ -3,10 +3,11 @@ use Rattle.std.specs.Prelude.{ℕ, List, [], take, Bool, ◌||◌, ◌==◌, Opt
 use Rattle.std.specs.List.{flat_map, slice_split}
 use Rattle.std.specs.Char.{is_whitespace}
 use Rattle.std.specs.Str.{chars, encode_utf8_all}
+use Prim.Native.Char.{code}
 
 -- white space and hyphens stand between the parts of a name
 abbrev pub parts_name : ℕ → Bool
-parts_name c = is_whitespace c || c == 45
+parts_name c = is_whitespace c || c == code "-"
 
 -- the first character of each part that has one
 abbrev pub initials : List ℕ → List ℕ

@@ -9,6 +9,7 @@ use Rattle.csl_base.specs.declared.taxonomy.TermForm.{TermForm}
 use Rattle.csl_base.specs.Found.{first_value}
 use Rattle.csl_base.specs.Style.{TermValue, LocaleValue, StyleValue}
 use Rattle.csl_styles.specs.Terms.{locale_of, term_in}
+use Prim.Native.Char.{code}
 
 -- what is looked up in: the style's own locales, the locale files, and the code of the locale in use
 pub record Lookup : Type 0 where
@@ -34,7 +35,7 @@ lookup s = record { own = s.style.locale; files = s.files; code = locale_in_use 
 
 -- the text before the first `-`
 abbrev pub base_language : List ℕ → List ℕ
-base_language = before_first (λ b. b == 45)
+base_language = before_first (λ b. b == code "-")
 
 -- the dialects that have another one as their primary dialect
 abbrev pub primary_dialects : List (List ℕ × List ℕ)
