@@ -4,6 +4,7 @@ use Rattle.std.proofs.lemmas.Bool.{lt-ltb, le-ltb, ltb-true, ltb-false}
 use Rattle.std.proofs.lemmas.List.Sums.{fold-append}
 use Rattle.std.proofs.lemmas.List.Elements.{All-append}
 use Rattle.csl_lookup.specs.SuffixLetters.{letter, letters_within, suffix_letters, worth, IsSmallLetter, AreLettersOf, SuffixesDiffer}
+use Prim.Native.Char.{code}
 
 alone : (k n : ℕ) → n < 26 → letters_within k n ≡ letter n ∷ []
 alone zero n h = refl
@@ -36,7 +37,7 @@ unfolding suffix_letters
 letters_behind n h = more_within (n - 1) n (omega (arith, h)) h
 
 one_more : (ls : List ℕ) (n v : ℕ) → worth ls ≡ v → worth (ls ++ letter n ∷ []) ≡ v * 26 + (n % 26 + 1)
-one_more ls n v e = fold-append (λ sum l. sum * 26 + (l - 96)) 0 ls (letter n ∷ []) ∙ omega (arith, e)
+one_more ls n v e = fold-append (λ sum l. sum * 26 + (l - code "a" + 1)) 0 ls (letter n ∷ []) ∙ omega (arith, e)
 
 worth_by : (b : Bool) (k n : ℕ) → ltb n 26 ≡ b → n ≤ k → worth (letters_within k n) ≡ n + 1
 worth_by true k n e h = let small = ltb-true n 26 e in ap worth (alone k n small) ∙ omega (arith, small)

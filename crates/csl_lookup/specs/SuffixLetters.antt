@@ -1,9 +1,10 @@
 -- The letters of a year suffix, from `a` on.
 use Rattle.std.specs.Prelude.{◌≡◌, ℕ, zero, suc, ◌+◌, ◌-◌, ◌*◌, ◌/◌, ◌%◌, ◌≤◌, List, [], ◌∷◌, ◌++◌, nat_lt, fold, All, if◌then◌else◌}
+use Prim.Native.Char.{code}
 
 -- the last letter
 abbrev pub letter : ℕ → ℕ
-letter n = 97 + n % 26
+letter n = code "a" + n % 26
 
 -- the letters of n, where there are at most `most` before the last
 abbrev pub letters_within : ℕ → ℕ → List ℕ
@@ -17,10 +18,10 @@ suffix_letters n = letters_within n n
 -- what letters are worth: `a` is 1 and `z` 26, and each letter more makes what is before it worth 26 times as
 -- much
 abbrev pub worth : List ℕ → ℕ
-worth = fold (λ sum l. sum * 26 + (l - 96)) 0
+worth = fold (λ sum l. sum * 26 + (l - code "a" + 1)) 0
 
 abbrev pub IsSmallLetter : ℕ → Type 0
-IsSmallLetter l = (97 ≤ l) × (l ≤ 122)
+IsSmallLetter l = (code "a" ≤ l) × (l ≤ code "z")
 
 -- the letters of n are `a` to `z`, and worth n + 1
 pub record AreLettersOf (n : ℕ) (text : List ℕ) : Type 0 where
