@@ -8,12 +8,12 @@ NAME.account, by `finish_counted` or `finish_full` once more, of which the accou
 there is a NAME.alone, each request by `standalone_citation`; where there is a NAME.passes, by the passes themselves, on cites
 that are written without a driver; where there is a NAME.equality, it is told which requests are equal to the first, and whether that
 for the bibliography is one for its style alone. A copy of each answer has to be equal to it. It tells where each document that is
-refused is wrong, which faults.txt has for most of them, and nothing of the others. Where there is a NAME.context,
-what calls of a writing context give in its first style is printed. Each document that has an answer is answered once more from
-a table of what its styles write; with any one thing taken out exactly that has to be missing, and a table that is empty at first
-has to be filled in at most three calls more than rounds mark. It refuses each growth of memory in turn
-(refuse.c, for which a C compiler must be there), in both programs; each such sweep is for some calls, and fails where one of
-them met no refusal.
+refused is wrong, which faults.txt has for most of them, and nothing of the others. Each document that has an answer is answered
+once more from a table of what its styles write; with any one thing taken out exactly that has to be missing, and a table that is
+empty at first has to be filled in at most three calls more than rounds mark. Where there is a NAME.context, crates/test_contexts,
+which is looked for likewise, prints what calls of a writing context give in the document's first style. It refuses each growth of
+memory in turn (refuse.c, for which a C compiler must be there), in all three programs; each such sweep is for some calls, and fails
+where one of them met no refusal.
 run.py PROGRAM FOLDER..: runs it on the documents of these folders, and does nothing else.
 
 A document is NAME.json. NAME.txt is what it must print; where the status isn't 0, NAME.status has it, and nothing is
@@ -191,7 +191,7 @@ def by_calls(calls, way, base, status, text):
 
 
 def tests_of_calls(calls, bases):
-    """What the program of calls is to do with the documents that are of their form."""
+    """What crates/test_calls is to do with the documents that are of their form."""
     made = []
     for base in bases:
         status, text = wanted(base)
@@ -203,7 +203,7 @@ def tests_of_calls(calls, bases):
             made.append(('account: ' + name_of(base), by_calls, calls, 'account', base, status, read(base + '.account')))
         if os.path.isfile(base + '.alone'):
             made.append(('standalone: ' + name_of(base), by_calls, calls, 'standalone_citation', base, 0, read(base + '.alone')))
-        for way in ('passes', 'equality', 'context'):
+        for way in ('passes', 'equality'):
             if os.path.isfile(base + '.' + way):
                 made.append((way + ': ' + name_of(base), by_calls, calls, way, base, 0, read(base + '.' + way)))
         if status == 0:
@@ -213,6 +213,12 @@ def tests_of_calls(calls, bases):
             made.append(('copies: ' + name_of(base), by_calls, calls, 'copies', base, 0, b'copy: equal\n'))
     ring = HERE + '/rows/ring_of_one_macro'
     return [*made, ('standalone: ' + name_of(ring), by_calls, calls, 'standalone_citation', ring, 3, b'')]
+
+
+def tests_of_contexts(contexts, bases):
+    """What crates/test_contexts is to do with the documents that tell what calls of a writing context give."""
+    way = 'context'
+    return [('%s: %s' % (way, name_of(it)), by_calls, contexts, way, it, 0, read(it + '.' + way)) for it in bases if os.path.isfile(it + '.' + way)]
 
 
 def faults_wanted():
@@ -542,7 +548,7 @@ SWEPT_TABLES = ['disambiguation/suffix_by_entry', 'bibliography/author_substitut
 HEIGHTS = ['ensure_space', 'push_str', 'push_chunked', 'push_link', 'push_transparent', 'push_quotes', 'pop_quotes', 'write_str']
 HEIGHTS += ['push_format', 'pop_format', 'push_elem', 'commit_elem', 'discard_elem', 'push_delimiter', 'push_name_options']
 HEIGHTS += ['apply_prefix', 'has_content_since', 'apply_suffix', 'flush']
-# Calls of crates/test_calls, which names them before it makes them; the status is 5 where one is refused, but for `citation`.
+# Calls of the two programs of calls, which name them before they make them; the status is 5 where one is refused, but for `citation`.
 CALLS = ['read', 'prepare', 'citation', 'finish', 'finish_counted', 'finish_full', 'standalone_citation', 'run', 'clone', 'context', 'finish_with', 'drive']
 CALLS += [*PASSES, *HEIGHTS]
 # Those that print before others are called.
@@ -671,6 +677,7 @@ def sweep_of_free(shim, program, given):
 
 
 def sweeps_of_contexts(shim, program):
+    """Those of crates/test_contexts."""
     base = HERE + '/words/calls_of_a_context'
     given = read(base + '.json')
     asked = [('context', ['context'], read(base + '.context')), ('heights', HEIGHTS, b'')]
@@ -692,6 +699,7 @@ def sweeps_of_answers(shim, program):
 
 
 def sweeps_of_calls(shim, program):
+    """Those of crates/test_calls."""
     made = sweeps_of_answers(shim, program)
     for name, swept in SWEPT_PASSES.items():
         given, text = read(HERE + '/' + name + '.json'), read(HERE + '/' + name + '.passes')
@@ -709,11 +717,12 @@ def sweeps_of_calls(shim, program):
     return [*made, ('growths of calls that take none', sweep_of_free, shim, program, free)]
 
 
-def sweeps(program, calls):
-    """The sweeps, each with its name."""
+def sweeps(program, calls, contexts):
+    """The sweeps of the programs that are built, each with its name."""
     shim = compiled(tempfile.mkdtemp())
     made = [('growths of %s' % it, sweep_of_program, shim, program, it) for it in SWEPT]
-    return made + sweeps_of_calls(shim, calls) + sweeps_of_contexts(shim, calls)
+    made += sweeps_of_calls(shim, calls) if calls else []
+    return made + (sweeps_of_contexts(shim, contexts) if contexts else [])
 
 
 def model(program):
@@ -790,17 +799,21 @@ def main():
     bases = documents()
     tests = [('model: %d random documents' % RANDOM_DOCUMENTS, model, program)]
     tests += [('process: ' + it.__name__.replace('_', ' '), it, program) for it in reversed(PROCESSES)]
-    calls = beside(program, 'test_calls')
+    calls, contexts = beside(program, 'test_calls'), beside(program, 'test_contexts')
+    try:
+        tests += sweeps(program, calls, contexts)
+    except Failed as error:
+        tests.append(('growths of memory', cannot, str(error)))
     if calls:
-        try:
-            tests += sweeps(program, calls)
-        except Failed as error:
-            tests.append(('growths of memory', cannot, str(error)))
         tests += tests_of_calls(calls, bases)
         tests += faults(calls, bases)
         tests += [('process: ' + it.__name__.replace('_', ' '), it, calls) for it in (failing_writer, slow_reader, most_reads)]
     else:
         tests.append(('program of calls', cannot, 'crates/test_calls is not built'))
+    if contexts:
+        tests += tests_of_contexts(contexts, bases)
+    else:
+        tests.append(('program of contexts', cannot, 'crates/test_contexts is not built'))
     tests += [(name_of(it), document, program, it) for it in bases]
     tests += [('model: ' + name_of(it), worked, it) for it in [*folders_of(HERE), ROOT + '/examples']]
     tests.append(('files of the folders', strays))

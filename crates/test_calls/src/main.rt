@@ -1,7 +1,6 @@
 //! Answers a document call by call, for what no document shows: what an answer cost and by what its
-//! entries are disambiguated, where a ring stands, citations and passes by themselves, calls of a writing
-//! context, answers from a table, writers and readers that fail, and runs in which one growth of memory is
-//! refused.
+//! entries are disambiguated, where a ring stands, citations and passes by themselves, answers from a table,
+//! writers and readers that fail, and runs in which one growth of memory is refused.
 //!
 //! The first line of standard input says what is done (a number: `run`, over a writer that fails behind so
 //! many bytes; `finish N` and `drive N`: N answers by layouts or from a table, for whoever measures how long
@@ -13,12 +12,9 @@
 mod account;
 mod by_table;
 mod calls;
-mod contexts;
 mod equality;
 mod free;
-mod heights;
 mod hosting;
-mod in_context;
 mod passes;
 mod recording;
 mod streams;
@@ -29,7 +25,6 @@ use calls::{How, Seen, answered, fault_told, read_slowly, written_out, written_u
 use cite_document::error::RunError;
 use cite_document::input::read_input;
 use document_reading::document::utf8_text;
-use in_context::{Look, called_in_context};
 use std::process::ExitCode;
 
 /// Does what the first line says with the document behind it.
@@ -48,8 +43,6 @@ fn answer_to(rt: &(impl Print + Eprint + AllocGlobal), text: &str) -> Result<See
         "equality" => answered(rt, document, How::Equality),
         "copies" => answered(rt, document, How::Copies),
         "free" => answered(rt, document, How::Free),
-        "context" => called_in_context(rt, document, Look::Texts),
-        "heights" => called_in_context(rt, document, Look::Heights),
         "table" => by_table(rt, document, TableWay::Compared),
         "run" => written_out(rt, document),
         "slow" => read_slowly(rt, document, false),

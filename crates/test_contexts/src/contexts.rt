@@ -20,9 +20,13 @@ use std::convert::Infallible;
 use std::fmt::Write;
 
 /// What is written under a style: its name options are the entry too, as nothing asks for one.
-type Writing<'a> = Context<'a, InheritableNameOptions, Infallible>;
+pub(crate) type Writing<'a> = Context<'a, InheritableNameOptions, Infallible>;
 
-fn begin<'a>(alloc: Global, style: &'a IndependentStyle) -> Result<Writing<'a>, AllocError>
+/// A context in which nothing is written yet.
+pub(crate) fn begin<'a>(
+    alloc: Global,
+    style: &'a IndependentStyle,
+) -> Result<Writing<'a>, AllocError>
     ensures formats { IfOk result (λ context. length (state context.writing).formats ≡ 1) }
     ensures options { IfOk result (λ context. length (state context.writing).name_options ≡ 1) }
 {

@@ -4,46 +4,25 @@
 ghost use Rattle.std.specs.Prelude.{◌≡◌, ◌+◌, IfOk, length};
 ghost use Rattle.csl_context.specs.WritingState.{state};
 
-use crate::contexts::{affixes, formula, italic};
+use crate::contexts::{Writing, affixes, begin, formula, italic};
+use crate::ended::Ended;
 use csl_base::element::Affixes;
-use csl_base::entry::{ChunkedString, PlainEntry};
+use csl_base::entry::ChunkedString;
 use csl_base::formatting::Display;
 use csl_base::style::IndependentStyle;
-use csl_context::context::Context;
 use csl_context::token::{DisplayLoc, Heights};
 use csl_context::writing::WritingContext;
-use csl_lookup::properties::CiteProperties;
-use csl_writing::lookup::StyleContext;
 use std::alloc::{AllocError, Global};
-use std::convert::Infallible;
 use std::fmt::Write;
-
-type Writing<'a> = Context<'a, PlainEntry, Infallible>;
 
 /// A text of 64 bytes, for which there is room in a new context, and for no byte more.
 const FULL: &str = "0123456789012345678901234567890123456789012345678901234567890123";
 
-/// Why the calls ended before their end.
-#[derive(Clone, Copy)]
-pub enum Ended {
-    /// A call was refused, and the stacks are as high as before it; or what it needs was refused.
-    Refused,
-    /// The stacks aren't.
-    OtherHeights,
-}
-
-impl From<AllocError> for Ended {
-    fn from(_error: AllocError) -> Ended {
-        Ended::Refused
-    }
-}
-
-/// What is written in a context of its own: the style and the entry, the affixes, a formula.
+/// What is written in a context of its own: the style, the affixes, a formula.
 #[derive(Clone, Copy)]
 struct Asked<'a> {
     alloc: Global,
     style: &'a IndependentStyle,
-    entry: &'a PlainEntry,
     affixes: &'a Affixes,
     formula: &'a ChunkedString,
 }
@@ -82,10 +61,7 @@ fn filled<'a>(rt: &impl Eprint, asked: Asked<'a>) -> Result<Writing<'a>, AllocEr
     ensures formats { IfOk result (λ context. length (state context.writing).formats ≡ 1) }
 {
     named(rt, "prepare");
-    let properties = CiteProperties::for_sorting(None, 0);
-    let options = &asked.style.settings.options;
-    let locales = StyleContext::new(asked.style, None, &[]);
-    let mut context: Writing<'a> = locales.ctx(asked.alloc, asked.entry, properties, options)?;
+    let mut context = begin(asked.alloc, asked.style)?;
     context.push_str(FULL)?;
     Ok(context)
 }
@@ -329,7 +305,6 @@ fn all(rt: &impl Eprint, asked: Asked<'_>) -> Result<(), Ended> {
 pub fn keep_heights(
     rt: &(impl Eprint + AllocGlobal),
     style: &IndependentStyle,
-    entry: &PlainEntry,
 ) -> Result<(), Ended> {
     named(rt, "prepare");
     let affixes = affixes(rt.alloc(), "(", ")")?;
@@ -337,7 +312,6 @@ pub fn keep_heights(
     let asked = Asked {
         alloc: rt.alloc(),
         style,
-        entry,
         affixes: &affixes,
         formula: &formula,
     };

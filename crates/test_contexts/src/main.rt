@@ -1,0 +1,88 @@
+//! Calls of a writing context by itself, in the first style of a document: what each call writes, that what
+//! is pushed comes off again, and that the stacks are as high as before where a call is refused.
+//!
+//! The first line of standard input says which of it is looked at (`context`, `heights`), and the document
+//! follows. Before each call its name is written to standard error, and at the end a line that says what was
+//! seen; the exit status tells that too. What the calls write goes to standard output.
+#![tactic(auto)]
+
+mod contexts;
+mod ended;
+mod heights;
+
+use contexts::print_contexts;
+use csl_base::locale::Locale;
+use csl_base::style::IndependentStyle;
+use document_styles::locales::locales_at;
+use document_styles::styles::styles_of;
+use ended::Ended;
+use heights::keep_heights;
+use serde_json::Value;
+use std::alloc::Global;
+use std::io;
+use std::process::ExitCode;
+
+/// Makes the calls that the first line asks for, in this style.
+fn called(
+    rt: &(impl Print + Eprint + AllocGlobal),
+    asked: &str,
+    style: &IndependentStyle,
+    locales: &[Locale],
+) -> Result<(), Ended> {
+    match asked {
+        "context" => Ok(print_contexts(rt, style, locales)?),
+        "heights" => keep_heights(rt, style),
+        _ => Err(Ended::Document),
+    }
+}
+
+/// Makes them in the first style of a document's value.
+fn called_of(
+    rt: &(impl Print + Eprint + AllocGlobal),
+    asked: &str,
+    document: &Value,
+) -> Result<(), Ended> {
+    let styles = styles_of(rt.alloc(), document)?;
+    let locales = locales_at(rt.alloc(), document, "locales")?;
+    match styles.first() {
+        Some(named) => called(rt, asked, &named.style, &locales),
+        None => Err(Ended::Document),
+    }
+}
+
+/// The JSON value that the text is.
+fn value_of(alloc: Global, text: &str) -> Result<Value, Ended> {
+    match Value::from_str(alloc, text) {
+        Ok(value) => Ok(value),
+        Err(error) if error.is_memory() => Err(Ended::Refused),
+        Err(_) => Err(Ended::Document),
+    }
+}
+
+/// Makes them of the document behind the first line.
+fn called_in(rt: &(impl Print + Eprint + AllocGlobal), text: &str) -> Result<(), Ended> {
+    let Some((asked, document)) = text.split_once('\n') else {
+        return Err(Ended::Document);
+    };
+    let _ = eprintln!(rt; "prepare");
+    called_of(rt, asked, &value_of(rt.alloc(), document)?)
+}
+
+/// Reads what is asked, and makes the calls.
+fn answer(rt: &(impl Input + Print + Eprint + AllocGlobal)) -> Result<(), Ended> {
+    let _ = eprintln!(rt; "read");
+    called_in(rt, &io::read_to_string(rt.alloc(), rt.reader())?)
+}
+
+fn main(rt: HostRuntime) -> ExitCode {
+    match answer(&rt) {
+        Ok(()) => {
+            let _ = eprintln!(rt; "the answer");
+            ExitCode::SUCCESS
+        }
+        Err(ended) => {
+            let _ = eprintln!(rt; "{}", ended.line());
+            ExitCode::from(ended.status())
+        }
+    }
+}
