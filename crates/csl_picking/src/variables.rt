@@ -134,7 +134,8 @@ fn variable_leaf<'a, T: EntryLike>(input: &Input<'a, T>, variable: Variable) -> 
     let (entry, setting) = (input.entry, &input.setting);
     match variable {
         Variable::Standard(StandardVariable::YearSuffix) => {
-            setting.cite.state.year_suffix().map(Leaf::Suffix)
+            let suffix = setting.cite.state.year_suffix()?;
+            Some(Leaf::Suffix(suffix))
         }
         Variable::Standard(StandardVariable::Url) => {
             let url = entry.resolve_standard_variable(StandardVariable::Url);
