@@ -5,8 +5,8 @@ use Rattle.std.proofs.lemmas.Grind.{flat_map-append}
 use Rattle.std.proofs.lemmas.List.{map-append, take-map}
 use Rattle.csl_passes.specs.Renders.{CiteRender}
 use Rattle.csl_passes.specs.RendersView.{item_view, items_view, render_view, renders_view}
-use Rattle.csl_passes.specs.declared.cites.SpeculativeCiteRender.{SpeculativeCiteRender}
-use Rattle.csl_passes.specs.declared.cites.SpeculativeItemRender.{SpeculativeItemRender}
+use Rattle.csl_passes.specs.declared.renders.SpeculativeCiteRender.{SpeculativeCiteRender}
+use Rattle.csl_passes.specs.declared.renders.SpeculativeItemRender.{SpeculativeItemRender}
 use Rattle.csl_ambiguity.specs.Ambiguity.{without_suffix}
 use Rattle.csl_ambiguity.specs.ClassesSoFar.{AreClassesOf}
 use Rattle.csl_ambiguity.specs.Members.{Member, document, request_cites}

@@ -141,10 +141,7 @@ impl ElemChildren {
     pub fn last_text(&self) -> Option<&Formatted>
         ensures { option_map (λ f. f.now) result ≡ last_text self.now }
     {
-        match self.0.last() {
-            Some(child) => child.last_text(),
-            None => None,
-        }
+        self.0.last()?.last_text()
     }
 
     /// The first element with names, at any depth; an element comes before those inside it.

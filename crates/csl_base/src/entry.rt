@@ -129,16 +129,12 @@ impl EntryLike for PlainEntry {
     }
 
     fn resolve_number_variable(&self, variable: NumberVariable) -> Option<&str> {
-        match first_value(self.numbers.as_slice(), &variable) {
-            Some(number) => Some(number.as_str()),
-            None => None,
-        }
+        let number = first_value(self.numbers.as_slice(), &variable)?;
+        Some(number.as_str())
     }
 
     fn citation_label(&self) -> Option<&str> {
-        match &self.label {
-            Some(label) => Some(label.as_str()),
-            None => None,
-        }
+        let label = self.label.as_ref()?;
+        Some(label.as_str())
     }
 }

@@ -3,6 +3,7 @@ use Rattle.std.proofs.Common.{◌≡◌, ℕ, zero, suc, ◌+◌, ◌<◌, ◌�
 use Rattle.std.specs.Prelude.{Option, None, Some, if◌then◌else◌, is_some, nat_eq, option_map, slice_index_or}
 use Rattle.std.specs.List.{list_all, list_any}
 use Rattle.std.specs.Option.{option_eq}
+use Rattle.std.specs.Char.{encode_utf8}
 use Rattle.std.proofs.lemmas.Bool.{and_parts, and_from}
 use Rattle.csl_passes.specs.Renders.{ItemRender}
 use Rattle.csl_collapse.specs.NumberRuns.{en_dash, shown_number, number_collapsed, number_at, rises, is_run, is_inner, ends_collapsed, follows_collapsed}
@@ -12,6 +13,11 @@ use Rattle.csl_collapse.specs.declared.numbers.Rises.{Rises}
 use Rattle.csl_collapse.proofs.ByPlaces.{at-map}
 use Rattle.csl_collapse.proofs.Tests.{behind-first, one-less, le-true, true-le, each, of-each}
 use Rattle.csl_collapse.proofs.Wholes.{Chain, IsOfChains, before, passes, ends-three, begins}
+
+-- the bytes of an en dash
+pub en_dash_bytes : 226 ∷ 128 ∷ 147 ∷ [] ≡ en_dash
+unfolding encode_utf8
+en_dash_bytes = refl
 
 pub some-within : (xs : List (Option ℕ)) (k : ℕ) → is_some (slice_index_or xs k None) ≡ true → k < length xs
 some-within [] k h = absurd (true≢false (sym h))

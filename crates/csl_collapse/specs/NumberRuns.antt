@@ -1,5 +1,5 @@
 -- Runs of citation numbers, and what collapsing them makes of each cite.
-use Rattle.std.specs.Prelude.{ℕ, ◌+◌, ◌-◌, Bool, not, ◌&&◌, ◌||◌, List, [], ◌∷◌, Option, None, Some, is_some, if◌then◌else◌, length, map, nat_eq, nat_le, nat_lt, option_map, slice_index_or}
+use Rattle.std.specs.Prelude.{ℕ, ◌+◌, ◌-◌, Bool, not, ◌&&◌, ◌||◌, List, Option, None, Some, is_some, if◌then◌else◌, length, map, nat_eq, nat_le, nat_lt, encode_utf8, option_map, slice_index_or}
 use Rattle.std.specs.List.{list_all, list_any}
 use Rattle.std.specs.Option.{option_eq}
 use Rattle.csl_base.specs.Metas.{has_meta}
@@ -10,7 +10,7 @@ use Rattle.csl_collapse.specs.Stretches.{places, is_maximal}
 
 -- U+2013 as text
 abbrev pub en_dash : List ℕ
-en_dash = 226 ∷ 128 ∷ 147 ∷ []
+en_dash = encode_utf8 0x2013
 
 -- the number of a cite that isn't hidden and in whose tree a citation number stands
 abbrev pub shown_number : {E P : Type 0} → ItemRender E P → Option ℕ

@@ -59,6 +59,7 @@ pub(crate) fn collapse_numbers<'a, T, P>(
 }
 
 /// Hides a cite inside a run, or gives it what stands before the last of a run or before one behind.
+#[tactic(auto, using(crate::proofs::RunLemmas::en_dash_bytes))]
 fn collapse_number<'a, T, P>(
     cite: &mut SpeculativeItemRender<'a, T, P>,
     rises: Rises,
@@ -94,10 +95,8 @@ fn shown_number<T, P>(cite: &SpeculativeItemRender<'_, T, P>) -> Option<usize>
 fn number_at<T, P>(items: &[SpeculativeItemRender<'_, T, P>], k: usize) -> Option<usize>
     ensures { result ≡ number_at (map shown_number (items_view items.now)) k }
 {
-    match items.get(k) {
-        Some(cite) => shown_number(cite),
-        None => None,
-    }
+    let cite = items.get(k)?;
+    shown_number(cite)
 }
 
 /// Whether both numbers are there, and the second is one more.

@@ -1,10 +1,12 @@
 -- Where a trimmed text ends, and what the two steps on the text before give.
 use Rattle.std.proofs.lemmas.List.{at_drop_more}
-use Rattle.csl_context.specs.Steps.{kept_of, kept_after, is_mark, is_seen, visible_from}
-use Rattle.std.specs.Prelude.{Option, Some, ◌||◌, encode_utf8}
+use Rattle.csl_context.specs.Steps.{kept_of, kept_after, is_mark, is_seen, no_break_space, visible_from}
+use Rattle.std.specs.Prelude.{Option, Some, ◌||◌, ◌==◌}
+use Rattle.std.specs.Char.{encode_utf8}
+use Prim.Native.Char.{code}
 use Rattle.std.specs.List.{slice_get}
 use Rattle.std.proofs.lemmas.Bool.Decides.{nat_tests}
-use Rattle.std.proofs.Common.{eqb, drop, get_or, append_assoc, ap, ◌≡◌, ℕ, ◌+◌, ◌-◌, ◌≤◌, ◌<◌, Bool, None, true, false, List, [], ◌∷◌, ◌++◌, length, take, sym, ◌∙◌, arith}
+use Rattle.std.proofs.Common.{drop, get_or, append_assoc, ap, ◌≡◌, ℕ, ◌+◌, ◌-◌, ◌≤◌, ◌<◌, Bool, None, true, false, List, [], ◌∷◌, ◌++◌, length, take, sym, ◌∙◌, arith, refl}
 use Rattle.std.specs.Bool.{MatchBool, OnTrue}
 use Rattle.std.specs.Str.Pattern.{HasSuffixMatch, FindsTextSuffix}
 use Rattle.std.specs.Str.{IsUtf8, IsTrimEnd, IsCharBoundary}
@@ -29,11 +31,16 @@ split_at_ending false e bs h = tt
 split_at_ending true e bs h = h.1.2
 
 -- one more character is written
-pub kept_step : (cs : List ℕ) (n c : ℕ) (dot : Bool) (new old all : List ℕ) → (n < length cs) × (c ≡ get_or cs n c) → new ≡ old ++ kept_of dot c → old ++ kept_after dot (drop n cs) ≡ all → new ++ kept_after (eqb c 46) (drop (n + 1) cs) ≡ all
+pub kept_step : (cs : List ℕ) (n c : ℕ) (dot : Bool) (new old all : List ℕ) → (n < length cs) × (c ≡ get_or cs n c) → new ≡ old ++ kept_of dot c → old ++ kept_after dot (drop n cs) ≡ all → new ++ kept_after (c == code ".") (drop (n + 1) cs) ≡ all
 kept_step cs n c dot new old all h p i =
-    let e : kept_after dot (drop n cs) ≡ kept_of dot c ++ kept_after (eqb c 46) (drop (n + 1) cs) =
-    at_drop_more (kept_after dot) cs n c h.0 ∙ ap (λ x. kept_of dot x ++ kept_after (eqb x 46) (drop (n + 1) cs)) (sym h.1) in
+    let e : kept_after dot (drop n cs) ≡ kept_of dot c ++ kept_after (c == code ".") (drop (n + 1) cs) =
+    at_drop_more (kept_after dot) cs n c h.0 ∙ ap (λ x. kept_of dot x ++ kept_after (x == code ".") (drop (n + 1) cs)) (sym h.1) in
     rw (p, append_assoc, ← e) i
+
+-- a no-break space takes two bytes
+pub no_break_space_bytes : 194 ∷ 160 ∷ [] ≡ no_break_space
+unfolding encode_utf8
+no_break_space_bytes = refl
 
 mark_ascii : (c : ℕ) → is_mark c ≡ true → c < 128
 mark_ascii c e = grind (arith, nat_tests)

@@ -1,25 +1,24 @@
 -- What is done to a text, and to the text before a piece that is written. A text is the list of its bytes.
-use Rattle.std.specs.Prelude.{ℕ, ◌-◌, Bool, false, ◌||◌, ◌&&◌, ◌==◌, not, if◌then◌else◌, List, [], ◌∷◌, ◌++◌, length, take, nat_eq, encode_utf8, Option, None, Some}
+use Rattle.std.specs.Prelude.{ℕ, ◌-◌, Bool, false, ◌||◌, ◌&&◌, ◌==◌, not, if◌then◌else◌, List, [], ◌∷◌, ◌++◌, length, take, nat_eq, codes, encode_utf8, Option, None, Some}
 use Rattle.std.specs.List.{list_any, ends_with, insert_slice}
 use Rattle.std.specs.Char.{is_whitespace}
 use Rattle.std.specs.Str.{chars}
 use Rattle.unicode.specs.Binary.{is_alphabetic}
+use Prim.Native.Char.{code}
 
 abbrev pub first_is : (ℕ → Bool) → List ℕ → Bool
 first_is p [] = false
 first_is p (c ∷ cs) = p c
 
--- white space or one of `. , ] )`
 abbrev pub is_tight : ℕ → Bool
-is_tight c = is_whitespace c || c == 46 || c == 44 || c == 93 || c == 41
+is_tight c = is_whitespace c || c == code "." || c == code "," || c == code "]" || c == code ")"
 
 -- no white space may stand before the text
 abbrev pub opens_tight : List ℕ → Bool
 opens_tight s = first_is is_tight (chars s)
 
--- one of `. , ; ! ?`
 abbrev pub is_mark : ℕ → Bool
-is_mark c = c == 46 || c == 44 || c == 59 || c == 33 || c == 63
+is_mark c = c == code "." || c == code "," || c == code ";" || c == code "!" || c == code "?"
 
 -- the text begins with a mark that closing quotes pull in
 abbrev pub opens_with_mark : List ℕ → Bool
@@ -34,24 +33,27 @@ without_ending e t = if ends_with nat_eq t e then take (length t - length e) t e
 
 -- a character's bytes, and none for a period that follows no period
 abbrev pub kept_of : Bool → ℕ → List ℕ
-kept_of after_period c = if c == 46 && not after_period then [] else encode_utf8 c
+kept_of after_period c = if c == code "." && not after_period then [] else encode_utf8 c
 
 -- the bytes of the characters that are kept
 abbrev pub kept_after : Bool → List ℕ → List ℕ
 kept_after after_period [] = []
-kept_after after_period (c ∷ cs) = kept_of after_period c ++ kept_after (c == 46) cs
+kept_after after_period (c ∷ cs) = kept_of after_period c ++ kept_after (c == code ".") cs
 
 -- s without its periods, but for those that follow a period
 abbrev pub without_periods : List ℕ → List ℕ
 without_periods s = kept_after false (chars s)
 
--- a space or a no-break space
+-- U+00A0 as text
+abbrev pub no_break_space : List ℕ
+no_break_space = encode_utf8 0xA0
+
 abbrev pub ends_in_space : List ℕ → Bool
-ends_in_space t = ends_with nat_eq t (32 ∷ []) || ends_with nat_eq t (194 ∷ 160 ∷ [])
+ends_in_space t = ends_with nat_eq t (codes " ") || ends_with nat_eq t no_break_space
 
 -- t with a space at its end, where it has none
 abbrev pub spaced : List ℕ → List ℕ
-spaced t = if ends_in_space t then t else t ++ 32 ∷ []
+spaced t = if ends_in_space t then t else t ++ codes " "
 
 -- a character, that begins n bytes before an offset ends, is behind it and not white space
 abbrev pub is_seen : ℕ → ℕ → Bool

@@ -185,7 +185,7 @@ impl<'a, T, P> Context<'a, T, P> {
         ensures heights { heights (state self.new.writing) ≡ heights (state self.old.writing) }
         ensures same { IsOfSameCite self.old self.new }
     {
-        self.writing.may_strip_periods(strip);
+        wording::may_strip_periods(&mut self.writing, strip);
     }
 
     /// Leaves no period out from here on.
@@ -194,7 +194,7 @@ impl<'a, T, P> Context<'a, T, P> {
         ensures heights { heights (state self.new.writing) ≡ heights (state self.old.writing) }
         ensures same { IsOfSameCite self.old self.new }
     {
-        self.writing.stop_stripping_periods();
+        wording::stop_stripping_periods(&mut self.writing);
     }
 
     /// Closes the frame that a prefix began, with the suffix unless the text ends with it. Where the

@@ -88,6 +88,7 @@ pub(crate) fn ends_with(text: &str, ending: &str) -> bool
 }
 
 /// Whether the text ends with a space or a no-break space.
+#[tactic(auto, using(crate::proofs::TextSteps::no_break_space_bytes))]
 pub(crate) fn ends_in_space(text: &str) -> bool
     ensures { result ≡ ends_in_space text.now }
 {

@@ -2,13 +2,15 @@
 ghost use Rattle.std.specs.Prelude.{◌≡◌, ◌+◌, OnOk, OnErr, IfOk, length, min, string_bytes, option_map};
 ghost use Rattle.csl_context.specs.Quotes.{quotes_view};
 ghost use Rattle.csl_lookup.specs.SourceView.{lookup_view};
-ghost use Rattle.csl_context.specs.WritingState.{state, heights, prefixed, stripping, not_stripping};
-ghost use Rattle.csl_context.specs.Steps.{term_text};
+ghost use Rattle.csl_context.specs.WritingState.{state, heights};
 ghost use Rattle.csl_context.specs.Wording.{plain_term, closing_quotes, pushed, term_pushed, opening_quote, closing_quote, quotes_opened, quotes_closed, pulling_if_asked, chunk_pushed, chunks_pushed, joined_values, linked, marked, with_suffix, suffixed};
 
 use crate::text::ClosingQuotes;
 use crate::token::DisplayLoc;
 use crate::writing::WritingContext;
+pub use crate::writing::rendering::{
+    allocator, begin_prefix, may_strip_periods, stop_stripping_periods,
+};
 use csl_base::elem::ElemChild;
 use csl_base::entry::{Chunk, ChunkKind, ChunkedString};
 use csl_base::taxonomy::{OtherTerm, Term, TermForm};
@@ -202,7 +204,7 @@ pub fn push_link(
         ≡ linked text.now.0 (string_bytes url) (state writing.old)) }
     ensures heights { heights (state writing.new) ≡ heights (state writing.old) }
 {
-    let joined = joined_values(writing.alloc(), text)?;
+    let joined = joined_values(allocator(writing), text)?;
     let text = writing.formatting().add_text(joined);
     writing.push_child(ElemChild::Link {
         text,
@@ -222,49 +224,6 @@ pub fn push_transparent(writing: &mut WritingContext<'_>, cite_idx: usize) -> Re
 {
     let format = writing.formatting();
     writing.push_child(ElemChild::Transparent { cite_idx, format })
-}
-
-/// Opens a frame that begins with this text, as it stands.
-///
-/// # Errors
-///
-/// Where memory is refused; the stacks are as high as before.
-pub fn begin_prefix(
-    writing: &mut WritingContext<'_>,
-    prefix: Option<&str>,
-) -> Result<(DisplayLoc, usize), AllocError>
-    ensures frames { IfOk result (λ begun. begun.0.frames ≡ length (state writing.old).frames) }
-    ensures formats { IfOk result (λ begun. begun.0.formats ≡ length (state writing.old).formats) }
-    ensures offset { IfOk result (λ begun. begun.1
-        ≡ length (term_text (option_map (λ s. s.now) prefix.entry))) }
-    ensures done { OnOk result (state writing.new
-        ≡ prefixed (option_map (λ s. s.now) prefix.entry) (state writing.old)) }
-    ensures height { OnOk result (length (state writing.new).frames ≡ length (state writing.old).frames + 1) }
-    ensures same_formats { OnOk result (length (state writing.new).formats
-        ≡ length (state writing.old).formats) }
-    ensures refused { OnErr result (heights (state writing.new) ≡ heights (state writing.old)) }
-{
-    writing.begin_prefix(prefix)
-}
-
-/// Leaves periods out from here on, where that is asked for.
-pub fn may_strip_periods(writing: &mut WritingContext<'_>, asked: bool)
-    ensures done { state writing.new ≡ stripping asked (state writing.old) }
-    ensures heights { heights (state writing.new) ≡ heights (state writing.old) }
-{
-    writing.may_strip_periods(asked);
-}
-
-/// Leaves no period out from here on.
-pub fn stop_stripping_periods(writing: &mut WritingContext<'_>)
-    ensures { state writing.new ≡ not_stripping (state writing.old) }
-{
-    writing.stop_stripping_periods();
-}
-
-/// What a context takes memory from.
-pub fn allocator(writing: &WritingContext<'_>) -> Global {
-    writing.alloc()
 }
 
 // Writes the suffix, unless the text ends with it.

@@ -8,7 +8,9 @@ ghost use Rattle.csl_context.specs.Quotes.{quotes_view};
 ghost use Rattle.std.specs.Bool.{OnTrue};
 ghost use Rattle.std.specs.Option.{option_map_or};
 ghost use Rattle.csl_context.specs.Steps.{ends_quoted, pulled, term_text};
-ghost use Rattle.csl_context.specs.WritingState.{state, heights, begun, is_saved, saved, on_text_before, trimmed_for, unrepeated_for, appended, quoted_text, on_quoted_text, may_pull, after_pull, left_by_pull, written, with_child, formatting, after_push_str, verbatim, with_space, asks_nothing, nothing_asked, formatted, cut_formats, unformatted, opened, closed_elem, discarded, prefixed, has_content_since, ends_so, pulling, stripping, not_stripping, deeper, less_deep, delimited, undelimited, with_options, without_options, flushed};
+ghost use Rattle.csl_context.specs.WritingState.{state, heights, begun, is_saved, saved, on_text_before, trimmed_for, unrepeated_for, appended, quoted_text, on_quoted_text, may_pull, after_pull, left_by_pull, written, with_child, formatting, after_push_str, verbatim, with_space, asks_nothing, nothing_asked, formatted, cut_formats, unformatted, opened, closed_elem, discarded, prefixed, has_content_since, ends_so, pulling, deeper, less_deep, delimited, undelimited, with_options, without_options, flushed};
+
+pub(crate) mod rendering;
 
 use crate::flat::FlatFrames;
 use crate::pile::Pile;
@@ -19,6 +21,7 @@ use crate::text::{
 };
 use crate::token::{DelimiterIdx, DisplayLoc, FormatIdx, Heights};
 use crate::tree_end::Edit;
+use crate::writing::rendering::begin_prefix;
 use csl_base::elem::{ElemChild, ElemChildren, ElemMeta};
 use csl_base::element::{Affixes, InheritableNameOptions};
 use csl_base::formatting::{Display, Formatting, StyleFormatting};
@@ -470,39 +473,7 @@ impl<'a> WritingContext<'a> {
             ≡ length (state self.old).formats) }
         ensures refused { OnErr result (heights (state self.new) ≡ heights (state self.old)) }
     {
-        self.begin_prefix(affixes.prefix.as_deref())
-    }
-
-    /// Opens a frame that begins with this text, as it stands; as `apply_prefix`.
-    ///
-    /// # Errors
-    ///
-    /// Where memory is refused; the stacks are as high as before.
-    #[tactic(auto, unfolding(crate::specs::WritingState::prefixed, crate::specs::WritingState::opened, crate::specs::WritingState::formatted, crate::specs::WritingState::saved))]
-    pub(crate) fn begin_prefix(
-        &mut self,
-        prefix: Option<&str>,
-    ) -> Result<(DisplayLoc, usize), AllocError>
-        ensures frames { IfOk result (λ begun. begun.0.frames ≡ length (state self.old).frames) }
-        ensures formats { IfOk result (λ begun. begun.0.formats ≡ length (state self.old).formats) }
-        ensures offset { IfOk result (λ begun. begun.1
-            ≡ length (term_text (option_map (λ s. s.now) prefix.entry))) }
-        ensures done { OnOk result (state self.new
-            ≡ prefixed (option_map (λ s. s.now) prefix.entry) (state self.old)) }
-        ensures height { OnOk result (length (state self.new).frames ≡ length (state self.old).frames + 1) }
-        ensures same_formats { OnOk result (length (state self.new).formats
-            ≡ length (state self.old).formats) }
-        ensures refused { OnErr result (heights (state self.new) ≡ heights (state self.old)) }
-    {
-        let loc = self.open()?;
-        let Some(prefix) = prefix else {
-            return Ok((loc, 0));
-        };
-        if self.buf.push_str(prefix).is_err() {
-            self.frames.discard();
-            return Err(AllocError);
-        }
-        Ok((loc, prefix.len()))
+        begin_prefix(self, affixes.prefix.as_deref())
     }
 
     /// Whether the top frame, which `apply_prefix` opened, shows anything behind its prefix: a character
@@ -541,23 +512,6 @@ impl<'a> WritingContext<'a> {
         self.pulling = true;
     }
 
-    /// Leaves periods out from here on, where that is asked for.
-    pub(crate) fn may_strip_periods(&mut self, asked: bool)
-        ensures done { state self.new ≡ stripping asked (state self.old) }
-        ensures heights { heights (state self.new) ≡ heights (state self.old) }
-    {
-        if asked {
-            self.stripping = true;
-        }
-    }
-
-    /// Leaves no period out from here on.
-    pub(crate) fn stop_stripping_periods(&mut self)
-        ensures { state self.new ≡ not_stripping (state self.old) }
-    {
-        self.stripping = false;
-    }
-
     /// How many quotes are open.
     pub(crate) fn quote_depth(&self) -> usize
         ensures { result ≡ (state self.now).quote_depth }
@@ -577,11 +531,6 @@ impl<'a> WritingContext<'a> {
         ensures { state self.new ≡ less_deep (state self.old) }
     {
         self.quote_depth = self.quote_depth.saturating_sub(1);
-    }
-
-    /// What this context takes memory from.
-    pub(crate) fn alloc(&self) -> Global {
-        self.alloc
     }
 
     /// Pushes a delimiter upon those before.

@@ -247,10 +247,8 @@ fn answer_of<'a, F: Fn(&'a Locale) -> Option<R>, R>(
         (option_to_list (locale_of (option_map (λ t. t.now) language.entry) (map locale_view locales.now)))
         result }
 {
-    match locale_of(locales, language) {
-        Some(locale) => f(locale),
-        None => None,
-    }
+    let locale = locale_of(locales, language)?;
+    f(locale)
 }
 
 // The text before the first `-`, or the whole code where there is none.

@@ -14,8 +14,8 @@ use Rattle.csl_passes.specs.Renders.{CiteRender, ItemRender, Place}
 use Rattle.csl_passes.specs.RendersView.{item_view, items_view, render_view, renders_view}
 use Rattle.csl_passes.specs.Request.{Request}
 use Rattle.csl_passes.specs.RequestView.{request_view}
-use Rattle.csl_passes.specs.declared.cites.SpeculativeCiteRender.{SpeculativeCiteRender}
-use Rattle.csl_passes.specs.declared.cites.SpeculativeItemRender.{SpeculativeItemRender}
+use Rattle.csl_passes.specs.declared.renders.SpeculativeCiteRender.{SpeculativeCiteRender}
+use Rattle.csl_passes.specs.declared.renders.SpeculativeItemRender.{SpeculativeItemRender}
 use Rattle.csl_passes.specs.Places.{IsPlace, cite_at}
 use Rattle.csl_name_marks.specs.NamedCites.{first_adds_names, greatest_step, named_cite, named_cite_at, named_cites}
 use Rattle.csl_name_marks.specs.NameMarks.{mark, marks_after, name_marks}

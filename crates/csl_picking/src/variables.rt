@@ -87,16 +87,8 @@ fn has_content(text: &str) -> bool
 pub fn text_leaf<'a>(text: Option<&'a str>) -> Option<Leaf<'a>>
     ensures { option_map leaf_view result ≡ text_leaves (option_map (λ t. t.now) text.entry) }
 {
-    match text {
-        Some(text) => {
-            if has_content(text) {
-                Some(Leaf::Text(text))
-            } else {
-                None
-            }
-        }
-        None => None,
-    }
+    let text = text?;
+    has_content(text).then_some(Leaf::Text(text))
 }
 
 // Whether a chunk has a character that isn't white space, or is a formula.
@@ -120,28 +112,17 @@ fn chunks_have_content(text: &ChunkedString) -> bool
 fn chunked_leaf<'a>(text: Option<&'a ChunkedString>) -> Option<Leaf<'a>>
     ensures { option_map leaf_view result ≡ chunked_leaves (option_map (λ t. t.now) text.entry) }
 {
-    match text {
-        Some(text) => {
-            if chunks_have_content(text) {
-                Some(Leaf::Chunked(text))
-            } else {
-                None
-            }
-        }
-        None => None,
-    }
+    let text = text?;
+    chunks_have_content(text).then_some(Leaf::Chunked(text))
 }
 
 // A cite's locator: its text, or a mark.
 fn locator_leaf<'a>(setting: &Setting<'a>) -> Option<Leaf<'a>>
     ensures { option_map leaf_view result ≡ locator_leaf (cite_facts setting.now.cite) }
 {
-    match setting.cite.locator {
-        Some(locator) => match locator.text {
-            Some(text) => text_leaf(Some(text)),
-            None => Some(Leaf::Mark(setting.cite.initial_idx)),
-        },
-        None => None,
+    match setting.cite.locator?.text {
+        Some(text) => text_leaf(Some(text)),
+        None => Some(Leaf::Mark(setting.cite.initial_idx)),
     }
 }
 
@@ -152,10 +133,10 @@ fn variable_leaf<'a, T: EntryLike>(input: &Input<'a, T>, variable: Variable) -> 
 {
     let (entry, setting) = (input.entry, &input.setting);
     match variable {
-        Variable::Standard(StandardVariable::YearSuffix) => match setting.cite.state.year_suffix() {
-            Some(suffix) => Some(Leaf::Suffix(suffix)),
-            None => None,
-        },
+        Variable::Standard(StandardVariable::YearSuffix) => {
+            let suffix = setting.cite.state.year_suffix()?;
+            Some(Leaf::Suffix(suffix))
+        }
         Variable::Standard(StandardVariable::Url) => {
             let url = entry.resolve_standard_variable(StandardVariable::Url);
             url.map(Leaf::Link)
@@ -167,10 +148,8 @@ fn variable_leaf<'a, T: EntryLike>(input: &Input<'a, T>, variable: Variable) -> 
         }
         Variable::Number(NumberVariable::Locator) => locator_leaf(setting),
         Variable::Number(NumberVariable::FirstReferenceNoteNumber) => {
-            match setting.cite.first_note_number {
-                Some(number) => Some(Leaf::Number(number as u128)),
-                None => None,
-            }
+            let number = setting.cite.first_note_number?;
+            Some(Leaf::Number(number as u128))
         }
         Variable::Number(v) => text_leaf(entry.resolve_number_variable(v)),
         _ => None,

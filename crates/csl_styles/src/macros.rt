@@ -41,9 +41,7 @@ impl<'a> MacroTable<'a> {
     pub(crate) fn body_of(&self, name: &str) -> Option<&'a [LayoutRenderingElement]>
         ensures { option_map (λ v. elements_view v.now) result ≡ body_of name.now (macros_of self.now) }
     {
-        match self.places.get(&name) {
-            Some(place) => Some(&self.style.macros[*place].children),
-            None => None,
-        }
+        let place = self.places.get(&name)?;
+        Some(&self.style.macros[*place].children)
     }
 }

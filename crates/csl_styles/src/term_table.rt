@@ -39,10 +39,8 @@ impl<'a> TermTable<'a> {
         ensures { option_map (λ t. term_view t.now) result
             ≡ term_in name form (locale_view self.now.locale.now) }
     {
-        match self.places.get(&(name, form)) {
-            Some(place) => Some(&self.locale.terms[*place]),
-            None => None,
-        }
+        let place = self.places.get(&(name, form))?;
+        Some(&self.locale.terms[*place])
     }
 }
 

@@ -1,9 +1,7 @@
 -- The names that a child is or holds.
 use Rattle.std.proofs.Common.{◌≡◌, true, List, [], ◌∷◌, ◌++◌, map, Bor, sym, ap, ◌∙◌}
 use Rattle.std.proofs.lemmas.List.{map-append}
-use Rattle.csl_base.specs.Child.{kids_of, list_of-kids_of}
 use Rattle.csl_base.specs.ChildView.{child_view}
-use Rattle.csl_base.specs.Tree.{elem_of}
 use Rattle.csl_base.specs.declared.elem.Elem.{Elem}
 use Rattle.csl_base.specs.declared.elem.ElemChild.{ElemChild}
 use Rattle.csl_base.specs.declared.elem.ElemChild.TheVariants as v

@@ -3,32 +3,18 @@ use Rattle.std.proofs.Common.{OnOk, Result, Ok, Err, Bor, option_map, ◌≡◌,
 use Rattle.std.specs.List.{scan, zip, enumerate_from}
 use Rattle.std.specs.Option.{option_and_then}
 use Rattle.std.proofs.lemmas.List.{reverse-append, take_at, length_push}
-use Rattle.csl_base.specs.Child.{Child, text}
+use Rattle.csl_base.specs.Child.{Child}
 use Rattle.csl_base.specs.FirstNames.{put_names}
 use Rattle.csl_base.specs.declared.elem.Elem.{Elem}
 use Rattle.csl_base.specs.declared.formatting.Formatted.{Formatted}
 use Rattle.csl_base.specs.declared.style.SubsequentAuthorSubstituteRule.{SubsequentAuthorSubstituteRule}
-use Rattle.csl_base.specs.declared.style.SubsequentAuthorSubstituteRule.TheVariants.{CompleteAll, CompleteEach, PartialEach, PartialFirst}
-use Rattle.csl_substitution.specs.Names.{names_within, names_element}
-use Rattle.csl_substitution.specs.Rewriting.{without_names, name_replaced}
-use Rattle.csl_substitution.specs.Rules.{none_of, rule_for, rewritten_by}
+use Rattle.csl_substitution.specs.Names.{names_element}
+use Rattle.csl_substitution.specs.Rewriting.{elem_changed}
+use Rattle.csl_substitution.specs.Rules.{rule_for, change_by}
 use Rattle.csl_substitution.specs.Substitution.{Item, is_replaced, base, names_after, tree_after, item_after, substitute_text, substituted}
 use Rattle.csl_substitution.specs.ItemView.{rendered_items_view}
-use Rattle.csl_substitution.specs.Changes.{changed, change_by, change_of, planned, next_base, plan, elem_changed, tree_changed, trees_changed}
+use Rattle.csl_substitution.specs.Changes.{change_of, planned, next_base, plan, tree_changed, trees_changed}
 use Rattle.csl_substitution.specs.declared.changes.Change.{Change}
-use Rattle.csl_substitution.specs.declared.changes.Change.TheVariants.{TextAlone, WithoutNames}
-use Rattle.csl_substitution.proofs.Replacing.{up_to_all}
-
--- the change that a rule makes writes what the rule says
-all_or_alone : (t : Formatted) (b : Bool) (cs : List Child) → changed t (cond b TextAlone WithoutNames) cs ≡ text t ∷ cond b [] (without_names cs)
-all_or_alone t true cs = refl
-all_or_alone t false cs = refl
-
-change_writes : (t : Formatted) (rule : SubsequentAuthorSubstituteRule) (kept own : Elem) → changed t (change_by rule kept own) own.children ≡ rewritten_by rule t kept own
-change_writes t CompleteAll kept own = all_or_alone t (none_of (names_within own)) own.children
-change_writes t CompleteEach kept own = ap (λ cs. text t ∷ map (name_replaced t) cs) (up_to_all (length own.children) own.children (omega arith))
-change_writes t PartialEach kept own = refl
-change_writes t PartialFirst kept own = refl
 
 -- a tree after what is planned for it
 abbrev with_change : Formatted → Option Change → Option Elem → List Child → List Child
@@ -42,15 +28,13 @@ with_change-tree t (Some change) tree = refl
 abbrev after : Formatted → SubsequentAuthorSubstituteRule → Elem → Option Elem → List Child → List Child
 after t rule kept found tree = elim found [ None ↦ tree | Some own ↦ cond (is_replaced rule (Some kept) own) (put_names tree (names_after t rule kept own)) tree ]
 
-if_changed : (t : Formatted) (b : Bool) (change : Change) (own new : Elem) (tree : List Child) → elem_changed t change own ≡ new → with_change t (cond b (Some change) None) (Some own) tree ≡ cond b (put_names tree new) tree
-if_changed t true change own new tree e = ap (put_names tree) e
-if_changed t false change own new tree e = refl
+if_changed : (t : Formatted) (b : Bool) (change : Change) (own : Elem) (tree : List Child) → with_change t (cond b (Some change) None) (Some own) tree ≡ cond b (put_names tree (elem_changed t change own)) tree
+if_changed t true change own tree = refl
+if_changed t false change own tree = refl
 
 found_changed : (t : Formatted) (rule : SubsequentAuthorSubstituteRule) (kept : Elem) (found : Option Elem) (tree : List Child) → with_change t (option_and_then (change_of rule (Some kept)) found) found tree ≡ after t rule kept found tree
 found_changed t rule kept None tree = refl
-found_changed t rule kept (Some own) tree =
-    if_changed t (is_replaced rule (Some kept) own) (change_by (rule_for rule own) kept own) own (names_after t rule kept own) tree
-    (λ i. record own { children = change_writes t (rule_for rule own) kept own i })
+found_changed t rule kept (Some own) tree = if_changed t (is_replaced rule (Some kept) own) (change_by (rule_for rule own) kept own) own tree
 
 nothing_changed : (t : Formatted) (rule : SubsequentAuthorSubstituteRule) (found : Option Elem) (tree : List Child) → with_change t (option_and_then (change_of rule None) found) found tree ≡ tree
 nothing_changed t rule None tree = refl

@@ -8,7 +8,6 @@ use Rattle.csl_base.specs.declared.elem.Elem.{Elem}
 use Rattle.csl_base.specs.declared.formatting.Formatted.{Formatted}
 use Rattle.csl_base.specs.declared.style.SubsequentAuthorSubstituteRule.{SubsequentAuthorSubstituteRule}
 use Rattle.csl_substitution.specs.Names.{names_element}
-use Rattle.csl_substitution.specs.Rules.{rule_for, rewritten_by}
 use Rattle.csl_substitution.specs.Substitution.{Item, is_replaced, base, names_after, tree_after, item_after, substitute_text, substituted}
 use Rattle.csl_substitution.specs.Laws.{IsSameButNames, KeepsAllButNames, FirstStays, OnlyNamesChange}
 
@@ -28,7 +27,7 @@ one_of false tree own children = inl refl
 found_stays : (t : Formatted) (rule : SubsequentAuthorSubstituteRule) (kept : Elem) (found : Option Elem) (tree : List Child)
     → SameButNames tree found (elim found [ None ↦ tree | Some own ↦ cond (is_replaced rule (Some kept) own) (put_names tree (names_after t rule kept own)) tree ])
 found_stays t rule kept None tree = inl refl
-found_stays t rule kept (Some own) tree = one_of (is_replaced rule (Some kept) own) tree own (rewritten_by (rule_for rule own) t kept own)
+found_stays t rule kept (Some own) tree = one_of (is_replaced rule (Some kept) own) tree own (names_after t rule kept own).children
 
 tree_stays : (t : Formatted) (rule : SubsequentAuthorSubstituteRule) (b : Option Elem) (tree : List Child) → SameButNames tree (names_element tree) (tree_after t rule b tree)
 tree_stays t rule None tree = inl refl

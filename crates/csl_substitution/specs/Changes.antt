@@ -1,32 +1,17 @@
 -- For the code: what is to be done to an item, found out before anything is written.
-use Rattle.std.specs.Prelude.{List, [], ◌∷◌, Option, None, Some, length, map, if◌then◌else◌}
+use Rattle.std.specs.Prelude.{List, ◌∷◌, Option, None, Some, if◌then◌else◌}
 use Rattle.std.specs.List.{scan}
 use Rattle.std.specs.Option.{option_and_then, option_or}
-use Rattle.csl_base.specs.Child.{Child, text}
+use Rattle.csl_base.specs.Child.{Child}
 use Rattle.csl_base.specs.FirstNames.{put_names}
 use Rattle.csl_base.specs.declared.elem.Elem.{Elem}
 use Rattle.csl_base.specs.declared.formatting.Formatted.{Formatted}
 use Rattle.csl_base.specs.declared.style.SubsequentAuthorSubstituteRule.{SubsequentAuthorSubstituteRule}
-use Rattle.csl_base.specs.declared.style.SubsequentAuthorSubstituteRule.TheVariants.{CompleteAll, CompleteEach, PartialEach, PartialFirst}
-use Rattle.csl_substitution.specs.Names.{names_within, names_element}
-use Rattle.csl_substitution.specs.Rewriting.{without_names, name_replaced, up_to_names}
-use Rattle.csl_substitution.specs.Rules.{none_of, names_in_common, rule_for}
+use Rattle.csl_substitution.specs.Names.{names_element}
+use Rattle.csl_substitution.specs.Rewriting.{elem_changed}
+use Rattle.csl_substitution.specs.Rules.{rule_for, change_by}
 use Rattle.csl_substitution.specs.Substitution.{is_replaced, stayed}
 use Rattle.csl_substitution.specs.declared.changes.Change.{Change}
-use Rattle.csl_substitution.specs.declared.changes.Change.TheVariants.{TextAlone, WithoutNames, NamesReplaced}
-
--- the children after a change
-abbrev pub changed : Formatted → Change → List Child → List Child
-changed substitute TextAlone cs = text substitute ∷ []
-changed substitute WithoutNames cs = text substitute ∷ without_names cs
-changed substitute (NamesReplaced n) cs = text substitute ∷ map (name_replaced substitute) (up_to_names n cs)
-
--- the change that a rule makes to the children of `own`
-abbrev pub change_by : SubsequentAuthorSubstituteRule → Elem → Elem → Change
-change_by CompleteAll kept own = if none_of (names_within own) then TextAlone else WithoutNames
-change_by CompleteEach kept own = NamesReplaced (length own.children)
-change_by PartialEach kept own = NamesReplaced (names_in_common kept own)
-change_by PartialFirst kept own = NamesReplaced 1
 
 -- the change to a names element, where it is replaced
 abbrev pub change_of : SubsequentAuthorSubstituteRule → Option Elem → Elem → Option Change
@@ -45,10 +30,6 @@ next_base rule base tree = option_or (stayed rule base tree) base
 -- the changes to trees, one after another
 abbrev pub plan : SubsequentAuthorSubstituteRule → Option Elem → List (List Child) → List (Option Change)
 plan rule = scan (next_base rule) (planned rule)
-
--- the names element after a change
-abbrev pub elem_changed : Formatted → Change → Elem → Elem
-elem_changed substitute change own = record own { children = changed substitute change own.children }
 
 -- the tree after a change of its first names element
 abbrev pub tree_changed : Formatted → Option Change → List Child → List Child

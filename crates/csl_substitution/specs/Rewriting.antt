@@ -1,10 +1,13 @@
 -- What is written into the children of a names element.
-use Rattle.std.specs.Prelude.{ℕ, zero, suc, ◌+◌, Bool, false, cond, List, [], ◌∷◌, ◌++◌, is_some, take, drop}
+use Rattle.std.specs.Prelude.{ℕ, zero, suc, ◌+◌, Bool, false, cond, List, [], ◌∷◌, ◌++◌, is_some, map, take, drop}
 use Rattle.std.specs.List.{position_or_len}
 use Rattle.csl_base.specs.Child.{Child, text, elem, markup, link, transparent, Kids, no_kids, kid, kids_of, list_of}
 use Rattle.csl_base.specs.Tree.{elem_of, child_find}
+use Rattle.csl_base.specs.declared.elem.Elem.{Elem}
 use Rattle.csl_base.specs.declared.formatting.Formatted.{Formatted}
 use Rattle.csl_substitution.specs.Names.{is_name}
+use Rattle.csl_substitution.specs.declared.changes.Change.{Change}
+use Rattle.csl_substitution.specs.declared.changes.Change.TheVariants.{SubstituteAlone, WithoutNames, EachNameReplaced, FirstNamesReplaced}
 
 -- the child is a Name element
 abbrev pub child_is_name : Child → Bool
@@ -61,3 +64,16 @@ abbrev pub up_to_names : ℕ → List Child → List Child
 up_to_names zero cs = []
 up_to_names (suc n) cs = take (position_or_len holds_name cs + 1) cs
     ++ up_to_names n (drop (position_or_len holds_name cs + 1) cs)
+
+-- the children after a change: the substitute alone; the substitute, and what is left without the names; the
+-- substitute, and the children with the substitute in the first name of each; the same up to n names
+abbrev pub changed : Formatted → Change → List Child → List Child
+changed substitute SubstituteAlone cs = text substitute ∷ []
+changed substitute WithoutNames cs = text substitute ∷ without_names cs
+changed substitute EachNameReplaced cs = text substitute ∷ map (name_replaced substitute) cs
+changed substitute (FirstNamesReplaced n) cs =
+    text substitute ∷ map (name_replaced substitute) (up_to_names n cs)
+
+-- a names element after a change
+abbrev pub elem_changed : Formatted → Change → Elem → Elem
+elem_changed substitute change own = record own { children = changed substitute change own.children }

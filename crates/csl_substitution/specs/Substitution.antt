@@ -9,7 +9,8 @@ use Rattle.csl_base.specs.declared.elem.Elem.{Elem}
 use Rattle.csl_base.specs.declared.formatting.Formatted.{Formatted}
 use Rattle.csl_base.specs.declared.style.SubsequentAuthorSubstituteRule.{SubsequentAuthorSubstituteRule}
 use Rattle.csl_substitution.specs.Names.{names_element}
-use Rattle.csl_substitution.specs.Rules.{rule_for, holds_by, rewritten_by}
+use Rattle.csl_substitution.specs.Rewriting.{elem_changed}
+use Rattle.csl_substitution.specs.Rules.{rule_for, holds_by, change_by}
 
 -- an item: its tree and its key
 abbrev pub Item : Type 0
@@ -33,9 +34,9 @@ module _ (rule : SubsequentAuthorSubstituteRule) where
   base (item ∷ before) = option_or (stayed (base before) item.0) (base before)
 
 module _ (text : Formatted) (rule : SubsequentAuthorSubstituteRule) where
-  -- a names element with what its rule writes as its children
+  -- a names element after the change that its rule makes
   abbrev pub names_after : Elem → Elem → Elem
-  names_after kept own = record own { children = rewritten_by (rule_for rule own) text kept own }
+  names_after kept own = elem_changed text (change_by (rule_for rule own) kept own) own
 
   -- an item's tree after substitution: its first names element is another where it is replaced, and else all
   -- stays

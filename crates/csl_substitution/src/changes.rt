@@ -14,11 +14,13 @@ use csl_base::style::SubsequentAuthorSubstituteRule;
 #[derive(Clone, Copy)]
 pub(crate) enum Change {
     /// The substitute alone is left.
-    TextAlone,
+    SubstituteAlone,
     /// The substitute stands before what is left without the names.
     WithoutNames,
-    /// The substitute stands before them and in each of the first so many names.
-    NamesReplaced(usize),
+    /// The substitute stands before the children and in the first name of each.
+    EachNameReplaced,
+    /// The same up to so many names; the children after that are dropped.
+    FirstNamesReplaced(usize),
 }
 
 /// How many elements two lists have in common before the first that differs.
@@ -81,22 +83,21 @@ fn change_against(
 {
     if is_nameless(own) {
         let is_equal = has_same_names(kept, own) && is_same(kept.elem, own.elem);
-        return is_equal.then_some(Change::TextAlone);
+        return is_equal.then_some(Change::SubstituteAlone);
     }
     match rule {
         SubsequentAuthorSubstituteRule::CompleteAll => {
             has_same_names(kept, own).then_some(Change::WithoutNames)
         }
         SubsequentAuthorSubstituteRule::CompleteEach => {
-            let elem = own.elem;
-            has_same_names(kept, own).then_some(Change::NamesReplaced(elem.children.0.len()))
+            has_same_names(kept, own).then_some(Change::EachNameReplaced)
         }
         SubsequentAuthorSubstituteRule::PartialEach => {
             let common = names_in_common(kept, own);
-            (common > 0).then_some(Change::NamesReplaced(common))
+            (common > 0).then_some(Change::FirstNamesReplaced(common))
         }
         SubsequentAuthorSubstituteRule::PartialFirst => {
-            (names_in_common(kept, own) > 0).then_some(Change::NamesReplaced(1))
+            (names_in_common(kept, own) > 0).then_some(Change::FirstNamesReplaced(1))
         }
     }
 }

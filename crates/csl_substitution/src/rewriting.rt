@@ -4,8 +4,8 @@ ghost use Rattle.csl_base.specs.Child.{text};
 ghost use Rattle.csl_base.specs.ChildView.{child_view};
 ghost use Rattle.csl_base.specs.Tree.{find_elem};
 ghost use Rattle.csl_substitution.specs.Names.{is_name};
-ghost use Rattle.csl_substitution.specs.Rewriting.{child_is_name, child_without_names, without_names, holds_name, name_replaced, first_name_replaced, up_to_names};
-ghost use Rattle.csl_substitution.specs.Changes.{changed, elem_changed, tree_changed};
+ghost use Rattle.csl_substitution.specs.Rewriting.{child_is_name, child_without_names, without_names, holds_name, name_replaced, first_name_replaced, up_to_names, changed, elem_changed};
+ghost use Rattle.csl_substitution.specs.Changes.{tree_changed};
 
 use crate::changes::Change;
 use crate::names::is_name;
@@ -140,6 +140,17 @@ fn replace_names(
     Ok(())
 }
 
+/// Puts the substitute into the first name in each of the children.
+fn replace_each_name(
+    alloc: Global,
+    substitute: &Formatted,
+    tree: &mut ElemChildren,
+) -> Result<(), AllocError>
+    ensures { OnOk result (tree.new ≡ map (name_replaced substitute.now) tree.old) }
+{
+    replace_names(alloc, substitute, tree.0.len(), tree)
+}
+
 fn change_children(
     alloc: Global,
     substitute: &Formatted,
@@ -149,7 +160,7 @@ fn change_children(
     ensures { OnOk result (tree.new ≡ changed substitute.now change tree.old) }
 {
     match change {
-        Change::TextAlone => {
+        Change::SubstituteAlone => {
             *tree = text_alone(alloc, substitute)?;
             Ok(())
         }
@@ -157,7 +168,11 @@ fn change_children(
             remove_names(tree);
             put_before(substitute, tree)
         }
-        Change::NamesReplaced(n) => {
+        Change::EachNameReplaced => {
+            replace_each_name(alloc, substitute, tree)?;
+            put_before(substitute, tree)
+        }
+        Change::FirstNamesReplaced(n) => {
             replace_names(alloc, substitute, n, tree)?;
             put_before(substitute, tree)
         }

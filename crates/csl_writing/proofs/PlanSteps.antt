@@ -1,5 +1,5 @@
 -- Carrying out a plan step by step.
-use Rattle.std.proofs.Common.{◌≡◌, ℕ, ◌≤◌, ◌∷◌, ◌++◌, [], List, length, refl, ap, sym, subst, ◌∙◌, arith}
+use Rattle.std.proofs.Common.{◌≡◌, ℕ, ◌≤◌, ◌∷◌, ◌++◌, [], List, length, codes, refl, ap, sym, subst, ◌∙◌, arith}
 use Rattle.std.specs.Prelude.{Result, IfOk, Option}
 use Rattle.std.specs.declared.alloc.AllocError.{AllocError}
 use Rattle.csl_picking.specs.declared.notes.Notes.{Notes}

@@ -30,12 +30,10 @@ pieces_tell is_empty n items ps e l t =
     ap not (e ∙ ap (λ k. eqb k 0) (l ∙ sym (length-map items token_of) ∙ ap length t)) ∙ tokens_tell ps
 
 -- the same section, read in other words
-pub section_in : (r : Result declared.Section AllocError) (f : StyleFormatting) (a b : Env) (ms ns : List Macro) (es : Elements) (n : Notes)
-    → a ≡ b → ms ≡ ns
-    → IfOk r (λ s. IsSection s (picked_section f a ms es n)) → IfOk r (λ s. IsSection s (picked_section f b ns es n))
-section_in r f a b ms ns es n e m h =
-    let same : picked_section f a ms es n ≡ picked_section f b ns es n = ap (λ x. picked_section f x ms es n) e ∙ ap (λ x. picked_section f b x es n) m in
-    subst (λ x. IfOk r (λ s. IsSection s x)) same h
+pub section_in : (r : Result declared.Section AllocError) (f : StyleFormatting) (a b : Env) (ms ns : List Macro) (ds es : Elements) (n : Notes)
+    → a ≡ b → ms ≡ ns → ds ≡ es
+    → IfOk r (λ s. IsSection s (picked_section f a ms ds n)) → IfOk r (λ s. IsSection s (picked_section f b ns es n))
+section_in r f a b ms ns ds es n e m d = subst (λ x. IfOk r (λ s. IsSection s x)) (λ i. picked_section f (e i) (m i) (d i) n)
 
 pub section_at : (r : Result declared.Section AllocError) (a b : Section)
     → a ≡ b → IfOk r (λ s. IsSection s a) → IfOk r (λ s. IsSection s b)

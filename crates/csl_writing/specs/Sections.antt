@@ -1,7 +1,7 @@
 -- What of a layout is written for a cite.
 use Rattle.std.specs.Prelude.{◌∷◌, List, [], Bool, true, false, Option, None, Some}
 use Rattle.std.specs.Bool.{if◌then◌else◌}
-use Rattle.csl_base.specs.Element.{NameOptions, Look, Macro, names_element, Elements, no_elements, element}
+use Rattle.csl_base.specs.Element.{Macro, names_element, Elements, no_elements, element}
 use Rattle.csl_base.specs.PlainLook.{no_look, no_options, no_formatting}
 use Rattle.csl_base.specs.Style.{BibliographyValue}
 use Rattle.csl_base.specs.declared.formatting.StyleFormatting.{StyleFormatting}

@@ -33,19 +33,13 @@ const DEPTH: usize = 8;
 fn prefix_of<'a>(node: &Node<'a>) -> Option<&'a str>
     ensures { option_map (λ s. s.now) result ≡ (node_view node.now).look.affixes.prefix }
 {
-    match node.affixes {
-        Some(affixes) => affixes.prefix.as_deref(),
-        None => None,
-    }
+    node.affixes?.prefix.as_deref()
 }
 
 fn suffix_of<'a>(node: &Node<'a>) -> Option<&'a str>
     ensures { option_map (λ s. s.now) result ≡ (node_view node.now).look.affixes.suffix }
 {
-    match node.affixes {
-        Some(affixes) => affixes.suffix.as_deref(),
-        None => None,
-    }
+    node.affixes?.suffix.as_deref()
 }
 
 fn open_quotes(
@@ -204,10 +198,7 @@ fn push_delimiter(
 fn innermost_delimiter<'a>(nodes: &[OpenNode<'a>]) -> Option<&'a str>
     ensures { option_map (λ s. s.now) result ≡ delimiter_of (open_views nodes.now) }
 {
-    match nodes.last() {
-        Some(innermost) => innermost.node.delimiter,
-        None => None,
-    }
+    nodes.last()?.node.delimiter
 }
 
 // Writes the delimiter of the innermost node, where a part stands before.

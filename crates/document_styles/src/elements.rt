@@ -262,10 +262,7 @@ fn condition_named(name: &str) -> Option<Condition>
     if name == "disambiguate" {
         return Some(Condition::Disambiguate);
     }
-    match named(POSITIONS, name) {
-        Some(position) => Some(Condition::Position(position)),
-        None => None,
-    }
+    named(POSITIONS, name).map(Condition::Position)
 }
 
 #[tactic(auto, unfolding(crate::specs::Elements::condition_form))]

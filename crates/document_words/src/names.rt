@@ -40,23 +40,15 @@ pub fn variable_named(name: &str) -> Option<Variable>
     if let Some(variable) = named(STANDARD_VARIABLES, name) {
         return Some(Variable::Standard(variable));
     }
-    match named(NUMBER_VARIABLES, name) {
-        Some(variable) => Some(Variable::Number(variable)),
-        None => None,
-    }
+    named(NUMBER_VARIABLES, name).map(Variable::Number)
 }
 
 /// The term of the locator that stands behind `locator-`.
 fn locator_term_named(name: &str) -> Option<Term>
     ensures { result ≡ locator_term_named name.now }
 {
-    let Some(kind) = name.strip_prefix("locator-") else {
-        return None;
-    };
-    match named(LOCATORS, kind) {
-        Some(locator) => Some(Term::Locator(locator)),
-        None => None,
-    }
+    let kind = name.strip_prefix("locator-")?;
+    named(LOCATORS, kind).map(Term::Locator)
 }
 
 /// The term of this name: one that is named after nothing else, or a locator's, or a number
@@ -70,10 +62,7 @@ pub fn term_named(name: &str) -> Option<Term>
     if let Some(term) = locator_term_named(name) {
         return Some(term);
     }
-    match named(NUMBER_VARIABLES, name) {
-        Some(variable) => Some(Term::NumberVariable(variable)),
-        None => None,
-    }
+    named(NUMBER_VARIABLES, name).map(Term::NumberVariable)
 }
 
 /// The term that the value names.

@@ -6,7 +6,7 @@ use Rattle.csl_base.specs.ChildView.{child_view}
 use Rattle.csl_base.proofs.Trees.{last_text-of}
 use Rattle.csl_base.proofs.elem.+last_text.Goals as goal
 
-pub ElemChildren::last_text-returns-in-Some : goal.ElemChildren::last_text-returns-in-Some
-ElemChildren::last_text-returns-in-Some t c =
+pub ElemChildren::last_text-returns : goal.ElemChildren::last_text-returns
+ElemChildren::last_text-returns t c =
     let whole = last_text-of _ _ _ (ap (map child_view) c.deref.ensures.value ∙ c.self.view_is) c.last.ensures.value in
-    c.last_text.ensures ∙ sym (whole ∙ ap (λ r. option_and_then (λ x. child_last_text (child_view x)) (option_copied r)) c.in-Some.is)
+    c.last_text.ensures ∙ sym (whole ∙ ap (λ r. option_and_then (λ x. child_last_text (child_view x)) (option_copied r)) c.in_ok-last.was)

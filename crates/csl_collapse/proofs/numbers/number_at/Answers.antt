@@ -5,8 +5,8 @@ use Rattle.csl_collapse.specs.NumberRuns.{shown_number}
 use Rattle.csl_collapse.proofs.ByPlaces.{viewed}
 use Rattle.csl_collapse.proofs.numbers.number_at.Goals as goal
 
-pub returns-in-Some : goal.returns-in-Some
-returns-in-Some g c =
-    let found = c.in-Some.ensures.lookup in
+pub returns : goal.returns
+returns g c =
+    let found = c.in_ok-cite.ensures.lookup in
     c.shown_number.ensures
-    ∙ sym (viewed item_view shown_number c.args.items.now c.args.k c.in-Some.cite.now None ((Decides-ltb _ _).0 (sym found.0)) found.1)
+    ∙ sym (viewed item_view shown_number c.args.items.now c.args.k c.in_ok-cite.cite.now None ((Decides-ltb _ _).0 (sym found.0)) found.1)

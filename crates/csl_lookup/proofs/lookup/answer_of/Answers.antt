@@ -6,10 +6,10 @@ use Rattle.csl_styles.specs.Terms.{locale_of}
 use Rattle.csl_lookup.proofs.FirstAnswers.{one_asked}
 use Rattle.csl_lookup.proofs.lookup.answer_of.Goals as goal
 
-pub returns-in-Some : goal.returns-in-Some
-returns-in-Some g c =
+pub returns : goal.returns
+returns g c =
     let gives = Gives g.F.Fn c.args.f.now in
-    let l = locale_view c.in-Some.locale.now in
-    let found : Some l ≡ locale_of (option_map (λ t. t.now) c.args.language) (map locale_view c.args.locales.now) = ap (option_map (λ x. locale_view x.now)) (sym c.in-Some.is) ∙ c.locale_of.ensures in
-    let one : FirstAnswer gives (option_to_list (Some l)) c.f.result = one_asked gives l c.f.result (c.in-Some.locale.now, refl, record { shown = c.in-Some.locale; shows = refl; says = record { met = c.f.ensures } }) in
+    let l = locale_view c.in_ok-locale.locale.now in
+    let found : Some l ≡ locale_of (option_map (λ t. t.now) c.args.language) (map locale_view c.args.locales.now) = ap (option_map (λ x. locale_view x.now)) (sym c.in_ok-locale.was) ∙ c.locale_of.ensures in
+    let one : FirstAnswer gives (option_to_list (Some l)) c.f.result = one_asked gives l c.f.result (c.in_ok-locale.locale.now, refl, record { shown = c.in_ok-locale.locale; shows = refl; says = record { met = c.f.ensures } }) in
     subst (λ (xs : List LocaleValue). FirstAnswer gives xs c.f.result) (ap option_to_list found) one

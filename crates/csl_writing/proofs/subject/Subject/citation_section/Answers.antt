@@ -1,3 +1,4 @@
+use Rattle.std.proofs.Common.{ap}
 use Rattle.csl_base.specs.ElementView.{elements_view}
 use Rattle.csl_writing.proofs.SectionSteps.{section_in}
 use Rattle.csl_writing.proofs.subject.Subject.citation_section.Goals as goal
@@ -5,4 +6,5 @@ use Rattle.csl_writing.proofs.subject.Subject.citation_section.Goals as goal
 pub returns : goal.returns
 returns g c =
     let layout = c.args.self.now.context.style.now.citation.layout in
-    section_in c.pick_section.result layout.formatting _ _ _ _ (elements_view layout.elements.items) c.args.notes c.input-input.ensures.env c.input-input.ensures.macros c.pick_section.ensures
+    section_in c.pick_section.result layout.formatting _ _ _ _ _ _ c.args.notes c.input-input.ensures.env c.input-input.ensures.macros
+    (ap elements_view c.deref.ensures.value) c.pick_section.ensures
