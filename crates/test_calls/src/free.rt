@@ -145,9 +145,9 @@ fn brackets_and_counts(rt: &impl Eprint) -> bool {
     named(rt, "right");
     let right = Brackets::Square.right();
     named(rt, "Renders::new");
-    let renders = Renders::new();
+    let counter = Renders::new();
     named(rt, "count");
-    left == Some('(') && right == Some(']') && renders.count() == 0
+    left == Some('(') && right == Some(']') && counter.count() == 0
 }
 
 fn properties(rt: &impl Eprint) -> bool {

@@ -230,13 +230,13 @@ fn item_of(
     alloc: Global,
     context: &StyleContext<'_>,
     item: &Item<'_>,
-    renders: &mut Renders,
+    counter: &mut Renders,
 ) -> Result<Option<(ElemChildren, String)>, AllocError>
     requires no_ring { HasNoRing (context_source context.now).style.macros }
 {
     let key = String::from_str(alloc, item.entry.key())?;
     let properties: CiteProperties<'_, Infallible> = CiteProperties::for_sorting(None, 0);
-    match context.bibliography(alloc, item.entry, &properties, None, None, renders)? {
+    match context.bibliography(alloc, item.entry, &properties, None, None, counter)? {
         Some(tree) => Ok(Some((tree, key))),
         None => Ok(None),
     }
@@ -245,10 +245,10 @@ fn item_of(
 /// The items of a bibliography.
 fn items_of(alloc: Global, request: &Request<'_>) -> Result<Vec<(ElemChildren, String)>, RunError> {
     let context = ringless(alloc, request.style())?;
-    let mut renders = Renders::new();
+    let mut counter = Renders::new();
     let mut items = Vec::new(alloc);
     for item in &request.items {
-        if let Some(found) = item_of(alloc, &context, item, &mut renders)? {
+        if let Some(found) = item_of(alloc, &context, item, &mut counter)? {
             items.push(found)?;
         }
     }

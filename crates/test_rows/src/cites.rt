@@ -26,7 +26,7 @@ fn cite(
     properties: &Properties<'_>,
 ) -> Result<Cite, Fail> {
     let context = ringless(alloc, style)?;
-    let mut renders = Renders::new();
+    let mut counter = Renders::new();
     Ok(context.do_citation(
         alloc,
         cited,
@@ -35,7 +35,7 @@ fn cite(
         None,
         None,
         None,
-        &mut renders,
+        &mut counter,
     )?)
 }
 

@@ -183,7 +183,7 @@ fn render(
 ) -> Result<(), Fail> {
     let context = ringless(alloc, style)?;
     let properties: CiteProperties<'_, Infallible> = CiteProperties::for_sorting(None, 0);
-    let mut renders = Renders::new();
+    let mut counter = Renders::new();
     match part {
         Part::Cite(purpose) => {
             let _cite = context.do_citation(
@@ -194,11 +194,11 @@ fn render(
                 None,
                 purpose,
                 None,
-                &mut renders,
+                &mut counter,
             )?;
         }
         Part::Item => {
-            let _item = context.bibliography(alloc, cited, &properties, None, None, &mut renders)?;
+            let _item = context.bibliography(alloc, cited, &properties, None, None, &mut counter)?;
         }
     }
     Ok(())

@@ -83,7 +83,7 @@ citations-requires g c =
     (desk (g.W.CiteWriter.state c.first_renders.new.writer) c.first_renders.new.counter) c.in_ok-first.ensures.asked c.in_ok-rounds.ensures in
     let stand = settled-stand g.met.T.Eq.laws (writing_of g.T.EntryLike.answers (g.W.CiteWriter.state c.args.writer.now)) g.P.PartialEq.eq (asked_in draft) draft.known.table
     (ap renders_view c.deref_mut-cites.ensures.value ∙ c.in_ok-first.ensures.cites) c.args.mode rounds.cites c.in_ok-group_all.ensures _ c.set_final_properties.ensures in
-    record { cites = ap (map (λ r. r.request)) c.collapse_all.ensures ∙ drawn-requests (renders_view c.set_final_properties.new.renders) ∙ stand.of }
+    record { cites = ap (map (λ r. r.request)) c.collapse_all.ensures ∙ drawn-requests (renders_view c.set_final_properties.new.cites) ∙ stand.of }
 
 pub returns : goal.returns
 returns g c =
@@ -130,9 +130,9 @@ returns g c =
     let wanted = asked.wanted.style.bibliography in
     record {
       answer = is-answer eq peq writing mode asked _ (c.answers_keep_laws.ensures writing mode asked) (record {
-        ok = whole eq peq writing mode asked (renders_view c.set_final_properties.new.renders) (renders_view c.collapse_all.new.cites) settled c.collapse_all.ensures
+        ok = whole eq peq writing mode asked (renders_view c.set_final_properties.new.cites) (renders_view c.collapse_all.new.cites) settled c.collapse_all.ensures
             (c.new.ensures ∙ c.in_ok-citations.ensures.citations ∙ ap (λ w. citations_of w (renders_view c.collapse_all.new.cites)) third)
-            (c.in_ok-bibliography.ensures.bibliography ∙ ap (λ w. option_map (λ b. bibliography_of w source b (filter_map (first_item eq (renders_view c.set_final_properties.new.renders)) listed)) wanted) second);
+            (c.in_ok-bibliography.ensures.bibliography ∙ ap (λ w. option_map (λ b. bibliography_of w source b (filter_map (first_item eq (renders_view c.set_final_properties.new.cites)) listed)) wanted) second);
         renders = account.renders ∙ ap (λ d. d.renders) all ∙ (λ i. counted_times (task-count eq g.met.T.Eq.laws peq writing mode asked i) (c.new-counter.ensures i)) ∙ counted_times-all _;
         rounds = account.rounds ∙ rounds.marked_is;
         entries = account.entries ∙ ap (λ t. t.entries) draft.known.table;
