@@ -8,12 +8,12 @@ NAME.account, by `finish_counted` or `finish_full` once more, of which the accou
 there is a NAME.alone, each request by `standalone_citation`; where there is a NAME.passes, by the passes themselves, on cites
 that are written without a driver; where there is a NAME.equality, it is told which requests are equal to the first, and whether that
 for the bibliography is one for its style alone. A copy of each answer has to be equal to it. It tells where each document that is
-refused is wrong, which faults.txt has for most of them, and nothing of the others. Each document that has an answer is answered
-once more from a table of what its styles write; with any one thing taken out exactly that has to be missing, and a table that is
-empty at first has to be filled in at most three calls more than rounds mark. Where there is a NAME.context, crates/test_contexts,
-which is looked for likewise, prints what calls of a writing context give in the document's first style. It refuses each growth of
-memory in turn (refuse.c, for which a C compiler must be there), in all three programs; each such sweep is for some calls, and fails
-where one of them met no refusal.
+refused is wrong, which faults.txt has for most of them, and nothing of the others. crates/test_tables, which is looked for
+likewise, answers each document that has an answer once more from a table of what its styles write; with any one thing taken out
+exactly that has to be missing, and a table that is empty at first has to be filled in at most three calls more than rounds mark.
+Where there is a NAME.context, crates/test_contexts prints what calls of a writing context give in the document's first style. It
+refuses each growth of memory in turn (refuse.c, for which a C compiler must be there), in all four programs; each such sweep is for
+some calls, and fails where one of them met no refusal.
 run.py PROGRAM FOLDER..: runs it on the documents of these folders, and does nothing else.
 
 A document is NAME.json. NAME.txt is what it must print; where the status isn't 0, NAME.status has it, and nothing is
@@ -207,12 +207,16 @@ def tests_of_calls(calls, bases):
             if os.path.isfile(base + '.' + way):
                 made.append((way + ': ' + name_of(base), by_calls, calls, way, base, 0, read(base + '.' + way)))
         if status == 0:
-            # (what is written is kept under the name of a style, and those of equality/ have equal styles of several names)
-            if os.path.dirname(base) != HERE + '/equality':
-                made.append(('table: ' + name_of(base), by_calls, calls, 'table', base, 0, text))
             made.append(('copies: ' + name_of(base), by_calls, calls, 'copies', base, 0, b'copy: equal\n'))
     ring = HERE + '/rows/ring_of_one_macro'
     return [*made, ('standalone: ' + name_of(ring), by_calls, calls, 'standalone_citation', ring, 3, b'')]
+
+
+def tests_of_tables(tables, bases):
+    """What crates/test_tables is to do with the documents that have an answer."""
+    # (what is written is kept under the name of a style, and those of equality/ have equal styles of several names)
+    named = [it for it in bases if wanted(it)[0] == 0 and os.path.dirname(it) != HERE + '/equality']
+    return [('table: ' + name_of(it), by_calls, tables, 'table', it, 0, wanted(it)[1]) for it in named]
 
 
 def tests_of_contexts(contexts, bases):
@@ -548,7 +552,7 @@ SWEPT_TABLES = ['disambiguation/suffix_by_entry', 'bibliography/author_substitut
 HEIGHTS = ['ensure_space', 'push_str', 'push_chunked', 'push_link', 'push_transparent', 'push_quotes', 'pop_quotes', 'write_str']
 HEIGHTS += ['push_format', 'pop_format', 'push_elem', 'commit_elem', 'discard_elem', 'push_delimiter', 'push_name_options']
 HEIGHTS += ['apply_prefix', 'has_content_since', 'apply_suffix', 'flush']
-# Calls of the two programs of calls, which name them before they make them; the status is 5 where one is refused, but for `citation`.
+# Calls of the three programs of calls, which name them before they make them; the status is 5 where one is refused, but for `citation`.
 CALLS = ['read', 'prepare', 'citation', 'finish', 'finish_counted', 'finish_full', 'standalone_citation', 'run', 'clone', 'context', 'finish_with', 'drive']
 CALLS += [*PASSES, *HEIGHTS]
 # Those that print before others are called.
@@ -710,18 +714,23 @@ def sweeps_of_calls(shim, program):
     for name in ('hidden_cites', 'cites_without_content'):
         base, way = HERE + '/alone/' + name, 'standalone_citation'
         made.append(('growths of %s: %s' % (way, name), sweep_of_calls, shim, program, way, [way], read(base + '.json'), 0, read(base + '.alone')))
-    for name in SWEPT_TABLES:
-        given, way = read(HERE + '/' + name + '.json'), 'drive 1'
-        made.append(('growths of %s: %s' % (way, name), sweep_of_calls, shim, program, way, ['finish_with', 'drive'], given, 0, b''))
     free = read(HERE + '/words/calls_without_memory.json')
     return [*made, ('growths of calls that take none', sweep_of_free, shim, program, free)]
 
 
-def sweeps(program, calls, contexts):
+def sweeps_of_tables(shim, program):
+    """Those of crates/test_tables."""
+    way, swept = 'drive 1', ['finish_with', 'drive']
+    given = {it: read(HERE + '/' + it + '.json') for it in SWEPT_TABLES}
+    return [('growths of %s: %s' % (way, it), sweep_of_calls, shim, program, way, swept, given[it], 0, b'') for it in SWEPT_TABLES]
+
+
+def sweeps(program, calls, tables, contexts):
     """The sweeps of the programs that are built, each with its name."""
     shim = compiled(tempfile.mkdtemp())
     made = [('growths of %s' % it, sweep_of_program, shim, program, it) for it in SWEPT]
     made += sweeps_of_calls(shim, calls) if calls else []
+    made += sweeps_of_tables(shim, tables) if tables else []
     return made + (sweeps_of_contexts(shim, contexts) if contexts else [])
 
 
@@ -799,9 +808,9 @@ def main():
     bases = documents()
     tests = [('model: %d random documents' % RANDOM_DOCUMENTS, model, program)]
     tests += [('process: ' + it.__name__.replace('_', ' '), it, program) for it in reversed(PROCESSES)]
-    calls, contexts = beside(program, 'test_calls'), beside(program, 'test_contexts')
+    calls, tables, contexts = (beside(program, it) for it in ('test_calls', 'test_tables', 'test_contexts'))
     try:
-        tests += sweeps(program, calls, contexts)
+        tests += sweeps(program, calls, tables, contexts)
     except Failed as error:
         tests.append(('growths of memory', cannot, str(error)))
     if calls:
@@ -810,6 +819,10 @@ def main():
         tests += [('process: ' + it.__name__.replace('_', ' '), it, calls) for it in (failing_writer, slow_reader, most_reads)]
     else:
         tests.append(('program of calls', cannot, 'crates/test_calls is not built'))
+    if tables:
+        tests += tests_of_tables(tables, bases)
+    else:
+        tests.append(('program of tables', cannot, 'crates/test_tables is not built'))
     if contexts:
         tests += tests_of_contexts(contexts, bases)
     else:

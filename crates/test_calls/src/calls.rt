@@ -83,17 +83,13 @@ fn take<'e>(driver: &mut Driver<'e>, request: Request<'e>) -> Result<bool, RunEr
     }
 }
 
-/// A request for the driver: of the prepared style, if there is one, or of the style itself.
-fn request_of<'e, 'f: 'e>(
+/// A request for the driver, of the style itself.
+fn unprepared_request<'e, 'f: 'e>(
     alloc: Global,
     request: &'e AskedRequest<'f>,
     files: &'e TermTables<'f>,
-    is_prepared: bool,
 ) -> Result<Request<'e>, AllocError> {
     let made = driver_request(alloc, request, files)?;
-    if is_prepared {
-        return Ok(made);
-    }
     let CitationRequest { items, locale, .. } = made;
     Ok(CitationRequest::new(
         items,
@@ -102,6 +98,20 @@ fn request_of<'e, 'f: 'e>(
         files.locales(),
         request.note_number,
     ))
+}
+
+/// A request for the driver: of the prepared style, if there is one, or of the style itself.
+fn request_of<'e, 'f: 'e>(
+    alloc: Global,
+    request: &'e AskedRequest<'f>,
+    files: &'e TermTables<'f>,
+    is_prepared: bool,
+) -> Result<Request<'e>, AllocError> {
+    if is_prepared {
+        driver_request(alloc, request, files)
+    } else {
+        unprepared_request(alloc, request, files)
+    }
 }
 
 /// Hands in all requests; tells whether one came back.
@@ -190,22 +200,20 @@ fn print_finished<'e>(
     rt: &(impl Print + Eprint),
     driver: Driver<'e>,
     request: BibliographyRequest<'_, 'e, PlainEntry>,
-    how: How,
 ) -> Result<(), DriverError> {
-    let rendered = match how {
-        How::FinishCounted => {
-            let (rendered, _account) = counted(rt, driver, request, RoundMode::Three)?;
-            rendered
-        }
-        How::FinishFull => {
-            let (rendered, _account) = counted(rt, driver, request, RoundMode::Full)?;
-            rendered
-        }
-        _ => {
-            let _ = eprintln!(rt; "finish");
-            driver.finish(request)?
-        }
-    };
+    let _ = eprintln!(rt; "finish");
+    print_answer(rt, &driver.finish(request)?);
+    Ok(())
+}
+
+/// Prints the answer that has an account.
+fn print_of_rounds<'e>(
+    rt: &(impl Print + Eprint),
+    driver: Driver<'e>,
+    request: BibliographyRequest<'_, 'e, PlainEntry>,
+    rounds: RoundMode,
+) -> Result<(), DriverError> {
+    let (rendered, _account) = counted(rt, driver, request, rounds)?;
     print_answer(rt, &rendered);
     Ok(())
 }
@@ -243,6 +251,23 @@ fn print_counted<'e>(
     }
 }
 
+/// Prints what is asked for.
+fn print_asked<'e>(
+    rt: &(impl Print + Eprint),
+    driver: Driver<'e>,
+    request: BibliographyRequest<'_, 'e, PlainEntry>,
+    rounds: RoundMode,
+    how: How,
+) -> Result<(), DriverError> {
+    match how {
+        How::Account => print_counted(rt, driver, request, rounds),
+        How::Copies => print_copied(rt, driver, request),
+        How::FinishCounted => print_of_rounds(rt, driver, request, RoundMode::Three),
+        How::FinishFull => print_of_rounds(rt, driver, request, RoundMode::Full),
+        _ => print_finished(rt, driver, request),
+    }
+}
+
 /// Hands in all requests and the bibliography's, and prints what is asked for.
 fn answer_all<'e, 'f: 'e>(
     rt: &(impl Print + Eprint + AllocGlobal),
@@ -256,12 +281,7 @@ fn answer_all<'e, 'f: 'e>(
     let came_back = take_all(rt, &mut driver, asked, files, is_prepared)?;
     let _ = eprintln!(rt; "prepare");
     let request = bibliography_request(alloc, asked, files, is_prepared)?;
-    let finished = match how {
-        How::Account => print_counted(rt, driver, request, asked.rounds),
-        How::Copies => print_copied(rt, driver, request),
-        _ => print_finished(rt, driver, request, how),
-    };
-    finished?;
+    print_asked(rt, driver, request, asked.rounds, how)?;
     if came_back {
         Ok(Seen::AnswerAtLast)
     } else {

@@ -1,5 +1,7 @@
 //! Calls that take no memory. Each is named before it is made, and `prepare` stands before what it needs:
 //! growths of memory are refused in turn, and none may be between a call's name and the next line.
+ghost use Rattle.std.specs.Prelude.{◌≡◌, length};
+ghost use Rattle.csl_context.specs.WritingState.{state};
 
 use crate::calls::Request;
 use crate::passes::{Cite, Cites, Item, all_written};
@@ -74,28 +76,37 @@ fn drivers(rt: &(impl Eprint + AllocGlobal)) {
     let _offset = driver.with_citation_number_offset(2);
 }
 
-/// Requests, and their public fields written once more.
-fn requests<'e>(
+/// A request of one cite.
+fn one_cite<'e>(
     rt: &(impl Eprint + AllocGlobal),
     style: &'e IndependentStyle,
     entry: &'e PlainEntry,
 ) -> Result<bool, AllocError> {
     named(rt, "prepare");
     let items: Vec<Item<'e>> = vec![in rt.alloc(); CitationItem::with_entry(entry)]?;
-    let none: Vec<Item<'e>> = Vec::new(rt.alloc());
     named(rt, "CitationRequest::new");
     let one = CitationRequest::new(items, style, None, &[], Some(7));
+    Ok(one.items.len() == 1)
+}
+
+/// A request of no cite, whose public fields are written once more.
+fn no_cite<'e>(rt: &(impl Eprint + AllocGlobal), style: &'e IndependentStyle) -> bool {
+    let none: Vec<Item<'e>> = Vec::new(rt.alloc());
     named(rt, "from_items");
     let mut empty = CitationRequest::from_items(none, style, &[]);
     empty.locale = None;
     empty.locale_files = &[];
+    empty.items.is_empty()
+}
+
+/// A request for the bibliography, whose public fields are too.
+fn wanted(rt: &impl Eprint, style: &IndependentStyle) -> bool {
     named(rt, "BibliographyRequest::new");
     let mut wanted: BibliographyRequest<PlainEntry> = BibliographyRequest::new(style, None, &[]);
     wanted.style = style;
     wanted.locale = None;
     wanted.order = None;
-    drivers(rt);
-    Ok(one.items.len() == 1 && empty.items.is_empty() && wanted.locale_files.is_empty())
+    wanted.locale_files.is_empty()
 }
 
 /// Whether all but the ends are hidden.
@@ -247,7 +258,26 @@ fn flags(rt: &impl Eprint, context: &mut Context<'_, PlainEntry, Infallible>) {
     context.stop_stripping_periods();
 }
 
-/// Calls of a writing context, after which it is as high as before.
+/// Takes off what is pushed, and changes the flags; tells whether the context is as high as before then.
+fn taken_off<'a>(
+    rt: &impl Eprint,
+    context: &mut Context<'a, PlainEntry, Infallible>,
+    options: &'a InheritableNameOptions,
+) -> Result<bool, AllocError>
+    requires options { length (state context.old.writing).name_options ≡ 1 }
+{
+    let heights = context.writing.heights();
+    context.writing.push_name_options(options)?;
+    let delimiter = context.writing.push_delimiter(Some("; "))?;
+    named(rt, "pop_name_options");
+    context.writing.pop_name_options();
+    named(rt, "pop_delimiter");
+    context.writing.pop_delimiter(delimiter);
+    flags(rt, context);
+    Ok(context.writing.heights() == heights)
+}
+
+/// Calls of a writing context.
 fn contexts<'a>(
     rt: &(impl Eprint + AllocGlobal),
     style: &'a IndependentStyle,
@@ -262,15 +292,7 @@ fn contexts<'a>(
         properties,
         options,
     )?;
-    let heights = context.writing.heights();
-    context.writing.push_name_options(options)?;
-    let delimiter = context.writing.push_delimiter(Some("; "))?;
-    named(rt, "pop_name_options");
-    context.writing.pop_name_options();
-    named(rt, "pop_delimiter");
-    context.writing.pop_delimiter(delimiter);
-    flags(rt, &mut context);
-    Ok(context.writing.heights() == heights)
+    taken_off(rt, &mut context, options)
 }
 
 // ---- trees
@@ -413,11 +435,16 @@ fn lent_places(rt: &impl Eprint, stack: &mut NonEmptyStack<u32>) -> bool {
     height == 3 && last == 3
 }
 
-fn stacks(rt: &(impl Eprint + AllocGlobal)) -> Result<bool, AllocError> {
-    named(rt, "prepare");
-    let mut stack: NonEmptyStack<u32> = NonEmptyStack::new(rt.alloc(), 1)?;
+fn one_two_three(alloc: Global) -> Result<NonEmptyStack<u32>, AllocError> {
+    let mut stack = NonEmptyStack::new(alloc, 1)?;
     stack.push(2)?;
     stack.push(3)?;
+    Ok(stack)
+}
+
+fn stacks(rt: &(impl Eprint + AllocGlobal)) -> Result<bool, AllocError> {
+    named(rt, "prepare");
+    let mut stack = one_two_three(rt.alloc())?;
     let is_lent = lent_places(rt, &mut stack);
     named(rt, "pop");
     let top = stack.pop();
@@ -467,13 +494,19 @@ fn years(rt: &(impl Eprint + AllocGlobal)) -> Result<bool, AllocError> {
 
 fn calls_of_requests(
     rt: &(impl Eprint + AllocGlobal),
-    requests_made: &[Request<'_>],
+    requests: &[Request<'_>],
     entry: &PlainEntry,
 ) -> Result<bool, RunError> {
-    let Some(first) = requests_made.first() else {
+    let Some(first) = requests.first() else {
         return Err(RunError::Document);
     };
-    Ok(cites(rt, entry) && requests(rt, first.style(), entry)? && collapsing(rt, requests_made)?)
+    if !cites(rt, entry) {
+        return Ok(false);
+    }
+    let style = first.style();
+    let are_made = one_cite(rt, style, entry)? && no_cite(rt, style) && wanted(rt, style);
+    drivers(rt);
+    Ok(are_made && collapsing(rt, requests)?)
 }
 
 fn calls_of_values(

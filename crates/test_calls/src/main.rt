@@ -1,26 +1,20 @@
 //! Answers a document call by call, for what no document shows: what an answer cost and by what its
-//! entries are disambiguated, where a ring stands, citations and passes by themselves, answers from a table,
-//! writers and readers that fail, and runs in which one growth of memory is refused.
+//! entries are disambiguated, where a ring stands, citations and passes by themselves, writers and readers
+//! that fail, and runs in which one growth of memory is refused.
 //!
 //! The first line of standard input says what is done (a number: `run`, over a writer that fails behind so
-//! many bytes; `finish N` and `drive N`: N answers by layouts or from a table, for whoever measures how long
-//! these take), and the document follows. Before each call its name is written to standard error, and at the
+//! many bytes), and the document follows. Before each call its name is written to standard error, and at the
 //! end a line that says what was seen; the exit status tells that too. What was answered goes to standard
 //! output.
 #![tactic(auto)]
 
 mod account;
-mod by_table;
 mod calls;
 mod equality;
 mod free;
-mod hosting;
 mod passes;
-mod recording;
 mod streams;
-mod taking;
 
-use by_table::{TableWay, by_table};
 use calls::{How, Seen, answered, fault_told, read_slowly, written_out, written_until};
 use cite_document::error::RunError;
 use cite_document::input::read_input;
@@ -43,29 +37,13 @@ fn answer_to(rt: &(impl Print + Eprint + AllocGlobal), text: &str) -> Result<See
         "equality" => answered(rt, document, How::Equality),
         "copies" => answered(rt, document, How::Copies),
         "free" => answered(rt, document, How::Free),
-        "table" => by_table(rt, document, TableWay::Compared),
         "run" => written_out(rt, document),
         "slow" => read_slowly(rt, document, false),
         "slow and failing" => read_slowly(rt, document, true),
-        _ => answer_counted(rt, asked, document),
-    }
-}
-
-/// Does what a line that ends in a number says.
-fn answer_counted(
-    rt: &(impl Print + Eprint + AllocGlobal),
-    asked: &str,
-    document: &str,
-) -> Result<Seen, RunError> {
-    let (way, number) = asked.rsplit_once(' ').unwrap_or(("", asked));
-    let Ok(count) = number.parse::<usize>() else {
-        return Err(RunError::Document);
-    };
-    match way {
-        "" => written_until(rt, document, count),
-        "finish" => by_table(rt, document, TableWay::Finished(count)),
-        "drive" => by_table(rt, document, TableWay::Driven(count)),
-        _ => Err(RunError::Document),
+        _ => match asked.parse::<usize>() {
+            Ok(left) => written_until(rt, document, left),
+            Err(_) => Err(RunError::Document),
+        },
     }
 }
 

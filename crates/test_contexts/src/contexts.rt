@@ -154,13 +154,6 @@ fn push_part(alloc: Global, context: &mut Writing<'_>, part: Part<'_>) -> Result
     }
 }
 
-/// Changes the formatting of a context of its own, and goes back.
-fn in_format(alloc: Global, style: &IndependentStyle) -> Result<(), AllocError> {
-    let mut context = begin(alloc, style)?;
-    let format = context.writing.push_format(italic())?;
-    context.writing.pop_format(format)
-}
-
 /// The tree of this part.
 fn written(
     alloc: Global,
@@ -172,13 +165,20 @@ fn written(
     context.writing.flush()
 }
 
-/// An element that is closed, and one that is dropped.
-fn in_elements(alloc: Global, style: &IndependentStyle) -> Result<(), AllocError> {
-    let mut writing = WritingContext::new(alloc, &style.settings.options)?;
+/// A formatting that is gone again, an element that is closed, and one that is dropped.
+fn open_and_close(writing: &mut WritingContext<'_>) -> Result<(), AllocError> {
+    let format = writing.push_format(italic())?;
+    writing.pop_format(format)?;
     let kept = writing.push_elem(italic())?;
     writing.commit_elem(kept, Some(Display::Block), None)?;
     let dropped = writing.push_elem(italic())?;
     writing.discard_elem(dropped)
+}
+
+/// Opens and closes them in a context of its own.
+fn open_and_close_alone(alloc: Global, style: &IndependentStyle) -> Result<(), AllocError> {
+    let mut writing = WritingContext::new(alloc, &style.settings.options)?;
+    open_and_close(&mut writing)
 }
 
 fn print_quote(rt: &impl Print, context: &Writing<'_>) {
@@ -196,16 +196,28 @@ fn write_number(context: &mut Writing<'_>) -> Result<(), AllocError> {
 }
 
 /// A term, and a number that is written into the context, behind name options that are gone again.
-fn print_term(rt: &(impl Print + AllocGlobal), style: &IndependentStyle) -> Result<(), AllocError> {
-    let mut context = begin(rt.alloc(), style)?;
-    context
-        .writing
-        .push_name_options(&style.citation.name_options)?;
+fn print_term<'a>(
+    rt: &impl Print,
+    context: &mut Writing<'a>,
+    options: &'a InheritableNameOptions,
+) -> Result<(), AllocError>
+    requires options { length (state context.old.writing).name_options ≡ 1 }
+{
+    context.writing.push_name_options(options)?;
     context.writing.pop_name_options();
-    print_quote(rt, &context);
-    write_number(&mut context)?;
+    print_quote(rt, context);
+    write_number(context)?;
     let _ = println!(rt; "a number is written");
     Ok(())
+}
+
+/// The same in a context of its own.
+fn print_term_alone(
+    rt: &(impl Print + AllocGlobal),
+    style: &IndependentStyle,
+) -> Result<(), AllocError> {
+    let mut context = begin(rt.alloc(), style)?;
+    print_term(rt, &mut context, &style.citation.name_options)
 }
 
 fn language<'l>(locale: &'l Locale) -> Option<&'l str> {
@@ -229,6 +241,18 @@ fn print_language(
     Ok(())
 }
 
+/// Prints the tree of this part, behind a word.
+fn print_written(
+    rt: &(impl Print + AllocGlobal),
+    style: &IndependentStyle,
+    word: &str,
+    part: Part<'_>,
+) -> Result<(), AllocError> {
+    let tree = written(rt.alloc(), style, part)?;
+    let _ = println!(rt; "{word}: {tree}");
+    Ok(())
+}
+
 /// Prints what is written in affixes.
 fn print_affixes(
     rt: &(impl Print + AllocGlobal),
@@ -236,8 +260,7 @@ fn print_affixes(
 ) -> Result<(), AllocError> {
     for (prefix, text) in [("(", "A"), ("(", ""), (". ", ".")] {
         let affixes = affixes(rt.alloc(), prefix, ")")?;
-        let tree = written(rt.alloc(), style, Part::InAffixes(&affixes, text))?;
-        let _ = println!(rt; "affixes: {tree}");
+        print_written(rt, style, "affixes", Part::InAffixes(&affixes, text))?;
     }
     Ok(())
 }
@@ -251,9 +274,8 @@ fn print_trees(
         "content: {}",
         is_content_behind_a_space(rt.alloc(), style)?
     );
-    let _ = println!(rt; "quoted: {}", written(rt.alloc(), style, Part::Quoted)?);
-    let _ = println!(rt; "stacks: {}", written(rt.alloc(), style, Part::Delimited)?);
-    Ok(())
+    print_written(rt, style, "quoted", Part::Quoted)?;
+    print_written(rt, style, "stacks", Part::Delimited)
 }
 
 /// Prints what is written as children.
@@ -262,9 +284,7 @@ fn print_children(
     style: &IndependentStyle,
 ) -> Result<(), AllocError> {
     let formula = formula(rt.alloc(), "x")?;
-    let tree = written(rt.alloc(), style, Part::Children(&formula))?;
-    let _ = println!(rt; "children: {tree}");
-    Ok(())
+    print_written(rt, style, "children", Part::Children(&formula))
 }
 
 /// Makes the calls of a context in this style, and prints what they give.
@@ -277,8 +297,7 @@ pub fn print_contexts(
     print_children(rt, style)?;
     print_affixes(rt, style)?;
     print_trees(rt, style)?;
-    in_format(rt.alloc(), style)?;
-    in_elements(rt.alloc(), style)?;
-    print_term(rt, style)?;
+    open_and_close_alone(rt.alloc(), style)?;
+    print_term_alone(rt, style)?;
     print_language(rt, style, files)
 }

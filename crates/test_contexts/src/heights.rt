@@ -29,7 +29,7 @@ struct Asked<'a> {
 
 /// A call that leaves the heights as they were in any case.
 #[derive(Clone, Copy)]
-enum Call {
+enum TextCall {
     EnsureSpace,
     PushStr,
     PushChunked,
@@ -40,15 +40,40 @@ enum Call {
     WriteStr,
 }
 
-const CALLS: [(&str, Call); 8] = [
-    ("ensure_space", Call::EnsureSpace),
-    ("push_str", Call::PushStr),
-    ("push_chunked", Call::PushChunked),
-    ("push_link", Call::PushLink),
-    ("push_transparent", Call::PushTransparent),
-    ("push_quotes", Call::PushQuotes),
-    ("pop_quotes", Call::PopQuotes),
-    ("write_str", Call::WriteStr),
+/// A call.
+#[derive(Clone, Copy)]
+enum Call {
+    /// By this name.
+    Text(&'static str, TextCall),
+    PushFormat,
+    PopFormat,
+    PushElem,
+    CommitElem,
+    DiscardElem,
+    Settings,
+    ApplyPrefix,
+    HasContentSince,
+    ApplySuffix,
+}
+
+const CALLS: [Call; 17] = [
+    Call::Text("ensure_space", TextCall::EnsureSpace),
+    Call::Text("push_str", TextCall::PushStr),
+    Call::Text("push_chunked", TextCall::PushChunked),
+    Call::Text("push_link", TextCall::PushLink),
+    Call::Text("push_transparent", TextCall::PushTransparent),
+    Call::Text("push_quotes", TextCall::PushQuotes),
+    Call::Text("pop_quotes", TextCall::PopQuotes),
+    Call::Text("write_str", TextCall::WriteStr),
+    Call::PushFormat,
+    Call::PopFormat,
+    Call::PushElem,
+    Call::CommitElem,
+    Call::DiscardElem,
+    Call::Settings,
+    Call::ApplyPrefix,
+    Call::HasContentSince,
+    Call::ApplySuffix,
 ];
 
 /// Names a call before it is made.
@@ -79,21 +104,21 @@ fn given<R>(
     }
 }
 
-fn make(
+fn make_text_call(
     context: &mut Writing<'_>,
-    call: Call,
+    call: TextCall,
     formula: &ChunkedString,
     url: String,
 ) -> Result<(), AllocError> {
     match call {
-        Call::EnsureSpace => context.ensure_space(),
-        Call::PushStr => context.push_str("A"),
-        Call::PushChunked => context.push_chunked(formula),
-        Call::PushLink => context.push_link(formula, url),
-        Call::PushTransparent => context.push_transparent(2),
-        Call::PushQuotes => context.push_quotes(),
-        Call::PopQuotes => context.pop_quotes(),
-        Call::WriteStr => match context.write_str("A") {
+        TextCall::EnsureSpace => context.ensure_space(),
+        TextCall::PushStr => context.push_str("A"),
+        TextCall::PushChunked => context.push_chunked(formula),
+        TextCall::PushLink => context.push_link(formula, url),
+        TextCall::PushTransparent => context.push_transparent(2),
+        TextCall::PushQuotes => context.push_quotes(),
+        TextCall::PopQuotes => context.pop_quotes(),
+        TextCall::WriteStr => match context.write_str("A") {
             Ok(()) => Ok(()),
             Err(_) => Err(AllocError),
         },
@@ -105,26 +130,18 @@ fn text(
     rt: &impl Eprint,
     asked: Asked<'_>,
     context: &mut Writing<'_>,
-    (name, call): (&str, Call),
+    (name, call): (&str, TextCall),
 ) -> Result<(), Ended> {
     let url = String::from_str(asked.alloc, "u")?;
     let before = context.writing.heights();
     named(rt, name);
-    let outcome = make(context, call, asked.formula, url);
+    let outcome = make_text_call(context, call, asked.formula, url);
     given(before, &context.writing, outcome)?;
     if context.writing.heights() == before {
         Ok(())
     } else {
         Err(Ended::OtherHeights)
     }
-}
-
-fn texts(rt: &impl Eprint, asked: Asked<'_>) -> Result<(), Ended> {
-    for call in CALLS {
-        let mut context = filled(rt, asked)?;
-        text(rt, asked, &mut context, call)?;
-    }
-    Ok(())
 }
 
 fn push_format(rt: &impl Eprint, context: &mut Writing<'_>) -> Result<(), Ended> {
@@ -234,57 +251,30 @@ fn apply_suffix(
     given(before, &context.writing, outcome)
 }
 
-/// Calls that change the heights.
-#[derive(Clone, Copy)]
-enum Change {
-    PushFormat,
-    PopFormat,
-    PushElem,
-    CommitElem,
-    DiscardElem,
-    Settings,
-    ApplyPrefix,
-    HasContentSince,
-    ApplySuffix,
-}
-
-const CHANGES: [Change; 9] = [
-    Change::PushFormat,
-    Change::PopFormat,
-    Change::PushElem,
-    Change::CommitElem,
-    Change::DiscardElem,
-    Change::Settings,
-    Change::ApplyPrefix,
-    Change::HasContentSince,
-    Change::ApplySuffix,
-];
-
-fn make_change<'a>(
+fn make<'a>(
     rt: &impl Eprint,
     asked: Asked<'a>,
     context: &mut Writing<'a>,
-    change: Change,
+    call: Call,
 ) -> Result<(), Ended> {
-    match change {
-        Change::PushFormat => push_format(rt, context),
-        Change::PopFormat => pop_format(rt, context),
-        Change::PushElem => push_elem(rt, context),
-        Change::CommitElem => commit_elem(rt, context),
-        Change::DiscardElem => discard_elem(rt, context),
-        Change::Settings => push_settings(rt, asked, context),
-        Change::ApplyPrefix => apply_prefix(rt, asked, context),
-        Change::HasContentSince => has_content_since(rt, asked, context),
-        Change::ApplySuffix => apply_suffix(rt, asked, context),
+    match call {
+        Call::Text(name, call) => text(rt, asked, context, (name, call)),
+        Call::PushFormat => push_format(rt, context),
+        Call::PopFormat => pop_format(rt, context),
+        Call::PushElem => push_elem(rt, context),
+        Call::CommitElem => commit_elem(rt, context),
+        Call::DiscardElem => discard_elem(rt, context),
+        Call::Settings => push_settings(rt, asked, context),
+        Call::ApplyPrefix => apply_prefix(rt, asked, context),
+        Call::HasContentSince => has_content_since(rt, asked, context),
+        Call::ApplySuffix => apply_suffix(rt, asked, context),
     }
 }
 
-fn changes(rt: &impl Eprint, asked: Asked<'_>) -> Result<(), Ended> {
-    for each in CHANGES {
-        let mut context = filled(rt, asked)?;
-        make_change(rt, asked, &mut context, each)?;
-    }
-    Ok(())
+/// Makes a call in a context of its own.
+fn make_alone(rt: &impl Eprint, asked: Asked<'_>, call: Call) -> Result<(), Ended> {
+    let mut context = filled(rt, asked)?;
+    make(rt, asked, &mut context, call)
 }
 
 fn flush(rt: &impl Eprint, asked: Asked<'_>) -> Result<(), Ended> {
@@ -295,8 +285,9 @@ fn flush(rt: &impl Eprint, asked: Asked<'_>) -> Result<(), Ended> {
 }
 
 fn all(rt: &impl Eprint, asked: Asked<'_>) -> Result<(), Ended> {
-    texts(rt, asked)?;
-    changes(rt, asked)?;
+    for call in CALLS {
+        make_alone(rt, asked, call)?;
+    }
     flush(rt, asked)
 }
 

@@ -1,7 +1,7 @@
 //! A table from which each thing is taken out in turn, and one that is filled with what is missing.
 
 use crate::by_table::{Asking, driven};
-use crate::calls::Seen;
+use crate::seen::Seen;
 use cite_document::error::RunError;
 use csl_drive::drive::Driven;
 use csl_table::key::TaskKey;

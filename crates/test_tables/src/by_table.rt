@@ -2,9 +2,10 @@
 //! that have a name in place of their layouts: answer and account have to be the same. Then each thing is
 //! taken out of the table, one at a time, and exactly that has to be missing.
 
-use crate::calls::{Seen, print_answer};
 use crate::hosting::host_styles;
+use crate::printing::print_answer;
 use crate::recording::Recorder;
+use crate::seen::Seen;
 use crate::taking::{fill_in_turn, take_each_out};
 use cite_document::error::RunError;
 use cite_document::filling::{bibliography_request, filled_driver};
