@@ -556,6 +556,7 @@ def hold_stack(room, paths):
 def try_hard(room, cases, calls):
     """Memory refused, threads, valgrind, and the need of stack."""
     few = [it.path for it in ten(cases)]
+    hold(len(few) == 10, f'there are ten documents, one of each folder, and not {len(few)}')
     done = ran(f'{room}/failing', *few)
     wrong = [it for it in done.stdout.decode().splitlines() if ', 0 wrong' not in it]
     hold(done.returncode == 0, f'each allocation refused in turn: {wrong[:3]}')

@@ -1,5 +1,6 @@
 /* failing FILE..: each allocation of a call refused in turn, and each refused with all that come after it; of both texts, of
- * the fault, of the place of a ring, of the limits, and of a driven document and its fault. Linked with --wrap=malloc,--wrap=realloc,--wrap=free. */
+ * the fault, of the place of a ring, of the limits, and of a driven document and its fault. Linked with --wrap=malloc,--wrap=realloc,--wrap=free.
+ * It fails too where there is no file, or a call without an allocation. */
 #include "gamhilon.h"
 
 #include <stdio.h>
@@ -66,12 +67,19 @@ static int is_right(uint32_t status, size_t length, uint32_t whole_status, size_
     return status == whole_status && length == whole_length && memcmp(room, answer, whole_length) == 0;
 }
 
+/* Reads a document; 0 where there is none. */
+static int is_read(const char *path) {
+    FILE *file = fopen(path, "rb");
+    if (file == NULL) return 0;
+    n = fread(document, 1, sizeof document, file);
+    fclose(file);
+    return n != 0;
+}
+
 int main(int argc, char **argv) {
-    int wrong = 0;
+    int wrong = argc < 2;
     for (int i = 1; i < argc; i++) {
-        FILE *file = fopen(argv[i], "rb");
-        n = fread(document, 1, sizeof document, file);
-        fclose(file);
+        if (!is_read(argv[i])) return printf("%s: there is no document, wrong\n", argv[i]), 1;
         for (int form = 0; form < 7; form++) {
             size_t whole_length, length;
             left = -1, made = open_blocks = 0;
@@ -88,7 +96,7 @@ int main(int argc, char **argv) {
                 }
             printf("%s: form %d, status %u, %ld allocations, %ld of %ld calls out of memory, %ld wrong\n", argv[i], form,
                    (unsigned)whole_status, count, refused, 2 * count, bad);
-            wrong |= bad != 0 || refused < count;
+            wrong |= bad != 0 || count == 0 || refused < count;
         }
     }
     return wrong;

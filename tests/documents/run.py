@@ -13,7 +13,8 @@ likewise, answers each document that has an answer once more from a table of wha
 exactly that has to be missing, and a table that is empty at first has to be filled in at most three calls more than rounds mark.
 Where there is a NAME.context, crates/test_contexts prints what calls of a writing context give in the document's first style. It
 refuses each growth of memory in turn (refuse.c, for which a C compiler must be there), in all four programs; each such sweep is for
-some calls, and fails where one of them met no refusal.
+some calls, and fails where one of them met no refusal. Without the library jsonschema the documents aren't held to the schema: a line
+says so, and where the environment has CI set, it fails.
 run.py PROGRAM FOLDER..: runs it on the documents of these folders, and does nothing else.
 
 A document is NAME.json. NAME.txt is what it must print; where the status isn't 0, NAME.status has it, and nothing is
@@ -50,6 +51,9 @@ LINES = {
 ENDINGS = ('.json', '.txt', '.status', '.account', '.alone', '.passes', '.equality', '.context')
 SECONDS = 60
 RANDOM_DOCUMENTS = 2000
+# What a fault says of a value, and how deep JSON may nest.
+FOUND = {type(None): 'null', bool: 'a truth value', int: 'a number', float: 'a number', str: 'a text', list: 'a list', dict: 'an object'}
+MOST_LEVELS = 127
 
 
 class Failed(Exception):
@@ -239,8 +243,34 @@ def pointed_to(value, pointer):
     return value
 
 
+def depth(value):
+    """How deep lists and objects nest."""
+    parts = value.values() if isinstance(value, dict) else value if isinstance(value, list) else None
+    return 0 if parts is None else 1 + max(map(depth, parts), default=0)
+
+
+def value_of(data):
+    """The JSON value of some bytes, as docs/DOCUMENT.md has it, or what is told of those that are none, but for where."""
+    try:
+        value = json.loads(data.decode())
+    except UnicodeDecodeError as error:
+        return None, 'no UTF-8 from byte %d' % error.start
+    except ValueError:
+        return None, 'no JSON from line '
+    return (value, None) if depth(value) <= MOST_LEVELS else (None, 'no JSON from line ')
+
+
+def is_found(value, found):
+    """Whether a value is what a fault tells of it."""
+    if found.startswith(('unknown key ', 'missing key ')):
+        word, _, key = found.split(' ', 2)
+        return isinstance(value, dict) and (key in value) == (word == 'unknown')
+    return found == FOUND[type(value)]
+
+
 def fault(calls, base, must):
-    """A refused document's fault is told, and leads to a part of it; of any other document nothing is told."""
+    """A refused document's fault is told, and leads to a part of it that is as it tells, or tells that the document is no JSON, where
+    it is none; of any other document nothing is told."""
     status, _ = wanted(base)
     got = ended(calls, b'fault\n' + read(base + '.json'))
     if got[0] != 0 or bool(got[1]) != (status == 2):
@@ -250,8 +280,11 @@ def fault(calls, base, must):
     told = json.loads(got[1])
     if must not in (None, told):
         raise Failed('told %s, and not %s' % (told, must))
-    if not told['found'].startswith('no '):
-        pointed_to(json.loads(read(base + '.json')), told['pointer'])
+    value, why = value_of(read(base + '.json'))
+    if why and not (told['pointer'] == '' and told['found'].startswith(why)):
+        raise Failed('told %s, where there is %s' % (told, why))
+    if not why and not is_found(pointed_to(value, told['pointer']), told['found']):
+        raise Failed('told %s, which is not found there' % told)
 
 
 def faults(calls, bases):
@@ -751,6 +784,7 @@ def worked(folder):
 
 
 GROWTHS = []
+NO_SCHEMA = 'the documents were not held to the schema: %s has no library jsonschema (pip install jsonschema, or Debian: python3-jsonschema)' % sys.executable
 
 
 def cannot(why):
@@ -831,14 +865,16 @@ def main():
     tests += [('model: ' + name_of(it), worked, it) for it in [*folders_of(HERE), ROOT + '/examples']]
     tests.append(('files of the folders', strays))
     by_schema = [('schema: ' + name_of(it), schema, validator, it) for it in bases if validator]
+    if not validator and os.environ.get('CI'):
+        tests.append(('schema', cannot, NO_SCHEMA))
     with ThreadPoolExecutor(os.cpu_count()) as pool:
         runs = [pool.submit(tried, *it) for it in tests]
         # (this thread holds the documents to the schema meanwhile)
         results = [tried(*it) for it in by_schema]
         results += [it.result() for it in runs]
     count = told(results)
-    if not validator:
-        print('note: the documents were not held to the schema: the library jsonschema (python3-jsonschema) is not here')
+    if not validator and not os.environ.get('CI'):
+        print('note: ' + NO_SCHEMA)
     print('%d documents, %d of a process, %d against the schema, %d growths of memory refused in %d sweeps, %d random documents against the model: '
           '%.1f seconds' % (len(bases), len(PROCESSES), len(by_schema), sum(GROWTHS), len(GROWTHS), RANDOM_DOCUMENTS, time.time() - began))
     print('%d passed, %d failed' % (len(results) - count, count))
