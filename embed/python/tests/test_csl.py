@@ -472,6 +472,12 @@ def test_one_cite_may_stand_twice_in_a_citation(render):
     assert [it['meta'] for it in told.answer.citations[0].content if 'meta' in it] == [{'entry': 0}, {'entry': 1}]
 
 
+def test_of_entries_of_one_id_the_first_counts(render):
+    entries = [entry('one', 'Doe'), entry('two', 'Roe'), entry('one', 'Poe')]
+    told = render('<names variable="author"/>', entries, ['one'], ['two'], ['one'])
+    assert told.citations == ['(Doe)', '(Roe)', '(Doe)']
+
+
 def test_a_work_with_an_empty_list_of_authors_has_no_author(render):
     names = '<names variable="author"><name/></names><names variable="editor" prefix=" "><name form="short"/></names>'
     book = {**entry('one'), 'author': [], 'editor': [{'family': 'Doe', 'given': 'Jane'}]}
