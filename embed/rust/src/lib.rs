@@ -2,7 +2,7 @@
 //!
 //! ```no_run
 //! let document = std::fs::read("examples/first.json").unwrap();
-//! match gamhilon::print(&document) {
+//! match gamhilon::render_text(&document) {
 //!     Ok(text) => print!("{text}"),
 //!     Err(refusal) => eprintln!("{refusal}"),
 //! }
@@ -14,29 +14,43 @@ use std::os::raw::c_char;
 type Call = unsafe extern "C" fn(*const u8, usize, *mut u8, usize, *mut usize) -> u32;
 
 extern "C" {
-    fn gamhilon_print(
+    fn gamhilon_render_text(
         document: *const u8,
         document_length: usize,
-        room: *mut u8,
-        room_length: usize,
-        length: *mut usize,
+        buffer: *mut u8,
+        buffer_length: usize,
+        needed: *mut usize,
     ) -> u32;
-    fn gamhilon_print_json(
+    fn gamhilon_render_json(
         document: *const u8,
         document_length: usize,
-        room: *mut u8,
-        room_length: usize,
-        length: *mut usize,
+        buffer: *mut u8,
+        buffer_length: usize,
+        needed: *mut usize,
     ) -> u32;
-    fn gamhilon_fault(
+    fn gamhilon_drive(
         document: *const u8,
         document_length: usize,
-        room: *mut u8,
-        room_length: usize,
-        length: *mut usize,
+        buffer: *mut u8,
+        buffer_length: usize,
+        needed: *mut usize,
     ) -> u32;
-    fn gamhilon_ring(document: *const u8, document_length: usize, ring: *mut Ring) -> u32;
-    fn gamhilon_limits(document: *const u8, document_length: usize, depth: usize, elements: usize) -> u32;
+    fn gamhilon_find_fault(
+        document: *const u8,
+        document_length: usize,
+        buffer: *mut u8,
+        buffer_length: usize,
+        needed: *mut usize,
+    ) -> u32;
+    fn gamhilon_find_driven_fault(
+        document: *const u8,
+        document_length: usize,
+        buffer: *mut u8,
+        buffer_length: usize,
+        needed: *mut usize,
+    ) -> u32;
+    fn gamhilon_find_ring(document: *const u8, document_length: usize, ring: *mut Ring) -> u32;
+    fn gamhilon_check_limits(document: *const u8, document_length: usize, depth: usize, elements: usize) -> u32;
     fn gamhilon_version() -> *const c_char;
 }
 
@@ -46,9 +60,9 @@ extern "C" {
 pub struct Ring {
     /// 1 where the style is that of the bibliography, and else 0.
     pub of_bibliography: usize,
-    /// The place of the request whose style it is, from 0.
+    /// The index of the request whose style it is, from 0.
     pub request: usize,
-    /// The place of the first macro on a ring, among the macros of its style, from 0.
+    /// The index of the first macro on a ring, among the macros of its style, from 0.
     pub macro_place: usize,
 }
 
@@ -65,13 +79,14 @@ pub struct Limits {
 #[derive(Debug, Clone, Copy, PartialEq, Eq)]
 #[non_exhaustive]
 pub enum Refusal {
-    /// The document isn't JSON, or not of the form of a document: `fault` tells where.
+    /// The document isn't JSON, or not of the form of a document: `find_fault` tells where, and `find_driven_fault`
+    /// where a driven document is wrong.
     Document,
     /// The macros of a style call each other in a ring.
     MacroRing(Ring),
     /// The citation numbers don't fit 64 bits.
     NumberOverflow,
-    /// Memory was refused: to the library, or for the room of the answer.
+    /// Memory was refused: to the library, or for the buffer of the answer.
     OutOfMemory,
     /// The elements of a layout nest deeper than the limit.
     TooDeep,
@@ -135,28 +150,29 @@ impl std::error::Error for Refusal {}
 fn ring_of(document: &[u8]) -> Refusal {
     let mut ring = Ring::default();
     // SAFETY: a slice is valid for its length, and the ring is this function's own.
-    match unsafe { gamhilon_ring(document.as_ptr(), document.len(), &mut ring) } {
+    match unsafe { gamhilon_find_ring(document.as_ptr(), document.len(), &mut ring) } {
         3 => Refusal::MacroRing(ring),
         _ => Refusal::OutOfMemory,
     }
 }
 
-/// A room of so many bytes, if there is memory for it.
-fn room_of(length: usize) -> Result<Vec<u8>, Refusal> {
-    let mut room = Vec::new();
-    room.try_reserve_exact(length).map_err(|_| Refusal::OutOfMemory)?;
-    room.resize(length, 0);
-    Ok(room)
+/// A buffer of so many bytes, if there is memory for it.
+fn buffer_of(length: usize) -> Result<Vec<u8>, Refusal> {
+    let mut buffer = Vec::new();
+    buffer.try_reserve_exact(length).map_err(|_| Refusal::OutOfMemory)?;
+    buffer.resize(length, 0);
+    Ok(buffer)
 }
 
-fn called(call: Call, document: &[u8], mut length: usize) -> Result<String, Refusal> {
+/// What a call puts into its buffer, which has `needed` bytes at first, and as many as are needed then.
+fn text_by(call: Call, document: &[u8], mut needed: usize) -> Result<String, Refusal> {
     loop {
-        let mut room = room_of(length)?;
+        let mut buffer = buffer_of(needed)?;
         // SAFETY: slices are valid for their lengths, and three borrows of their own don't overlap.
-        match unsafe { call(document.as_ptr(), document.len(), room.as_mut_ptr(), room.len(), &mut length) } {
+        match unsafe { call(document.as_ptr(), document.len(), buffer.as_mut_ptr(), buffer.len(), &mut needed) } {
             0 => {
-                room.truncate(length);
-                return Ok(String::from_utf8(room).expect("an answer is UTF-8"));
+                buffer.truncate(needed);
+                return Ok(String::from_utf8(buffer).expect("an answer is UTF-8"));
             }
             6 => continue,
             status => return Err(Refusal::of(status, document)),
@@ -164,21 +180,49 @@ fn called(call: Call, document: &[u8], mut length: usize) -> Result<String, Refu
     }
 }
 
-/// The text that a document prints.
-pub fn print(document: &[u8]) -> Result<String, Refusal> {
-    called(gamhilon_print, document, document.len().saturating_mul(2).saturating_add(4096))
+/// The answer to a document as text: a line for each citation, and for each item of the bibliography.
+pub fn render_text(document: &[u8]) -> Result<String, Refusal> {
+    text_by(gamhilon_render_text, document, document.len().saturating_mul(2).saturating_add(4096))
 }
 
-/// The answer to a document as JSON.
-pub fn print_json(document: &[u8]) -> Result<String, Refusal> {
-    // Each call does the whole work, so the room is one that mostly does.
-    called(gamhilon_print_json, document, document.len().saturating_mul(8).saturating_add(4096))
+/// The answer to a document as JSON (docs/ANSWER.md).
+pub fn render_json(document: &[u8]) -> Result<String, Refusal> {
+    // Each call does the whole work, so the buffer is one that mostly does.
+    text_by(gamhilon_render_json, document, document.len().saturating_mul(8).saturating_add(4096))
+}
+
+/// What comes of a driven document (docs/DRIVEN.md): a JSON object whose one member is `answer`, where its host has written
+/// all that is asked for, and else `missing`, a list of the tasks that are to be written next. A host writes these, adds
+/// them to the document and calls again:
+///
+/// ```no_run
+/// fn answer(mut document: String, write: impl Fn(&str, &str) -> String) -> Result<String, gamhilon::Refusal> {
+///     loop {
+///         let outcome = gamhilon::drive(document.as_bytes())?;
+///         if outcome.starts_with("{\"answer\":") {
+///             return Ok(outcome);
+///         }
+///         document = write(&document, &outcome);
+///     }
+/// }
+/// ```
+pub fn drive(document: &[u8]) -> Result<String, Refusal> {
+    text_by(gamhilon_drive, document, document.len().saturating_mul(8).saturating_add(4096))
 }
 
 /// The first fault of a document that isn't of the form, as a JSON object of three texts, `pointer`, `found` and `wanted`; and
 /// none where it is of the form.
-pub fn fault(document: &[u8]) -> Result<Option<String>, Refusal> {
-    let text = called(gamhilon_fault, document, document.len().saturating_add(4096))?;
+pub fn find_fault(document: &[u8]) -> Result<Option<String>, Refusal> {
+    fault_by(gamhilon_find_fault, document)
+}
+
+/// The first fault of a driven document, as `find_fault` tells that of a document.
+pub fn find_driven_fault(document: &[u8]) -> Result<Option<String>, Refusal> {
+    fault_by(gamhilon_find_driven_fault, document)
+}
+
+fn fault_by(call: Call, document: &[u8]) -> Result<Option<String>, Refusal> {
+    let text = text_by(call, document, document.len().saturating_add(4096))?;
     Ok(Some(text).filter(|it| !it.is_empty()))
 }
 
@@ -186,14 +230,14 @@ pub fn fault(document: &[u8]) -> Result<Option<String>, Refusal> {
 /// first, since the other calls have no limits of their own:
 ///
 /// ```no_run
-/// fn answered(document: &[u8]) -> Result<String, gamhilon::Refusal> {
+/// fn answer(document: &[u8]) -> Result<String, gamhilon::Refusal> {
 ///     gamhilon::check_limits(document, gamhilon::Limits { depth: 100, elements: 100_000 })?;
-///     gamhilon::print(document)
+///     gamhilon::render_text(document)
 /// }
 /// ```
 pub fn check_limits(document: &[u8], limits: Limits) -> Result<(), Refusal> {
     // SAFETY: a slice is valid for its length.
-    match unsafe { gamhilon_limits(document.as_ptr(), document.len(), limits.depth, limits.elements) } {
+    match unsafe { gamhilon_check_limits(document.as_ptr(), document.len(), limits.depth, limits.elements) } {
         0 => Ok(()),
         status => Err(Refusal::of(status, document)),
     }
@@ -210,8 +254,8 @@ pub fn version() -> &'static str {
 mod tests {
     use super::*;
 
-    unsafe extern "C" fn asks_for_all_memory(_: *const u8, _: usize, _: *mut u8, _: usize, length: *mut usize) -> u32 {
-        *length = isize::MAX as usize;
+    unsafe extern "C" fn asks_for_all_memory(_: *const u8, _: usize, _: *mut u8, _: usize, needed: *mut usize) -> u32 {
+        *needed = isize::MAX as usize;
         6
     }
 
@@ -220,9 +264,9 @@ mod tests {
     }
 
     #[test]
-    fn a_room_that_cannot_be_had_is_out_of_memory() {
-        assert_eq!(called(asks_for_all_memory, b"", 0), Err(Refusal::OutOfMemory));
-        assert_eq!(called(asks_for_all_memory, b"", usize::MAX), Err(Refusal::OutOfMemory));
+    fn a_buffer_that_cannot_be_had_is_out_of_memory() {
+        assert_eq!(text_by(asks_for_all_memory, b"", 0), Err(Refusal::OutOfMemory));
+        assert_eq!(text_by(asks_for_all_memory, b"", usize::MAX), Err(Refusal::OutOfMemory));
     }
 
     #[test]
@@ -237,7 +281,7 @@ mod tests {
 
     #[test]
     fn a_status_of_a_later_library_is_told() {
-        let refusal = called(ends_with_seventeen, b"", 0).unwrap_err();
+        let refusal = text_by(ends_with_seventeen, b"", 0).unwrap_err();
         assert_eq!(refusal, Refusal::Unknown(17));
         assert_eq!(refusal.status(), 17);
         assert!(refusal.to_string().contains("17"));

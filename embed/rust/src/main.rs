@@ -11,7 +11,7 @@ fn main() -> ExitCode {
         return failed(&error, IO_FAILED);
     }
     let as_json = std::env::args().nth(1).as_deref() == Some("json");
-    let answer = if as_json { gamhilon::print_json(&document) } else { gamhilon::print(&document) };
+    let answer = if as_json { gamhilon::render_json(&document) } else { gamhilon::render_text(&document) };
     match answer {
         Ok(text) => match written(&text) {
             Ok(()) => ExitCode::SUCCESS,

@@ -5,23 +5,43 @@ const FIRST: &[u8] = include_bytes!("../../../examples/first.json");
 
 #[test]
 fn the_first_example_is_printed() -> Result<(), Box<dyn Error>> {
-    assert_eq!(gamhilon::print(FIRST)?, include_str!("../../../examples/first.txt"));
-    assert!(gamhilon::print_json(FIRST)?.starts_with("{\"bibliography\":"));
+    assert_eq!(gamhilon::render_text(FIRST)?, include_str!("../../../examples/first.txt"));
+    assert!(gamhilon::render_json(FIRST)?.starts_with("{\"bibliography\":"));
     Ok(())
 }
 
 #[test]
 fn what_is_no_document_is_refused() {
-    let refusal = gamhilon::print(b"{").unwrap_err();
+    let refusal = gamhilon::render_text(b"{").unwrap_err();
     assert_eq!(refusal, gamhilon::Refusal::Document);
     assert_eq!(refusal.to_string(), "not of the form of a document");
 }
 
 #[test]
 fn a_fault_has_its_place() -> Result<(), Box<dyn Error>> {
-    let told = gamhilon::fault(br#"{"styles": {"s": 5}}"#)?;
+    let told = gamhilon::find_fault(br#"{"styles": {"s": 5}}"#)?;
     assert_eq!(told.as_deref(), Some(r#"{"found":"a number","pointer":"/styles/s","wanted":"an object"}"#));
-    assert_eq!(gamhilon::fault(FIRST)?, None);
+    assert_eq!(gamhilon::find_fault(FIRST)?, None);
+    Ok(())
+}
+
+const DRIVEN: &str = r#"{"styles":{"s":{"citation":{}}},"entries":[{"key":"a"}],
+    "requests":[{"style":"s","items":[{"entry":"a"}]}],"bibliography":{"style":"s"},"written":[]}"#;
+
+#[test]
+fn a_driven_document_tells_what_is_missing() -> Result<(), Box<dyn Error>> {
+    let outcome = gamhilon::drive(DRIVEN.as_bytes())?;
+    assert!(outcome.starts_with("{\"missing\":[{"), "{outcome}");
+    assert_eq!(gamhilon::find_driven_fault(DRIVEN.as_bytes())?, None);
+    Ok(())
+}
+
+#[test]
+fn a_driven_document_that_is_wrong_has_a_fault() -> Result<(), Box<dyn Error>> {
+    let wrong = DRIVEN.replace("\"key\":\"a\"", "\"key\":5");
+    assert_eq!(gamhilon::drive(wrong.as_bytes()), Err(gamhilon::Refusal::Document));
+    let told = gamhilon::find_driven_fault(wrong.as_bytes())?;
+    assert_eq!(told.as_deref(), Some(r#"{"found":"a number","pointer":"/entries/0/key","wanted":"a text"}"#));
     Ok(())
 }
 
@@ -31,7 +51,7 @@ fn a_ring_has_its_place() {
         {"name": "a", "children": []}, {"name": "b", "children": [{"kind": "text", "macro": "b"}]}]}},
         "entries": [], "requests": [], "bibliography": {"style": "s"}}"#;
     let ring = gamhilon::Ring { of_bibliography: 1, request: 0, macro_place: 1 };
-    assert_eq!(gamhilon::print(document), Err(gamhilon::Refusal::MacroRing(ring)));
+    assert_eq!(gamhilon::render_text(document), Err(gamhilon::Refusal::MacroRing(ring)));
 }
 
 #[test]
