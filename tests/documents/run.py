@@ -586,7 +586,7 @@ HEIGHTS = ['ensure_space', 'push_str', 'push_chunked', 'push_link', 'push_transp
 HEIGHTS += ['push_format', 'pop_format', 'push_elem', 'commit_elem', 'discard_elem', 'push_delimiter', 'push_name_options']
 HEIGHTS += ['apply_prefix', 'has_content_since', 'apply_suffix', 'flush']
 # Calls of the three programs of calls, which name them before they make them; the status is 5 where one is refused, but for `citation`.
-CALLS = ['read', 'prepare', 'citation', 'finish', 'finish_counted', 'finish_full', 'standalone_citation', 'run', 'clone', 'context', 'finish_with', 'drive']
+CALLS = ['read', 'prepare', 'citation', 'finish', 'finish_counted', 'finish_full', 'standalone_citation', 'run', 'clone', 'context', 'finish_with', 'drive', 'answer_by']
 CALLS += [*PASSES, *HEIGHTS]
 # Those that print before others are called.
 PRINT = ['standalone_citation', 'context', *PASSES]
@@ -753,9 +753,10 @@ def sweeps_of_calls(shim, program):
 
 def sweeps_of_tables(shim, program):
     """Those of crates/test_tables."""
-    way, swept = 'drive 1', ['finish_with', 'drive']
     given = {it: read(HERE + '/' + it + '.json') for it in SWEPT_TABLES}
-    return [('growths of %s: %s' % (way, it), sweep_of_calls, shim, program, way, swept, given[it], 0, b'') for it in SWEPT_TABLES]
+    ways = [('drive 1', ['finish_with', 'drive']), ('fill 1', ['finish_with', 'answer_by'])]
+    return [('growths of %s: %s' % (way, it), sweep_of_calls, shim, program, way, swept, given[it], 0, b'')
+            for way, swept in ways for it in SWEPT_TABLES]
 
 
 def sweeps(program, calls, tables, contexts):

@@ -29,7 +29,38 @@ pub enum Driven<'a, T> {
 }
 
 /// Answers all requests of a driver with what a host has written. Called again and again with what was
-/// missing, it answers after at most three calls more than rounds mark.
+/// missing, it answers after at most three calls more than rounds mark. The driver stays for the next call.
+///
+/// # Errors
+///
+/// Those of `BibliographyDriver::finish`.
+pub fn drive_by<'a, T: EntryLike, P: Eq + Drop>(
+    alloc: Global,
+    driver: &BibliographyDriver<'a, T, P>,
+    request: &BibliographyRequest<'_, 'a, T>,
+    mode: RoundMode,
+    table: &Table,
+) -> Result<Driven<'a, T>, DriverError>
+    ensures driven { IfOk result
+        (IsDriven T.eq P.eq T.answers (found table.now) mode (asked_of driver.now request.now)) }
+    ensures refused { let asked = asked_of driver.now request.now in
+        IfErr result (Refuses T.eq asked.requests asked.wanted.style asked.offset) }
+{
+    key_equality_decides();
+    let mut writer = TableWriter::new(alloc, table);
+    let (rendered, account) = driver.answer_with(request, mode, &mut writer)?;
+    let TableWriter {
+        written: _,
+        missing,
+    } = writer;
+    if missing.is_empty() {
+        Ok(Driven::Answer(rendered, account))
+    } else {
+        Ok(Driven::Missing(missing))
+    }
+}
+
+/// The same, of a driver that is used up.
 ///
 /// # Errors
 ///
@@ -46,16 +77,5 @@ pub fn drive<'a, T: EntryLike, P: Eq + Drop>(
     ensures refused { let asked = asked_of driver.entry request.entry in
         IfErr result (Refuses T.eq asked.requests asked.wanted.style asked.offset) }
 {
-    key_equality_decides();
-    let mut writer = TableWriter::new(alloc, table);
-    let (rendered, account) = driver.finish_with(request, mode, &mut writer)?;
-    let TableWriter {
-        written: _,
-        missing,
-    } = writer;
-    if missing.is_empty() {
-        Ok(Driven::Answer(rendered, account))
-    } else {
-        Ok(Driven::Missing(missing))
-    }
+    drive_by(alloc, &driver, &request, mode, table)
 }

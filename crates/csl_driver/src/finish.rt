@@ -128,12 +128,15 @@ impl<'a, T: EntryLike, P: Eq + Drop> BibliographyDriver<'a, T, P> {
             (asked_of self.entry request.entry)) (W.state writer.old)) }
         ensures unasked { IfErr result (WhereDriverRefuses (W.state writer.new ≡ W.state writer.old)) }
     {
-        self.answered(&request, mode, writer)
+        self.answer_with(&request, mode, writer)
     }
 
     /// Answers all requests with so many rounds, as this writer writes: rings are refused, the entries that
     /// are cited are listed, and what is then known is finished.
-    fn answered<W: CiteWriter<T, P>>(
+    ///
+    /// # Errors
+    /// Those of `finish_with`.
+    pub fn answer_with<W: CiteWriter<T, P>>(
         &self,
         request: &BibliographyRequest<'_, 'a, T>,
         mode: RoundMode,

@@ -1,12 +1,14 @@
 //! A document answered by the layouts of its styles, and again from a table of what these wrote, in styles
 //! that have a name in place of their layouts: answer and account have to be the same. Then each thing is
-//! taken out of the table, one at a time, and exactly that has to be missing.
+//! taken out of the table, one at a time, and exactly that has to be missing; and a source that has what is in
+//! the table is asked for what an empty one lacks.
 
 use crate::hosting::host_styles;
 use crate::printing::print_answer;
 use crate::recording::Recorder;
 use crate::seen::Seen;
-use crate::taking::{fill_in_turn, take_each_out};
+use crate::filling::fill_from;
+use crate::taking::take_each_out;
 use cite_document::error::RunError;
 use cite_document::filling::{bibliography_request, filled_driver};
 use csl_base::entry::PlainEntry;
@@ -35,6 +37,8 @@ pub enum TableWay {
     Finished(usize),
     /// It is answered so many times from the table.
     Driven(usize),
+    /// It is answered so many times by a source that has what is in the table.
+    Filled(usize),
 }
 
 /// What a document asks for, with the tables of its locales.
@@ -57,7 +61,8 @@ struct Parts<'d> {
     locales: &'d [Locale],
 }
 
-type Answer<'a> = (Rendered, Account<'a, PlainEntry>);
+/// An answer and its account.
+pub type Answer<'a> = (Rendered, Account<'a, PlainEntry>);
 
 /// Does it with the document.
 pub fn by_table(
@@ -206,32 +211,51 @@ fn from_table(
     table: &mut Table,
     way: TableWay,
 ) -> Result<Seen, RunError> {
+    if let TableWay::Filled(times) = way {
+        let _ = eprintln!(rt; "answer_by");
+        return fill_often(asking, table, answer, times);
+    }
     let _ = eprintln!(rt; "drive");
     match way {
         TableWay::Driven(times) => drive_often(asking, table, times),
         _ if !agrees(rt, asking, table, answer)? => Ok(Seen::Amiss("another answer, or none")),
-        _ => take_out_and_fill(asking, table, calls_at_most(answer.1.rounds)),
+        _ => take_out_and_fill(asking, table, answer),
     }
 }
 
-/// How often a host calls at most where so many rounds mark.
-fn calls_at_most(rounds: u128) -> usize {
+/// How often a driver is called at most where so many rounds mark.
+pub fn calls_at_most(rounds: u128) -> usize {
     match usize::try_from(rounds) {
         Ok(rounds) => rounds.saturating_add(3),
         Err(_) => usize::MAX,
     }
 }
 
-/// Takes each thing out of the table in turn, and then fills another one from it in so many calls.
+/// Takes each thing out of the table in turn, and then fills another one from it.
 fn take_out_and_fill(
     asking: &Asking<'_, '_>,
     table: &mut Table,
-    calls: usize,
+    answer: &Answer<'_>,
 ) -> Result<Seen, RunError> {
     match take_each_out(asking, table)? {
-        Seen::Answer => fill_in_turn(asking, table, calls),
+        Seen::Answer => fill_from(asking, table, answer),
         seen => Ok(seen),
     }
+}
+
+/// Fills an empty table from this one so many times.
+fn fill_often(
+    asking: &Asking<'_, '_>,
+    table: &Table,
+    answer: &Answer<'_>,
+    times: usize,
+) -> Result<Seen, RunError> {
+    for _ in 0..times {
+        if let Seen::Amiss(what) = fill_from(asking, table, answer)? {
+            return Ok(Seen::Amiss(what));
+        }
+    }
+    Ok(Seen::Answer)
 }
 
 /// What comes of the table.
@@ -269,7 +293,8 @@ fn agrees(
     }
 }
 
-fn is_same(one: &Account<'_, PlainEntry>, other: &Account<'_, PlainEntry>) -> bool {
+/// Whether two accounts are the same.
+pub fn is_same(one: &Account<'_, PlainEntry>, other: &Account<'_, PlainEntry>) -> bool {
     one.renders == other.renders
         && one.rounds == other.rounds
         && one.entries == other.entries

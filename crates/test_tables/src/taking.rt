@@ -1,4 +1,4 @@
-//! A table from which each thing is taken out in turn, and one that is filled with what is missing.
+//! A table from which each thing is taken out in turn.
 
 use crate::by_table::{Asking, driven};
 use crate::seen::Seen;
@@ -7,7 +7,6 @@ use csl_drive::drive::Driven;
 use csl_table::key::TaskKey;
 use csl_table::table::Table;
 use csl_writers::cite::Cite;
-use indexmap::{IndexMap, IndexSet};
 
 /// Whether the table lacks this and nothing else.
 fn lacks_alone(asking: &Asking<'_, '_>, table: &Table, key: &TaskKey) -> Result<bool, RunError> {
@@ -43,33 +42,4 @@ pub fn take_each_out(asking: &Asking<'_, '_>, table: &mut Table) -> Result<Seen,
         }
     }
     Ok(Seen::Answer)
-}
-
-/// Moves what is missing from one table to the other. What was never written is asked for in vain: a cite that
-/// is compared in a later round, while one of an earlier round was missing.
-fn hand_over(missing: IndexSet<TaskKey>, from: &mut Table, to: &mut Table) -> Result<(), RunError> {
-    for key in missing {
-        if let Some((key, written)) = from.shift_remove_entry(&key) {
-            put(to, key, written)?;
-        }
-    }
-    Ok(())
-}
-
-/// Begins with an empty table and puts into it what is missing, until nothing is: the answer has to come after
-/// so many calls, and all of the table has to be asked for.
-pub fn fill_in_turn(
-    asking: &Asking<'_, '_>,
-    whole: &mut Table,
-    calls: usize,
-) -> Result<Seen, RunError> {
-    let mut given = IndexMap::new(asking.alloc);
-    for _ in 0..calls {
-        match driven(asking, &given)? {
-            Driven::Answer(_, _) if whole.is_empty() => return Ok(Seen::Answer),
-            Driven::Answer(_, _) => return Ok(Seen::Amiss("not all was asked for")),
-            Driven::Missing(missing) => hand_over(missing, whole, &mut given)?,
-        }
-    }
-    Ok(Seen::Amiss("there is no answer after so many calls"))
 }

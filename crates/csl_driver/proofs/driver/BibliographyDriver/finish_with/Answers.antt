@@ -1,4 +1,4 @@
 use Rattle.csl_driver.proofs.driver.BibliographyDriver.finish_with.Goals as goal
 
 pub returns-clause-finished : goal.returns-clause-finished
-returns-clause-finished g c = c.answered.ensures.finished
+returns-clause-finished g c = c.answer_with.ensures.finished

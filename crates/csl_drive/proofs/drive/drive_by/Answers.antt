@@ -7,15 +7,15 @@ use Rattle.csl_table.specs.Table.{found, note_once}
 use Rattle.csl_table.specs.declared.key.TaskKey.{TaskKey}
 use Rattle.csl_table.proofs.MissingTasks.{all-missing, all-there, clash, empty}
 use Rattle.csl_writers.specs.Writing.{WriterState, noted_all}
-use Rattle.csl_drive.proofs.drive.drive.Goals as goal
+use Rattle.csl_drive.proofs.drive.drive_by.Goals as goal
 
 pub returns-then-is_empty-clause-driven : goal.returns-then-is_empty-clause-driven
 returns-then-is_empty-clause-driven g c =
     let answers = g.T.EntryLike.answers in
-    let asked = asked_of c.args.driver c.args.request in
+    let asked = asked_of c.args.driver.now c.args.request.now in
     let table = found c.new-writer.result.written.now in
     let all = asked_for_all g.T.PartialEq.eq g.P.PartialEq.eq answers table c.args.mode asked in
-    let missing = c.finish_with.new.writer.missing.keys in
+    let missing = c.answer_with.new.writer.missing.keys in
     let noted = ap (λ (s : WriterState g.row.T.Denot g.row.P.Denot TaskKey). s.notes) c.in_ok-rendered.ensures.asked
     ∙ ap (noted_all (λ task. note_once table (task_key answers task)) all) c.new-writer.ensures.nothing in
     subst (λ t. IsWhole g.T.PartialEq.eq g.P.PartialEq.eq answers (found t) c.args.mode asked (c.in_ok-rendered.rendered, c.in_ok-rendered.account))
@@ -28,10 +28,10 @@ returns-then-is_empty-clause-driven g c =
 pub returns-clause-driven : goal.returns-clause-driven
 returns-clause-driven g c =
     let answers = g.T.EntryLike.answers in
-    let asked = asked_of c.args.driver c.args.request in
+    let asked = asked_of c.args.driver.now c.args.request.now in
     let table = found c.new-writer.result.written.now in
     let all = asked_for_all g.T.PartialEq.eq g.P.PartialEq.eq answers table c.args.mode asked in
-    let missing = c.finish_with.new.writer.missing.keys in
+    let missing = c.answer_with.new.writer.missing.keys in
     let noted = ap (λ (s : WriterState g.row.T.Denot g.row.P.Denot TaskKey). s.notes) c.in_ok-rendered.ensures.asked
     ∙ ap (noted_all (λ task. note_once table (task_key answers task)) all) c.new-writer.ensures.nothing in
     subst (λ t. IsLacking g.T.PartialEq.eq g.P.PartialEq.eq answers (found t) c.args.mode asked missing)

@@ -1,5 +1,5 @@
 use Rattle.std.proofs.Common.{rules, sym, ◌∙◌}
-use Rattle.csl_driver.proofs.driver.BibliographyDriver.answered.Goals as goal
+use Rattle.csl_driver.proofs.driver.BibliographyDriver.answer_with.Goals as goal
 
 pub returns-in_err-cited : goal.returns-in_err-cited
 returns-in_err-cited g c =

@@ -1,0 +1,93 @@
+//! An answer by a source that has what the layouts wrote.
+
+use crate::by_table::{Answer, Asking, calls_at_most, is_same};
+use crate::seen::Seen;
+use cite_document::error::RunError;
+use cite_document::filling::{bibliography_request, filled_driver};
+use csl_base::elem::ElemChildren;
+use csl_base::entry::PlainEntry;
+use csl_filling::filling::{FillError, FilledAnswer, answer_by};
+use csl_filling::source::CiteSource;
+use csl_lookup::state::IdentifierUsage;
+use csl_table::key::TaskKey;
+use csl_table::table::Table;
+use csl_writers::cite::Cite;
+use std::alloc::{AllocError, Global};
+
+/// Writes what a table has, and an empty tree for the rest.
+#[derive(Drop)]
+struct WrittenBefore<'t> {
+    table: &'t Table,
+}
+
+impl<'t> CiteSource for WrittenBefore<'t> {
+    type Error = AllocError;
+
+    fn write(&self, alloc: Global, key: &TaskKey) -> Result<Cite, AllocError> {
+        match self.table.get(key) {
+            Some(cite) => copy_of(cite),
+            None => Ok(empty_cite(alloc)),
+        }
+    }
+}
+
+fn copy_of(cite: &Cite) -> Result<Cite, AllocError> {
+    let first_name = match &cite.first_name {
+        Some(names) => Some(names.clone()?),
+        None => None,
+    };
+    Ok(Cite {
+        children: cite.children.clone()?,
+        checked_disambiguate: cite.checked_disambiguate,
+        first_name,
+        identifier_usage: cite.identifier_usage,
+    })
+}
+
+fn empty_cite(alloc: Global) -> Cite {
+    Cite {
+        children: ElemChildren::new(alloc),
+        checked_disambiguate: false,
+        first_name: None,
+        identifier_usage: IdentifierUsage::None,
+    }
+}
+
+/// Whether all that stands in one table was asked for, so that it stands in the other.
+fn has_all(whole: &Table, table: &Table) -> bool {
+    whole.keys().all(|key| table.contains_key(key))
+}
+
+/// Begins with an empty table and has the source write what is missing, until nothing is: after three calls more
+/// than rounds mark the answer has to be that of the layouts, and all that they wrote has to be asked for.
+pub fn fill_from(
+    asking: &Asking<'_, '_>,
+    whole: &Table,
+    answer: &Answer<'_>,
+) -> Result<Seen, RunError> {
+    let asked = asking.asked;
+    let driver = filled_driver(asking.alloc, &asked.requests, asking.files, asked.offset)?;
+    let request = bibliography_request(asking.alloc, asked, asking.files)?;
+    let source = WrittenBefore { table: whole };
+    let calls = calls_at_most(answer.1.rounds);
+    match answer_by(asking.alloc, &driver, &request, asked.rounds, calls, &source) {
+        Ok(filled) => Ok(compared(&filled, whole, answer)),
+        Err(FillError::Driver(error)) => Err(error.into()),
+        Err(FillError::Unsettled) => Ok(Seen::Amiss("there is no answer after so many calls")),
+        Err(_) => Err(RunError::OutOfMemory),
+    }
+}
+
+fn compared(
+    filled: &FilledAnswer<'_, PlainEntry>,
+    whole: &Table,
+    answer: &Answer<'_>,
+) -> Seen {
+    if !has_all(whole, &filled.table) {
+        Seen::Amiss("not all was asked for")
+    } else if filled.rendered == answer.0 && is_same(&filled.account, &answer.1) {
+        Seen::Answer
+    } else {
+        Seen::Amiss("another answer by a source")
+    }
+}
