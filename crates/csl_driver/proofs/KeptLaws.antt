@@ -195,6 +195,7 @@ module _ {E P : Type 0} (eq : E → E → Bool) (laws : IsEquivalence eq) (each_
               none_left = λ e. h.left.none_left (back e);
               told_apart = λ e. h.left.told_apart (back e);
             };
+            marks = h.marks;
             ranks = h.ranks;
           }
 

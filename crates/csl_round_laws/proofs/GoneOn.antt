@@ -1,6 +1,6 @@
 -- From one table to the next the state of each entry goes on.
-use Rattle.std.proofs.Common.{◌≡◌, ℕ, zero, suc, Bool, true, false, cond, Option, Some, None, List, [], ◌∷◌, map, filter, refl, ap, sym, subst, ◌∙◌}
-use Rattle.std.specs.Prelude.{All, Contains, length, option_map, unwrap_or}
+use Rattle.std.proofs.Common.{◌≡◌, ◌⊎◌, inl, inr, ℕ, zero, suc, Bool, true, false, cond, Option, Some, None, List, [], ◌∷◌, map, filter, refl, ap, sym, subst, ◌∙◌}
+use Rattle.std.specs.Prelude.{All, Any, Contains, length, option_map, unwrap_or}
 use Rattle.std.specs.Cmp.{IsEquivalence}
 use Rattle.std.specs.List.{AllAdjacentBelow}
 use Rattle.std.specs.Option.{option_map_or, option_or}
@@ -24,7 +24,7 @@ use Rattle.csl_round_laws.specs.Rounds.{StateTable, at_table, mark_of, no_states
 use Rattle.csl_round_laws.specs.RunLaws.{StatesGoOn, marks_of_entry}
 use Rattle.csl_round_laws.specs.Tables.{marked_at, marks_at, most_rounds, tables, tables_from}
 use Rattle.csl_round_laws.specs.declared.mode.RoundMode.{RoundMode}
-use Rattle.csl_round_laws.proofs.Greatest.{greatest-kept, none-greater}
+use Rattle.csl_round_laws.proofs.Greatest.{greatest-kept, none-greater, one-of-marks}
 use Rattle.csl_round_laws.proofs.Kept.{full-kept, three-kept}
 use Rattle.csl_round_laws.proofs.Runs.{all-passed, run, run-all, run-neighbours}
 use Rattle.csl_round_laws.proofs.Told.{IsThere, IsTold, in-members, item-known, members-there, rows-told}
@@ -205,8 +205,23 @@ module _ {E P : Type 0} (mode : RoundMode) (eq : E → E → Bool) (writing : Wr
     loses-none t e =
         none-greater laws.order.total laws.never_below (t e) (marks_of_entry mode eq writing firsts t e)
 
+    -- an entry keeps its state, or gets that of one of its marks
+    KeepsOrIsMarked : StateTable E → StateTable E → Type 0
+    KeepsOrIsMarked t later = (e : E) → (later e ≡ t e) ⊎ Any (λ m. later e ≡ Some m.1) (marks_of_entry mode eq writing firsts t e)
+
+    keeps-or-is-marked : (t : StateTable E) → KeepsOrIsMarked t (next t)
+    unfolding KeepsOrIsMarked
+    keeps-or-is-marked t e = by (marked_at mode eq writing firsts t e) refl
+      where
+        own : List Mark
+        own = marks_of_entry mode eq writing firsts t e
+
+        by : (o : Option DisambiguateState) → marked_at mode eq writing firsts t e ≡ o → (option_or o (t e) ≡ t e) ⊎ Any (λ m. option_or o (t e) ≡ Some m.1) own
+        by None h = inl refl
+        by (Some s) h = let one = one-of-marks own s h in inr (one.0, one.1, one.2, one.3, ap Some one.4)
+
     pub states-go-on : StatesGoOn mode eq writing firsts (tables mode eq writing firsts)
-    unfolding LosesNone
+    unfolding LosesNone KeepsOrIsMarked
     states-go-on = record {
       alike = all-alike;
       rendered = λ k d w. rows-told writing _ firsts begun;
@@ -215,4 +230,6 @@ module _ {E P : Type 0} (mode : RoundMode) (eq : E → E → Bool) (writing : Wr
           (λ t alike h. goes-next t alike) (most_rounds mode eq firsts) no_states (λ d e h. refl));
       no_mark_lost = subst (λ ts. AllAdjacentBelow LosesNone ts (length ts)) are-steps
           (run-neighbours goes_on next Alike (λ t alike h. alike-next t alike) LosesNone (λ t alike h. loses-none t) (most_rounds mode eq firsts) no_states (λ d e h. refl));
+      kept_or_marked = subst (λ ts. AllAdjacentBelow KeepsOrIsMarked ts (length ts)) are-steps
+          (run-neighbours goes_on next Alike (λ t alike h. alike-next t alike) KeepsOrIsMarked (λ t alike h. keeps-or-is-marked t) (most_rounds mode eq firsts) no_states (λ d e h. refl));
     }

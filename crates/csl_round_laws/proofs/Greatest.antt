@@ -1,13 +1,13 @@
 -- The greatest of some states is one of them; and no mark of an entry is greater than the state that a round leaves it.
-use Rattle.std.proofs.Common.{◌≡◌, Bool, true, false, cond, Option, Some, List, [], ◌∷◌, map, ap, subst, ◌∙◌}
-use Rattle.std.specs.Prelude.{All, fold}
+use Rattle.std.proofs.Common.{◌≡◌, Bool, true, false, cond, Option, Some, List, [], ◌∷◌, map, refl, ap, subst, ◌∙◌}
+use Rattle.std.specs.Prelude.{All, Any, Contains, fold}
 use Rattle.std.specs.Cmp.{IsTotalOrder}
 use Rattle.std.specs.Option.{option_or}
 use Rattle.std.specs.Ordering.{is_gt, is_lt, ordering_reverse}
 use Rattle.std.specs.declared.cmp.Ordering.{Ordering}
 use Rattle.std.specs.declared.cmp.Ordering.TheVariants.{Less, Equal, Greater}
 use Rattle.std.proofs.lemmas.Cmp.{tied_itself, upto}
-use Rattle.std.proofs.lemmas.List.Elements.{All-cons, All-head, All-nil, All-tail, All-weaker}
+use Rattle.std.proofs.lemmas.List.Elements.{All-cons, All-contains_itself, All-head, All-map, All-nil, All-tail, All-weaker}
 use Rattle.std.proofs.lemmas.Option.{same_Some}
 use Rattle.csl_lookup.specs.States.{greater, state_cmp}
 use Rattle.csl_lookup.specs.ValueLaws.{IsNeverBelow}
@@ -30,6 +30,13 @@ folded-kept Q s (t ∷ ss) h all = folded-kept Q (greater s t) ss (greater-kept 
 pub greatest-kept : (Q : DisambiguateState → Type 0) (ss : List DisambiguateState) → All Q ss → (s : DisambiguateState) → greatest_state ss ≡ Some s → Q s
 greatest-kept Q [] all s e = cc
 greatest-kept Q (t ∷ ss) all s e = subst Q (same_Some (fold greater t ss) s e) (folded-kept Q t ss (All-head Q t ss all) (All-tail Q t ss all))
+
+-- it is the state of one of the marks
+pub one-of-marks : (marks : List Mark) (s : DisambiguateState) → greatest_state (map (λ m. m.1) marks) ≡ Some s → Any (λ m. s ≡ m.1) marks
+one-of-marks marks s e =
+    greatest-kept (λ s. Any (λ m. s ≡ m.1) marks) (map (λ m. m.1) marks)
+    (All-map (λ s. Any (λ m. s ≡ m.1) marks) (λ m. m.1) marks
+    (All-weaker (Contains marks) (λ n. Any (λ m. n.1 ≡ m.1) marks) (λ n c. (c.0, n, c.1, c.2, refl)) marks (All-contains_itself marks))) s e
 
 module _ (order : IsTotalOrder state_cmp) (never_below : IsNeverBelow state_cmp greater) where
   abbrev AtMost : DisambiguateState → DisambiguateState → Type 0

@@ -4,6 +4,7 @@ pub mod Runs
 pub mod Told
 pub mod Greatest
 pub mod GoneOn
+pub mod Marking
 pub mod Left
 pub mod MarkKinds
 pub mod Ranked

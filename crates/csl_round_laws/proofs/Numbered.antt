@@ -1,5 +1,5 @@
 -- Members of lists, and lists whose members are counted; of states, one above all others.
-use Rattle.std.proofs.Common.{◌≡◌, ◌⊎◌, inl, inr, ℕ, zero, suc, ◌+◌, ◌≤◌, Bool, true, false, cond, ◌||◌, Some, List, [], ◌∷◌, map, filter, refl, ap, sym, ◌∙◌, true≢false, arith}
+use Rattle.std.proofs.Common.{◌≡◌, ◌⊎◌, inl, inr, ℕ, zero, suc, ◌+◌, ◌≤◌, Bool, true, false, cond, ◌||◌, Some, List, [], ◌∷◌, map, refl, ap, ◌∙◌, true≢false, arith}
 use Rattle.std.specs.Prelude.{All, Contains, fold}
 use Rattle.std.specs.List.{enumerate_from, list_any}
 use Rattle.std.specs.Ordering.{is_lt}

@@ -1,7 +1,7 @@
 -- A group that gets a suffix gets its suffix marks, and no others.
 use Rattle.std.proofs.Common.{◌≡◌, ◌⊎◌, inl, inr, ◌≤◌, Bool, true, false, cond, ◌&&◌, List, [], ◌∷◌, ◌++◌, map, filter, refl, ap, sym, subst, ◌∙◌, arith}
 use Rattle.std.specs.Prelude.{All, Contains}
-use Rattle.std.proofs.lemmas.List.Elements.{All-cons, All-contains, All-contains_itself, All-filter, All-head, All-map, All-nil, All-tail, All-weaker}
+use Rattle.std.proofs.lemmas.List.Elements.{All-append, All-cons, All-contains, All-contains_itself, All-filter, All-head, All-map, All-nil, All-tail, All-weaker}
 use Rattle.csl_ambiguity.specs.Ambiguity.{ambiguous_groups}
 use Rattle.csl_ambiguity.specs.MarkLaws.{GroupsHaveNoSuffix, HaveNoSuffix}
 use Rattle.csl_ambiguity.specs.Members.{members}
@@ -10,7 +10,7 @@ use Rattle.csl_writers.specs.Writing.{Writing}
 use Rattle.csl_lookup.specs.States.{kind_of}
 use Rattle.csl_name_marks.specs.NameMarks.{name_marks}
 use Rattle.csl_passes.specs.Renders.{CiteRender, Place}
-use Rattle.csl_round_laws.specs.RoundMarks.{Mark, all_ways, by_choice, by_full, by_suffix, by_three, counting, counts, has_any, marks_by_group, or_others, waits}
+use Rattle.csl_round_laws.specs.RoundMarks.{Mark, MarkedGroups, all_ways, by_choice, by_full, by_suffix, by_three, counting, counts, has_any, marks_by_group, marks_of, or_others, round_marks, waits}
 use Rattle.csl_round_laws.specs.declared.mode.RoundMode.{RoundMode}
 use Rattle.csl_round_laws.proofs.Left.{suffixes-count}
 use Rattle.csl_round_laws.proofs.MarkKinds.{Chosen, Named, by-choice, names-named}
@@ -25,6 +25,23 @@ all-pass : {X : Type 0} (q : X → Bool) (xs : List X) → All (λ x. q x ≡ tr
 all-pass q [] h = refl
 all-pass q (x ∷ xs) h =
     ap (λ b. cond b (x ∷ filter q xs) (filter q xs)) (All-head (λ x. q x ≡ true) x xs h) ∙ ap (λ ys. x ∷ ys) (all-pass q xs (All-tail (λ x. q x ≡ true) x xs h))
+
+-- a mark that one of these groups gets
+pub record IsOfGroup (groups : MarkedGroups) (m : Mark) : Type 0 where
+  pub group : List Place
+  pub own : List Mark
+  pub are_own : Contains groups (group, own)
+  pub one_of_them : Contains own m
+
+pub of-groups : (groups : MarkedGroups) → All (IsOfGroup groups) (marks_of groups)
+of-groups groups = by groups (All-contains_itself groups)
+  where
+    by : (gs : MarkedGroups) → All (Contains groups) gs → All (IsOfGroup groups) (marks_of gs)
+    by [] h = All-nil (IsOfGroup groups)
+    by (g ∷ gs) h =
+        All-append (IsOfGroup groups) g.1 (marks_of gs)
+        (All-weaker (Contains g.1) (IsOfGroup groups) (λ m c. record { group = g.0; own = g.1; are_own = All-head (Contains groups) g gs h; one_of_them = c }) g.1 (All-contains_itself g.1))
+        (by gs (All-tail (Contains groups) g gs h))
 
 -- the marks of each group are those that it gets in some way
 module _ (n c s : List Place → List Mark) where
@@ -104,6 +121,26 @@ module _ {E P : Type 0} (eq : E → E → Bool) (cites : List (CiteRender E P)) 
 
   abbrev IsOne : List Place → Type 0
   IsOne g = Contains (ambiguous_groups eq cites) g
+
+  -- the groups that get marks are ambiguous
+  pub are-ambiguous : (mode : RoundMode) → All (λ p. IsOne p.0) (marks_by_group mode eq writing.answers cites)
+  are-ambiguous RoundMode.Three =
+      let n = name_marks cites in
+      let c = by_choice eq cites in
+      let s = by_suffix eq cites dated in
+      All-weaker (IsMarked n c s IsOne) (λ p. IsOne p.0) (λ p h. h.0) (by_three n c s (ambiguous_groups eq cites))
+      (three-marked n c s IsOne (ambiguous_groups eq cites) (All-contains_itself (ambiguous_groups eq cites)))
+  are-ambiguous RoundMode.Full =
+      let n = counting cites (name_marks cites) in
+      let c = counting cites (by_choice eq cites) in
+      let s = counting cites (by_suffix eq cites dated) in
+      All-weaker (IsMarked n c s IsOne) (λ p. IsOne p.0) (λ p h. h.0) (by_full n c s (waits eq cites) [] (ambiguous_groups eq cites))
+      (full-marked n c s IsOne (waits eq cites) [] (ambiguous_groups eq cites) (All-contains_itself (ambiguous_groups eq cites)))
+
+  -- each mark of a round is one that such a group gets
+  pub marks-of-groups : (mode : RoundMode) → All (IsOfGroup (marks_by_group mode eq writing.answers cites)) (round_marks mode eq writing.answers cites)
+  unfolding round_marks
+  marks-of-groups mode = of-groups (marks_by_group mode eq writing.answers cites)
 
   pub own-suffixes : (mode : RoundMode) (group : List Place) (own : List Mark) → Contains (marks_by_group mode eq writing.answers cites) (group, own) → (one : Mark) → Contains own one → kind_of one.1 ≡ 3
       → own ≡ suffix_marks eq (members cites group)

@@ -67,6 +67,36 @@ module _ (n c s : List Place → List Mark) (low : (g : List Place) → All (λ 
       by false (zero, w, e) more = absurd (not-empty (ap (λ p. p.1) e))
       by false (suc k, w, e) more = more (k, omega (arith, w), e)
 
+-- a suffix is among the marks of the group
+pub record IsSuffixed (p : List Place × List Mark) : Type 0 where
+  pub one : Mark
+  pub is_own : Contains p.1 one
+  pub high : kind_of one.1 ≡ 3
+
+-- in mode three one group alone is given suffixes
+module _ (n c s : List Place → List Mark) (low : (g : List Place) → All (λ m. kind_of m.1 ≤ 2) (n g)) where
+  is-first : (g : List Place) (ways : List Mark) (gs : List (List Place)) (p : List Place × List Mark) → IsSuffixed p → Contains ((g, ways) ∷ map (λ h. (h, n h)) gs) p → g ≡ p.0
+  is-first g ways gs p i (zero, w, e) = ap (λ q. q.0) e
+  is-first g ways gs p i (suc k, w, e) = absurd (not-by-names n c s low p.0 p.1 i.one i.is_own i.high gs (k, omega (arith, w), e))
+
+  is-later : (g : List Place) (rest : MarkedGroups) (p : List Place × List Mark) → IsSuffixed p → Contains ((g, []) ∷ rest) p → Contains rest p
+  is-later g rest p i (zero, w, e) = absurd (not-empty n c s low p.0 p.1 i.one i.is_own i.high (ap (λ q. q.1) e))
+  is-later g rest p i (suc k, w, e) = (k, omega (arith, w), e)
+
+  pub one-group : (gs : List (List Place)) (p q : List Place × List Mark) → IsSuffixed p → IsSuffixed q → Contains (by_three n c s gs) p → Contains (by_three n c s gs) q → p.0 ≡ q.0
+  one-group [] p q i j (k, w, e) l = absurd (omega (arith, w))
+  one-group (g ∷ gs) p q i j h l = by (has_any ways) h l (one-group gs p q i j)
+    where
+      ways : List Mark
+      ways = all_ways n c s g
+
+      marked : Bool → MarkedGroups
+      marked b = cond b ((g, ways) ∷ map (λ h. (h, n h)) gs) ((g, []) ∷ by_three n c s gs)
+
+      by : (b : Bool) → Contains (marked b) p → Contains (marked b) q → (Contains (by_three n c s gs) p → Contains (by_three n c s gs) q → p.0 ≡ q.0) → p.0 ≡ q.0
+      by true h l more = sym (is-first g ways gs p i h) ∙ is-first g ways gs q j l
+      by false h l more = more (is-later g (by_three n c s gs) p i h) (is-later g (by_three n c s gs) q j l)
+
 -- in mode full: all other groups with these entries have no marks
 module _ {E P : Type 0} (eq : E → E → Bool) (laws : AreMarkLaws E P eq) (cites : List (CiteRender E P)) (n c s : List Place → List Mark)
     (inside : (g : List Place) → IsGroup eq laws cites g → All (GoesIn eq laws cites g) (all_ways n c s g)) (group : List Place) (own : List Mark) (one : Mark) (is_own : Contains own one) where

@@ -1,6 +1,6 @@
 -- Suffixes stay, and in a group that was given them they count its entries.
 use Rattle.std.proofs.Common.{◌≡◌, ◌⊎◌, inl, inr, ℕ, ◌+◌, ◌≤◌, Bool, true, false, Option, Some, None, List, [], ◌∷◌, get_or, length, map, filter, refl, ap, sym, subst, ◌∙◌, true≢false, arith}
-use Rattle.std.specs.Prelude.{All, AllPairs, Contains, unwrap_or}
+use Rattle.std.specs.Prelude.{All, AllPairs, Any, Contains, unwrap_or}
 use Rattle.std.specs.List.{AllAdjacentBelow, enumerate_from, list_any}
 use Rattle.std.specs.Option.{option_or}
 use Rattle.std.proofs.lemmas.List.Elements.{All-cons, All-contains, All-contains_itself, All-filter, All-map, All-nil, All-tail, All-weaker}
@@ -21,16 +21,17 @@ use Rattle.csl_passes.specs.Renders.{CiteRender, Place}
 use Rattle.csl_round_laws.specs.FirstRenders.{AreBegun}
 use Rattle.csl_round_laws.specs.RoundMarks.{Mark, all_ways, by_choice, by_suffix, cites_entry, counting, counts, has_any, marks_by_group, or_others, round_marks}
 use Rattle.csl_round_laws.specs.Rounds.{StateTable, at_table, mark_of, no_states}
-use Rattle.csl_round_laws.specs.RunLaws.{GetsSuffixes, IsInNoGroup, SuffixesStay}
+use Rattle.csl_round_laws.specs.RunLaws.{GetsSuffixInGroup, GetsSuffixes, IsInNoGroup, SuffixesStay, marks_of_entry}
 use Rattle.csl_round_laws.specs.Tables.{marked_at, most_rounds, tables}
 use Rattle.csl_round_laws.specs.declared.mode.RoundMode.{RoundMode}
 use Rattle.csl_round_laws.proofs.GoneOn.{Alike, AreMarkLaws, GoesIn, all-alike, alike-next, are-groups, are-steps, choice-in, cites-is, goes_on, member-told, names-in, next, state-goes, suffixes-in}
+use Rattle.csl_round_laws.proofs.Greatest.{one-of-marks}
 use Rattle.csl_round_laws.proofs.Kept.{all-chosen, all-distinct}
 use Rattle.csl_round_laws.proofs.MarkKinds.{Named, names-named}
 use Rattle.csl_round_laws.proofs.Numbered.{IsBelow, all-numbered, any-map, none-in, numbered-map, top-greatest}
 use Rattle.csl_round_laws.proofs.Runs.{all-passed, run-neighbours, run-pairs}
-use Rattle.csl_round_laws.proofs.SuffixGroups.{own-suffixes}
-use Rattle.csl_round_laws.proofs.SuffixWalk.{full-walked, three-walked}
+use Rattle.csl_round_laws.proofs.SuffixGroups.{IsOfGroup, are-ambiguous, marks-of-groups, own-suffixes}
+use Rattle.csl_round_laws.proofs.SuffixWalk.{IsSuffixed, full-walked, one-group, three-walked}
 use Rattle.csl_round_laws.proofs.Told.{IsThere, members-there}
 
 -- the laws of counted suffixes
@@ -118,6 +119,16 @@ module _ {E P : Type 0} (eq : E → E → Bool) (laws : AreMarkLaws E P eq) (mor
         (sym (any-map (eq (entry_of x)) entry_of ones) ∙ ap (list_any (eq (entry_of x))) (more.count ms).one_each ∙ more.all_in (map entry_of ms) (entry_of x)
         ∙ any-in (eq (entry_of x)) (map entry_of ms) (entry_of x) (in-map entry_of ms x i) (laws.equal.refl (entry_of x)))
 
+    -- an entry that one of the marks is for is cited in the group
+    pub cites-it : (e : E) (m : Mark) → Contains own m → cites_entry eq cites e m.0 ≡ true → Any (λ x. eq e (entry_of x) ≡ true) ms
+    cites-it e m i cited = All-contains IsCited own m (All-map IsCited (λ x. (x.place, suffix_among eq ms x)) ones (λ k d w. at _ (ones-there k d w) (ones-in k d w))) i cited
+      where
+        IsCited : Mark → Type 0
+        IsCited m = cites_entry eq cites e m.0 ≡ true → Any (λ x. eq e (entry_of x) ≡ true) ms
+
+        at : (x : Member E P) → IsThere cites x → Contains ms x → cites_entry eq cites e x.place ≡ true → Any (λ x. eq e (entry_of x) ≡ true) ms
+        at x there inside cited = (inside.0, x, inside.1, inside.2, sym (cites-there e x there) ∙ cited)
+
     covers : (x : Member E P) → Contains ms x → (m : Mark) × Contains own m × ((e : E) → eq e (entry_of x) ≡ true → cites_entry eq cites e m.0 ≡ true)
     covers x i =
         let d = first-of x i in (
@@ -202,6 +213,14 @@ module _ {E P : Type 0} (eq : E → E → Bool) (laws : AreMarkLaws E P eq) (mor
             entries-marked (round_marks mode eq writing.answers cites)
             (known mode (d.0.place, suffix_among eq ms d.0) (in-map (λ m. (m.place, suffix_among eq ms m)) ones d.0 d.1) refl h)
 
+-- in mode three one group is given suffixes
+alone : {E P : Type 0} (mode : RoundMode) (eq : E → E → Bool) (writing : Writing E P) (cites : List (CiteRender E P)) → mode ≡ RoundMode.Three → (p q : List Place × List Mark)
+    → IsSuffixed p → IsSuffixed q → Contains (marks_by_group mode eq writing.answers cites) p → Contains (marks_by_group mode eq writing.answers cites) q → p.0 ≡ q.0
+alone RoundMode.Three eq writing cites three p q i j h l =
+    one-group (name_marks cites) (by_choice eq cites) (by_suffix eq cites (shows_dates writing.answers cites))
+    (λ g. All-weaker (Named cites) (λ m. kind_of m.1 ≤ 2) (λ m k. omega (arith, k)) (name_marks cites g) (names-named cites g)) (ambiguous_groups eq cites) p q i j h l
+alone RoundMode.Full eq writing cites three p q i j h l = cc
+
 module _ {E P : Type 0} (mode : RoundMode) (eq : E → E → Bool) (writing : Writing E P) (firsts : List (CiteRender E P)) (laws : AreMarkLaws E P eq) (more : AreSuffixLaws E P eq) (begun : AreBegun firsts) where
   abbrev at : StateTable E → List (CiteRender E P)
   at t = at_table writing t firsts
@@ -239,13 +258,55 @@ module _ {E P : Type 0} (mode : RoundMode) (eq : E → E → Bool) (writing : Wr
   InOrder t later =
       (group : List Place) → GetsSuffixes mode eq writing firsts t group → All (λ p. later p.1 ≡ Some (YearSuffix p.0)) (enumerate_from 0 (distinct eq (map entry_of (members (at t) group))))
 
+  own-are : (t : StateTable E) (group : List Place) (gets : GetsSuffixes mode eq writing firsts t group) → gets.own ≡ suffix_marks eq (members (at t) group)
+  own-are t group gets =
+      own-suffixes eq (at t) writing (laws.without_suffix (at t)) mode group gets.own gets.are_own gets.mark gets.one_of_them (ap kind_of gets.is_suffix)
+
   in-order : (t : StateTable E) → InOrder t (after t)
   in-order t group gets =
-      let same : gets.own ≡ suffix_marks eq (members (at t) group) =
-      own-suffixes eq (at t) writing (laws.without_suffix (at t)) mode group gets.own gets.are_own gets.mark gets.one_of_them (ap kind_of gets.is_suffix) in
       All-weaker (λ p. marked_at mode eq writing firsts t p.1 ≡ Some (YearSuffix p.0)) (λ p. after t p.1 ≡ Some (YearSuffix p.0)) (λ p e. ap (λ o. option_or o (t p.1)) e)
       (enumerate_from 0 (distinct eq (map entry_of (members (at t) group))))
-      (suffixes-in-order eq laws more (at t) writing group mode (subst (λ own. Contains (marks_by_group mode eq writing.answers (at t)) (group, own)) same gets.are_own))
+      (suffixes-in-order eq laws more (at t) writing group mode (subst (λ own. Contains (marks_by_group mode eq writing.answers (at t)) (group, own)) (own-are t group gets) gets.are_own))
+
+  -- an entry that gets a suffix gets it in a group
+  of-mark : (t : StateTable E) (e : E) (n : ℕ) → Any (λ m. YearSuffix n ≡ m.1) (marks_of_entry mode eq writing firsts t e) → GetsSuffixInGroup mode eq writing firsts t (after t) e
+  of-mark t e n one =
+      let m = one.1 in
+      let all = round_marks mode eq writing.answers (at t) in
+      let here : IsOfGroup (marks_by_group mode eq writing.answers (at t)) m × (cites_entry eq (at t) e m.0 ≡ true) =
+      All-contains (λ m. IsOfGroup (marks_by_group mode eq writing.answers (at t)) m × (cites_entry eq (at t) e m.0 ≡ true)) (marks_of_entry mode eq writing firsts t e) m
+      (all-passed (IsOfGroup (marks_by_group mode eq writing.answers (at t))) (λ m. cites_entry eq (at t) e m.0) all
+      (marks-of-groups eq (at t) writing (laws.without_suffix (at t)) mode)) (one.0, one.2, one.3) in
+      let gets : GetsSuffixes mode eq writing firsts t here.0.group =
+      record { own = here.0.own; are_own = here.0.are_own; mark = m; suffix = n; one_of_them = here.0.one_of_them; is_suffix = sym one.4 } in
+      record {
+        group = here.0.group;
+        is_ambiguous = All-contains (λ p. Contains (ambiguous_groups eq (at t)) p.0) (marks_by_group mode eq writing.answers (at t)) (here.0.group, here.0.own)
+            (are-ambiguous eq (at t) writing (laws.without_suffix (at t)) mode) here.0.are_own;
+        cites_it = cites-it eq laws more (at t) writing here.0.group e m (subst (λ own. Contains own m) (own-are t here.0.group gets) here.0.one_of_them) here.1;
+        gets_suffixes = gets;
+        in_order = in-order t here.0.group gets;
+      }
+
+  abbrev ByGroup : StateTable E → StateTable E → Type 0
+  ByGroup t later = (e : E) (n : ℕ) → later e ≡ Some (YearSuffix n) → (t e ≡ Some (YearSuffix n)) ⊎ GetsSuffixInGroup mode eq writing firsts t later e
+
+  by-group : (t : StateTable E) → ByGroup t (after t)
+  by-group t e n h = by (marked_at mode eq writing firsts t e) refl h
+    where
+      by : (o : Option DisambiguateState) → marked_at mode eq writing firsts t e ≡ o → option_or o (t e) ≡ Some (YearSuffix n)
+          → (t e ≡ Some (YearSuffix n)) ⊎ GetsSuffixInGroup mode eq writing firsts t (after t) e
+      by None f h = inl h
+      by (Some s) f h = inr (of-mark t e n (one-of-marks (marks_of_entry mode eq writing firsts t e) (YearSuffix n) (f ∙ h)))
+
+  abbrev OneGroup : StateTable E → StateTable E → Type 0
+  OneGroup t later = (g h : List Place) → GetsSuffixes mode eq writing firsts t g → GetsSuffixes mode eq writing firsts t h → g ≡ h
+
+  suffixed : (t : StateTable E) (g : List Place) (gets : GetsSuffixes mode eq writing firsts t g) → IsSuffixed (g, gets.own)
+  suffixed t g gets = record { one = gets.mark; is_own = gets.one_of_them; high = ap kind_of gets.is_suffix }
+
+  one-alone : mode ≡ RoundMode.Three → (t : StateTable E) → OneGroup t (after t)
+  one-alone three t g h one other = alone mode eq writing (at t) three (g, one.own) (h, other.own) (suffixed t g one) (suffixed t h other) one.are_own other.are_own
 
   pub suffixes-stay : SuffixesStay mode eq writing firsts (tables mode eq writing firsts)
   suffixes-stay = record {
@@ -257,4 +318,10 @@ module _ {E P : Type 0} (mode : RoundMode) (eq : E → E → Bool) (writing : Wr
     in_order = subst (λ ts. AllAdjacentBelow InOrder ts (length ts)) (are-steps mode eq writing firsts)
         (run-neighbours (goes_on mode eq writing firsts) after (Alike mode eq writing firsts) (λ t alike go. alike-next mode eq writing firsts laws begun t alike) InOrder
         (λ t alike go. in-order t) (most_rounds mode eq firsts) no_states (λ d e h. refl));
+    by_group = subst (λ ts. AllAdjacentBelow ByGroup ts (length ts)) (are-steps mode eq writing firsts)
+        (run-neighbours (goes_on mode eq writing firsts) after (Alike mode eq writing firsts) (λ t alike go. alike-next mode eq writing firsts laws begun t alike) ByGroup
+        (λ t alike go. by-group t) (most_rounds mode eq firsts) no_states (λ d e h. refl));
+    one_group = λ three. subst (λ ts. AllAdjacentBelow OneGroup ts (length ts)) (are-steps mode eq writing firsts)
+        (run-neighbours (goes_on mode eq writing firsts) after (Alike mode eq writing firsts) (λ t alike go. alike-next mode eq writing firsts laws begun t alike) OneGroup
+        (λ t alike go. one-alone three t) (most_rounds mode eq firsts) no_states (λ d e h. refl));
   }

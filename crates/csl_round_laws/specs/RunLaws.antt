@@ -1,5 +1,5 @@
 -- Laws of the whole run: what holds of its tables of states, from the first to the last.
-use Rattle.std.specs.Prelude.{◌≡◌, ℕ, ◌+◌, ◌-◌, ◌*◌, ◌<◌, ◌≤◌, ⊤, All, AllPairs, Any, Bool, true, false, Contains, List, [], ◌∷◌, None, Some, filter, flat_map, length, map, take}
+use Rattle.std.specs.Prelude.{◌≡◌, ◌⊎◌, ℕ, ◌+◌, ◌-◌, ◌*◌, ◌<◌, ◌≤◌, ⊤, All, AllPairs, Any, Bool, true, false, Contains, List, [], ◌∷◌, None, Some, filter, flat_map, length, map, take}
 use Rattle.std.specs.List.{AllAdjacentBelow, enumerate_from}
 use Rattle.csl_ambiguity.specs.Ambiguity.{ambiguous_groups}
 use Rattle.csl_ambiguity.specs.MarkLaws.{AreAmbiguous}
@@ -10,7 +10,7 @@ use Rattle.csl_entries.specs.Entries.{distinct}
 use Rattle.csl_lookup.specs.GoingOn.{GoesOnTo, rank}
 use Rattle.csl_lookup.specs.declared.state.DisambiguateState.TheVariants.{YearSuffix}
 use Rattle.csl_passes.specs.Renders.{CiteRender, Place}
-use Rattle.csl_round_laws.specs.RoundMarks.{CannotBeMarked, Mark, cites_entry, marks_by_group, raises, ways}
+use Rattle.csl_round_laws.specs.RoundMarks.{CannotBeMarked, Mark, cites_entry, has_any, marks_by_group, raises, ways}
 use Rattle.csl_round_laws.specs.Rounds.{StateTable, at_table, entries_cited, told_by}
 use Rattle.csl_round_laws.specs.Tables.{last_table, marks_at, most_forms}
 use Rattle.csl_round_laws.specs.declared.mode.RoundMode.{RoundMode}
@@ -56,6 +56,14 @@ module _ {E P : Type 0} (mode : RoundMode) (eq : E → E → Bool) (writing : Wr
       let entries = distinct eq (map entry_of (members (shown_at table) group)) in
       All (λ p. next p.1 ≡ Some (YearSuffix p.0)) (enumerate_from 0 entries)
 
+  -- an ambiguous group that cites the entry gets suffixes, and has them in order in the next table
+  pub record GetsSuffixInGroup (table next : StateTable E) (e : E) : Type 0 where
+    pub group : List Place
+    pub is_ambiguous : Contains (ambiguous_groups eq (shown_at table)) group
+    pub cites_it : Any (λ m. eq e (entry_of m) ≡ true) (members (shown_at table) group)
+    pub gets_suffixes : GetsSuffixes table group
+    pub in_order : HasSuffixesInOrder table next group
+
   module _ (tables : List (StateTable E)) where
     -- it holds of each table and the next one
     abbrev pub OfEachAndTheNext : (StateTable E → StateTable E → Type 0) → Type 0
@@ -73,6 +81,16 @@ module _ {E P : Type 0} (mode : RoundMode) (eq : E → E → Bool) (writing : Wr
       -- no mark of a round is greater than the state that the round leaves
       pub no_mark_lost : OfEachAndTheNext
           (λ t next. (e : E) → All (λ m. raises (told_by (next e)) m.1 ≡ false) (marks_of_entry t e))
+      -- from each table to the next an entry keeps its state, or gets that of one of its marks
+      pub kept_or_marked : OfEachAndTheNext (λ t next. (e : E)
+          → (next e ≡ t e) ⊎ Any (λ m. next e ≡ Some m.1) (marks_of_entry t e))
+
+    -- the rounds that are counted are rounds that mark
+    pub record RoundsMark : Type 0 where
+      -- from each table to the next leads a round that has a mark
+      pub each_marks : OfEachAndTheNext (λ t next. has_any (marks_at mode eq writing firsts t) ≡ true)
+      -- in mode three these are three at most
+      pub three_at_most : mode ≡ RoundMode.Three → length tables - 1 ≤ 3
 
     -- suffixes stay
     pub record SuffixesStay : Type 0 where
@@ -85,6 +103,12 @@ module _ {E P : Type 0} (mode : RoundMode) (eq : E → E → Bool) (writing : Wr
       -- a group that gets suffixes has them in order in the next table
       pub in_order : OfEachAndTheNext
           (λ t next. (group : List Place) → GetsSuffixes t group → HasSuffixesInOrder t next group)
+      -- an entry with a suffix had it in the table before, or gets it in a group
+      pub by_group : OfEachAndTheNext (λ t next. (e : E) (n : ℕ) → next e ≡ Some (YearSuffix n)
+          → (t e ≡ Some (YearSuffix n)) ⊎ GetsSuffixInGroup t next e)
+      -- in mode three one group of a round gets suffixes
+      pub one_group : mode ≡ RoundMode.Three → OfEachAndTheNext
+          (λ t next. (g h : List Place) → GetsSuffixes t g → GetsSuffixes t h → g ≡ h)
 
     -- the cites as they stand in the end
     abbrev pub last_shown : List (CiteRender E P)
@@ -118,6 +142,7 @@ module _ {E P : Type 0} (mode : RoundMode) (eq : E → E → Bool) (writing : Wr
     -- all of these; ranks are those of mode full
     pub record IsLawful (marked : ℕ) : Type 0 where
       pub go_on : StatesGoOn
+      pub marks : RoundsMark
       pub stay : SuffixesStay
       pub left : NothingLeft marked
       pub ranks : mode ≡ RoundMode.Full → RanksRise

@@ -4,7 +4,7 @@ ghost use Rattle.csl_passes.specs.Renders.{CiteRender};
 ghost use Rattle.csl_passes.specs.Request.{Request};
 ghost use Rattle.csl_passes.specs.declared.first.FirstProperties.{FirstProperties};
 ghost use Rattle.csl_round_laws.specs.FirstRenders.{AreBegun, first_renders};
-ghost use Rattle.csl_round_laws.specs.RunLaws.{IsLawful, NothingLeft, RanksRise, StatesGoOn, SuffixesStay};
+ghost use Rattle.csl_round_laws.specs.RunLaws.{IsLawful, NothingLeft, RanksRise, RoundsMark, StatesGoOn, SuffixesStay};
 ghost use Rattle.csl_round_laws.specs.Tables.{rounds, tables};
 ghost use Rattle.csl_round_laws.specs.declared.mode.RoundMode.{RoundMode};
 ghost use Rattle.csl_writers.specs.Writing.{Writing};
@@ -20,6 +20,7 @@ pub fn runs_are_lawful<T: EntryLike, P>()
         (rounds mode T.eq writing firsts) }
 {
     states_go_on::<T, P>();
+    rounds_mark::<T, P>();
     suffixes_stay::<T, P>();
     nothing_is_left::<T, P>();
     ranks_rise::<T, P>();
@@ -27,7 +28,8 @@ pub fn runs_are_lawful<T: EntryLike, P>()
 
 /// A law: in each table of a run equal entries have one state, and each cite is rendered with the state of
 /// its entry; from each table to the next the state of each entry goes on, also where an entry stands in
-/// several groups; and no mark of a round is greater than the state that the round leaves.
+/// several groups; no mark of a round is greater than the state that the round leaves; and an entry keeps its
+/// state, or gets that of one of its marks.
 pub fn states_go_on<T: EntryLike, P>()
     ensures { (writing : Writing T P) (mode : RoundMode) (firsts : List (CiteRender T P)) → AreBegun firsts
         → StatesGoOn mode T.eq writing firsts (tables mode T.eq writing firsts) }
@@ -39,9 +41,16 @@ pub fn states_go_on<T: EntryLike, P>()
     csl_ambiguity::laws::choose_and_suffix_go_on::<T, P>();
 }
 
-/// A law: suffixes stay. An entry with a suffix has it in all later tables, and is in no ambiguous group; and
-/// in a group that was given suffixes the distinct entries have 0, 1, 2 and on in the next table, in the
-/// order of their first cites there.
+/// A law: each round that is counted has a mark, and in mode three these are three at most.
+pub fn rounds_mark<T: EntryLike, P>()
+    ensures { (writing : Writing T P) (mode : RoundMode) (firsts : List (CiteRender T P))
+        → RoundsMark mode T.eq writing firsts (tables mode T.eq writing firsts) }
+{}
+
+/// A law: suffixes stay. An entry with a suffix has it in all later tables, and is in no ambiguous group. In
+/// a group that gets suffixes the distinct entries have 0, 1, 2 and on in the next table, in the order of
+/// their first cites there. An entry gets a suffix in no other way than in such a group, and in mode three
+/// there is one such group in a round.
 pub fn suffixes_stay<T: EntryLike, P>()
     ensures { (writing : Writing T P) (mode : RoundMode) (firsts : List (CiteRender T P)) → AreBegun firsts
         → SuffixesStay mode T.eq writing firsts (tables mode T.eq writing firsts) }

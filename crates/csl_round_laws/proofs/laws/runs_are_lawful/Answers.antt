@@ -11,6 +11,7 @@ returns g c = λ writing mode requests properties.
     let begun = first-begun writing requests properties in
     record {
       go_on = c.states_go_on.ensures writing mode firsts begun;
+      marks = c.rounds_mark.ensures writing mode firsts;
       stay = c.suffixes_stay.ensures writing mode firsts begun;
       left = c.nothing_is_left.ensures writing mode firsts begun;
       ranks = λ full. subst (λ m. RanksRise m g.T.PartialEq.eq writing firsts (tables m g.T.PartialEq.eq writing firsts)) (sym full)
