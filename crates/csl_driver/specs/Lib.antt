@@ -6,6 +6,8 @@ pub mod AreCitesOf
 pub mod StandaloneCitation
 pub mod Rings
 pub mod Account
+pub mod ShownEntries
+pub mod ListedOnce
 pub mod AnswerLaws
 pub mod Promised
 pub mod AskedView
