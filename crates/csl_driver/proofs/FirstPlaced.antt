@@ -18,7 +18,7 @@ use Rattle.csl_round_laws.specs.FirstRenders.{HasShapeOf, first_render, first_re
 
 module _ {X A : Type 0} (f : List X → X → A) (ys : List X) where
   -- what f gives of members that stand from a place on, and of those before each
-  abbrev from : ℕ → List X → List A
+  abbrev pub from : ℕ → List X → List A
   from n xs = map (λ (k, x). f (take k ys) x) (enumerate_from n xs)
 
   zipped : (R : X → A → Type 0) → ((before : List X) (x : X) → R x (f before x)) → (n : ℕ) (xs : List X) → AllZip R xs (from n xs)

@@ -1,5 +1,5 @@
 -- The laws of states, numbers, final orders and runs hold of every answer.
-use Rattle.std.proofs.Common.{◌≡◌, ℕ, zero, suc, ◌+◌, ◌-◌, ◌<◌, ◌^◌, ◌||◌, ◌++◌, Bool, true, false, List, [], ◌∷◌, Option, None, Some, length, map, refl, ap, sym, subst, ◌∙◌, true≢false, arith}
+use Rattle.std.proofs.Common.{◌≡◌, ℕ, zero, suc, ◌+◌, ◌-◌, ◌<◌, ◌^◌, ◌||◌, ◌++◌, Bool, true, false, List, [], ◌∷◌, Option, None, Some, length, map, refl, ap, sym, subst, ◌∙◌, arith}
 use Rattle.std.specs.Prelude.{All, if◌then◌else◌, min, slice_get, take}
 use Rattle.std.specs.Cmp.{IsEquivalence}
 use Rattle.std.specs.List.{AllZip, enumerate_from, range_with_len}
@@ -13,12 +13,20 @@ use Rattle.csl_writers.specs.Writing.{Writing}
 use Rattle.csl_collapse.specs.Collapsed.{collapsed, drawn_together}
 use Rattle.csl_collapse.specs.NumberLaws.{CanBeReadBack}
 use Rattle.csl_driver.specs.Answer.{Asked, entries_listed, final_number, in_final_order, in_the_end, numbered_finally, order_in_use, rendered_first}
-use Rattle.csl_driver.specs.AnswerLaws.{AreInOrder, ComeFrom, HaveNumbersOnce, IsBroughtTogether, IsReadBack, IsSettled, KeepsLaws, number_in, unsettled}
+use Rattle.csl_driver.specs.AnswerLaws.{AreInOrder, ComeFrom, HaveNumbersOnce, IsBroughtTogether, IsReadBack, IsSettled, KeepsLaws, entries_in, number_in, numbers_in, unsettled}
 use Rattle.csl_driver.specs.AreCitesOf.{AreCitesOf}
+use Rattle.csl_driver.specs.ListedOnce.{ListsEachOnce}
 use Rattle.csl_driver.specs.Promised.{IsAnswer, IsExactly}
+use Rattle.csl_driver.specs.ShownEntries.{entries_shown}
 use Rattle.csl_driver.specs.declared.account.Account.{Account}
 use Rattle.csl_driver.proofs.ByEntries.{agree}
+use Rattle.csl_driver.proofs.CiteNumbers.{drawn-numbered, each-cite, final-agree}
+use Rattle.csl_driver.proofs.DrawnCites.{read-back}
 use Rattle.csl_driver.proofs.EachOnce.{at-place, number-alike, permuted}
+use Rattle.csl_driver.proofs.ListedCount.{firsts-found}
+use Rattle.csl_driver.proofs.ListedKeys.{lists-each-once}
+use Rattle.csl_driver.proofs.OwnCites.{settled-own}
+use Rattle.csl_driver.proofs.ShownTrees.{citations-shown}
 use Rattle.csl_driver.proofs.Standing.{drawn-requests, final-stand, grouped-request, ordered-stand, same-changed}
 use Rattle.csl_entries.specs.Entries.{bibliography_order, distinct, is_in, number}
 use Rattle.csl_entries.specs.Laws.{HoldsEachOnce, NoTwoEqual, NumbersWithoutGaps}
@@ -27,11 +35,10 @@ use Rattle.csl_entries.proofs.Distinct.{is_in-distinct}
 use Rattle.csl_entries.proofs.Placed.{map-map}
 use Rattle.csl_grouping.specs.Blocks.{grouped, is_grouped}
 use Rattle.csl_grouping.specs.FinalOrder.{HasFinalOrder}
-use Rattle.csl_passes.specs.Purposes.{has_no_purpose}
 use Rattle.csl_passes.specs.Renders.{CiteRender}
 use Rattle.csl_passes.specs.Request.{Request, cited}
 use Rattle.csl_passes.specs.declared.first.FirstProperties.{FirstProperties}
-use Rattle.csl_positions.specs.FinalProperties.{cited_finally, items_before, with_final, with_final_items}
+use Rattle.csl_positions.specs.FinalProperties.{cited_finally, items_before, with_final, with_final_items, with_final_properties}
 use Rattle.csl_positions.specs.FirstProperties.{first_properties}
 use Rattle.csl_round_laws.specs.FirstRenders.{first_renders}
 use Rattle.csl_round_laws.specs.RoundMarks.{has_any}
@@ -39,14 +46,6 @@ use Rattle.csl_round_laws.specs.Rounds.{StateTable, no_states, told_by, with_mar
 use Rattle.csl_round_laws.specs.RunLaws.{Ended, IsLawful}
 use Rattle.csl_round_laws.specs.Tables.{disambiguated, last_table, marked_at, marks_at, most_rounds, rounds, tables, tables_from}
 use Rattle.csl_round_laws.specs.declared.mode.RoundMode.{RoundMode}
-
--- drawn together where no cite has a purpose
-read-back : {E P : Type 0} → ((c : CiteRender E P) → CanBeReadBack c.items (collapsed c).items c.request.style.citation.collapse) → (c : CiteRender E P) → IsReadBack c (drawn_together c)
-read-back law c = by (has_no_purpose c.items) refl
-  where
-    by : (b : Bool) → has_no_purpose c.items ≡ b → IsReadBack c (if b then collapsed c else c)
-    by true e = record { same_request = refl; read_back = λ plain. law c }
-    by false e = record { same_request = refl; read_back = λ plain. absurd (true≢false (sym plain ∙ e)) }
 
 -- place by place
 zip-mapped : {X Y : Type 0} (R : X → Y → Type 0) (f : X → Y) → ((x : X) → R x (f x)) → (xs : List X) → AllZip R xs (map f xs)
@@ -90,6 +89,22 @@ module _ {E : Type 0} (eq : E → E → Bool) (laws : IsEquivalence eq) where
         each_once = subst (λ ns. IsPermutation ns (map (number eq offset ordered) entries)) (in_order ∙ ap (range_with_len offset) as_many) among;
       }
 
+  -- what is known of the members of a list of entries
+  each-in : (Q : E → Type 0) (es : List E) → ((e : E) → is_in eq e es ≡ true → Q e) → All Q es
+  each-in Q [] h = All-nil Q
+  each-in Q (x ∷ xs) h =
+      All-cons Q x xs (h x (or_left (eq x x) (is_in eq x xs) (laws.refl x))) (each-in Q xs (λ e within. h e (or_right (eq e x) (is_in eq e xs) within)))
+
+  -- entries that are numbered in an order have their numbers in this order
+  in-its-order : (offset : ℕ) (ordered entries : List E) → ((e : E) → is_in eq e ordered ≡ true → is_in eq e entries ≡ true) → NumbersWithoutGaps eq offset ordered
+      → AreInOrder eq offset entries (map (number eq offset ordered) entries) ordered
+  in-its-order offset ordered entries within in_order =
+      let own : E → ℕ = number eq offset ordered in
+      agree (number_in eq entries (map own entries)) own ordered
+      (each-in (λ e. number_in eq entries (map own entries) e ≡ own e) ordered
+      (λ e here. at-place eq laws own (number-alike eq laws offset ordered) e entries (within e here)))
+      ∙ in_order
+
 module _ {E P : Type 0} (eq : E → E → Bool) (laws : IsEquivalence eq) (each_once : (order : Option (List E)) (entries : List E) → HoldsEachOnce eq order entries)
     (gapless : (offset : ℕ) (order : Option (List E)) (entries : List E) → NumbersWithoutGaps eq offset (bibliography_order eq order entries)) where
   module _ (requests : List (Request E P)) (cites : List (CiteRender E P)) (same : (e : E) → is_in eq e (cited_finally cites) ≡ is_in eq e (cited requests)) where
@@ -101,12 +116,6 @@ module _ {E P : Type 0} (eq : E → E → Bool) (laws : IsEquivalence eq) (each_
         numbered-once eq laws offset (bibliography_order eq (Some order) (cited requests)) (distinct eq (cited requests)) (each_once (Some order) (cited requests)).once (each_once None (cited requests)).once
         (λ e. (each_once (Some order) (cited requests)).same e ∙ sym (is_in-distinct eq laws e (cited requests))) (gapless offset (Some order) (cited requests))
 
-    -- what is known of the members of a list of entries
-    each-in : (Q : E → Type 0) (es : List E) → ((e : E) → is_in eq e es ≡ true → Q e) → All Q es
-    each-in Q [] h = All-nil Q
-    each-in Q (x ∷ xs) h =
-        All-cons Q x xs (h x (or_left (eq x x) (is_in eq x xs) (laws.refl x))) (each-in Q xs (λ e within. h e (or_right (eq e x) (is_in eq e xs) within)))
-
     -- where no order is used, numbers go by the cites in their final order
     module _ (offset : ℕ) where
       abbrev entries : List E
@@ -115,22 +124,24 @@ module _ {E P : Type 0} (eq : E → E → Bool) (laws : IsEquivalence eq) (each_
       abbrev finally : List E
       finally = distinct eq (cited_finally cites)
 
-      abbrev own : E → ℕ
-      own = number eq offset finally
-
       cited-there : (e : E) → is_in eq e finally ≡ true → is_in eq e entries ≡ true
       cited-there e within = is_in-distinct eq laws e (cited requests) ∙ sym (same e) ∙ sym (is_in-distinct eq laws e (cited_finally cites)) ∙ within
 
-      by-final-order : AreInOrder eq offset entries (map own entries) finally
-      by-final-order =
-          agree (number_in eq entries (map own entries)) own finally
-          (each-in (λ e. number_in eq entries (map own entries) e ≡ own e) finally
-          (λ e within. at-place eq laws own (number-alike eq laws offset finally) e entries (cited-there e within)))
-          ∙ gapless offset None (cited_finally cites)
+      by-final-order : AreInOrder eq offset entries (map (number eq offset finally) entries) finally
+      by-final-order = in-its-order eq laws offset finally entries cited-there (gapless offset None (cited_finally cites))
 
       in-order : (order : Option (List E)) → order ≡ None → AreInOrder eq offset entries (map (number eq offset (numbered_finally eq order requests cites)) entries) finally
       in-order order none =
           subst (λ o. AreInOrder eq offset entries (map (number eq offset (numbered_finally eq o requests cites)) entries) finally) (sym none) by-final-order
+
+      -- and where one is used, by that
+      in-given-order : (used : Option (List E)) (order : List E) → used ≡ Some order
+          → AreInOrder eq offset entries (map (number eq offset (numbered_finally eq used requests cites)) entries) (bibliography_order eq (Some order) (cited requests))
+      in-given-order used order is =
+          let listed : List E = bibliography_order eq (Some order) (cited requests) in
+          subst (λ o. AreInOrder eq offset entries (map (number eq offset (numbered_finally eq o requests cites)) entries) listed) (sym is)
+          (in-its-order eq laws offset listed entries (λ e within. is_in-distinct eq laws e (cited requests) ∙ sym ((each_once (Some order) (cited requests)).same e) ∙ within)
+          (gapless offset (Some order) (cited requests)))
 
   module _ (writing : Writing E P) (payload_eq : P → P → Bool) (mode : RoundMode) (asked : Asked E P) (r : Rendered × Account E) (is : IsExactly eq payload_eq writing mode asked r) where
     abbrev firsts : List (CiteRender E P)
@@ -170,18 +181,50 @@ module _ {E P : Type 0} (eq : E → E → Bool) (laws : IsEquivalence eq) (each_
     settled-cites : AllZip IsSettled in_order in_end
     settled-cites = zip-numbered IsSettled settled is-settled 0 in_order
 
+    -- the account's numbers are those of the cites
+    abbrev account_number : E → ℕ
+    account_number = numbers_in eq r.1
+
+    same-number : (e : E) → is_in eq e (cited_finally in_order) ≡ true → number_of e ≡ account_number e
+    same-number e within =
+        sym ((λ i. number_in eq (is.entries i) (is.numbers i) e)
+        ∙ at-place eq laws number_of (number-alike eq laws asked.offset (numbered_finally eq (order_in_use asked.wanted) asked.requests in_order)) e (distinct eq (cited asked.requests))
+        (is_in-distinct eq laws e (cited asked.requests) ∙ sym (same-cited e) ∙ within))
+
+    placed : in_end ≡ with_final_properties eq payload_eq account_number in_order
+    placed = final-agree eq payload_eq number_of account_number in_order (each-cite eq laws (λ e. number_of e ≡ account_number e) in_order same-number)
+
+    -- the bibliography
+    listed-once : ListsEachOnce eq writing asked (entries_in r.1) in_end r.0.bibliography
+    listed-once =
+        let entries : List E = distinct eq (cited asked.requests) in
+        let listed = each_once (order_in_use asked.wanted) (cited asked.requests) in
+        let stand = final-stand eq laws writing (table_of eq asked.requests) asked.requests in_order ordered payload_eq number_of in
+        subst (λ es. ListsEachOnce eq writing asked es in_end r.0.bibliography) (sym is.entries)
+        (lists-each-once eq laws writing asked entries in_end (each_once None (cited asked.requests)).once listed.once
+        (λ e. listed.same e ∙ sym (is_in-distinct eq laws e (cited asked.requests)))
+        (firsts-found eq laws in_end asked.requests (order_in_use asked.wanted) (table_of eq asked.requests) refl stand)
+        r.0.bibliography (ap (λ (a : Rendered). a.bibliography) is.ok))
+
     module _ (brought : (c : CiteRender E P) → HasFinalOrder (is_grouped c.request.style.citation) c.items (grouped c).items)
         (drawn : (c : CiteRender E P) → CanBeReadBack c.items (collapsed c).items c.request.style.citation.collapse) where
-      abbrev citations-come : ComeFrom writing asked told r.0.citations
+      are-read-back : AllZip IsReadBack in_end (map drawn_together in_end)
+      are-read-back = zip-mapped IsReadBack drawn_together (read-back drawn) in_end
+
+      abbrev citations-come : ComeFrom eq payload_eq writing asked account_number told r.0.citations
       citations-come = record {
         ordered = in_order;
         settled = in_end;
         drawn = map drawn_together in_end;
         final_orders = zip-mapped IsBroughtTogether grouped (λ c. record { same_request = grouped-request c; final_order = brought c }) told;
         settles = settled-cites;
-        runs = zip-mapped IsReadBack drawn_together (read-back drawn) in_end;
+        positions = placed;
+        own_cites = settled-own eq payload_eq writing mode asked brought number_of;
+        runs = are-read-back;
+        numbered = drawn-numbered eq payload_eq account_number in_order (map drawn_together in_end) (subst (λ cs. AllZip IsReadBack cs (map drawn_together in_end)) placed are-read-back);
         asked_for = drawn-requests in_end ∙ (final-stand eq laws writing (table_of eq asked.requests) asked.requests in_order ordered payload_eq number_of).of;
         made = ap (λ (a : Rendered). a.citations) is.ok;
+        shows = ap (λ (a : Rendered). map (λ c. entries_shown c.citation) a.citations) is.ok ∙ citations-shown writing (map drawn_together in_end);
       }
 
       laws-of-rounds : IsLawful mode eq writing firsts all_tables (rounds mode eq writing firsts) → IsLawful mode eq writing firsts all_tables r.1.rounds
@@ -209,11 +252,15 @@ module _ {E P : Type 0} (eq : E → E → Bool) (laws : IsEquivalence eq) (each_
         one_for_each_round = is.rounds;
         last_is_told = is.states ∙ ap (map (λ e. told_by (last_table all_tables e))) (sym is.entries) ∙ map-map (λ e. told_by (last_table all_tables e)) (λ e. e.now) r.1.entries.items;
         rounds = laws-of-rounds (lawful mode asked.requests (first_properties eq payload_eq (number eq asked.offset (entries_listed eq asked.wanted asked.requests)) asked.requests));
+        cited_entries = is.entries;
         numbers = subst (λ es. HaveNumbersOnce eq asked.offset es r.1.numbers.items) (sym is.entries)
             (subst (HaveNumbersOnce eq asked.offset (distinct eq (cited asked.requests))) (sym is.numbers) (by-order asked.requests in_order same-cited asked.offset (order_in_use asked.wanted)));
         citations = citations-come;
         numbers_in_order = λ none. (λ i. map (number_in eq (is.entries i) (is.numbers i)) (distinct eq (cited_finally in_order)))
             ∙ in-order asked.requests in_order same-cited asked.offset (order_in_use asked.wanted) none;
+        numbers_by_order = λ order used. (λ i. map (number_in eq (is.entries i) (is.numbers i)) (bibliography_order eq (Some order) (cited asked.requests)))
+            ∙ in-given-order asked.requests in_order same-cited asked.offset (order_in_use asked.wanted) order used;
+        bibliography = listed-once;
       }
 
 -- what is exactly the answer keeps the laws, and so is all that is promised

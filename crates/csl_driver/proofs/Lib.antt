@@ -11,6 +11,11 @@ pub mod Sizes
 pub mod ListedCount
 pub mod ByEntries
 pub mod EachOnce
+pub mod ShownTrees
+pub mod OwnCites
+pub mod DrawnCites
+pub mod CiteNumbers
+pub mod ListedKeys
 pub mod KeptLaws
 pub mod Promises
 pub mod TaskCounts

@@ -47,12 +47,17 @@ module _ {E P : Type 0} (eq : E → E → Bool) where
         (find-in x (items_finally cites) ∙ ap (is_in eq x) (entries-joined cites) ∙ sym (same x) ∙ left (is_in eq x order) (all_in eq laws order xs) h)
         (each-found order xs same (right (is_in eq x order) (all_in eq laws order xs) h))
 
-    -- there are as many first cites as entries
-    pub firsts-counted : (requests : List (Request E P)) (order : Option (List E)) (table : Table E) → table ≡ table_of eq requests → AreCitesOf eq table requests cites
-        → length (filter_map (first_item eq cites) (bibliography_order eq order (cited requests))) ≡ length (bibliography_order eq order (cited requests))
-    firsts-counted requests order table is are =
-        let listed = bibliography_order eq order (cited requests) in
-        all-found (first_item eq cites) listed
-        (each-found listed listed
-        (λ e. (holds_each_once eq laws order (cited requests)).same e ∙ sym (is_in-distinct eq laws e (cited requests)) ∙ sym (ap (λ (t : Table E). is_in eq e t.entries) is) ∙ sym (are.same e))
-        (all-cited eq laws listed listed (λ e. refl)))
+    module _ (requests : List (Request E P)) (order : Option (List E)) (table : Table E) (is : table ≡ table_of eq requests) (are : AreCitesOf eq table requests cites) where
+      abbrev listed : List E
+      listed = bibliography_order eq order (cited requests)
+
+      -- each entry has a first cite
+      pub firsts-found : All (λ e. is_some (first_item eq cites e) ≡ true) listed
+      firsts-found =
+          each-found listed listed
+          (λ e. (holds_each_once eq laws order (cited requests)).same e ∙ sym (is_in-distinct eq laws e (cited requests)) ∙ sym (ap (λ (t : Table E). is_in eq e t.entries) is) ∙ sym (are.same e))
+          (all-cited eq laws listed listed (λ e. refl))
+
+      -- there are as many first cites as entries
+      pub firsts-counted : length (filter_map (first_item eq cites) listed) ≡ length listed
+      firsts-counted = all-found (first_item eq cites) listed firsts-found

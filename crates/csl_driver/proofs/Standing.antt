@@ -34,7 +34,7 @@ module _ {X : Type 0} (h : ℕ → X → X) where
   abbrev changed : ℕ → List X → List X
   changed n xs = map (λ p. h p.0 p.1) (enumerate_from n xs)
 
-  all-changed : (Q : X → Type 0) → ((k : ℕ) (x : X) → Q x → Q (h k x)) → (n : ℕ) (xs : List X) → All Q xs → All Q (changed n xs)
+  pub all-changed : (Q : X → Type 0) → ((k : ℕ) (x : X) → Q x → Q (h k x)) → (n : ℕ) (xs : List X) → All Q xs → All Q (changed n xs)
   all-changed Q kept n [] a = All-nil Q
   all-changed Q kept n (x ∷ xs) a = All-cons Q (h n x) (changed (n + 1) xs) (kept n x (All-head Q x xs a)) (all-changed Q kept (n + 1) xs (All-tail Q x xs a))
 
@@ -53,7 +53,7 @@ module _ {X : Type 0} (h : ℕ → X → X) where
   zip-changed R kept n (y ∷ ys) (x ∷ xs) a = (kept n y x a.0, zip-changed R kept (n + 1) ys xs a.1)
 
 module _ {X : Type 0} (f : X → X) where
-  all-mapped : (Q : X → Type 0) → ((x : X) → Q x → Q (f x)) → (xs : List X) → All Q xs → All Q (map f xs)
+  pub all-mapped : (Q : X → Type 0) → ((x : X) → Q x → Q (f x)) → (xs : List X) → All Q xs → All Q (map f xs)
   all-mapped Q kept [] a = All-nil Q
   all-mapped Q kept (x ∷ xs) a = All-cons Q (f x) (map f xs) (kept x (All-head Q x xs a)) (all-mapped Q kept xs (All-tail Q x xs a))
 

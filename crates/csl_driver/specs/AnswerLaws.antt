@@ -19,8 +19,8 @@ use Rattle.csl_grouping.specs.FinalOrder.{HasFinalOrder}
 use Rattle.csl_lookup.specs.declared.state.IbidState.{IbidState}
 use Rattle.csl_passes.specs.Purposes.{has_no_purpose}
 use Rattle.csl_passes.specs.Renders.{CiteRender, ItemRender}
-use Rattle.csl_passes.specs.Request.{Request, RequestedCite, cited}
-use Rattle.csl_positions.specs.FinalProperties.{cited_finally, items_finally, placed_finally, with_final_properties}
+use Rattle.csl_passes.specs.Request.{RequestedCite, cited, with_places}
+use Rattle.csl_positions.specs.FinalProperties.{as_cite, cited_finally, items_finally, placed_finally, with_final_properties}
 use Rattle.csl_round_laws.specs.Rounds.{StateTable, no_states, told_by}
 use Rattle.csl_round_laws.specs.RunLaws.{IsLawful, last_shown}
 use Rattle.csl_round_laws.specs.Tables.{last_table}
@@ -46,21 +46,13 @@ module _ {E P : Type 0} where
   abbrev pub places_of : List (ItemRender E P) → List ℕ
   places_of cites = map (λ i. i.properties.certain.initial_idx) cites
 
-  -- a cite is the one that stands at its place in the request
-  pub record IsCiteOf (request : Request E P) (i : ItemRender E P) : Type 0 where
-    pub cite : RequestedCite E P
-    pub at_its_place : slice_get request.cites i.properties.certain.initial_idx ≡ Some cite
-    pub same_entry : i.entry ≡ cite.entry
-    pub same_locator : i.locator ≡ cite.locator
-    pub same_locale : i.locale ≡ cite.locale
-    pub same_purpose : i.purpose ≡ cite.purpose
-    pub hidden_as_asked : i.hidden ≡ cite.hidden
+  -- the cite that was rendered, with its place
+  abbrev pub cite_of : ItemRender E P → RequestedCite E P
+  cite_of i = record (as_cite i) { hidden = i.hidden }
 
   -- the cites are those of their request, each once
-  pub record HasOwnCites (cites : CiteRender E P) : Type 0 where
-    pub each_place_once :
-        IsPermutation (range_with_len 0 (length cites.request.cites)) (places_of cites.items)
-    pub of_the_request : All (IsCiteOf cites.request) cites.items
+  abbrev pub HasOwnCites : CiteRender E P → Type 0
+  HasOwnCites cites = IsPermutation (with_places cites.request).cites (map cite_of cites.items)
 
   -- a cite but for its position and its number
   abbrev pub unsettled : ItemRender E P → ItemRender E P
@@ -113,7 +105,8 @@ module _ {E P : Type 0} (eq : E → E → Bool) (payload_eq : P → P → Bool) 
     pub own_cites : All HasOwnCites settled
     pub runs : AllZip IsReadBack settled drawn
     -- each that is drawn has the number of its entry
-    pub numbered : All (λ i. i.properties.speculative.citation_number ≡ number_of i.entry) (items_finally drawn)
+    pub numbered : All (λ i. i.properties.speculative.citation_number ≡ number_of i.entry)
+        (items_finally drawn)
     -- they are those of the requests that were asked, one citation for each
     pub asked_for : map (λ c. c.request) drawn ≡ asked.requests
     pub made : citations ≡ citations_of writing drawn
