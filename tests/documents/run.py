@@ -11,7 +11,8 @@ for the bibliography is one for its style alone. A copy of each answer has to be
 refused is wrong, which faults.txt has for most of them, and nothing of the others. crates/test_tables, which is looked for
 likewise, answers each document that has an answer once more from a table of what its styles write; with any one thing taken out
 exactly that has to be missing, and a table that is empty at first has to be filled in at most three calls more than rounds mark.
-Where there is a NAME.context, crates/test_contexts prints what calls of a writing context give in the document's first style. It
+Where there is a NAME.context, crates/test_contexts prints what calls of a writing context give in the document's first style, and
+where there is a NAME.cites, what calls that render its entries give. It
 refuses each growth of memory in turn (refuse.c, for which a C compiler must be there), in all four programs; each such sweep is for
 some calls, and fails where one of them met no refusal. Without the library jsonschema the documents aren't held to the schema: a line
 says so, and where the environment has CI set, it fails.
@@ -48,7 +49,7 @@ LINES = {
     5: b'cite_run: out of memory\n',
 }
 # The files of a document.
-ENDINGS = ('.json', '.txt', '.status', '.account', '.alone', '.passes', '.equality', '.context')
+ENDINGS = ('.json', '.txt', '.status', '.account', '.alone', '.passes', '.equality', '.context', '.cites')
 SECONDS = 60
 RANDOM_DOCUMENTS = 2000
 # What a fault says of a value, and how deep JSON may nest.
@@ -224,9 +225,9 @@ def tests_of_tables(tables, bases):
 
 
 def tests_of_contexts(contexts, bases):
-    """What crates/test_contexts is to do with the documents that tell what calls of a writing context give."""
-    way = 'context'
-    return [('%s: %s' % (way, name_of(it)), by_calls, contexts, way, it, 0, read(it + '.' + way)) for it in bases if os.path.isfile(it + '.' + way)]
+    """What crates/test_contexts is to do with the documents that tell what calls of a writing context give, or calls that render."""
+    asked = [(way, it) for way in ('context', 'cites') for it in bases if os.path.isfile(it + '.' + way)]
+    return [('%s: %s' % (way, name_of(it)), by_calls, contexts, way, it, 0, read(it + '.' + way)) for way, it in asked]
 
 
 def faults_wanted():
@@ -585,11 +586,13 @@ SWEPT_TABLES = ['disambiguation/suffix_by_entry', 'bibliography/author_substitut
 HEIGHTS = ['ensure_space', 'push_str', 'push_chunked', 'push_link', 'push_transparent', 'push_quotes', 'pop_quotes', 'write_str']
 HEIGHTS += ['push_format', 'pop_format', 'push_elem', 'commit_elem', 'discard_elem', 'push_delimiter', 'push_name_options']
 HEIGHTS += ['apply_prefix', 'has_content_since', 'apply_suffix', 'flush']
+# Those that render an entry without a driver, and copy an element.
+RENDERING = ['StyleContext::citation', 'date_replacement', 'Elem::clone']
 # Calls of the three programs of calls, which name them before they make them; the status is 5 where one is refused, but for `citation`.
 CALLS = ['read', 'prepare', 'citation', 'finish', 'finish_counted', 'finish_full', 'standalone_citation', 'run', 'clone', 'context', 'finish_with', 'drive', 'answer_by']
-CALLS += [*PASSES, *HEIGHTS]
+CALLS += [*PASSES, *HEIGHTS, *RENDERING]
 # Those that print before others are called.
-PRINT = ['standalone_citation', 'context', *PASSES]
+PRINT = ['standalone_citation', 'context', *PASSES, *RENDERING]
 MOST_GROWTHS = 100000
 # The calls that take no memory, in the order in which crates/test_calls makes them.
 FREE = """
@@ -715,10 +718,9 @@ def sweep_of_free(shim, program, given):
 
 def sweeps_of_contexts(shim, program):
     """Those of crates/test_contexts."""
-    base = HERE + '/words/calls_of_a_context'
-    given = read(base + '.json')
-    asked = [('context', ['context'], read(base + '.context')), ('heights', HEIGHTS, b'')]
-    return [('growths of ' + way, sweep_of_calls, shim, program, way, swept, given, 0, printed) for way, swept, printed in asked]
+    context, cites = HERE + '/words/calls_of_a_context', HERE + '/purposes/calls_of_a_style'
+    asked = [('context', ['context'], context, read(context + '.context')), ('heights', HEIGHTS, context, b''), ('cites', RENDERING, cites, read(cites + '.cites'))]
+    return [('growths of ' + way, sweep_of_calls, shim, program, way, swept, read(base + '.json'), 0, printed) for way, swept, base, printed in asked]
 
 
 def sweeps_of_answers(shim, program):

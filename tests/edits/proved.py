@@ -58,7 +58,7 @@ def is_noticed_by_documents(room, program, way, documents):
         print(said)
     for name in names:
         print('%s %s: %s: %s' % (program, way, name, ' '.join(told.get(name, ['not tried']))))
-    return all(any(it.startswith('status=') for it in told.get(name, [])) and 'output=expected' not in told[name] for name in names)
+    return all('run=ended' in told.get(name, []) and 'output=expected' not in told[name] for name in names)
 
 
 def is_noticed_by_test(room, crate, test):

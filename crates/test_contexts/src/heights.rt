@@ -77,7 +77,7 @@ const CALLS: [Call; 17] = [
 ];
 
 /// Names a call before it is made.
-fn named(rt: &impl Eprint, call: &str) {
+pub(crate) fn named(rt: &impl Eprint, call: &str) {
     let _ = eprintln!(rt; "{call}");
 }
 

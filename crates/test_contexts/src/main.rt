@@ -1,18 +1,22 @@
 //! Calls of a writing context by itself, in the first style of a document: what each call writes, that what
-//! is pushed comes off again, and that the stacks are as high as before where a call is refused.
+//! is pushed comes off again, and that the stacks are as high as before where a call is refused; and calls
+//! that render an entry without a driver.
 //!
-//! The first line of standard input says which of it is looked at (`context`, `heights`), and the document
-//! follows. Before each call its name is written to standard error, and at the end a line that says what was
-//! seen; the exit status tells that too. What the calls write goes to standard output.
+//! The first line of standard input says which of it is looked at (`context`, `heights`, `cites`), and the
+//! document follows. Before each call its name is written to standard error, and at the end a line that says
+//! what was seen; the exit status tells that too. What the calls write goes to standard output.
 #![tactic(auto)]
 
+mod cites;
 mod contexts;
 mod ended;
 mod heights;
 
+use cites::print_cites;
 use contexts::print_contexts;
 use csl_base::locale::Locale;
 use csl_base::style::IndependentStyle;
+use document_reading::entries::entries_of;
 use document_styles::locales::locales_at;
 use document_styles::styles::styles_of;
 use ended::Ended;
@@ -28,10 +32,12 @@ fn called(
     asked: &str,
     style: &IndependentStyle,
     locales: &[Locale],
+    document: &Value,
 ) -> Result<(), Ended> {
     match asked {
         "context" => Ok(print_contexts(rt, style, locales)?),
         "heights" => keep_heights(rt, style),
+        "cites" => print_cites(rt, style, locales, &entries_of(rt.alloc(), document)?),
         _ => Err(Ended::Document),
     }
 }
@@ -45,7 +51,7 @@ fn called_of(
     let styles = styles_of(rt.alloc(), document)?;
     let locales = locales_at(rt.alloc(), document, "locales")?;
     match styles.first() {
-        Some(named) => called(rt, asked, &named.style, &locales),
+        Some(named) => called(rt, asked, &named.style, &locales, document),
         None => Err(Ended::Document),
     }
 }

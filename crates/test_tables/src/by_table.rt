@@ -3,11 +3,11 @@
 //! taken out of the table, one at a time, and exactly that has to be missing; and a source that has what is in
 //! the table is asked for what an empty one lacks.
 
+use crate::filling::fill_from;
 use crate::hosting::host_styles;
 use crate::printing::print_answer;
 use crate::recording::Recorder;
 use crate::seen::Seen;
-use crate::filling::fill_from;
 use crate::taking::take_each_out;
 use cite_document::error::RunError;
 use cite_document::filling::{bibliography_request, filled_driver};

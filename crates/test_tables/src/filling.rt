@@ -70,7 +70,14 @@ pub fn fill_from(
     let request = bibliography_request(asking.alloc, asked, asking.files)?;
     let source = WrittenBefore { table: whole };
     let calls = calls_at_most(answer.1.rounds);
-    match answer_by(asking.alloc, &driver, &request, asked.rounds, calls, &source) {
+    match answer_by(
+        asking.alloc,
+        &driver,
+        &request,
+        asked.rounds,
+        calls,
+        &source,
+    ) {
         Ok(filled) => Ok(compared(&filled, whole, answer)),
         Err(FillError::Driver(error)) => Err(error.into()),
         Err(FillError::Unsettled) => Ok(Seen::Amiss("there is no answer after so many calls")),
@@ -78,11 +85,7 @@ pub fn fill_from(
     }
 }
 
-fn compared(
-    filled: &FilledAnswer<'_, PlainEntry>,
-    whole: &Table,
-    answer: &Answer<'_>,
-) -> Seen {
+fn compared(filled: &FilledAnswer<'_, PlainEntry>, whole: &Table, answer: &Answer<'_>) -> Seen {
     if !has_all(whole, &filled.table) {
         Seen::Amiss("not all was asked for")
     } else if filled.rendered == answer.0 && is_same(&filled.account, &answer.1) {
