@@ -3,3 +3,7 @@ pub mod Adjacent
 pub mod Drawn
 pub mod Told
 pub mod Four
+pub mod OfRequests
+pub mod NotOwn
+pub mod ListedWrong
+pub mod AllRight

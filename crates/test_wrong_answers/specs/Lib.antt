@@ -5,3 +5,6 @@ pub mod Runs
 pub mod Numbers
 pub mod Counts
 pub mod Rounds
+pub mod Letters
+pub mod Cites
+pub mod Listed

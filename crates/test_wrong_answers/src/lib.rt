@@ -6,6 +6,8 @@
 //! too weak to tell.
 #![tactic(auto)]
 
+pub mod cites;
+pub mod listed;
 pub mod numbers;
 pub mod orders;
 pub mod rounds;
