@@ -64,6 +64,18 @@ def published(citeproc):
 
 
 @pytest.fixture
+def pybtex():
+    """For tests that read .bib files."""
+    pytest.importorskip('pybtex', reason='there is no pybtex (Debian: python3-pybtex)')
+
+
+@pytest.fixture
+def yaml():
+    """For tests that read YAML."""
+    pytest.importorskip('yaml', reason='there is no PyYAML (Debian: python3-yaml)')
+
+
+@pytest.fixture
 def example():
     """The text of a file of examples/."""
     def read(name):

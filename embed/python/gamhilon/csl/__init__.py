@@ -10,6 +10,7 @@ citation-style-language-styles. docs/STYLES.md tells what comes out of it.
 """
 from __future__ import annotations
 
+import re
 from dataclasses import dataclass
 from typing import Any, Dict, List, Optional, Sequence
 
@@ -23,6 +24,7 @@ from .marks import cleaned
 __all__ = ['Cite', 'CiteLike', 'CiteprocFailed', 'CiteprocMissing', 'Rendered', 'StyleMissing', 'document', 'render']
 
 _STYLE, _APART = 'style', 'style, cites apart'
+_NOCASE = re.compile(r'<span class="nocase">((?:(?!<span|</span>).)*)</span>', re.DOTALL)
 
 
 @dataclass(frozen=True)
@@ -90,11 +92,21 @@ def _request(place: int, citation: Sequence[Cite]) -> Dict[str, Any]:
 
 
 def _by_key(entries: Sequence[Dict[str, Any]]) -> Dict[str, Dict[str, Any]]:
-    """The first entry of each id."""
+    """The first entry of each id. Titles have no spans that keep their case, which citeproc-py would write."""
     found: Dict[str, Dict[str, Any]] = {}
-    for entry in cleaned(list(entries)):
+    for entry in _without_nocase(cleaned(list(entries))):
         found.setdefault(str(entry['id']), {'type': 'document', **entry, 'id': str(entry['id'])})
     return found
+
+
+def _without_nocase(value: Any) -> Any:
+    if isinstance(value, str):
+        return _NOCASE.sub(r'\1', value)
+    if isinstance(value, list):
+        return [_without_nocase(it) for it in value]
+    if isinstance(value, dict):
+        return {key: _without_nocase(it) for key, it in value.items()}
+    return value
 
 
 def _in_given_order(answer: Answer, sorted_citations: Sequence[Sequence[Cite]], given: Sequence[Sequence[Cite]]) -> Answer:
