@@ -1,13 +1,17 @@
 #!/usr/bin/env python3
-"""build.py: builds the library that programs in C, Python, Rust and others link or load, in out/: libgamhilon.a,
-libgamhilon.so.0 (and libgamhilon.so, which leads to it), gamhilon.h, gamhilon.pc for pkg-config, and gamhilon_build.json,
-which tells the commit and the toolchain.
+"""build.py: builds the library that programs in C, Python, Rust and others link or load, in out/:
+libgamhilon.a, libgamhilon.so.0 (and libgamhilon.so, which leads to it), gamhilon.h, gamhilon.pc for
+pkg-config, and gamhilon_build.json, which tells the commit and the toolchain.
 
-It has `rt lib` prove and compile crates/gamhilon_c first, over what earlier checks kept, and needs a C compiler (CC, or
-cc) with its binutils.
-    --after-ci      take the libraries that `rt ci` left, and prove and compile crates/gamhilon_c alone over them
-    --archive FILE  take this archive as it is, as out/libgamhilon.a of another machine; no toolchain is needed
+It has `rt lib` prove and compile crates/gamhilon_c first, over what earlier checks kept, and needs
+a C compiler (CC, or cc) with its binutils.
+    --after-ci      take the libraries that `rt ci` left, and prove and compile crates/gamhilon_c
+                    alone over them
+    --archive FILE  take this archive as it is, as out/libgamhilon.a of another machine; no
+                    toolchain is needed
     --wheel         build the Python package's wheel too, in out/
+    --wheel-only    build the wheel of what is in out/, and nothing else
+It tells each step, and during a proof how far that is.
 """
 import json
 import os
@@ -16,6 +20,7 @@ import shutil
 import subprocess
 import sys
 import tempfile
+import time
 
 HERE = os.path.dirname(os.path.abspath(__file__))
 ROOT = os.path.dirname(HERE)
@@ -23,6 +28,7 @@ OUT = f'{HERE}/out'
 CRATE = f'{ROOT}/crates/gamhilon_c'
 ARCHIVE = f'{CRATE}/out/libgamhilon_c.a'
 NOTE = 'gamhilon_build.json'
+PAUSE = 30
 EXPORTS = [
     'gamhilon_drive',
     'gamhilon_drive_fault',
@@ -36,11 +42,49 @@ EXPORTS = [
 ]
 
 
+def tell(message):
+    print(f'build.py: {message}', flush=True)
+
+
 def ran(*words, where=HERE):
     """Runs a command, and ends with its status where that isn't 0."""
-    status = subprocess.run(words, cwd=where).returncode
+    ended(words[0], subprocess.run(words, cwd=where).returncode)
+
+
+def proved(*words):
+    """Runs a command that proves, and tells now and then how far it is."""
+    began, below = time.monotonic(), libraries_below('gamhilon_c')
+    process = subprocess.Popen(words, cwd=CRATE)
+    while True:
+        try:
+            return ended(words[0], process.wait(PAUSE))
+        except subprocess.TimeoutExpired:
+            done = sum(os.path.exists(f'{ROOT}/crates/{it}/out/rlib/stamp') for it in below)
+            minutes, seconds = divmod(round(time.monotonic() - began), 60)
+            at_work = ', '.join(crates_at_work())
+            tell(f'{minutes} min {seconds} s: {done} of {len(below)} libraries stand'
+                 + (f', {at_work} at work' if at_work else ''))
+
+
+def ended(name, status):
     if status:
-        sys.exit(f'build.py: {words[0]} ended with status {status}')
+        sys.exit(f'build.py: {name} ended with status {status}')
+
+
+def crates_at_work():
+    """The crates of this repository that a prover or a compiler works on, as its words tell (on
+    Linux)."""
+    found = set()
+    for number in os.listdir('/proc') if os.path.isdir('/proc') else []:
+        try:
+            is_here = os.readlink(f'/proc/{number}/cwd').startswith(f'{ROOT}/crates/')
+            with open(f'/proc/{number}/cmdline', 'rb') as file:
+                words = file.read().decode(errors='replace').split('\0')
+        except OSError:
+            continue
+        if is_here and '--crate-name' in words[:-1]:
+            found.add(words[words.index('--crate-name') + 1])
+    return sorted(found)
 
 
 def told(*words):
@@ -59,7 +103,8 @@ def kit():
 
 
 def libraries_below(name):
-    """The crates of this repository that a crate stands on and the kit's that it names, by crates.txt."""
+    """The crates of this repository that a crate stands on and the kit's that it names, by
+    crates.txt."""
     uses = {}
     with open(f'{ROOT}/crates.txt', encoding='utf-8') as file:
         for line in file:
@@ -74,20 +119,25 @@ def libraries_below(name):
 
 
 def compile_after_ci(kit_folder):
-    """Proves and compiles the crate over the libraries that `rt ci` proved: `rt lib` would prove those once more."""
+    """Proves and compiles the crate over the libraries that `rt ci` proved: `rt lib` would prove
+    those once more."""
     folders = {it: f'{ROOT}/crates/{it}/out/rlib' for it in libraries_below('gamhilon_c')}
     with open(f'{ROOT}/crates.txt', encoding='utf-8') as file:
         own = next(it.partition(':')[2].split() for it in file if it.startswith('gamhilon_c '))
     words = ['--crate-name', 'gamhilon_c', 'src/lib.rt', '--crate-type', 'staticlib']
-    words += ['--extern', f'std={kit_folder}/rlibs/std.rlib', '-L', f'dependency={kit_folder}/rlibs']
+    words += ['--extern', f'std={kit_folder}/rlibs/std.rlib', '-L',
+              f'dependency={kit_folder}/rlibs']
     for name in own:
         words += ['--extern', f'{name}={folders.get(name, f"{kit_folder}/rlibs")}/{name}.rlib']
     for folder in folders.values():
         words += ['-L', f'dependency={folder}']
-    words += ['--antt-project', f'{kit_folder}/rattle/logic/antt-project.json', '--logic-built', f'{kit_folder}/logic_built']
-    words += ['--jobs', '2', '--links', 'gamhilon_c=', '--toolchain', f'{kit_folder}/toolchain', '--backend', 'llvm']
+    words += ['--antt-project', f'{kit_folder}/rattle/logic/antt-project.json', '--logic-built',
+              f'{kit_folder}/logic_built']
+    words += ['--jobs', '2', '--links', 'gamhilon_c=', '--toolchain', f'{kit_folder}/toolchain',
+              '--backend', 'llvm']
     os.makedirs(os.path.dirname(ARCHIVE), exist_ok=True)
-    ran(f'{kit_folder}/bin/rattle', 'build', *words, '-o', ARCHIVE, where=CRATE)
+    tell('proving and compiling crates/gamhilon_c, over the libraries that rt ci left')
+    proved(f'{kit_folder}/bin/rattle', 'build', *words, '-o', ARCHIVE)
 
 
 def version():
@@ -97,11 +147,13 @@ def version():
 
 
 def note_of(archive):
-    """The commit and the toolchain: of what is built here, or those noted beside an archive; None where nothing tells."""
+    """The commit and the toolchain: of what is built here, or those noted beside an archive; None
+    where nothing tells."""
     if archive == ARCHIVE:
         changed = told('git', 'status', '--porcelain', 'crates', 'crates.txt')
         commit = told('git', 'rev-parse', 'HEAD')
-        return {'commit': commit and commit + (' and changes' if changed else ''), 'toolchain': told('rt', 'version')}
+        return {'commit': commit and commit + (' and changes' if changed else ''),
+                'toolchain': told('rt', 'version')}
     try:
         with open(f'{os.path.dirname(archive)}/{NOTE}', encoding='utf-8') as file:
             return json.load(file)
@@ -115,18 +167,21 @@ def written(path, text):
 
 
 def defines(archive, name):
-    """Whether an archive has a function of its own by this name, as the archives have that were built here."""
+    """Whether an archive has a function of its own by this name, as the archives have that were
+    built here."""
     done = subprocess.run(['nm', '--defined-only', archive], capture_output=True, text=True)
     return any(it.split()[-1:] == [name] for it in done.stdout.splitlines())
 
 
 def link(compiler, archive, kit_folder, room, note):
-    """One object that shows the exports alone, as an archive and as a shared object, in a folder."""
+    """One object that shows the exports alone, as an archive and as a shared object, in a
+    folder."""
     about = '; '.join(f'{name} {said}' for name, said in note.items() if said)
     whole = ['-Wl,--whole-archive', archive, '-Wl,--no-whole-archive']
     libraries = [f'{kit_folder}/c/liblibc_c.a'] if kit_folder else []
     if not defines(archive, 'gamhilon_version'):
-        ran(*compiler, '-O2', '-fPIC', f'-I{HERE}', f'-DGAMHILON_ABOUT="{about}"', '-c', '-o', f'{room}/about.o',
+        ran(*compiler, '-O2', '-fPIC', f'-I{HERE}', f'-DGAMHILON_ABOUT="{about}"', '-c', '-o',
+            f'{room}/about.o',
             f'{HERE}/c/about.c')
         whole.append(f'{room}/about.o')
     ran(*compiler, '-r', '-nostdlib', '-o', f'{room}/gamhilon.o', *whole, *libraries)
@@ -143,6 +198,7 @@ def build(archive, kit_folder):
     compiler = os.environ.get('CC', 'cc').split()
     if not shutil.which(compiler[0]):
         sys.exit(f'build.py: there is no C compiler {compiler[0]}: set CC')
+    tell(f'linking {os.path.relpath(archive)}')
     with tempfile.TemporaryDirectory(dir=HERE, prefix='.out-') as room:
         note = note_of(archive)
         link(compiler, archive, kit_folder, room, note)
@@ -156,17 +212,23 @@ def build(archive, kit_folder):
         shutil.rmtree(OUT, ignore_errors=True)
         os.chmod(room, 0o755)
         shutil.copytree(room, OUT, symlinks=True)
-    print(f'built {os.path.relpath(OUT)}/libgamhilon.a and libgamhilon.so')
+    tell(f'built {os.path.relpath(OUT)}/libgamhilon.a and libgamhilon.so')
 
 
 def build_wheel():
-    """The wheel of the Python package, in out/."""
+    """The wheel of the Python package, in out/, of the library that is there."""
     sys.path.insert(0, f'{HERE}/python')
     import gamhilon_wheel
-    print(f'built {os.path.relpath(OUT)}/{gamhilon_wheel.build_wheel(OUT)}')
+    try:
+        name = gamhilon_wheel.build_wheel(OUT)
+    except OSError as error:
+        sys.exit(f'build.py: no wheel: {error}')
+    tell(f'built {os.path.relpath(OUT)}/{name}')
 
 
 def main(words):
+    if words == ['--wheel-only']:
+        return build_wheel()
     with_wheel = '--wheel' in words
     words = [it for it in words if it != '--wheel']
     kit_folder, archive = kit(), ARCHIVE
@@ -177,15 +239,22 @@ def main(words):
     elif words and words != ['--after-ci']:
         sys.exit(__doc__)
     elif not kit_folder:
-        sys.exit('build.py: there is no rt in the PATH: the toolchain builds the archive, or --archive names one')
+        sys.exit('build.py: there is no rt in the PATH: the toolchain builds the archive, '
+                 'or --archive names one')
     elif words:
         compile_after_ci(kit_folder)
     else:
-        ran('rt', 'lib', where=CRATE)
+        count = len(libraries_below('gamhilon_c'))
+        tell(f'rt lib proves and compiles crates/gamhilon_c, over {count} libraries, and keeps '
+             'what it proved; from nothing that takes half an hour to an hour')
+        proved('rt', 'lib')
     build(archive, kit_folder)
     if with_wheel:
         build_wheel()
 
 
 if __name__ == '__main__':
-    main(sys.argv[1:])
+    try:
+        main(sys.argv[1:])
+    except KeyboardInterrupt:
+        sys.exit(130)

@@ -1,14 +1,15 @@
-"""Builds the wheel of the package: its files, the shared library, and what tells its licence and of what it was built.
+"""Builds the wheel of the package: its files, the shared library, and what tells its licence and of
+what it was built.
 
-It is the build backend of pyproject.toml (PEP 517), and needs nothing from a package registry. The library and the note
-of its build are ../out/libgamhilon.so and ../out/gamhilon_build.json, which ../build.py makes.
+It is the build backend of pyproject.toml (PEP 517), and needs nothing from a package registry. The
+library and the note of its build are ../out/libgamhilon.so and ../out/gamhilon_build.json, which
+../build.py makes.
 """
 import base64
 import hashlib
 import os
 import platform
 import re
-import subprocess
 import zipfile
 
 HERE = os.path.dirname(os.path.abspath(__file__))
@@ -29,7 +30,15 @@ Description-Content-Type: text/plain
 
 {description}
 """
-SCRIPTS = '[console_scripts]\ngamhilon = gamhilon.__main__:main\ngamhilon-pandoc = gamhilon.pandoc_filter:main\n'
+SCRIPTS = """[console_scripts]
+gamhilon = gamhilon.__main__:main
+gamhilon-pandoc = gamhilon.pandoc_filter:main
+"""
+WHEEL = """Wheel-Version: 1.0
+Generator: gamhilon_wheel
+Root-Is-Purelib: false
+Tag: {tag}
+"""
 
 
 def read(path):
@@ -45,18 +54,18 @@ def version():
 
 def glibc_of(library):
     """The lowest glibc that has all that a library asks for, as 2 and a number."""
-    told = subprocess.run(['objdump', '-T', library], capture_output=True, check=True).stdout.decode()
-    return max((int(it) for it in re.findall(r'GLIBC_2\.(\d+)', told)), default=17)
+    return max((int(it) for it in re.findall(rb'\bGLIBC_2\.(\d+)', read(library))), default=17)
 
 
 def tag():
-    """The wheel's tag: any Python 3, and Linux on this kind of processor with a glibc that has what the library asks for."""
+    """The wheel's tag: any Python 3, and Linux on this kind of processor with a glibc that has what
+    the library asks for."""
     return f'py3-none-manylinux_2_{max(glibc_of(f"{OUT}/libgamhilon.so"), 17)}_{platform.machine()}'
 
 
 def files():
     """What the wheel has, by its path in it, but for its record."""
-    library = f'{OUT}/libgamhilon.so'
+    library, note = f'{OUT}/libgamhilon.so', f'{OUT}/gamhilon_build.json'
     if not os.path.exists(library):
         raise FileNotFoundError(f'{library} is not there: build it first, by embed/build.py')
     found = {}
@@ -66,11 +75,12 @@ def files():
                 path = os.path.join(folder, name)
                 found[os.path.relpath(path, HERE)] = read(path)
     found[f'{NAME}/libgamhilon.so'] = read(library)
-    found[f'{NAME}/gamhilon_build.json'] = read(f'{OUT}/gamhilon_build.json')
+    found[f'{NAME}/gamhilon_build.json'] = read(note) if os.path.exists(note) else b'{}\n'
     info = f'{NAME}-{version()}.dist-info'
     description = read(f'{HERE}/{NAME}/__init__.py').decode().split('"""')[1]
-    found[f'{info}/METADATA'] = METADATA.format(name=NAME, version=version(), description=description).encode()
-    found[f'{info}/WHEEL'] = f'Wheel-Version: 1.0\nGenerator: gamhilon_wheel\nRoot-Is-Purelib: false\nTag: {tag()}\n'.encode()
+    found[f'{info}/METADATA'] = METADATA.format(name=NAME, version=version(),
+                                                description=description).encode()
+    found[f'{info}/WHEEL'] = WHEEL.format(tag=tag()).encode()
     found[f'{info}/entry_points.txt'] = SCRIPTS.encode()
     found[f'{info}/LICENSE'] = read(f'{ROOT}/LICENSE')
     return found
@@ -79,8 +89,10 @@ def files():
 def record(found):
     """The record of the files, with their checksums (PEP 376)."""
     info = f'{NAME}-{version()}.dist-info'
-    sums = {it: base64.urlsafe_b64encode(hashlib.sha256(data).digest()).rstrip(b'=').decode() for it, data in found.items()}
-    rows = [f'{it},sha256={sums[it]},{len(data)}' for it, data in found.items()] + [f'{info}/RECORD,,']
+    sums = {it: base64.urlsafe_b64encode(hashlib.sha256(data).digest()).rstrip(b'=').decode()
+            for it, data in found.items()}
+    rows = [f'{it},sha256={sums[it]},{len(data)}' for it,
+            data in found.items()] + [f'{info}/RECORD,,']
     return ('\n'.join(rows) + '\n').encode()
 
 
@@ -89,8 +101,10 @@ def build_wheel(wheel_directory, config_settings=None, metadata_directory=None):
     found = files()
     found[f'{NAME}-{version()}.dist-info/RECORD'] = record(found)
     wheel = f'{NAME}-{version()}-{tag()}.whl'
-    with zipfile.ZipFile(os.path.join(wheel_directory, wheel), 'w', zipfile.ZIP_DEFLATED) as archive:
+    with zipfile.ZipFile(os.path.join(wheel_directory, wheel), 'w',
+                         zipfile.ZIP_DEFLATED) as archive:
         for name in sorted(found):
             # a fixed date, so that one library makes one wheel
-            archive.writestr(zipfile.ZipInfo(name, (2026, 1, 1, 0, 0, 0)), found[name], zipfile.ZIP_DEFLATED)
+            archive.writestr(zipfile.ZipInfo(name, (2026, 1, 1, 0, 0, 0)), found[name],
+                             zipfile.ZIP_DEFLATED)
     return wheel

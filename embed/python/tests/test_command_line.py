@@ -1,8 +1,11 @@
 """python -m gamhilon, as a process."""
 import json
 import os
+import pty
+import signal
 import subprocess
 import sys
+import time
 
 import pytest
 from conftest import PACKAGE, ROOT, MadeUpLibrary
@@ -14,7 +17,8 @@ from gamhilon import _library
 
 def run(*words, given=None, **how):
     environment = {**os.environ, 'PYTHONPATH': PACKAGE, 'PYTHONIOENCODING': 'ascii'}
-    done = subprocess.run([sys.executable, '-m', 'gamhilon', *words], input=given, env=environment, timeout=120,
+    done = subprocess.run([sys.executable, '-m', 'gamhilon', *words], input=given, env=environment,
+                          timeout=120,
                           **{'stdout': subprocess.PIPE, 'stderr': subprocess.PIPE, **how})
     return done.returncode, (done.stdout or b'').decode(), done.stderr.decode()
 
@@ -24,10 +28,12 @@ def test_no_words_is_not_a_command_line():
     assert status == 64 and out == '' and 'usage: gamhilon' in error and 'exit status' in error
 
 
-@pytest.mark.parametrize('words', [['rendre'], ['render'], ['render', 'a', '--to', 'pdf'], ['styles', 'apa'],
-                                   ['check', 'a', 'b'], ['render', 'a', '--depth'], ['render', 'a', '--depth', '-1'],
-                                   ['check', 'a', '--elements', 'x'], ['check', 'a', '--elements', '18446744073709551616'],
-                                   ['entries', 'a', '--depth', '1'], ['entries'], ['entries', 'a', '--from', 'ris']])
+@pytest.mark.parametrize('words', [
+    ['rendre'], ['render'], ['render', 'a', '--to', 'pdf'], ['styles', 'apa'], ['check'],
+    ['render', 'a', '--depth'], ['render', 'a', '--depth', '-1'], ['check', 'a', '--elements', 'x'],
+    ['check', 'a', '--elements', '18446744073709551616'], ['entries', 'a', '--depth', '1'],
+    ['entries'], ['entries', 'a', '--from', 'ris'],
+])
 def test_wrong_words_are_not_a_command_line(words):
     status, out, error = run(*words)
     assert status == 64 and out == '' and error.startswith(('usage', 'gamhilon: there is no style'))
@@ -43,78 +49,101 @@ def test_render_in_each_form(built, example):
     assert run('render', '-', given=example('first.json').encode()) == (0, example('first.txt'), '')
     outputs = {it: run('render', path, '--to', it) for it in ('html', 'markdown', 'latex', 'json')}
     assert all(status == 0 and error == '' for status, _, error in outputs.values())
-    assert '<i>On the Origin of Species</i>' in outputs['html'][1] and '<div id="ref-darwin" class="csl-entry">' in outputs['html'][1]
+    assert '<i>On the Origin of Species</i>' in outputs['html'][1]
+    assert '<div id="ref-darwin" class="csl-entry">' in outputs['html'][1]
     assert '<a href="#ref-darwin">Darwin 1859, p. 84</a>' in outputs['html'][1]
-    assert '*On the Origin of Species*' in outputs['markdown'][1] and r'\textit{On the Origin of Species}' in outputs['latex'][1]
+    assert '*On the Origin of Species*' in outputs['markdown'][1]
+    assert r'\textit{On the Origin of Species}' in outputs['latex'][1]
     assert len(json.loads(outputs['json'][1])['citations']) == 4
 
 
 @pytest.mark.parametrize('document, status', [
     ('{', 2), ('{}', 2),
-    ('{"styles": {"s": {"citation": {"elements": []}, "macros": [{"name": "b", "children": [{"kind": "text", "macro": "b"}]}]}}, '
-     '"entries": [], "requests": [], "bibliography": {"style": "s"}}', 3),
-    ('{"styles": {"s": {"citation": {"elements": []}}}, "entries": [{"key": "a"}], "requests": [{"style": "s", "items": '
-     '[{"entry": "a"}]}], "bibliography": {"style": "s"}, "offset": 18446744073709551615}', 4),
+    ('{"styles": {"s": {"citation": {"elements": []}, "macros": [{"name": "b", "children": '
+     '[{"kind": "text", "macro": "b"}]}]}}, "entries": [], "requests": [], '
+     '"bibliography": {"style": "s"}}', 3),
+    ('{"styles": {"s": {"citation": {"elements": []}}}, "entries": [{"key": "a"}], "requests": '
+     '[{"style": "s", "items": [{"entry": "a"}]}], "bibliography": {"style": "s"}, '
+     '"offset": 18446744073709551615}', 4),
 ])
 def test_what_is_refused_has_the_status_of_the_program(built, document, status):
     for words in (['render', '-'], ['render', '-', '--to', 'html'], ['check', '-']):
         got, out, error = run(*words, given=document.encode())
-        assert got == status and out == '' and error.startswith('gamhilon: ') and error.count('\n') == 1
+        assert got == status and out == '' and error.startswith('gamhilon: standard input: ')
+        assert error.count('\n') == 1
 
 
 @pytest.mark.parametrize('words, limits', [
-    ([], []), (['--depth', '100', '--elements', '5000'], [(100, 5000)]), (['--depth', '0'], [(0, 2 ** 64 - 1)]),
-    (['--elements', '18446744073709551615', '--depth', '7'], [(7, 2 ** 64 - 1)]), (['--elements', '9'], [(2 ** 64 - 1, 9)]),
+    ([], (100, 100000)), (['--depth', '1000', '--elements', '5000'], (1000, 5000)),
+    (['--depth', '0'], (0, 100000)),
+    (['--elements', '18446744073709551615', '--depth', '7'], (7, 2 ** 64 - 1)),
+    (['--elements', '9'], (100, 9)),
 ])
 def test_limits_of_the_command_line(monkeypatch, tmp_path, capfd, words, limits):
+    """There are limits where none are told."""
     path = tmp_path / 'a.json'
     path.write_text('{"styles": {}, "entries": [], "requests": []}')
     for command in (['render'], ['render', '--to', 'json'], ['check']):
         library = MadeUpLibrary(text=b'{"citations":[]}')
         monkeypatch.setattr(_library, '_library', _library.Library(library))
         assert command_line.main([*command, str(path), *words]) == 0
-        assert [it[1:] for it in library.limits_calls] == limits and len(library.calls) == 1
+        assert [it[1:] for it in library.limits_calls] == [limits] and len(library.calls) == 1
         assert capfd.readouterr().err == ''
 
 
-@pytest.mark.parametrize('status, said', [(7, 'deeper than 100'), (8, 'more elements than 5000')])
-def test_what_is_not_within_limits_has_the_status_of_the_library(monkeypatch, tmp_path, capfd, status, said):
+@pytest.mark.parametrize('status, said', [
+    (7, 'the elements of a layout nest deeper than 100 (--depth raises the limit)'),
+    (8, 'a layout has more elements than 5000 (--elements raises the limit)'),
+])
+def test_what_is_not_within_limits_has_the_status_of_the_library(monkeypatch, tmp_path, capfd,
+                                                                 status, said):
     path = tmp_path / 'a.json'
     path.write_text('{}')
     for command in (['render'], ['render', '--to', 'html'], ['check']):
-        monkeypatch.setattr(_library, '_library', _library.Library(MadeUpLibrary(limits_status=status)))
-        assert command_line.main([*command, str(path), '--depth', '100', '--elements', '5000']) == status
-        out, error = capfd.readouterr()
-        assert out == '' and error.startswith('gamhilon: ') and said in error and error.count('\n') == 1
+        monkeypatch.setattr(_library, '_library',
+                            _library.Library(MadeUpLibrary(limits_status=status)))
+        assert command_line.main([*command, str(path), '--depth', '100', '--elements',
+                                  '5000']) == status
+        assert capfd.readouterr() == ('', f'gamhilon: {path}: {said}\n')
 
 
 def test_limits_of_documents(built, example):
-    style = {'citation': {'elements': [{'kind': 'group', 'children': [{'kind': 'text', 'value': 'x'}]}]}}
-    document = json.dumps({'styles': {'s': style}, 'entries': [], 'requests': [], 'bibliography': {'style': 's'}}).encode()
+    style = {'citation': {'elements': [{'kind': 'group',
+                                        'children': [{'kind': 'text', 'value': 'x'}]}]}}
+    document = json.dumps({'styles': {'s': style}, 'entries': [], 'requests': [],
+                           'bibliography': {'style': 's'}}).encode()
     for words in (['render', '-'], ['render', '-', '--to', 'html'], ['check', '-']):
         assert run(*words, '--depth', '2', '--elements', '2', given=document)[::2] == (0, '')
         for limits, status in ((['--depth', '1'], 7), (['--elements', '1'], 8)):
             got, out, error = run(*words, *limits, given=document)
-            assert got == status and out == '' and error.startswith('gamhilon: ') and error.count('\n') == 1
+            assert got == status and out == '' and error.startswith('gamhilon: ')
+        assert error.count('\n') == 1
     words = ['render', f'{ROOT}/examples/first.json', '--depth', '100', '--elements', '100000']
     assert run(*words) == (0, example('first.txt'), '')
 
 
 def test_check_tells_what_a_document_holds_and_what_it_can_hardly_mean(built):
-    style = {'citation': {'elements': [{'kind': 'group', 'children': [{'kind': 'text', 'macro': 'nowhere'}]}]},
+    style = {'citation': {'elements': [{'kind': 'group',
+                                        'children': [{'kind': 'text', 'macro': 'nowhere'}]}]},
              'macros': [{'name': 'm', 'children': [{'kind': 'choose',
-                                                    'branches': [{'if': [], 'children': [{'kind': 'text', 'macro': 'x'}]}],
+                                                    'branches': [{'if': [],
+                                                                  'children': [{'kind': 'text',
+                                                                                'macro': 'x'}]}],
                                                     'else': [{'kind': 'text', 'macro': 'm/~'}]}]}]}
-    document = {'styles': {'a/b': style}, 'entries': [{'key': 'k', 'title': 'two\nlines'}, {'key': 'k'}],
-                'requests': [{'style': 'a/b', 'items': [{'entry': 'k'}]}], 'bibliography': {'style': 'a/b'}}
+    document = {'styles': {'a/b': style},
+                'entries': [{'key': 'k', 'title': 'two\nlines'}, {'key': 'k'}],
+                'requests': [{'style': 'a/b', 'items': [{'entry': 'k'}]}],
+                'bibliography': {'style': 'a/b'}}
     status, out, error = run('check', '-', given=json.dumps(document).encode())
     assert (status, error) == (0, '')
     lines = out.splitlines()
-    assert lines[:3] == ['style a/b: in-text, without a bibliography', 'entries: 2, of which 1 are cited',
+    assert lines[:3] == ['style a/b: in-text, without a bibliography',
+                         'entries: 2, of which 1 are cited',
                          'requests: 1, of 1 cites']
     pointers = [it.split(' ')[1].rstrip(':') for it in lines[3:]]
     assert pointers == [
-        '/styles/a~1b/macros/0/children/0/branches/0/children/0/macro', '/styles/a~1b/macros/0/children/0/else/0/macro',
+        '/styles/a~1b/macros/0/children/0/branches/0/children/0/macro',
+        '/styles/a~1b/macros/0/children/0/else/0/macro',
         '/styles/a~1b/citation/elements/0/children/0/macro', '/entries/0/title', '/entries/1']
 
 
@@ -136,13 +165,14 @@ def test_styles():
 def test_files_that_are_not_there_or_are_folders_are_status_1():
     for words in (['render', '/nowhere.json'], ['check', '/'], ['entries', '/nowhere.json']):
         status, out, error = run(*words)
-        assert status == 1 and out == '' and error.startswith('gamhilon: input or output failed: ')
+        reason = 'Is a directory' if words[1] == '/' else 'No such file or directory'
+        assert (status, out, error) == (1, '', f'gamhilon: {words[1]}: {reason}\n')
 
 
 def test_output_that_cannot_be_written_is_status_1():
     with open('/dev/full', 'wb') as full:
         status, _, error = run('styles', 'note', stdout=full)
-    assert status == 1 and error.count('\n') == 1
+    assert (status, error) == (1, 'gamhilon: standard output: No space left on device\n')
     reader, writer = os.pipe()
     os.close(reader)
     try:
@@ -155,7 +185,8 @@ def test_output_that_cannot_be_written_is_status_1():
 def test_closed_streams_are_status_1(tmp_path):
     environment = {**os.environ, 'PYTHONPATH': PACKAGE}
     for words in ('styles >&-', 'render - <&-', 'styles >&- 2>&-'):
-        done = subprocess.run(['sh', '-c', f'exec "$0" -m gamhilon {words}', sys.executable], env=environment, capture_output=True)
+        done = subprocess.run(['sh', '-c', f'exec "$0" -m gamhilon {words}', sys.executable],
+                              env=environment, capture_output=True)
         assert done.returncode == 1 and done.stdout == b'' and b'Traceback' not in done.stderr
 
 
@@ -163,21 +194,125 @@ def test_a_missing_library_has_a_status_of_its_own(tmp_path):
     path = tmp_path / 'a.json'
     path.write_text('{}')
     environment = {**os.environ, 'PYTHONPATH': PACKAGE, 'GAMHILON_LIBRARY': '/nowhere.so'}
-    done = subprocess.run([sys.executable, '-m', 'gamhilon', 'render', str(path)], env=environment, capture_output=True)
-    assert done.returncode == 69 and b'GAMHILON_LIBRARY' in done.stderr and done.stderr.count(b'\n') == 1
+    done = subprocess.run([sys.executable, '-m', 'gamhilon', 'render', str(path)], env=environment,
+                          capture_output=True)
+    assert done.returncode == 69 and b'GAMHILON_LIBRARY' in done.stderr
+    assert done.stderr.count(b'\n') == 1
 
 
-def test_what_takes_longer_than_a_second_tells_so(monkeypatch, tmp_path, capfd):
-    import time
+SLOW = """
+import ctypes, sys
+from gamhilon import __main__ as command_line, _library
+from stand_ins import MadeUpLibrary
 
-    class SlowLibrary(MadeUpLibrary):
-        def gamhilon_print(self, *given):
-            time.sleep(1.3)
-            return super().gamhilon_print(*given)
+class SlowLibrary(MadeUpLibrary):
+    def gamhilon_print(self, *given):
+        print('called', flush=True)
+        ctypes.CDLL(None).{}
+        return super().gamhilon_print(*given)
 
-    monkeypatch.setattr(_library, '_library', _library.Library(SlowLibrary(text=b'(Doe)\n')))
+_library._library = _library.Library(SlowLibrary(text=b'(Doe)'))
+sys.exit(command_line.main(sys.argv[1:]))
+"""
+
+
+def slow(words, call, **how):
+    """The command over a library that takes its time in a call of C, as a process."""
+    environment = {**os.environ, 'PYTHONPATH': f'{PACKAGE}{os.pathsep}{os.path.dirname(__file__)}'}
+    return subprocess.Popen([sys.executable, '-c', SLOW.format(call), *words], env=environment,
+                            stdout=subprocess.PIPE, **how)
+
+
+def told_to_a_terminal(words, call):
+    """What a command writes, and what it tells a terminal."""
+    terminal, theirs = pty.openpty()
+    process = slow(words, call, stderr=theirs)
+    out, _ = process.communicate(timeout=60)
+    os.close(theirs)
+    told = b''
+    try:
+        while True:
+            told += os.read(terminal, 4096)
+    except OSError:
+        os.close(terminal)
+    return process.returncode, out.decode(), told.decode()
+
+
+def test_what_takes_longer_than_a_second_tells_so_to_a_terminal(tmp_path):
     path = tmp_path / 'a.json'
     path.write_text('{}')
-    assert command_line.main(['render', str(path)]) == 0
+    status, out, told = told_to_a_terminal(['render', str(path)], 'usleep(1300000)')
+    line = f'gamhilon: answering {path}, 1 s'
+    assert (status, out) == (0, 'called\n(Doe)') and told == f'\r{line}\r{" " * len(line)}\r'
+    assert told_to_a_terminal(['render', str(path)], 'usleep(1000)') == (0, 'called\n(Doe)', '')
+    process = slow(['render', str(path)], 'usleep(1300000)', stderr=subprocess.PIPE)
+    assert process.communicate(timeout=60) == (b'called\n(Doe)', b'')
+
+
+def test_an_interrupt_ends_a_call_of_the_library_at_once(tmp_path):
+    path = tmp_path / 'a.json'
+    path.write_text('{}')
+    process = slow(['render', str(path)], 'sleep(60)', stderr=subprocess.PIPE)
+    assert process.stdout.readline() == b'called\n'
+    began = time.monotonic()
+    process.send_signal(signal.SIGINT)
+    assert process.communicate(timeout=30) == (b'', b'')
+    assert process.returncode == 130 and time.monotonic() - began < 10
+
+
+def test_an_error_that_is_not_ours_is_not_hidden(monkeypatch, tmp_path):
+    monkeypatch.setattr(_library, '_library', _library.Library(MadeUpLibrary(status=17)))
+    path = tmp_path / 'a.json'
+    path.write_text('{}')
+    with pytest.raises(RuntimeError, match='17'):
+        command_line.main(['render', str(path)])
+
+
+DEEP = '{"styles": ' + '[' * 127 + ']' * 127 + '}'
+
+
+@pytest.mark.parametrize('data, said', [
+    (b'\xef\xbb\xbf{}', 'begins with a byte order mark'),
+    (DEEP.encode(), 'nested deeper than 127 levels from line 1, column 2'),
+    (b'[' * 200000, 'nested deeper than 127 levels from line 1, column 2'),
+    # (brackets in texts open nothing, and what is wrong before counts)
+    (b'{"a": "' + b'[' * 200 + b'",}', 'no JSON from line 1, column 2'),
+    (b'{"a": x' + b'[' * 200, 'no JSON from line 1, column 2'),
+    (b'{"a": "' + b'\\"' * 20000, 'no JSON from line 1, column 2'),
+    (DEEP[11:-1].encode()[1:-1] + b',]', 'no JSON from line 1, column 2'),
+])
+def test_why_there_is_no_json(monkeypatch, tmp_path, capfd, data, said):
+    path = tmp_path / 'a.json'
+    path.write_bytes(data)
+    fault = {'pointer': '', 'found': 'no JSON from line 1, column 2', 'wanted': 'JSON'}
+    library = _library.Library(MadeUpLibrary(status=2, fault=fault))
+    monkeypatch.setattr(_library, '_library', library)
+    assert command_line.main(['render', str(path)]) == 2
+    assert capfd.readouterr() == ('', f'gamhilon: {path}: {said}\n')
+
+
+def test_several_files_are_checked_and_named(monkeypatch, tmp_path, capfd):
+    monkeypatch.setattr(_library, '_library', _library.Library(MadeUpLibrary()))
+    (tmp_path / 'a.json').write_text('{"styles": {}, "entries": [], "requests": []}')
+    books = [{'id': 'a', 'type': 'book'}, {'id': 'b', 'type': 'book'}, {}]
+    (tmp_path / 'b.json').write_text(json.dumps(books))
+    paths = [str(tmp_path / it) for it in ('a.json', 'b.json', 'c.json')]
+    assert command_line.main(['check', *paths]) == 1
     out, error = capfd.readouterr()
-    assert out == '(Doe)\n' and error == f'gamhilon: answering {path}, 1 s\n'
+    assert out.splitlines() == [
+        f'{paths[0]}: entries: 0, of which 0 are cited', f'{paths[0]}: requests: 0, of 0 cites',
+        f'{paths[1]}: references: 2, of which 2 book',
+        f'{paths[1]}: remark: item 2: id: an item without an id, left out ({{}})']
+    assert error == f'gamhilon: {paths[2]}: No such file or directory\n'
+
+
+def test_references_are_checked(tmp_path, pybtex, capfd):
+    path = tmp_path / 'a.bib'
+    path.write_text('@book{a, title = {A}, editorc = {X}, editorctype = {founder}}\n'
+                    '@misc{b, title = {B')
+    assert command_line.main(['check', str(path)]) == 2
+    out, error = capfd.readouterr()
+    assert out.splitlines() == [
+        'references: 2, of which 1 book, 1 document',
+        'remark: a: editorc: CSL has no place for more names of the kind founder ("X")']
+    assert error == f'gamhilon: {path}: syntax error in line 2: premature end of file\n'

@@ -13,7 +13,8 @@ from conftest import PACKAGE, ROOT
 sys.path.insert(0, PACKAGE)
 import gamhilon_wheel  # noqa: E402
 
-pytestmark = pytest.mark.skipif(not shutil.which('cc') or not shutil.which('objdump'), reason='there is no C compiler')
+pytestmark = pytest.mark.skipif(not shutil.which('cc') or not shutil.which('objdump'),
+                                reason='there is no C compiler')
 
 
 @pytest.fixture
@@ -21,8 +22,10 @@ def wheel(tmp_path, monkeypatch):
     """A wheel with a library that calls a function of glibc 2.34, and a note."""
     out = tmp_path / 'out'
     out.mkdir()
-    (tmp_path / 'a.c').write_text('#include <pthread.h>\nint f(void) { return pthread_detach(pthread_self()); }\n')
-    subprocess.run(['cc', '-shared', '-fPIC', '-o', str(out / 'libgamhilon.so'), str(tmp_path / 'a.c')], check=True)
+    (tmp_path / 'a.c').write_text('#include <pthread.h>\n'
+                                  'int f(void) { return pthread_detach(pthread_self()); }\n')
+    subprocess.run(['cc', '-shared', '-fPIC', '-o', str(out / 'libgamhilon.so'),
+                    str(tmp_path / 'a.c')], check=True)
     (out / 'gamhilon_build.json').write_text(json.dumps({'commit': 'c0ffee', 'toolchain': 'kit-1'}))
     monkeypatch.setattr(gamhilon_wheel, 'OUT', str(out))
     name = gamhilon_wheel.build_wheel(str(tmp_path))
@@ -31,25 +34,29 @@ def wheel(tmp_path, monkeypatch):
 
 def test_its_tag_tells_the_glibc_that_the_library_asks_for(wheel):
     version, python, abi, platform = wheel.name[:-len('.whl')].split('-')[1:]
-    asked = subprocess.run(['objdump', '-T', str(wheel.parent / 'out' / 'libgamhilon.so')], capture_output=True,
+    asked = subprocess.run(['objdump', '-T', str(wheel.parent / 'out' / 'libgamhilon.so')],
+                           capture_output=True,
                            text=True).stdout
     assert (python, abi) == ('py3', 'none') and platform.startswith('manylinux_2_')
     assert f'GLIBC_2.{platform.split("_")[2]}' in asked or platform.split('_')[2] == '17'
     with zipfile.ZipFile(wheel) as archive:
-        assert f'Tag: py3-none-{platform}\n' in archive.read(f'gamhilon-{version}.dist-info/WHEEL').decode()
+        told = archive.read(f'gamhilon-{version}.dist-info/WHEEL').decode()
+        assert f'Tag: py3-none-{platform}\n' in told
 
 
 def test_it_has_what_a_user_needs(wheel):
     with zipfile.ZipFile(wheel) as archive:
         names = archive.namelist()
         info = next(it.split('/')[0] for it in names if '.dist-info/' in it)
-        for name in ('__init__.py', '__main__.py', 'py.typed', 'libgamhilon.so', 'gamhilon_build.json',
+        for name in ('__init__.py', '__main__.py', 'py.typed', 'libgamhilon.so',
+                     'gamhilon_build.json',
                      'style_documents/note.json', 'csl/__init__.py'):
             assert f'gamhilon/{name}' in names
         assert not any('__pycache__' in it or it.endswith('.pyc') for it in names)
         with open(f'{ROOT}/LICENSE', 'rb') as file:
             assert archive.read(f'{info}/LICENSE') == file.read()
-        assert 'gamhilon-pandoc = gamhilon.pandoc_filter:main' in archive.read(f'{info}/entry_points.txt').decode()
+        entry_points = archive.read(f'{info}/entry_points.txt').decode()
+        assert 'gamhilon-pandoc = gamhilon.pandoc_filter:main' in entry_points
         for line in archive.read(f'{info}/RECORD').decode().splitlines():
             name, checksum, size = line.rsplit(',', 2)
             if checksum:
@@ -72,7 +79,8 @@ def test_its_version_tells_the_commit_and_the_toolchain(wheel, tmp_path):
     words = 'import gamhilon; print(gamhilon.version()); print(gamhilon.version().commit)'
     how = {'cwd': tmp_path, 'env': {'PYTHONPATH': str(tmp_path / 'site')}}
     done = subprocess.run([sys.executable, '-c', words], capture_output=True, text=True, **how)
-    assert done.stdout == f'gamhilon {gamhilon_wheel.version()} (commit c0ffee, proved by kit-1)\nc0ffee\n'
+    version = gamhilon_wheel.version()
+    assert done.stdout == f'gamhilon {version} (commit c0ffee, proved by kit-1)\nc0ffee\n'
 
 
 def test_a_library_that_is_not_there_is_told(tmp_path, monkeypatch):

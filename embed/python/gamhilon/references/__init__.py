@@ -17,16 +17,17 @@ from __future__ import annotations
 import json
 import os
 import re
-import sys
 from dataclasses import dataclass
 from typing import Any, Dict, List, Optional, Tuple
 
+from .. import _console
 from ..csl_json import Loss
 from . import biblatex, hayagriva
 from .errors import ReaderMissing, ReferencesError
 
 __all__ = [
-    'FORMS', 'Item', 'ReaderMissing', 'References', 'ReferencesError', 'form_of', 'load', 'loads',
+    'FORMS', 'Item', 'ReaderMissing', 'References', 'ReferencesError', 'form_of', 'is_named',
+    'load', 'loads', 'read',
 ]
 
 Item = Dict[str, Any]
@@ -60,18 +61,21 @@ def load(path: str, *, form: Optional[str] = None, lang: str = 'en-US') -> Refer
     sentence case, which CSL asks for. Raises ReferencesError where the file isn't of its form,
     ReaderMissing where nothing reads it, and OSError.
     """
-    if path == '-':
-        if sys.stdin is None:
-            raise OSError('standard input is closed')
-        data = sys.stdin.buffer.read()
-    else:
-        with open(path, 'rb') as file:
-            data = file.read()
     try:
-        named = _SUFFIXES.get(os.path.splitext(path)[1].lower())
-        return loads(_decoded(data), form=form or named, lang=lang)
+        return read(path, _console.read(path), form=form, lang=lang)
     except ReferencesError as error:
-        raise ReferencesError(f'{"standard input" if path == "-" else path}: {error}') from error
+        raise ReferencesError(f'{_console.name_of(path)}: {error}') from error
+
+
+def read(path: str, data: bytes, *, form: Optional[str] = None, lang: str = 'en-US') -> References:
+    """The references in the bytes of a file of this name. Raises as `load` does, without the
+    name."""
+    return loads(_decoded(data), form=form or _SUFFIXES.get(_suffix(path)), lang=lang)
+
+
+def is_named(path: str) -> bool:
+    """Whether the name of a file tells that it has references, and no document."""
+    return _suffix(path) in _SUFFIXES and _suffix(path) != '.json'
 
 
 def loads(text: str, *, form: Optional[str] = None, lang: str = 'en-US') -> References:
@@ -95,6 +99,10 @@ def form_of(text: str) -> str:
     if text.lstrip(_BYTE_ORDER_MARK + ' \t\r\n')[:1] in ('[', '{'):
         return 'csl-json'
     return 'biblatex' if _COMMAND.search(text) else 'hayagriva'
+
+
+def _suffix(path: str) -> str:
+    return os.path.splitext(path)[1].lower()
 
 
 def _decoded(data: bytes) -> str:
