@@ -31,12 +31,12 @@ NOTE = 'gamhilon_build.json'
 PAUSE = 30
 EXPORTS = [
     'gamhilon_drive',
-    'gamhilon_drive_fault',
-    'gamhilon_fault',
-    'gamhilon_limits',
-    'gamhilon_print',
-    'gamhilon_print_json',
-    'gamhilon_ring',
+    'gamhilon_find_driven_fault',
+    'gamhilon_find_fault',
+    'gamhilon_check_limits',
+    'gamhilon_render_text',
+    'gamhilon_render_json',
+    'gamhilon_find_ring',
     'gamhilon_status_text',
     'gamhilon_version',
 ]
@@ -173,7 +173,7 @@ def defines(archive, name):
     return any(it.split()[-1:] == [name] for it in done.stdout.splitlines())
 
 
-def link(compiler, archive, kit_folder, room, note):
+def link(compiler, archive, kit_folder, folder, note):
     """One object that shows the exports alone, as an archive and as a shared object, in a
     folder."""
     about = '; '.join(f'{name} {said}' for name, said in note.items() if said)
@@ -181,16 +181,16 @@ def link(compiler, archive, kit_folder, room, note):
     libraries = [f'{kit_folder}/c/liblibc_c.a'] if kit_folder else []
     if not defines(archive, 'gamhilon_version'):
         ran(*compiler, '-O2', '-fPIC', f'-I{HERE}', f'-DGAMHILON_ABOUT="{about}"', '-c', '-o',
-            f'{room}/about.o',
+            f'{folder}/about.o',
             f'{HERE}/c/about.c')
-        whole.append(f'{room}/about.o')
-    ran(*compiler, '-r', '-nostdlib', '-o', f'{room}/gamhilon.o', *whole, *libraries)
-    ran('objcopy', *[f'--keep-global-symbol={it}' for it in EXPORTS], f'{room}/gamhilon.o')
-    ran('ar', 'rcs', f'{room}/libgamhilon.a', 'gamhilon.o', where=room)
+        whole.append(f'{folder}/about.o')
+    ran(*compiler, '-r', '-nostdlib', '-o', f'{folder}/gamhilon.o', *whole, *libraries)
+    ran('objcopy', *[f'--keep-global-symbol={it}' for it in EXPORTS], f'{folder}/gamhilon.o')
+    ran('ar', 'rcs', f'{folder}/libgamhilon.a', 'gamhilon.o', where=folder)
     soname = f'libgamhilon.so.{version().split(".")[0]}'
     own = [f'-Wl,-soname,{soname}', '-Wl,--gc-sections', '-Wl,-z,defs', '-Wl,-z,relro,-z,now']
-    ran(*compiler, '-shared', '-o', f'{room}/{soname}', f'{room}/gamhilon.o', *own)
-    os.symlink(soname, f'{room}/libgamhilon.so')
+    ran(*compiler, '-shared', '-o', f'{folder}/{soname}', f'{folder}/gamhilon.o', *own)
+    os.symlink(soname, f'{folder}/libgamhilon.so')
 
 
 def build(archive, kit_folder):
@@ -199,19 +199,19 @@ def build(archive, kit_folder):
     if not shutil.which(compiler[0]):
         sys.exit(f'build.py: there is no C compiler {compiler[0]}: set CC')
     tell(f'linking {os.path.relpath(archive)}')
-    with tempfile.TemporaryDirectory(dir=HERE, prefix='.out-') as room:
+    with tempfile.TemporaryDirectory(dir=HERE, prefix='.out-') as folder:
         note = note_of(archive)
-        link(compiler, archive, kit_folder, room, note)
+        link(compiler, archive, kit_folder, folder, note)
         for name in ('gamhilon.o', 'about.o'):
-            if os.path.exists(f'{room}/{name}'):
-                os.remove(f'{room}/{name}')
-        shutil.copy(f'{HERE}/gamhilon.h', room)
+            if os.path.exists(f'{folder}/{name}'):
+                os.remove(f'{folder}/{name}')
+        shutil.copy(f'{HERE}/gamhilon.h', folder)
         with open(f'{HERE}/c/gamhilon.pc.in', encoding='utf-8') as file:
-            written(f'{room}/gamhilon.pc', file.read().replace('@VERSION@', version()))
-        written(f'{room}/{NOTE}', json.dumps(note) + '\n')
+            written(f'{folder}/gamhilon.pc', file.read().replace('@VERSION@', version()))
+        written(f'{folder}/{NOTE}', json.dumps(note) + '\n')
         shutil.rmtree(OUT, ignore_errors=True)
-        os.chmod(room, 0o755)
-        shutil.copytree(room, OUT, symlinks=True)
+        os.chmod(folder, 0o755)
+        shutil.copytree(folder, OUT, symlinks=True)
     tell(f'built {os.path.relpath(OUT)}/libgamhilon.a and libgamhilon.so')
 
 

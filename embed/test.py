@@ -85,7 +85,7 @@ def has_tool(name, what):
     return False
 
 
-def compile_all(room):
+def compile_all(folder):
     """The programs of tests/ and the caller in C, and the header by itself as C99 and as C++17."""
     compiler = os.environ.get('CC', 'cc').split()
     strict = ['-Wall', '-Wextra', '-pedantic', '-Werror', f'-I{HERE}']
@@ -94,21 +94,21 @@ def compile_all(room):
                'failing': wraps, '../c/print': []}
     for name, more in sources.items():
         standard = '-std=c99' if name.startswith('..') else '-std=gnu11'
-        made = ran(*compiler, standard, '-O1', '-g', '-pthread', *strict, *more, '-o', f'{room}/{os.path.basename(name)}',
+        made = ran(*compiler, standard, '-O1', '-g', '-pthread', *strict, *more, '-o', f'{folder}/{os.path.basename(name)}',
                    f'{HERE}/tests/{name}.c', f'{HERE}/out/libgamhilon.a')
         hold(made.returncode == 0, f'{name}.c compiles: {made.stderr.decode()[:600]}')
     for name, standard, tool in (('c', 'c99', compiler), ('c++', 'c++17', ['c++'])):
         if has_tool(tool[0], f'the header as {standard}'):
-            with open(f'{room}/header.{name}', 'w', encoding='utf-8') as file:
+            with open(f'{folder}/header.{name}', 'w', encoding='utf-8') as file:
                 file.write('#include "gamhilon.h"\n#include "gamhilon.h"\nint main(void) { return GAMHILON_OK; }\n')
-            made = ran(*tool, f'-std={standard}', *strict, '-x', name, '-c', '-o', f'{room}/header.o',
-                       f'{room}/header.{name}')
+            made = ran(*tool, f'-std={standard}', *strict, '-x', name, '-c', '-o', f'{folder}/header.o',
+                       f'{folder}/header.{name}')
             hold(made.returncode == 0, f'the header as {standard}: {made.stderr.decode()[:600]}')
 
 
-def answers_of(room, form, length, cases):
-    """The status and the bytes of each case, by calls from C in a room of that length."""
-    done = ran(f'{room}/calls', form, str(length), *[it.path for it in cases])
+def answers_of(folder, form, length, cases):
+    """The status and the bytes of each case, by calls from C in a buffer of that length."""
+    done = ran(f'{folder}/calls', form, str(length), *[it.path for it in cases])
     hold(done.returncode == 0, f'calls {form} {length}: {done.stderr.decode()[:600]}')
     answers, at = [], 0
     for _ in cases:
@@ -131,14 +131,14 @@ def validator(name):
     return jsonschema.Draft202012Validator(schema)
 
 
-def try_from_c(room, cases):
-    """Both texts, in a room that fits and in one of one byte. Gives the answers in JSON."""
+def try_from_c(folder, cases):
+    """Both texts, in a folder that fits and in one of one byte. Gives the answers in JSON."""
     big = 1 << 21
     schema, texts = validator('answer'), {}
     for form in FORMS:
-        texts[form] = answers_of(room, form, big, cases)
-        for one, other, case in zip(texts[form], answers_of(room, form, 1, cases), cases):
-            hold(one == other, f'{case.name}: {form} in a room of one byte')
+        texts[form] = answers_of(folder, form, big, cases)
+        for one, other, case in zip(texts[form], answers_of(folder, form, 1, cases), cases):
+            hold(one == other, f'{case.name}: {form} in a buffer of one byte')
     for case, text, answer in zip(cases, texts['text'], texts['json']):
         hold(text == (case.status, case.text), f'{case.name}: the text, or status {text[0]}, and not {case.status}')
         hold(answer[0] == case.status, f'{case.name}: JSON: status {answer[0]}, and not {case.status}')
@@ -147,9 +147,9 @@ def try_from_c(room, cases):
             hold(printed(value) == case.text.decode(), f'{case.name}: the text that is read off its JSON')
             if schema:
                 hold(schema.is_valid(value), f'{case.name}: its JSON against docs/answer.schema.json')
-    try_faults(room, cases)
+    try_faults(folder, cases)
     one = Case(f'{HERE}/tests/every_kind.json')
-    status, answer = answers_of(room, 'json', big, [one])[0]
+    status, answer = answers_of(folder, 'json', big, [one])[0]
     wanted = json.loads(read(f'{HERE}/tests/every_kind.answer.json'))
     hold(status == 0 and json.loads(answer) == wanted, 'the JSON that was worked out by hand for tests/every_kind.json')
     return [it[1] for it in texts['json']]
@@ -161,11 +161,11 @@ def faults():
     return {f'tests/documents/{base}.json': dict(zip(('pointer', 'found', 'wanted'), row)) for base, *row in rows}
 
 
-def try_faults(room, cases):
+def try_faults(folder, cases):
     """The first fault of each refused document, which is the one of tests/documents/faults.txt where that has it; of others none."""
     must = faults()
     for length in (1 << 12, 1):
-        for case, (status, told) in zip(cases, answers_of(room, 'fault', length, cases)):
+        for case, (status, told) in zip(cases, answers_of(folder, 'fault', length, cases)):
             hold(status == 0 and bool(told) == (case.status == 2), f'{case.name}: fault, status {status}, {told!r}')
             hold(must.get(case.name) in (None, json.loads(told or 'null')), f'{case.name}: the fault is {told!r}')
 
@@ -179,9 +179,9 @@ def borders(path, depth, elements):
     return rows + ([(path, depth, elements - 1, 8)] if elements else [])
 
 
-def hold_limits(room, stack, rows):
-    """Calls gamhilon_limits, in a thread of so much stack, with each of some rows: a document, limits and the status."""
-    done = ran(f'{room}/limits', str(stack), *[str(it) for path, *limits, _ in rows for it in (*limits, path)])
+def hold_limits(folder, stack, rows):
+    """Calls gamhilon_check_limits, in a thread of so much stack, with each of some rows: a document, limits and the status."""
+    done = ran(f'{folder}/limits', str(stack), *[str(it) for path, *limits, _ in rows for it in (*limits, path)])
     statuses = done.stdout.split()
     hold(done.returncode == 0 and len(statuses) == len(rows), f'limits in {stack} bytes of stack: {done.returncode}, {done.stderr!r}')
     for (path, depth, elements, status), got in zip(rows, statuses):
@@ -201,52 +201,52 @@ def limits_of_cases(layouts, cases):
     return rows
 
 
-def put(room, what, document):
+def put(folder, what, document):
     """Writes a document into a folder, and gives its path."""
-    path = f'{room}/{what}.json'
+    path = f'{folder}/{what}.json'
     with open(path, 'w', encoding='utf-8') as file:
         json.dump(document, file)
     return path
 
 
-def try_limits(room, cases):
-    """gamhilon_limits: of layouts of a known size and of those of each document, in the stack that the header tells; and that it
+def try_limits(folder, cases):
+    """gamhilon_check_limits: of layouts of a known size and of those of each document, in the stack that the header tells; and that it
     doesn't take long. What is within the limits is answered in that stack, and refused memory is told beyond them too."""
     sys.path.insert(0, f'{HERE}/tests')
     import layouts
-    known = [(put(room, what, document), *size) for what, document, *size in layouts.KNOWN]
-    allowed = [(put(room, what, document), *size) for what, document, *size, _ in layouts.ALLOWED]
-    chains = [(put(room, what, document), *size) for what, document, *size in layouts.CHAINS]
+    known = [(put(folder, what, document), *size) for what, document, *size in layouts.KNOWN]
+    allowed = [(put(folder, what, document), *size) for what, document, *size, _ in layouts.ALLOWED]
+    chains = [(put(folder, what, document), *size) for what, document, *size in layouts.CHAINS]
     rows = [row for it in [*known, *allowed] for row in borders(*it)] + limits_of_cases(layouts, cases)
-    hold_limits(room, STACK_TOLD, rows + [(path, DEPTH, ELEMENTS, 7) for path, *_ in chains])
-    hold_limits(room, 1 << 26, [row for it in chains for row in borders(*it)])
-    try_much_work(room, layouts)
-    try_allowed(room, [(path, text) for (path, *_), (*_, text) in zip(allowed, layouts.ALLOWED)])
+    hold_limits(folder, STACK_TOLD, rows + [(path, DEPTH, ELEMENTS, 7) for path, *_ in chains])
+    hold_limits(folder, 1 << 26, [row for it in chains for row in borders(*it)])
+    try_much_work(folder, layouts)
+    try_allowed(folder, [(path, text) for (path, *_), (*_, text) in zip(allowed, layouts.ALLOWED)])
     exceeding = [chains[0][0], f'{ROOT}/tests/documents/hostile/macros_that_give_nothing_40_deep.json']
-    hold(ran(f'{room}/failing', *exceeding).returncode == 0, 'each allocation refused in turn, beyond the limits')
+    hold(ran(f'{folder}/failing', *exceeding).returncode == 0, 'each allocation refused in turn, beyond the limits')
 
 
-def try_much_work(room, layouts):
+def try_much_work(folder, layouts):
     """What would be much work beyond the limits, and what is just within them, take little processor time."""
-    rows = [(put(room, f'macros that double {it} deep', layouts.doubling(it)), DEPTH, ELEMENTS, 8) for it in (24, 64)]
-    rows.append((put(room, 'many macros', layouts.many_macros(10000, ELEMENTS // 2)), 2, ELEMENTS, 0))
+    rows = [(put(folder, f'macros that double {it} deep', layouts.doubling(it)), DEPTH, ELEMENTS, 8) for it in (24, 64)]
+    rows.append((put(folder, 'many macros', layouts.many_macros(10000, ELEMENTS // 2)), 2, ELEMENTS, 0))
     before = resource.getrusage(resource.RUSAGE_CHILDREN)
-    hold_limits(room, STACK_TOLD, rows)
+    hold_limits(folder, STACK_TOLD, rows)
     after = resource.getrusage(resource.RUSAGE_CHILDREN)
     seconds = after.ru_utime + after.ru_stime - before.ru_utime - before.ru_stime
     hold(seconds < 1, f'limits of macros that double and of many macros: {seconds:.2f} s')
 
 
-def try_allowed(room, rows):
+def try_allowed(folder, rows):
     """What documents at the limits print, and the stack that they take."""
     for path, text in rows:
         with open(f'{path[:-len(".json")]}.txt', 'w', encoding='utf-8') as file:
             file.write(text)
     cases = [Case(path) for path, _ in rows]
-    for case, text, answer in zip(cases, *[answers_of(room, form, 1 << 21, cases) for form in FORMS]):
+    for case, text, answer in zip(cases, *[answers_of(folder, form, 1 << 21, cases) for form in FORMS]):
         hold(text == (0, case.text), f'{case.name}: the text within the limits')
         hold(answer[0] == 0 and printed(json.loads(answer[1])).encode() == case.text, f'{case.name}: the JSON within the limits')
-    hold_stack(room, [it.path for it in cases])
+    hold_stack(folder, [it.path for it in cases])
 
 
 def members(part):
@@ -280,28 +280,28 @@ def with_written(document, lines):
         yield {**document, 'written': list(written)}
 
 
-def try_driven(room):
-    """A host that writes what is missing until there is an answer; rooms that are too small; refused memory; and where a driven
+def try_driven(folder):
+    """A host that writes what is missing until there is an answer; buffers that are too small; refused memory; and where a driven
     document is wrong."""
     document = json.loads(read(f'{HERE}/tests/driven.json'))
-    done = ran(f'{room}/driven', f'{HERE}/tests/driven.json')
+    done = ran(f'{folder}/driven', f'{HERE}/tests/driven.json')
     lines = done.stdout.decode().splitlines()
     hold(done.returncode == 0 and done.stdout == read(f'{HERE}/tests/driven.txt'), f'a host that writes what is missing: {lines}')
     handed_in = list(with_written(document, lines))
     schema = validator('driven')
     hold(not schema or all(schema.is_valid(it) for it in handed_in), 'driven documents against docs/driven.schema.json')
     hold(holds_shared_parts(), 'the parts of docs/driven.schema.json that the other schemas have too')
-    cases = [Case(put(room, f'driven {k}', it)) for k, it in enumerate(handed_in)]
+    cases = [Case(put(folder, f'driven {k}', it)) for k, it in enumerate(handed_in)]
     for length in (1 << 16, 1):
-        told = [f'{status} {text.decode()}' for status, text in answers_of(room, 'drive', length, cases)]
-        hold(told == lines, f'driven documents in a room of {length}: {told}')
-        hold(all(it == (0, b'') for it in answers_of(room, 'drive_fault', length, cases)), 'driven documents have no fault')
-    hold(ran(f'{room}/failing', *[it.path for it in cases]).returncode == 0, 'each allocation refused in turn, driven')
-    hold_stack(room, [it.path for it in cases])
-    try_driven_faults(room, schema, handed_in[-1])
+        told = [f'{status} {text.decode()}' for status, text in answers_of(folder, 'drive', length, cases)]
+        hold(told == lines, f'driven documents in a buffer of {length}: {told}')
+        hold(all(it == (0, b'') for it in answers_of(folder, 'drive_fault', length, cases)), 'driven documents have no fault')
+    hold(ran(f'{folder}/failing', *[it.path for it in cases]).returncode == 0, 'each allocation refused in turn, driven')
+    hold_stack(folder, [it.path for it in cases])
+    try_driven_faults(folder, schema, handed_in[-1])
 
 
-def try_driven_faults(room, schema, whole):
+def try_driven_faults(folder, schema, whole):
     """The faults of driven documents that are wrong in one place each."""
     one = whole['written'][0]
     rows = [
@@ -314,17 +314,17 @@ def try_driven_faults(room, schema, whole):
         ({**whole, 'written': [{**one, 'task': {**one['task'], 'kind': 'note'}}]}, '/written/0/task/kind', 'a text'),
         ({**whole, 'written': [{**one, 'task': {**one['task'], 'place': [0]}}]}, '/written/0/task/place', 'a list'),
     ]
-    cases = [Case(put(room, f'driven and wrong {k}', it)) for k, (it, *_) in enumerate(rows)]
+    cases = [Case(put(folder, f'driven and wrong {k}', it)) for k, (it, *_) in enumerate(rows)]
     for (document, pointer, found), (status, _), (judged, fault) in zip(
-            rows, answers_of(room, 'drive', 1 << 16, cases), answers_of(room, 'drive_fault', 1 << 16, cases)):
+            rows, answers_of(folder, 'drive', 1 << 16, cases), answers_of(folder, 'drive_fault', 1 << 16, cases)):
         told = json.loads(fault or '{}')
         hold(status == 2 and judged == 0 and (told.get('pointer'), told.get('found')) == (pointer, found),
              f'a driven document with {found} at {pointer}: status {status}, {told}')
         hold(not schema or not schema.is_valid(document), f'docs/driven.schema.json refuses {found} at {pointer}')
     for key, value, pointer in (('entry', 'eve', '/written/0/task/entry'), ('style', 'cottage', '/written/0/task/style')):
         unknown = {**whole, 'written': [{**one, 'task': {**one['task'], key: value}}]}
-        (status, _), = answers_of(room, 'drive', 1 << 16, [Case(put(room, 'driven and unknown', unknown))])
-        (_, fault), = answers_of(room, 'drive_fault', 1 << 16, [Case(put(room, 'driven and unknown', unknown))])
+        (status, _), = answers_of(folder, 'drive', 1 << 16, [Case(put(folder, 'driven and unknown', unknown))])
+        (_, fault), = answers_of(folder, 'drive_fault', 1 << 16, [Case(put(folder, 'driven and unknown', unknown))])
         hold(status == 2 and json.loads(fault or '{}').get('pointer') == pointer, f'a task of an unknown {key}: {status}, {fault!r}')
 
 
@@ -333,16 +333,16 @@ def try_from_python(cases, jsons):
     sys.path.insert(0, f'{HERE}/python')
     import gamhilon
 
-    def tried(case, answer, room):
+    def tried(case, answer, buffer):
         library = gamhilon._library.library()
         try:
-            return library.print_document(case.bytes, room) == case.text and library.print_json(case.bytes, room) == answer
+            return library.print_document(case.bytes, buffer) == case.text and library.print_json(case.bytes, buffer) == answer
         except gamhilon.Refused as refusal:
             return refusal.status == case.status
 
-    for room in (None, 1):
+    for buffer in (None, 1):
         for case, answer in zip(cases, jsons):
-            hold(tried(case, answer, room), f'{case.name}: from Python, in a room of {room or "its own choice"}')
+            hold(tried(case, answer, buffer), f'{case.name}: from Python, in a buffer of {buffer or "its own choice"}')
     with ThreadPoolExecutor(8) as pool:
         hold(all(pool.map(lambda it: tried(*it, None), [*zip(cases, jsons)] * 3)), 'from eight threads of Python')
     for case, answer in zip(cases, jsons):
@@ -373,32 +373,32 @@ def try_driving():
     hold(done.returncode == 0 and ' passed, 0 failed' in told, f'the driven call and its model: {told[-1200:]}')
 
 
-def try_package(room):
+def try_package(folder):
     """`pip install embed/python`, and then a document in a process that knows nothing of this folder."""
     if ran(sys.executable, '-m', 'pip', '--version').returncode:
         left_out.append('installing the Python package: there is no pip')
         return
-    made = ran(sys.executable, '-m', 'pip', 'install', '-q', '--no-index', '--target', f'{room}/site', f'{HERE}/python')
+    made = ran(sys.executable, '-m', 'pip', 'install', '-q', '--no-index', '--target', f'{folder}/site', f'{HERE}/python')
     hold(made.returncode == 0, f'pip install: {made.stderr.decode()[-600:]}')
     words = 'import gamhilon, sys; sys.stdout.write(gamhilon.print_document(sys.stdin.read())); print(gamhilon.__file__)'
-    how = {'cwd': room, 'env': {'PYTHONPATH': f'{room}/site', 'PATH': os.environ['PATH']}}
+    how = {'cwd': folder, 'env': {'PYTHONPATH': f'{folder}/site', 'PATH': os.environ['PATH']}}
     done = ran(sys.executable, '-c', words, input=read(f'{ROOT}/examples/first.json'), **how)
-    wanted = read(f'{ROOT}/examples/first.txt') + f'{room}/site/gamhilon/__init__.py\n'.encode()
+    wanted = read(f'{ROOT}/examples/first.txt') + f'{folder}/site/gamhilon/__init__.py\n'.encode()
     hold(done.stdout == wanted, 'the installed package')
 
 
-def try_wheel(room):
+def try_wheel(folder):
     """The wheel in a fresh virtual environment, used as its user would."""
-    if ran(sys.executable, '-m', 'venv', f'{room}/venv').returncode:
+    if ran(sys.executable, '-m', 'venv', f'{folder}/venv').returncode:
         left_out.append('the wheel in a fresh virtual environment: venv makes none (Debian: python3-venv)')
         return
     made = ran(sys.executable, f'{HERE}/build.py', '--archive', f'{OUT}/libgamhilon.a', '--wheel',
-               env={**os.environ, 'PATH': without_rt(room)})
+               env={**os.environ, 'PATH': without_rt(folder)})
     hold(made.returncode == 0, f'build.py --archive --wheel, with no toolchain: {made.stderr.decode()[-600:]}')
     wheels = glob.glob(f'{OUT}/*.whl')
     hold(len(wheels) == 1, f'one wheel: {wheels}')
-    bin_folder = f'{room}/venv/bin'
-    how = {'cwd': room, 'env': {'PATH': f'{bin_folder}:{os.environ["PATH"]}'}}
+    bin_folder = f'{folder}/venv/bin'
+    how = {'cwd': folder, 'env': {'PATH': f'{bin_folder}:{os.environ["PATH"]}'}}
     made = ran(f'{bin_folder}/pip', 'install', '-q', '--no-index', '--disable-pip-version-check', *wheels, **how)
     hold(made.returncode == 0, f'pip install of the wheel: {made.stderr.decode()[-600:]}')
     first, text = f'{ROOT}/examples/first.json', read(f'{ROOT}/examples/first.txt')
@@ -407,24 +407,24 @@ def try_wheel(room):
     note = json.loads(read(f'{OUT}/gamhilon_build.json'))
     hold(all(str(it or 'unknown') in told for it in note.values()), f'the version of the wheel: {told}')
     if has_tool('pandoc', 'the filter from the wheel'):
-        with open(f'{room}/refs.json', 'w', encoding='utf-8') as file:
+        with open(f'{folder}/refs.json', 'w', encoding='utf-8') as file:
             file.write('[{"id": "doe99", "title": "On Order", "author": [{"family": "Doe"}], "issued": {"date-parts": [[1999]]}}]')
         words = ['pandoc', '--filter', 'gamhilon-pandoc', '-M', 'bibliography=refs.json', '-t', 'plain']
         hold(ran(*words, input=b'[@doe99, p. 4]', **how).stdout.startswith(b'(Doe 1999, 4)\n'),
              'gamhilon-pandoc, from the wheel')
 
 
-def without_rt(room):
+def without_rt(folder):
     """A PATH in which there is all but the toolchain."""
-    os.makedirs(f'{room}/bin', exist_ok=True)
+    os.makedirs(f'{folder}/bin', exist_ok=True)
     for folder in reversed(os.environ['PATH'].split(':')):
         for name in os.listdir(folder) if os.path.isdir(folder) else []:
-            at = f'{room}/bin/{name}'
+            at = f'{folder}/bin/{name}'
             if name not in ('rt', 'rattle'):
                 if os.path.lexists(at):
                     os.remove(at)
                 os.symlink(f'{folder}/{name}', at)
-    return f'{room}/bin'
+    return f'{folder}/bin'
 
 
 def try_building():
@@ -442,11 +442,11 @@ def try_building():
          f'the name of the shared object is {soname}')
 
 
-def try_about(room):
+def try_about(folder):
     """The version and the texts of the statuses."""
     sys.path.insert(0, HERE)
     import build
-    lines = ran(f'{room}/about').stdout.decode().splitlines()
+    lines = ran(f'{folder}/about').stdout.decode().splitlines()
     hold(lines[0] == f'{build.version()} {build.version()}', 'the version of the header')
     note = json.loads(read(f'{OUT}/gamhilon_build.json'))
     hold(lines[1].startswith(build.version()) and all(it in lines[1] for it in note.values() if it),
@@ -455,17 +455,17 @@ def try_about(room):
          'each status has a text of its own, and others one')
 
 
-def try_cmake(room):
+def try_cmake(folder):
     """pkg-config, and the CMake example."""
     if not (has_tool('pkg-config', 'gamhilon.pc') and has_tool('cmake', 'the CMake example')):
         return
     environment = {**os.environ, 'PKG_CONFIG_PATH': OUT}
     told = ran('pkg-config', '--cflags', '--libs', 'gamhilon', env=environment).stdout.decode().split()
     hold(told == [f'-I{OUT}', f'-L{OUT}', '-lgamhilon'], f'gamhilon.pc: {told}')
-    for words in (['-S', f'{HERE}/c', '-B', f'{room}/cmake'], ['--build', f'{room}/cmake']):
+    for words in (['-S', f'{HERE}/c', '-B', f'{folder}/cmake'], ['--build', f'{folder}/cmake']):
         made = ran('cmake', *words, env=environment)
         hold(made.returncode == 0, f'cmake {words[0]}: {made.stderr.decode()[-600:]}')
-    text = ran(f'{room}/cmake/print', input=read(f'{ROOT}/examples/first.json')).stdout
+    text = ran(f'{folder}/cmake/print', input=read(f'{ROOT}/examples/first.json')).stdout
     hold(text == read(f'{ROOT}/examples/first.txt'), 'the program that CMake built')
 
 
@@ -479,14 +479,14 @@ def python_with_pytest():
                default=None)
 
 
-def try_tests_of_the_package(room):
+def try_tests_of_the_package(folder):
     """The package's own tests, counted one by one."""
     python = python_with_pytest()
     if not python:
         left_out.append('the tests of the Python package: there is no pytest (Debian: python3-pytest)')
         return
     global passed
-    report = f'{room}/pytest.xml'
+    report = f'{folder}/pytest.xml'
     environment = {name: it for name, it in os.environ.items() if name != 'GAMHILON_LIBRARY'}
     words = ['-m', 'pytest', '-q', '-p', 'no:cacheprovider', f'--junitxml={report}', 'tests']
     done = ran(python, *words, cwd=f'{HERE}/python', env=environment, timeout=900)
@@ -501,23 +501,23 @@ def try_tests_of_the_package(room):
     left_out.extend(f'{count} tests of the Python package: {reason}' for reason, count in reasons.items())
 
 
-def compile_crate(room):
+def compile_crate(folder):
     """The crate of Rust, with no network, and its tests. Gives its program, or none where there is no cargo."""
     if not has_tool('cargo', 'the crate in Rust'):
         return None
-    environment = {**os.environ, 'CARGO_TARGET_DIR': f'{room}/target'}
+    environment = {**os.environ, 'CARGO_TARGET_DIR': f'{folder}/target'}
     for words in (['build', '--release'], ['test']):
         made = ran('cargo', *words, '--offline', '--quiet', cwd=f'{HERE}/rust', env=environment, timeout=600)
         hold(made.returncode == 0, f'cargo {words[0]}: {(made.stdout + made.stderr).decode()[-1200:]}')
     missing = ran('cargo', 'build', '--offline', '--quiet', cwd=f'{HERE}/rust',
-                  env={**environment, 'GAMHILON_LIB_DIR': room})
+                  env={**environment, 'GAMHILON_LIB_DIR': folder})
     hold(missing.returncode != 0 and b'embed/build.py' in missing.stderr, 'the crate tells where the library is missing')
-    return f'{room}/target/release/gamhilon-print'
+    return f'{folder}/target/release/gamhilon-print'
 
 
-def try_callers(room):
+def try_callers(folder):
     """The callers in C and in Rust, as programs."""
-    programs = {'c/print.c': f'{room}/print', 'rust': compile_crate(room)}
+    programs = {'c/print.c': f'{folder}/print', 'rust': compile_crate(folder)}
     first, text = read(f'{ROOT}/examples/first.json'), read(f'{ROOT}/examples/first.txt')
     for name, program in programs.items():
         if not program:
@@ -543,9 +543,9 @@ def ten(cases):
     return [it for it in cases if it.path in chosen]
 
 
-def hold_stack(room, paths):
+def hold_stack(folder, paths):
     """Measures the need of stack of each call, and holds it to what the header tells."""
-    done = ran(f'{room}/stack', *paths)
+    done = ran(f'{folder}/stack', *paths)
     hold(done.returncode == 0, 'the need of stack is measured')
     for line in done.stdout.decode().strip().split('\n'):
         form, size, path = line.split(' ', 2)
@@ -553,27 +553,27 @@ def hold_stack(room, paths):
         hold(int(size) <= STACK_TOLD, f'{form} takes {size} bytes of stack, and the header tells {STACK_TOLD}')
 
 
-def try_hard(room, cases, calls):
+def try_hard(folder, cases, calls):
     """Memory refused, threads, valgrind, and the need of stack."""
     few = [it.path for it in ten(cases)]
     hold(len(few) == 10, f'there are ten documents, one of each folder, and not {len(few)}')
-    done = ran(f'{room}/failing', *few)
+    done = ran(f'{folder}/failing', *few)
     wrong = [it for it in done.stdout.decode().splitlines() if ', 0 wrong' not in it]
     hold(done.returncode == 0, f'each allocation refused in turn: {wrong[:3]}')
-    done = ran(f'{room}/threads', *few)
+    done = ran(f'{folder}/threads', *few)
     hold(done.returncode == 0, f'eight threads: {done.stdout.decode()}')
     if has_tool('valgrind', 'leaks and wrong reads'):
         words = ['valgrind', '-q', '--error-exitcode=9', '--leak-check=full', '--errors-for-leak-kinds=all',
-                 f'{room}/calls']
+                 f'{folder}/calls']
         with ThreadPoolExecutor(2) as pool:
             for form, done in zip(FORMS, pool.map(lambda it: ran(*words, it, '1', *few), FORMS)):
                 hold(done.returncode == 0, f'valgrind, {form}: {done.stderr.decode()[:900]}')
         words = ['valgrind', '-q', '--error-exitcode=9', '--leak-check=full', '--errors-for-leak-kinds=all',
                  '--fair-sched=yes']
-        done = ran(*words, f'{room}/many', str(calls), *few, timeout=3600)
+        done = ran(*words, f'{folder}/many', str(calls), *few, timeout=3600)
         print(f'valgrind: {done.stdout.decode().strip()}')
         hold(done.returncode == 0, f'valgrind, {calls} calls in four threads: {done.stderr.decode()[:900]}')
-    hold_stack(room, [it.path for it in cases])
+    hold_stack(folder, [it.path for it in cases])
 
 
 def main(words):
@@ -586,22 +586,22 @@ def main(words):
         print(f'built in {time.time() - began:.0f} s')
         began = time.time()
         cases = [Case(it) for it in sorted(glob.glob(f'{ROOT}/tests/documents/*/*.json') + glob.glob(f'{ROOT}/examples/*.json'))]
-        with tempfile.TemporaryDirectory() as room:
-            compile_all(room)
+        with tempfile.TemporaryDirectory() as folder:
+            compile_all(folder)
             if not failures:
-                jsons = try_from_c(room, cases)
+                jsons = try_from_c(folder, cases)
                 try_from_python(cases, jsons)
-                try_limits(room, cases)
-                try_driven(room)
+                try_limits(folder, cases)
+                try_driven(folder)
                 try_driving()
                 try_building()
-                try_about(room)
-                try_package(room)
-                try_callers(room)
-                try_cmake(room)
-                try_hard(room, cases, calls)
-                try_tests_of_the_package(room)
-                try_wheel(room)
+                try_about(folder)
+                try_package(folder)
+                try_callers(folder)
+                try_cmake(folder)
+                try_hard(folder, cases, calls)
+                try_tests_of_the_package(folder)
+                try_wheel(folder)
         print(f'{len(cases)} documents, {time.time() - began:.0f} s')
     for it in left_out:
         print(f'left out: {it}')

@@ -9,7 +9,7 @@
 enum { ROOM = 1 << 20, MOST_CALLS = 9 };
 
 static char document[ROOM], written[ROOM], handed_in[2 * ROOM + 32];
-static uint8_t room[ROOM];
+static uint8_t buffer[ROOM];
 
 /* What stands behind the JSON object that begins here. */
 static const char *behind(const char *object) {
@@ -42,13 +42,13 @@ int main(int argc, char **argv) {
     *strrchr(document, '}') = 0;
     for (int call = 0; call < MOST_CALLS; call++) {
         size_t length, n = (size_t)sprintf(handed_in, written[0] ? "%s,\"written\":[%s]}" : "%s}", document, written);
-        uint32_t status = gamhilon_drive((const uint8_t *)handed_in, n, room, ROOM - 1, &length);
+        uint32_t status = gamhilon_drive((const uint8_t *)handed_in, n, buffer, ROOM - 1, &length);
         if (status == GAMHILON_DOCUMENT_REFUSED)
-            gamhilon_drive_fault((const uint8_t *)handed_in, n, room, ROOM - 1, &length);
-        printf("%u %.*s\n", (unsigned)status, (int)length, (const char *)room);
-        if (status != GAMHILON_OK || memcmp(room, "{\"missing\":[", 12) != 0) return 0;
-        room[length] = 0;
-        write_all((const char *)room + 12);
+            gamhilon_find_driven_fault((const uint8_t *)handed_in, n, buffer, ROOM - 1, &length);
+        printf("%u %.*s\n", (unsigned)status, (int)length, (const char *)buffer);
+        if (status != GAMHILON_OK || memcmp(buffer, "{\"missing\":[", 12) != 0) return 0;
+        buffer[length] = 0;
+        write_all((const char *)buffer + 12);
     }
     return 1;
 }

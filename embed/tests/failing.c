@@ -44,27 +44,27 @@ void __wrap_free(void *p) {
 
 enum { ROOM = 1 << 22 };
 
-static uint8_t document[ROOM], room[ROOM], answer[ROOM];
+static uint8_t document[ROOM], buffer[ROOM], answer[ROOM];
 static size_t n;
 static gamhilon_ring_place ring;
 
 static uint32_t called(int form, uint8_t *into, size_t *length) {
     ring.macro_place = 77;
     *length = 0;
-    if (form == 0) return gamhilon_print(document, n, into, ROOM, length);
-    if (form == 1) return gamhilon_print_json(document, n, into, ROOM, length);
-    if (form == 2) return gamhilon_fault(document, n, into, ROOM, length);
-    if (form == 3) return gamhilon_ring(document, n, &ring);
-    if (form == 4) return gamhilon_limits(document, n, 100, 100000);
+    if (form == 0) return gamhilon_render_text(document, n, into, ROOM, length);
+    if (form == 1) return gamhilon_render_json(document, n, into, ROOM, length);
+    if (form == 2) return gamhilon_find_fault(document, n, into, ROOM, length);
+    if (form == 3) return gamhilon_find_ring(document, n, &ring);
+    if (form == 4) return gamhilon_check_limits(document, n, 100, 100000);
     if (form == 5) return gamhilon_drive(document, n, into, ROOM, length);
-    return gamhilon_drive_fault(document, n, into, ROOM, length);
+    return gamhilon_find_driven_fault(document, n, into, ROOM, length);
 }
 
 /* Whether a call of which some allocation was refused is right: refused itself, or the answer all the same. */
 static int is_right(uint32_t status, size_t length, uint32_t whole_status, size_t whole_length) {
     if (open_blocks != 0) return 0;
-    if (status == GAMHILON_OUT_OF_MEMORY) return length == 0 && room[0] == 7 && room[99] == 7 && ring.macro_place == 77;
-    return status == whole_status && length == whole_length && memcmp(room, answer, whole_length) == 0;
+    if (status == GAMHILON_OUT_OF_MEMORY) return length == 0 && buffer[0] == 7 && buffer[99] == 7 && ring.macro_place == 77;
+    return status == whole_status && length == whole_length && memcmp(buffer, answer, whole_length) == 0;
 }
 
 /* Reads a document; 0 where there is none. */
@@ -87,9 +87,9 @@ int main(int argc, char **argv) {
             long count = made, refused = 0, leaked = open_blocks, bad = leaked != 0;
             for (and_all_after = 0; and_all_after < 2; and_all_after++)
                 for (long k = 0; k < count; k++) {
-                    memset(room, 7, 100);
+                    memset(buffer, 7, 100);
                     left = k, open_blocks = 0;
-                    uint32_t status = called(form, room, &length);
+                    uint32_t status = called(form, buffer, &length);
                     left = -1;
                     refused += status == GAMHILON_OUT_OF_MEMORY;
                     bad += !is_right(status, length, whole_status, whole_length);

@@ -1,5 +1,5 @@
 """Documents whose layouts nest to a known depth and have a known number of elements, and the two of any document. What is known
-was worked out by hand from what gamhilon.h says of gamhilon_limits."""
+was worked out by hand from what gamhilon.h says of gamhilon_check_limits."""
 
 TEXT = {'kind': 'text', 'variable': 'title'}
 

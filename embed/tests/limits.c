@@ -1,4 +1,4 @@
-/* limits STACK [DEPTH ELEMENTS FILE]..: asks gamhilon_limits of each document, in a thread with a stack of STACK bytes. Writes a
+/* limits STACK [DEPTH ELEMENTS FILE]..: asks gamhilon_check_limits of each document, in a thread with a stack of STACK bytes. Writes a
  * line with the status of each. */
 #include "gamhilon.h"
 
@@ -13,7 +13,7 @@ static size_t n, depth, elements;
 static uint32_t status;
 
 static void *worker(void *unused) {
-    status = gamhilon_limits(document, n, depth, elements);
+    status = gamhilon_check_limits(document, n, depth, elements);
     return unused;
 }
 

@@ -1,5 +1,5 @@
 /* many COUNT FILE..: COUNT calls in four threads, for valgrind: of each document the text, the JSON, the fault, the place of a
- * ring and whether it is within limits, in rooms of every length around the right one, and in none. */
+ * ring and whether it is within limits, in buffers of every length around the right one, and in none. */
 #include "gamhilon.h"
 
 #include <pthread.h>
@@ -17,17 +17,17 @@ typedef struct {
     uint32_t statuses[3], limited;
 } work;
 
-static call *const calls[3] = {gamhilon_print, gamhilon_print_json, gamhilon_fault};
+static call *const calls[3] = {gamhilon_render_text, gamhilon_render_json, gamhilon_find_fault};
 static work *works;
 static int count, times;
 
-/* One call, in a room that is allocated in just its length, and what is wrong with how it ends. */
-static size_t tried(const work *it, int form, size_t room_length) {
+/* One call, in a buffer that is allocated in just its length, and what is wrong with how it ends. */
+static size_t tried(const work *it, int form, size_t buffer_length) {
     size_t length = 77;
-    uint8_t *room = room_length > 0 ? malloc(room_length) : NULL;
-    uint32_t status = calls[form](it->document, it->n, room, room_length, &length), wanted = it->statuses[form];
-    if (wanted == GAMHILON_OK && room_length < it->lengths[form]) wanted = GAMHILON_ROOM_TOO_SMALL;
-    free(room);
+    uint8_t *buffer = buffer_length > 0 ? malloc(buffer_length) : NULL;
+    uint32_t status = calls[form](it->document, it->n, buffer, buffer_length, &length), wanted = it->statuses[form];
+    if (wanted == GAMHILON_OK && buffer_length < it->lengths[form]) wanted = GAMHILON_BUFFER_TOO_SMALL;
+    free(buffer);
     return status != wanted || length != it->lengths[form];
 }
 
@@ -37,8 +37,8 @@ static void *worker(void *first) {
         const work *it = &works[t % count];
         int form = t / count % 5, step = t / count / 5 % (2 * AROUND + 1) - AROUND;
         gamhilon_ring_place ring;
-        if (form == 3) wrong += gamhilon_ring(it->document, it->n, &ring) != it->statuses[0];
-        else if (form == 4) wrong += gamhilon_limits(it->document, it->n, 100, 100000) != it->limited;
+        if (form == 3) wrong += gamhilon_find_ring(it->document, it->n, &ring) != it->statuses[0];
+        else if (form == 4) wrong += gamhilon_check_limits(it->document, it->n, 100, 100000) != it->limited;
         else if (step < 0 && it->lengths[form] < (size_t)-step) wrong += tried(it, form, 0);
         else wrong += tried(it, form, it->lengths[form] + (size_t)step);
     }
@@ -49,20 +49,20 @@ int main(int argc, char **argv) {
     pthread_t threads[THREADS];
     int firsts[THREADS];
     size_t wrong = 0;
-    uint8_t *room = malloc(ROOM);
+    uint8_t *buffer = malloc(ROOM);
     times = atoi(argv[1]);
     count = argc - 2;
     works = calloc((size_t)count, sizeof *works);
     for (int i = 0; i < count; i++) {
         FILE *file = fopen(argv[i + 2], "rb");
-        size_t n = fread(room, 1, ROOM, file);
+        size_t n = fread(buffer, 1, ROOM, file);
         fclose(file);
         works[i].document = malloc(n > 0 ? n : 1);
         works[i].n = n;
-        memcpy(works[i].document, room, n);
+        memcpy(works[i].document, buffer, n);
         for (int form = 0; form < 3; form++)
-            works[i].statuses[form] = calls[form](works[i].document, n, room, ROOM, &works[i].lengths[form]);
-        works[i].limited = gamhilon_limits(works[i].document, n, 100, 100000);
+            works[i].statuses[form] = calls[form](works[i].document, n, buffer, ROOM, &works[i].lengths[form]);
+        works[i].limited = gamhilon_check_limits(works[i].document, n, 100, 100000);
     }
     for (int i = 0; i < THREADS; i++) {
         firsts[i] = i;
@@ -75,7 +75,7 @@ int main(int argc, char **argv) {
     }
     for (int i = 0; i < count; i++) free(works[i].document);
     free(works);
-    free(room);
+    free(buffer);
     printf("%d calls in %d threads, %zu wrong\n", times, THREADS, wrong);
     return wrong != 0;
 }

@@ -1,4 +1,4 @@
-/* threads FILE..: eight threads at once, each of which answers all documents again and again, in both forms, on rooms of its
+/* threads FILE..: eight threads at once, each of which answers all documents again and again, in both forms, on buffers of its
  * own; each answer is held to that of a call alone. */
 #include "gamhilon.h"
 
@@ -17,21 +17,21 @@ typedef struct {
     uint32_t statuses[2];
 } work;
 
-static call *const calls[2] = {gamhilon_print, gamhilon_print_json};
+static call *const calls[2] = {gamhilon_render_text, gamhilon_render_json};
 static work *works;
 static int count;
 
 static void *worker(void *first) {
-    uint8_t *room = malloc(ROOM);
+    uint8_t *buffer = malloc(ROOM);
     size_t length, wrong = 0;
     for (int t = 0; t < TIMES * count; t++) {
         const work *it = &works[(t + *(int *)first) % count];
         for (int form = 0; form < 2; form++) {
-            uint32_t status = calls[form](it->document, it->n, room, ROOM, &length);
-            wrong += status != it->statuses[form] || length != it->lengths[form] || memcmp(room, it->answers[form], length) != 0;
+            uint32_t status = calls[form](it->document, it->n, buffer, ROOM, &length);
+            wrong += status != it->statuses[form] || length != it->lengths[form] || memcmp(buffer, it->answers[form], length) != 0;
         }
     }
-    free(room);
+    free(buffer);
     return (void *)wrong;
 }
 

@@ -22,9 +22,9 @@ module _ (text_of : Rendered → List ℕ) (read : Option Document) (code : ℕ)
     is_status = (omega arith, λ c. absurd (omega arith));
   }
 
-  lacks_room : (d : Document) → read ≡ Some d → HasAnswer d → needed ≡ length (text_of (answer d)) → code ≡ 6 → after ≡ before
+  lacks_buffer : (d : Document) → read ≡ Some d → HasAnswer d → needed ≡ length (text_of (answer d)) → code ≡ 6 → after ≡ before
       → length before < length (text_of (answer d)) → Called text_of read code before after needed
-  lacks_room d is has told z same less = record {
+  lacks_buffer d is has told z same less = record {
     answered = λ c. absurd (omega arith);
     no_document = λ c. absurd (omega arith);
     ring = λ c. absurd (omega arith);
@@ -38,7 +38,7 @@ module _ (text_of : Rendered → List ℕ) (read : Option Document) (code : ℕ)
   text_handed : (d : Document) → read ≡ Some d → HasAnswer d → PlacesText (text_of (answer d)) code before after needed → Called text_of read code before after needed
   text_handed d is has h = elim h.1 [
     | inl y ↦ fits d is has h.0 y.0 y.1
-    | inr y ↦ lacks_room d is has h.0 y.0 y.1 y.2
+    | inr y ↦ lacks_buffer d is has h.0 y.0 y.1 y.2
   ]
 
   refused : (e : RunError) → IsRefused e read → code ≡ status e → after ≡ before → needed ≡ 0 → Called text_of read code before after needed

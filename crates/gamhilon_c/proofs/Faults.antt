@@ -11,7 +11,7 @@ use Rattle.gamhilon_c.specs.Called.{Fills, HandsOut, PlacesText}
 use Rattle.gamhilon_c.specs.FindsFault.{FindsFault}
 
 module _ {D : Type 0} (read : Option D) (value : Option Data) (code : ℕ) (before after : List ℕ) (needed : ℕ) where
-  -- an empty text stands in every room
+  -- an empty text stands in every buffer
   sound : (text : List ℕ) → IsSome read → text ≡ [] → PlacesText text code before after needed → FindsFault read value code before after needed
   sound text is none h = elim h.1 [
     | inl y ↦ record {

@@ -12,12 +12,12 @@ use Rattle.cite_document.specs.declared.error.RunError.{RunError}
 abbrev pub HasRing : Document → Type 0
 HasRing d = (place : RingPlace) × (i : ℕ) × HasFirstRing place i d
 
--- the room begins with the text, and the rest of it is as before
+-- the buffer begins with the text, and the rest of it is as before
 abbrev pub Fills : List ℕ → List ℕ → List ℕ → Type 0
 Fills text before after = (length text ≤ length before) × (after ≡ text ++ drop (length text) before)
 
 -- A call that ended with the status `code` and told the length `needed`. The bytes that it was given are the
--- document of `read`, or none; it was asked for the text that `text_of` makes of the answer; and the room
+-- document of `read`, or none; it was asked for the text that `text_of` makes of the answer; and the buffer
 -- held `before` and then `after`.
 pub record Called (text_of : Rendered
     → List ℕ) (read : Option Document) (code : ℕ) (before after : List ℕ) (needed : ℕ) : Type 0 where
@@ -34,7 +34,7 @@ pub record Called (text_of : Rendered
 
 -- ---- for private clauses
 
--- the text stands in the room where that is as long, and its length is told
+-- the text stands in the buffer where that is as long, and its length is told
 abbrev pub PlacesText : List ℕ → ℕ → List ℕ → List ℕ → ℕ → Type 0
 PlacesText text code before after needed =
     (needed ≡ length text) × (((code ≡ 0) × Fills text before after)

@@ -10,7 +10,7 @@ abbrev pub HasTextThat : Option DrivenDocument → (List ℕ → Type 0) → Typ
 HasTextThat read Such = IsDocumentThat read (λ d. (text : List ℕ) × Tells text d × Such text)
 
 -- A call that ended with the status `code` and told the length `needed`. The bytes that it was given are the
--- driven document of `read`, or none; and the room held `before` and then `after`.
+-- driven document of `read`, or none; and the buffer held `before` and then `after`.
 pub record CalledDriven (read : Option DrivenDocument) (code : ℕ) (before after : List ℕ) (needed : ℕ)
     : Type 0 where
   pub answered : code ≡ 0 → HasTextThat read (λ text. Fills text before after × (needed ≡ length text))

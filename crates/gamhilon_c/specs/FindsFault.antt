@@ -11,7 +11,7 @@ abbrev pub IsFaultThat : {D : Type 0} → Option D → Option Data → (Fault �
 IsFaultThat read value Such = (read ≡ None) × ((f : Fault) × IsFaultIn f value × Such f)
 
 -- A call that ended with the status `code` and told the length `needed`. The bytes that it was given are the
--- value of `value` and the document of `read`, of either form, or none; and the room held `before` and then
+-- value of `value` and the document of `read`, of either form, or none; and the buffer held `before` and then
 -- `after`.
 pub record FindsFault {D : Type 0} (read : Option D) (value : Option Data) (code : ℕ) (before after : List ℕ)
     (needed : ℕ) : Type 0 where

@@ -1,10 +1,10 @@
 //! Documents answered for callers in C, and for whatever calls C.
 //!
-//! Each call stands alone: it is given a document and room for what it has to say, and keeps nothing.
+//! Each call stands alone: it is given a document and a buffer for what it has to say, and keeps nothing.
 #![tactic(auto)]
 
+mod buffer;
 mod ring;
-mod room;
 
 ghost use Rattle.document_reading.specs.Faults.{value_in};
 ghost use Rattle.document_reading.specs.Form.{form};
@@ -17,8 +17,8 @@ ghost use Rattle.gamhilon_c.specs.FindsFault.{FindsFault};
 ghost use Rattle.gamhilon_c.specs.KeepsLimits.{KeepsLimits};
 ghost use Rattle.gamhilon_c.specs.Ring.{FindsRing};
 
+use crate::buffer::{ANSWERED, hand_out};
 use crate::ring::{GamhilonRing, hand_out_ring};
-use crate::room::{ANSWERED, hand_out};
 use cite_document::faults::print_fault_bytes;
 use cite_document::limits::check_limits;
 use cite_document::running::{answer_bytes, print_bytes, print_json_bytes};
@@ -27,53 +27,53 @@ use document_driven::driving::drive_bytes;
 use document_driven::faults::print_driven_fault_bytes;
 use std::alloc::Global;
 
-/// Puts what the document prints into the room, and tells how many bytes that takes. Gives the status.
+/// Puts what the document prints into the buffer, and tells how many bytes that takes. Gives the status.
 #[unsafe(no_mangle)]
-pub extern "C" fn gamhilon_print(
+pub extern "C" fn gamhilon_render_text(
     alloc: Global,
     document: &[u8],
-    room: &mut [u8],
+    buffer: &mut [u8],
     needed: &mut usize,
 ) -> u32
-    ensures { Called print (form document.now) result room.old room.new needed.new }
+    ensures { Called print (form document.now) result buffer.old buffer.new needed.new }
 {
     let text = print_bytes(alloc, document);
-    hand_out(&text, room, needed)
+    hand_out(&text, buffer, needed)
 }
 
-/// Puts the answer to the document, as JSON, into the room, and tells how many bytes that takes. Gives
+/// Puts the answer to the document, as JSON, into the buffer, and tells how many bytes that takes. Gives
 /// the status.
 #[unsafe(no_mangle)]
-pub extern "C" fn gamhilon_print_json(
+pub extern "C" fn gamhilon_render_json(
     alloc: Global,
     document: &[u8],
-    room: &mut [u8],
+    buffer: &mut [u8],
     needed: &mut usize,
 ) -> u32
-    ensures { Called json_text (form document.now) result room.old room.new needed.new }
+    ensures { Called json_text (form document.now) result buffer.old buffer.new needed.new }
 {
     let text = print_json_bytes(alloc, document);
-    hand_out(&text, room, needed)
+    hand_out(&text, buffer, needed)
 }
 
-/// Puts the first fault of the document, as JSON, into the room, and tells how many bytes that takes: none
+/// Puts the first fault of the document, as JSON, into the buffer, and tells how many bytes that takes: none
 /// where the document has no fault. Gives the status.
 #[unsafe(no_mangle)]
-pub extern "C" fn gamhilon_fault(
+pub extern "C" fn gamhilon_find_fault(
     alloc: Global,
     document: &[u8],
-    room: &mut [u8],
+    buffer: &mut [u8],
     needed: &mut usize,
 ) -> u32
-    ensures { FindsFault (form document.now) (value_in document.now) result room.old room.new needed.new }
+    ensures { FindsFault (form document.now) (value_in document.now) result buffer.old buffer.new needed.new }
 {
     let text = print_fault_bytes(alloc, document);
-    hand_out(&text, room, needed)
+    hand_out(&text, buffer, needed)
 }
 
 /// Tells whether each layout of each style of the document is within the limits. Gives the status.
 #[unsafe(no_mangle)]
-pub extern "C" fn gamhilon_limits(
+pub extern "C" fn gamhilon_check_limits(
     alloc: Global,
     document: &[u8],
     depth: usize,
@@ -89,40 +89,40 @@ pub extern "C" fn gamhilon_limits(
 
 /// Puts the place of the first ring of macros into `ring`, where the document has one. Gives the status.
 #[unsafe(no_mangle)]
-pub extern "C" fn gamhilon_ring(alloc: Global, document: &[u8], ring: &mut GamhilonRing) -> u32
+pub extern "C" fn gamhilon_find_ring(alloc: Global, document: &[u8], ring: &mut GamhilonRing) -> u32
     ensures { FindsRing (form document.now) result ring.old ring.new }
 {
     let answer = answer_bytes(alloc, document);
     hand_out_ring(&answer, ring)
 }
 
-/// Puts what comes of the driven document, as JSON, into the room, and tells how many bytes that takes: the
+/// Puts what comes of the driven document, as JSON, into the buffer, and tells how many bytes that takes: the
 /// answer with what its host has written, or what is missing of that. Gives the status.
 #[unsafe(no_mangle)]
 pub extern "C" fn gamhilon_drive(
     alloc: Global,
     document: &[u8],
-    room: &mut [u8],
+    buffer: &mut [u8],
     needed: &mut usize,
 ) -> u32
-    ensures { CalledDriven (driven_form document.now) result room.old room.new needed.new }
+    ensures { CalledDriven (driven_form document.now) result buffer.old buffer.new needed.new }
 {
     let text = drive_bytes(alloc, document);
-    hand_out(&text, room, needed)
+    hand_out(&text, buffer, needed)
 }
 
-/// Puts the first fault of the driven document, as JSON, into the room, and tells how many bytes that takes:
+/// Puts the first fault of the driven document, as JSON, into the buffer, and tells how many bytes that takes:
 /// none where it has no fault. Gives the status.
 #[unsafe(no_mangle)]
-pub extern "C" fn gamhilon_drive_fault(
+pub extern "C" fn gamhilon_find_driven_fault(
     alloc: Global,
     document: &[u8],
-    room: &mut [u8],
+    buffer: &mut [u8],
     needed: &mut usize,
 ) -> u32
-    ensures { FindsFault (driven_form document.now) (value_in document.now) result room.old room.new
+    ensures { FindsFault (driven_form document.now) (value_in document.now) result buffer.old buffer.new
         needed.new }
 {
     let text = print_driven_fault_bytes(alloc, document);
-    hand_out(&text, room, needed)
+    hand_out(&text, buffer, needed)
 }

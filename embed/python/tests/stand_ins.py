@@ -18,46 +18,46 @@ def driven():
 
 class MadeUpLibrary:
     """Stands in for the shared library: ends each call with a status, or with a text as its answer, and counts the calls, those
-    of gamhilon_limits by themselves."""
+    of gamhilon_check_limits by themselves."""
 
     def __init__(self, text=b'', status=0, fault=None, fault_status=0, ring=(0, 0, 0), limits_status=0):
         self.text, self.status, self.ring, self.calls = text, status, ring, []
         self.limits_status, self.limits_calls = limits_status, []
         told = fault or {'pointer': '', 'found': 'an object', 'wanted': 'something else'}
-        self.gamhilon_fault = lambda *given: self._put(json.dumps(told).encode(), fault_status, *given)
+        self.gamhilon_find_fault = lambda *given: self._put(json.dumps(told).encode(), fault_status, *given)
 
-    def gamhilon_print(self, *given):
+    def gamhilon_render_text(self, *given):
         return self._put(self.text, self.status, *given)
 
-    gamhilon_print_json = gamhilon_print
+    gamhilon_render_json = gamhilon_render_text
 
-    def gamhilon_ring(self, document, document_length, ring):
+    def gamhilon_find_ring(self, document, document_length, ring):
         self.calls.append((document, 0))
         if self.status == 3:
             place = ring._obj
             place.of_bibliography, place.request, place.macro_place = self.ring
         return self.status
 
-    def gamhilon_limits(self, document, document_length, depth, elements):
+    def gamhilon_check_limits(self, document, document_length, depth, elements):
         assert document_length == len(document)
         self.limits_calls.append((document, depth, elements))
         return self.limits_status
 
-    def _put(self, text, status, document, document_length, room, room_length, length):
+    def _put(self, text, status, document, document_length, buffer, buffer_length, length):
         assert document_length == len(document)
-        self.calls.append((document, room_length))
+        self.calls.append((document, buffer_length))
         length._obj.value = len(text) if status == 0 else 0
         if status != 0:
             return status
-        if len(text) > room_length:
+        if len(text) > buffer_length:
             return 6
-        room[:len(text)] = text
+        buffer[:len(text)] = text
         return 0
 
 
 class ModelOfTheDriver(MadeUpLibrary):
     """Stands in for a library that has the driven call: the model of the repository answers it."""
 
-    def gamhilon_drive(self, document, document_length, *room):
+    def gamhilon_drive(self, document, document_length, *buffer):
         kind, value = driven().drive(json.loads(document))
-        return self._put(json.dumps({kind: value}).encode(), 0, document, document_length, *room)
+        return self._put(json.dumps({kind: value}).encode(), 0, document, document_length, *buffer)

@@ -81,7 +81,7 @@ def test_it_tells_what_it_does_and_how_far_it_is(tree, monkeypatch, capfd):
     assert re.fullmatch('build.py: 0 min [0-9]+ s: 1 of 2 libraries stand', told[-1])
     assert lines[-3:-1] == ['build.py: linking crates/gamhilon_c/out/libgamhilon_c.a',
                             'build.py: built embed/out/libgamhilon.a and libgamhilon.so']
-    assert lines[-1].startswith('build.py: built embed/out/gamhilon-0.1.0-py3-none-')
+    assert lines[-1].startswith('build.py: built embed/out/gamhilon-0.2.0-py3-none-')
     assert sorted(it for it in os.listdir('embed/out') if not it.endswith('.whl')) == [
         'gamhilon.h', 'gamhilon.pc', 'gamhilon_build.json', 'libgamhilon.a', 'libgamhilon.so',
         'libgamhilon.so.0']

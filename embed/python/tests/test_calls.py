@@ -32,7 +32,7 @@ def test_an_answer_of_five_times_its_document_is_computed_once(made_up):
 def test_a_room_that_is_too_small_grows_to_what_is_told(made_up):
     library = made_up(text=b'x' * 100000)
     assert gamhilon.print_document('{}') == 'x' * 100000
-    assert [room for _, room in library.calls][1] == 100000 and len(library.calls) == 2
+    assert [buffer for _, buffer in library.calls][1] == 100000 and len(library.calls) == 2
 
 
 @pytest.mark.parametrize('status, kind, base', [

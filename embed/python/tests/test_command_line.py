@@ -206,10 +206,10 @@ from gamhilon import __main__ as command_line, _library
 from stand_ins import MadeUpLibrary
 
 class SlowLibrary(MadeUpLibrary):
-    def gamhilon_print(self, *given):
+    def gamhilon_render_text(self, *given):
         print('called', flush=True)
         ctypes.CDLL(None).{}
-        return super().gamhilon_print(*given)
+        return super().gamhilon_render_text(*given)
 
 _library._library = _library.Library(SlowLibrary(text=b'(Doe)'))
 sys.exit(command_line.main(sys.argv[1:]))

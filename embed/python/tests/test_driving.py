@@ -200,10 +200,10 @@ def test_what_was_noted_is_told_and_what_was_not_is_left_out():
 class MadeUpDriver(MadeUpLibrary):
     """Ends each driven call with a status, or with a text; and has one fault."""
 
-    gamhilon_drive = MadeUpLibrary.gamhilon_print
+    gamhilon_drive = MadeUpLibrary.gamhilon_render_text
 
-    def gamhilon_drive_fault(self, *given):
-        return self.gamhilon_fault(*given)
+    def gamhilon_find_driven_fault(self, *given):
+        return self.gamhilon_find_fault(*given)
 
 
 @pytest.fixture

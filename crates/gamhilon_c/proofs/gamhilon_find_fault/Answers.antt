@@ -1,6 +1,6 @@
 -- What is handed out is the fault of the document.
 use Rattle.gamhilon_c.proofs.Faults.{finds_fault}
-use Rattle.gamhilon_c.proofs.gamhilon_fault.Goals as goal
+use Rattle.gamhilon_c.proofs.gamhilon_find_fault.Goals as goal
 
 pub returns : goal.returns
 returns c = finds_fault _ _ _ _ _ _ _ c.print_fault_bytes-text.ensures c.hand_out.ensures

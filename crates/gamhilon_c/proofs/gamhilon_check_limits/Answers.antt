@@ -2,7 +2,7 @@
 use Rattle.std.proofs.Common.{◌∙◌}
 use Rattle.cite_document.specs.Limited.{styles_in}
 use Rattle.gamhilon_c.proofs.Limited.{refused}
-use Rattle.gamhilon_c.proofs.gamhilon_limits.Goals as goal
+use Rattle.gamhilon_c.proofs.gamhilon_check_limits.Goals as goal
 
 pub returns-in-Err : goal.returns-in-Err
 returns-in-Err c =
