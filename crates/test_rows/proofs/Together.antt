@@ -1,22 +1,32 @@
--- Two entries of one group that was given suffixes have different suffixes in the account.
-use Rattle.std.proofs.Common.{◌≡◌, ◌⊎◌, inl, inr, ℕ, zero, suc, ◌+◌, ◌-◌, ◌<◌, ◌≤◌, Bool, List, [], ◌∷◌, Option, Some, None, length, map, get_or, refl, ap, sym, subst, ◌∙◌, arith}
-use Rattle.std.specs.Prelude.{◌≢◌, All, AllPairs, option_and_then, option_map, slice_get, slice_index_or}
-use Rattle.std.specs.List.{enumerate_from}
+-- Two entries that got their suffixes in one group of one round have different suffixes in the account.
+use Rattle.std.proofs.Common.{◌≡◌, ◌⊎◌, inl, inr, ℕ, zero, suc, ◌+◌, ◌-◌, ◌<◌, ◌≤◌, Bool, true, false, ◌||◌, List, [], ◌∷◌, Option, Some, None, length, map, get_or, refl, ap, sym, subst, ◌∙◌, true≢false, arith}
+use Rattle.std.specs.Prelude.{◌≢◌, All, AllPairs, Any, option_and_then, option_map, slice_get, slice_index_or}
+use Rattle.std.specs.Cmp.{IsEquivalence}
+use Rattle.std.specs.List.{enumerate_from, list_any}
+use Rattle.std.proofs.lemmas.Bool.{or_right}
 use Rattle.std.proofs.lemmas.List.Elements.{All-head, All-tail}
-use Rattle.std.proofs.lemmas.Option.{slice_get-map}
+use Rattle.std.proofs.lemmas.List.Folds.{Any-from_list_any, list_any-from_Any}
+use Rattle.std.proofs.lemmas.Option.{slice_get-get_or, slice_get-map}
+use Rattle.csl_ambiguity.specs.Members.{Member, entry_of, members}
 use Rattle.csl_assembly.specs.declared.rendered.Rendered.{Rendered}
 use Rattle.csl_writers.specs.Writing.{Writing}
 use Rattle.csl_driver.specs.Answer.{Asked, rendered_first}
 use Rattle.csl_driver.specs.AnswerLaws.{KeepsLaws}
 use Rattle.csl_driver.specs.declared.account.Account.{Account}
+use Rattle.csl_entries.specs.Entries.{distinct, is_in}
+use Rattle.csl_entries.specs.Laws.{NoTwoEqual}
+use Rattle.csl_entries.proofs.Distinct.{is_in-distinct}
 use Rattle.csl_entries.proofs.Placed.{map-map}
 use Rattle.csl_lookup.specs.States.{year_suffix}
 use Rattle.csl_lookup.specs.declared.state.DisambiguateState.{DisambiguateState}
 use Rattle.csl_lookup.specs.declared.state.DisambiguateState.TheVariants.{YearSuffix}
+use Rattle.csl_passes.specs.Renders.{Place}
 use Rattle.csl_round_laws.specs.Rounds.{StateTable, no_states, told_by}
+use Rattle.csl_round_laws.specs.RunLaws.{GetsSuffixInGroup, HasSuffixesInOrder, shown_at}
 use Rattle.csl_round_laws.specs.Tables.{last_table}
 use Rattle.csl_round_laws.specs.declared.mode.RoundMode.{RoundMode}
-use Rattle.test_rows.specs.Clients.{GotSuffixesTogether, entries_of_group}
+use Rattle.csl_round_laws.proofs.Numbered.{any-map}
+use Rattle.test_rows.specs.Clients.{GotSuffix, firsts, table_of_round}
 
 some-inj : {X : Type 0} (x y : X) → Some x ≡ Some y → x ≡ y
 some-inj x y h = cc
@@ -45,37 +55,142 @@ at-last R xs d pairs self k within = elim (split k (length xs - 1) (omega (arith
   | inr l ↦ pairs k (length xs - 1) d l (omega (arith, within))
 ]
 
-module _ {E P : Type 0} (eq : E → E → Bool) (payload_eq : P → P → Bool) (writing : Writing E P) (mode : RoundMode) (asked : Asked E P) (r : Rendered × Account E)
-    (laws : KeepsLaws eq payload_eq writing mode asked r) (first second : ℕ) (g : GotSuffixesTogether eq payload_eq writing mode asked r laws first second) where
-  abbrev now : StateTable E
-  now = slice_index_or laws.tables g.round no_states
+-- the first of a list
+first-is : {X : Type 0} (xs : List X) (d x : X) → slice_get xs 0 ≡ Some x → get_or xs 0 d ≡ x
+first-is [] d x h = cc
+first-is (y ∷ ys) d x h = some-inj y x h
 
-  abbrev next : StateTable E
-  next = slice_index_or laws.tables (g.round + 1) no_states
+has-one : {X : Type 0} (xs : List X) (x : X) → slice_get xs 0 ≡ Some x → 0 < length xs
+has-one [] x h = cc
+has-one (y ∷ ys) x h = omega arith
 
-  abbrev Suffixed : ℕ → E → Type 0
-  Suffixed k e = slice_get (entries_of_group eq payload_eq writing mode asked r laws now g.group) k ≡ Some e
+-- members at different places aren't equal
+module _ {E : Type 0} (eq : E → E → Bool) (equal : IsEquivalence eq) where
+  in-list : (p : E → Bool) (xs : List E) (k : ℕ) (x : E) → slice_get xs k ≡ Some x → p x ≡ true → list_any p xs ≡ true
+  in-list p [] k x e h = cc
+  in-list p (y ∷ ys) zero x e h = ap (λ b. b || list_any p ys) (ap p (some-inj y x e) ∙ h)
+  in-list p (y ∷ ys) (suc k) x e h = or_right (p y) (list_any p ys) (in-list p ys k x e h)
 
-  -- the k-th entry of the group has the suffix k in the end
-  in-the-end : (k : ℕ) (e : E) → Suffixed k e → last_table laws.tables e ≡ Some (YearSuffix k)
-  in-the-end k e h =
-      let given : next e ≡ Some (YearSuffix (0 + k)) =
-      at-its-number (λ p. next p.1 ≡ Some (YearSuffix p.0)) 0 (entries_of_group eq payload_eq writing mode asked r laws now g.group) k e
-      (laws.rounds.stay.in_order g.round no_states g.marks g.group g.given) h in
-      let same : 0 + k ≡ k = omega arith in
-      at-last (λ t later. (e : E) (n : ℕ) → t e ≡ Some (YearSuffix n) → later e ≡ Some (YearSuffix n)) laws.tables no_states laws.rounds.stay.stay (λ t e n h. h) (g.round + 1) g.marks e k
-      (given ∙ ap (λ n. Some (YearSuffix n)) same)
+  not-behind : (x : E) (xs : List E) (k : ℕ) (y : E) → is_in eq x xs ≡ false → slice_get xs k ≡ Some y → eq x y ≡ true → ⊥
+  not-behind x xs k y out e same = true≢false (sym (in-list (eq x) xs k y e same) ∙ out)
 
-  suffix-at : (place k : ℕ) (e : E) → slice_get (map (λ e. e.now) r.1.entries.items) place ≡ Some e → Suffixed k e → slice_get r.1.states.items place ≡ Some (YearSuffix k)
-  suffix-at place k e there h =
-      let told : r.1.states.items ≡ map (λ e. told_by (last_table laws.tables e)) (map (λ e. e.now) r.1.entries.items) =
+  apart : (xs : List E) → NoTwoEqual eq xs → (i j : ℕ) (x y : E) → i ≢ j → slice_get xs i ≡ Some x → slice_get xs j ≡ Some y → eq x y ≡ true → ⊥
+  apart [] once i j x y ne e f same = cc
+  apart (z ∷ zs) once zero zero x y ne e f same = ne refl
+  apart (z ∷ zs) once zero (suc j) x y ne e f same = not-behind z zs j y once.0 f (ap (λ w. eq w y) (some-inj z x e) ∙ same)
+  apart (z ∷ zs) once (suc i) zero x y ne e f same = not-behind z zs i x once.0 e (ap (λ w. eq w x) (some-inj z y f) ∙ equal.symm y x ∙ same)
+  apart (z ∷ zs) once (suc i) (suc j) x y ne e f same = apart zs once.1 i j x y (λ h. ne (ap suc h)) e f same
+
+-- the suffix of an entry
+suffix-told : (o : Option DisambiguateState) (n : ℕ) → year_suffix (told_by o) ≡ Some n → o ≡ Some (YearSuffix n)
+suffix-told None n h = cc
+suffix-told (Some DisambiguateState.None) n h = cc
+suffix-told (Some (DisambiguateState.NameDisambiguation forms)) n h = cc
+suffix-told (Some DisambiguateState.Choose) n h = cc
+suffix-told (Some (DisambiguateState.YearSuffix m)) n h = ap (λ k. Some (YearSuffix k)) (some-inj m n h)
+
+-- at a place where the suffix of what an entry is told by was read, the entry stands
+pub record IsReadOff {E : Type 0} (entries : List E) (table : StateTable E) (place n : ℕ) : Type 0 where
+  pub entry : E
+  pub is_entry : slice_get entries place ≡ Some entry
+  pub state : table entry ≡ Some (YearSuffix n)
+
+read-off : {E : Type 0} (entries : List E) (table : StateTable E) (place n : ℕ) → option_and_then year_suffix (slice_get (map (λ e. told_by (table e)) entries) place) ≡ Some n
+    → IsReadOff entries table place n
+read-off entries table place n h = by (slice_get entries place) refl (sym (ap (option_and_then year_suffix) (slice_get-map (λ e. told_by (table e)) entries place)) ∙ h)
+  where
+    by : (o : Option _) → slice_get entries place ≡ o → option_and_then year_suffix (option_map (λ e. told_by (table e)) o) ≡ Some n → IsReadOff entries table place n
+    by None e h = cc
+    by (Some x) e h = record { entry = x; is_entry = e; state = suffix-told (table x) n h }
+
+module _ {E P : Type 0} (eq : E → E → Bool) (equal : IsEquivalence eq) (payload_eq : P → P → Bool) (writing : Writing E P) (mode : RoundMode) (asked : Asked E P) (r : Rendered × Account E)
+    (laws : KeepsLaws eq payload_eq writing mode asked r) where
+  abbrev table : ℕ → StateTable E
+  table round = table_of_round eq payload_eq writing mode asked r laws round
+
+  abbrev entries : List E
+  entries = map (λ e. e.now) r.1.entries.items
+
+  abbrev Got : ℕ → Type 0
+  Got place = GotSuffix eq payload_eq writing mode asked r laws place
+
+  -- an entry that has a suffix at a table got it in a round before
+  got : (place n : ℕ) (e : E) → slice_get entries place ≡ Some e → (k : ℕ) → k < length laws.tables → table k e ≡ Some (YearSuffix n) → (g : Got place) × (g.entry ≡ e)
+  got place n e is zero within h =
+      let first : None ≡ Some (YearSuffix n) = sym (ap (λ (t : StateTable E). t e) (first-is laws.tables no_states no_states laws.first_is_empty)) ∙ h in
+      cc
+  got place n e is (suc k) within h =
+      let next : suc k ≡ k + 1 = omega arith in
+      let inside : k + 1 < length laws.tables = omega (arith, within) in
+      by inside (laws.rounds.stay.by_group k no_states inside e n (subst (λ j. table j e ≡ Some (YearSuffix n)) next h))
+    where
+      by : k + 1 < length laws.tables → (table k e ≡ Some (YearSuffix n)) ⊎ GetsSuffixInGroup mode eq writing (firsts eq payload_eq writing mode asked r laws) (table k) (table (k + 1)) e
+          → (g : Got place) × (g.entry ≡ e)
+      by inside (inl before) = got place n e is k (omega (arith, inside)) before
+      by inside (inr g) = (record { entry = e; is_entry = is; round = k; marked = inside; in_group = g }, refl)
+
+  -- where a suffix was read its entry got it in a round, and has it in the end
+  pub record IsRead (place n : ℕ) : Type 0 where
+    pub got_it : Got place
+    pub in_the_end : last_table laws.tables got_it.entry ≡ Some (YearSuffix n)
+
+  pub is-read : (place n : ℕ) → option_and_then year_suffix (slice_get r.1.states.items place) ≡ Some n → IsRead place n
+  is-read place n h =
+      let told : r.1.states.items ≡ map (λ e. told_by (last_table laws.tables e)) entries =
       laws.last_is_told ∙ sym (map-map (λ e. told_by (last_table laws.tables e)) (λ e. e.now) r.1.entries.items) in
-      ap (λ l. slice_get l place) told ∙ slice_get-map (λ e. told_by (last_table laws.tables e)) (map (λ e. e.now) r.1.entries.items) place
-      ∙ ap (option_map (λ e. told_by (last_table laws.tables e))) there ∙ ap (λ s. Some (told_by s)) (in-the-end k e h)
+      let off = read-off entries (last_table laws.tables) place n (sym (ap (λ l. option_and_then year_suffix (slice_get l place)) told) ∙ h) in
+      let some : 0 < length laws.tables = has-one laws.tables no_states laws.first_is_empty in
+      let one = got place n off.entry off.is_entry (length laws.tables - 1) (omega (arith, some)) off.state in
+      record { got_it = one.0; in_the_end = ap (last_table laws.tables) one.1 ∙ off.state }
 
-  -- so two suffixes that were read are different
-  pub suffixes-differ : (m n : ℕ) → option_and_then year_suffix (slice_get r.1.states.items first) ≡ Some m → option_and_then year_suffix (slice_get r.1.states.items second) ≡ Some n → m ≢ n
-  suffixes-differ m n one other same =
-      let m_is : g.one ≡ m = some-inj g.one m (sym (ap (option_and_then year_suffix) (suffix-at first g.one g.is_one g.first_is g.in_group)) ∙ one) in
-      let n_is : g.other ≡ n = some-inj g.other n (sym (ap (option_and_then year_suffix) (suffix-at second g.other g.is_other g.second_is g.other_in_group)) ∙ other) in
-      g.apart (m_is ∙ same ∙ sym n_is)
+  -- the distinct entries of a group at the table of a round
+  abbrev entries_of : ℕ → List Place → List E
+  entries_of round group = distinct eq (map entry_of (members (shown_at mode eq writing (firsts eq payload_eq writing mode asked r laws) (table round)) group))
+
+  -- the suffix in the end is the place among them
+  pub record IsPlaced (place : ℕ) (got : Got place) : Type 0 where
+    pub at : ℕ
+    pub alike : E
+    pub there : slice_get (entries_of got.round got.in_group.group) at ≡ Some alike
+    pub same : eq got.entry alike ≡ true
+    pub suffix : last_table laws.tables got.entry ≡ Some (YearSuffix at)
+
+  is-placed : (place : ℕ) (got : Got place) → IsPlaced place got
+  is-placed place got =
+      let group = got.in_group.group in
+      let cites : List (Member E P) = members (shown_at mode eq writing (firsts eq payload_eq writing mode asked r laws) (table got.round)) group in
+      let cited : is_in eq got.entry (map entry_of cites) ≡ true = any-map (eq got.entry) entry_of cites ∙ list_any-from_Any (λ m. eq got.entry (entry_of m)) cites got.in_group.cites_it in
+      let one = Any-from_list_any (eq got.entry) (entries_of got.round group) (is_in-distinct eq equal got.entry (map entry_of cites) ∙ cited) in
+      let there : slice_get (entries_of got.round group) one.0 ≡ Some one.1 = slice_get-get_or (entries_of got.round group) one.0 one.1 one.2 ∙ ap Some one.3 in
+      let given : table (got.round + 1) one.1 ≡ Some (YearSuffix (0 + one.0)) =
+      at-its-number (λ p. table (got.round + 1) p.1 ≡ Some (YearSuffix p.0)) 0 (entries_of got.round group) one.0 one.1 got.in_group.in_order there in
+      let number : 0 + one.0 ≡ one.0 = omega arith in
+      let next : table (got.round + 1) got.entry ≡ Some (YearSuffix one.0) =
+      laws.rounds.go_on.alike (got.round + 1) no_states got.marked got.entry one.1 one.4 ∙ given ∙ ap (λ n. Some (YearSuffix n)) number in
+      record {
+        at = one.0;
+        alike = one.1;
+        there = there;
+        same = one.4;
+        suffix = at-last (λ t later. (e : E) (n : ℕ) → t e ≡ Some (YearSuffix n) → later e ≡ Some (YearSuffix n)) laws.tables no_states laws.rounds.stay.stay (λ t e n h. h)
+            (got.round + 1) got.marked got.entry one.0 next;
+      }
+
+  suffix_of : Option DisambiguateState → Option ℕ
+  suffix_of o = option_and_then year_suffix o
+
+  same-suffix : (e : E) (m n : ℕ) → last_table laws.tables e ≡ Some (YearSuffix m) → last_table laws.tables e ≡ Some (YearSuffix n) → m ≡ n
+  same-suffix e m n h g = some-inj m n (ap (option_and_then year_suffix) (sym h ∙ g))
+
+  -- so two suffixes that were read are different, where one group got them in one round
+  pub suffixes-differ : (first second m n : ℕ) (one : IsRead first m) (other : IsRead second n) → first ≢ second → one.got_it.round ≡ other.got_it.round
+      → one.got_it.in_group.group ≡ other.got_it.in_group.group → m ≢ n
+  suffixes-differ first second m n one other ne same_round same_group same =
+      let e : E = one.got_it.entry in
+      let f : E = other.got_it.entry in
+      let p = is-placed first one.got_it in
+      let q = is-placed second other.got_it in
+      let places : p.at ≡ q.at = same-suffix e p.at m p.suffix one.in_the_end ∙ same ∙ same-suffix f n q.at other.in_the_end q.suffix in
+      let alike : p.alike ≡ q.alike = some-inj p.alike q.alike (sym p.there ∙ (λ i. slice_get (entries_of (same_round i) (same_group i)) (places i)) ∙ q.there) in
+      let both : eq e f ≡ true = equal.congr e q.alike f (ap (eq e) (sym alike) ∙ p.same) ∙ equal.symm q.alike f ∙ q.same in
+      apart eq equal entries laws.numbers.apart first second e f ne one.got_it.is_entry other.got_it.is_entry both

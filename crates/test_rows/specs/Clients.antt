@@ -1,6 +1,5 @@
 -- What a caller derives from the laws of an answer, without reading how it is made.
 use Rattle.std.specs.Prelude.{◌≡◌, ◌≢◌, ℕ, ◌+◌, ◌<◌, Bool, List, Option, Some, length, map, slice_get, slice_index, slice_index_or, slice_range}
-use Rattle.csl_ambiguity.specs.Members.{entry_of, members}
 use Rattle.csl_assembly.specs.declared.rendered.Rendered.{Rendered}
 use Rattle.csl_writers.specs.Writing.{Writing}
 use Rattle.csl_base.specs.declared.style.Collapse.{Collapse}
@@ -8,10 +7,9 @@ use Rattle.csl_collapse.specs.NumberLaws.{AreNextShown, CanBeReadBack, WasHid, n
 use Rattle.csl_driver.specs.Answer.{Asked, rendered_first}
 use Rattle.csl_driver.specs.AnswerLaws.{KeepsLaws}
 use Rattle.csl_driver.specs.declared.account.Account.{Account}
-use Rattle.csl_entries.specs.Entries.{distinct}
-use Rattle.csl_passes.specs.Renders.{CiteRender, ItemRender, Place}
+use Rattle.csl_passes.specs.Renders.{CiteRender, ItemRender}
 use Rattle.csl_round_laws.specs.Rounds.{StateTable, no_states}
-use Rattle.csl_round_laws.specs.RunLaws.{GetsSuffixes, shown_at}
+use Rattle.csl_round_laws.specs.RunLaws.{GetsSuffixInGroup}
 use Rattle.csl_round_laws.specs.declared.mode.RoundMode.{RoundMode}
 
 -- an entry and a number that stand at one place of an account
@@ -39,23 +37,18 @@ module _ {E P : Type 0} (eq : E → E → Bool) (payload_eq : P → P → Bool) 
   abbrev pub table_of_round : ℕ → StateTable E
   table_of_round round = slice_index_or laws.tables round no_states
 
-  -- the distinct entries that a group cites at a table
-  abbrev pub entries_of_group : StateTable E → List Place → List E
-  entries_of_group table group =
-      distinct eq (map entry_of (members (shown_at mode eq writing firsts table) group))
-
-  -- the entries at two places of the account are two of one group that was given suffixes in some round
-  pub record GotSuffixesTogether (first second : ℕ) : Type 0 where
+  -- the entry at a place of the account got its suffix in this round, in a group
+  pub record GotSuffix (place : ℕ) : Type 0 where
+    pub entry : E
+    pub is_entry : slice_get (map (λ e. e.now) r.1.entries.items) place ≡ Some entry
     pub round : ℕ
-    pub marks : round + 1 < length laws.tables
-    pub group : List Place
-    pub given : GetsSuffixes mode eq writing firsts (table_of_round round) group
-    pub one : ℕ
-    pub other : ℕ
-    pub apart : one ≢ other
-    pub is_one : E
-    pub is_other : E
-    pub first_is : slice_get (map (λ e. e.now) r.1.entries.items) first ≡ Some is_one
-    pub second_is : slice_get (map (λ e. e.now) r.1.entries.items) second ≡ Some is_other
-    pub in_group : slice_get (entries_of_group (table_of_round round) group) one ≡ Some is_one
-    pub other_in_group : slice_get (entries_of_group (table_of_round round) group) other ≡ Some is_other
+    pub marked : round + 1 < length laws.tables
+    pub in_group : GetsSuffixInGroup mode eq writing firsts (table_of_round round)
+        (table_of_round (round + 1)) entry
+
+  -- so did the entries at two places, and where they got them in one group of one round, these letters differ
+  pub record GotLetters (first second : ℕ) (letters others : List ℕ) : Type 0 where
+    pub one : GotSuffix first
+    pub other : GotSuffix second
+    pub differ : first ≢ second → one.round ≡ other.round → one.in_group.group ≡ other.in_group.group
+        → letters ≢ others

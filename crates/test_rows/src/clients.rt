@@ -7,11 +7,14 @@ ghost use Rattle.csl_driver.specs.AnswerLaws.{HaveNumbersOnce, KeepsLaws};
 ghost use Rattle.csl_lookup.specs.States.{year_suffix};
 ghost use Rattle.csl_lookup.specs.SuffixLetters.{suffix_letters};
 ghost use Rattle.csl_round_laws.specs.declared.mode.RoundMode.{RoundMode};
-ghost use Rattle.test_rows.specs.Clients.{AreHiddenBetween, GotSuffixesTogether, StandAtOnePlace};
+ghost use Rattle.test_rows.specs.Clients.{AreHiddenBetween, GotLetters, StandAtOnePlace};
 ghost use Rattle.csl_writing.specs.LayoutWriting.{layout_writing};
 
 use csl_base::entry::EntryLike;
 use csl_driver::account::Account;
+use csl_driver::driver::BibliographyDriver;
+use csl_driver::error::DriverError;
+use csl_driver::request::BibliographyRequest;
 use csl_driver::state::DisambiguateState;
 use csl_driver::year::letters_of_suffix;
 use csl_writing::laws::suffixes_differ;
@@ -80,7 +83,8 @@ fn suffix_at(states: &[DisambiguateState], place: usize) -> Option<usize>
 }
 
 /// The letters of the suffixes that the entries at two places of an account have; none where one of them has
-/// no suffix. Two entries of one group that was given suffixes have different letters.
+/// no suffix. In the account of an answer each got its suffix in a round, in a group of cites that read alike;
+/// where they got them in one group of one round the letters differ.
 ///
 /// # Errors
 /// Where memory is refused.
@@ -90,12 +94,11 @@ pub fn letters_of_two<'a, T: EntryLike, P: Eq>(
     first: usize,
     second: usize,
 ) -> Result<Option<(String, String)>, AllocError>
-    ensures differ { IfOk result (λ o. IfSome o (λ letters.
+    ensures got { IfOk result (λ o. IfSome o (λ letters.
         (mode : RoundMode) (asked : Asked T P) (rendered : Rendered)
         (laws : KeepsLaws T.eq P.eq (layout_writing T.answers) mode asked (rendered, account.now))
-        → GotSuffixesTogether T.eq P.eq (layout_writing T.answers) mode asked
-        (rendered, account.now) laws first second
-        → string_bytes letters.0 ≢ string_bytes letters.1)) }
+        → GotLetters T.eq P.eq (layout_writing T.answers) mode asked (rendered, account.now) laws
+        first second (string_bytes letters.0) (string_bytes letters.1))) }
 {
     suffixes_differ();
     match (
@@ -108,4 +111,27 @@ pub fn letters_of_two<'a, T: EntryLike, P: Eq>(
         ))),
         _ => Ok(None),
     }
+}
+
+/// The letters of the entries at two places of the account of an answer. Where one round marked they differ;
+/// where more marked, or one of the entries has none, no letters are given.
+///
+/// # Errors
+/// Those of `finish_counted`, and where memory is refused.
+pub fn letters_in_answer<'a, T: EntryLike, P: Eq + Drop>(
+    alloc: Global,
+    driver: BibliographyDriver<'a, T, P>,
+    request: BibliographyRequest<'_, 'a, T>,
+    first: usize,
+    second: usize,
+) -> Result<Option<(String, String)>, DriverError>
+    requires { first ≢ second }
+    ensures { IfOk result (λ o. IfSome o (λ letters. string_bytes letters.0 ≢ string_bytes letters.1)) }
+{
+    let (_rendered, account) = driver.finish_counted(request)?;
+    if account.rounds != 1 {
+        return Ok(None);
+    }
+    let letters = letters_of_two::<T, P>(alloc, &account, first, second)?;
+    Ok(letters)
 }

@@ -1,5 +1,5 @@
 //! What callers get from the laws of an answer, each once at a concrete type.
-use crate::clients::{entry_of_number, hidden_between, letters_of_two};
+use crate::clients::{entry_of_number, hidden_between, letters_in_answer};
 use csl_base::entry::{Date, PlainEntry};
 use csl_base::seq::Seq;
 use csl_base::style::IndependentStyle;
@@ -13,12 +13,12 @@ use std::convert::Infallible;
 use std::test::Fail;
 use test_styles::styles::{author_date, entry, numeric};
 
-/// The account of requests that cite the entries one by one, with numbers from 2 on.
-fn account_of<'a>(
+/// A driver with requests that cite the entries one by one, and with numbers from 2 on.
+fn driver_of<'a>(
     alloc: Global,
     style: &'a IndependentStyle,
     entries: &'a [PlainEntry],
-) -> Result<Account<'a, PlainEntry>, Fail> {
+) -> Result<BibliographyDriver<'a, PlainEntry, Infallible>, Fail> {
     let mut driver = BibliographyDriver::new(alloc).with_citation_number_offset(2);
     for cited in entries {
         let items: Vec<CitationItem<'a, PlainEntry, Infallible>> = vec![in alloc;
@@ -28,6 +28,16 @@ fn account_of<'a>(
             return Err(Fail::new("the request was refused"));
         }
     }
+    Ok(driver)
+}
+
+/// The account of these.
+fn account_of<'a>(
+    alloc: Global,
+    style: &'a IndependentStyle,
+    entries: &'a [PlainEntry],
+) -> Result<Account<'a, PlainEntry>, Fail> {
+    let driver = driver_of(alloc, style, entries)?;
     let (_rendered, account) = driver.finish_counted(BibliographyRequest::new(style, None, &[]))?;
     Ok(account)
 }
@@ -74,8 +84,9 @@ fn hidden_numbers_are_read(rt: HostRuntime) -> Result<(), Fail> {
 fn suffixes_have_letters(rt: HostRuntime) -> Result<(), Fail> {
     let entries = issued(rt.alloc(), &["a", "b"])?;
     let style = lettered(rt.alloc())?;
-    let account = account_of(rt.alloc(), &style, &entries)?;
-    let letters = letters_of_two::<PlainEntry, Infallible>(rt.alloc(), &account, 0, 1)?;
+    let driver = driver_of(rt.alloc(), &style, &entries)?;
+    let request = BibliographyRequest::new(&style, None, &[]);
+    let letters = letters_in_answer(rt.alloc(), driver, request, 0, 1)?;
     let (one, other) = letters.ok_or("no suffixes")?;
     assert!(rt; one.as_str() == "a" && other.as_str() == "b");
     Ok(())

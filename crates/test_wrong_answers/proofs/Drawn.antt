@@ -1,5 +1,5 @@
 -- What was hidden between two shown cites can't be read back.
-use Rattle.std.proofs.Common.{◌≡◌, ℕ, zero, suc, ◌<◌, List, [], ◌∷◌, Some, true, false, refl, ap, sym, ◌∙◌, true≢false, arith}
+use Rattle.std.proofs.Common.{◌≡◌, ℕ, zero, suc, ◌<◌, Some, true, refl, ap, true≢false, arith}
 use Rattle.std.specs.Prelude.{length}
 use Rattle.csl_base.specs.declared.style.Collapse.{Collapse}
 use Rattle.csl_collapse.specs.NumberLaws.{AreNextShown, CanBeReadBack, is_hidden}

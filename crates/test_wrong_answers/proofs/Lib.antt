@@ -7,3 +7,4 @@ pub mod OfRequests
 pub mod NotOwn
 pub mod ListedWrong
 pub mod AllRight
+pub mod Unmarked

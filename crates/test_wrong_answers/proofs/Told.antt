@@ -1,13 +1,13 @@
 -- States that the laws of the rounds refuse.
-use Rattle.std.proofs.Common.{◌≡◌, ℕ, zero, suc, ◌≤◌, List, [], ◌∷◌, Option, Some, None, true, false, cond, refl, ap, sym, ◌∙◌, true≢false, arith}
-use Rattle.std.specs.Prelude.{All, Bool, flat_map, map, slice_get, slice_index_or, unwrap_or}
+use Rattle.std.proofs.Common.{◌≡◌, ℕ, zero, suc, ◌≤◌, List, [], ◌∷◌, Option, Some, None, true, false, cond, refl, ap, true≢false, arith}
+use Rattle.std.specs.Prelude.{Bool, flat_map, slice_index_or, unwrap_or}
 use Rattle.std.proofs.lemmas.List.Elements.{All-cons, All-from_recursion, All-nil}
 use Rattle.csl_lookup.specs.States.{year_suffix}
 use Rattle.csl_lookup.specs.declared.state.DisambiguateState.{DisambiguateState}
-use Rattle.csl_lookup.specs.declared.state.DisambiguateState.TheVariants.{Choose, NameDisambiguation, YearSuffix}
+use Rattle.csl_lookup.specs.declared.state.DisambiguateState.TheVariants.{Choose, YearSuffix}
 use Rattle.csl_passes.specs.Renders.{CiteRender, ItemRender, Place}
 use Rattle.csl_round_laws.specs.FirstRenders.{AreBegun}
-use Rattle.csl_round_laws.specs.RoundMarks.{Mark, has_any, marks_by_group, round_marks}
+use Rattle.csl_round_laws.specs.RoundMarks.{Mark, has_any, round_marks}
 use Rattle.csl_round_laws.specs.Rounds.{StateTable, no_states, with_marks}
 use Rattle.csl_round_laws.specs.RunLaws.{GetsSuffixes, IsInNoGroup, NothingLeft, StatesGoOn, SuffixesStay, shown_at}
 use Rattle.csl_round_laws.specs.Tables.{marked_at, marks_at, tables, tables_from}
@@ -15,7 +15,7 @@ use Rattle.csl_round_laws.specs.declared.mode.RoundMode.{RoundMode}
 use Rattle.csl_name_marks.specs.NameMarks.{name_marks}
 use Rattle.csl_name_marks.specs.Steps.{step, steps}
 use Rattle.test_wrong_answers.proofs.Differ.{above}
-use Rattle.test_wrong_answers.specs.Rounds.{alike, both_shown, by_cite, in_two_groups, on_every_entry, overwritten_at_once, overwritten_later, unlike}
+use Rattle.test_wrong_answers.specs.Rounds.{alike, by_cite, in_two_groups, on_every_entry, overwritten_at_once, overwritten_later, unlike}
 use Rattle.test_wrong_answers.specs.Samples.{entry}
 use Rattle.test_wrong_answers.specs.Silent.{same_sample, writing}
 use Rattle.test_wrong_answers.specs.declared.sample.Sample.{Sample}
@@ -24,7 +24,7 @@ abbrev three : RoundMode
 three = RoundMode.Three
 
 -- suffixes by cite
-suffix_of : Option DisambiguateState → ℕ
+abbrev pub suffix_of : Option DisambiguateState → ℕ
 suffix_of o = unwrap_or (year_suffix (unwrap_or o DisambiguateState.None)) 9
 
 abbrev all_three : List Place
@@ -45,7 +45,6 @@ they-get = record {
 }
 
 pub by-cite : ¬ SuffixesStay three same_sample writing alike by_cite
-unfolding suffix_of
 by-cite h =
     let first : Some (YearSuffix 1) ≡ Some (YearSuffix 0) = h.in_order 0 no_states (omega arith) all_three they-get 0 (0, entry 0) (omega arith) in
     above 1 0 (omega arith) (ap suffix_of first)
@@ -104,7 +103,7 @@ unfolding round_marks name_marks steps step
 chosen-next = ap (λ s. s (entry 0)) (second in_two_groups refl)
 
 -- the first renders are in no state
-abbrev IsUntold : ItemRender Sample ℕ → Type 0
+abbrev pub IsUntold : ItemRender Sample ℕ → Type 0
 IsUntold i = i.properties.speculative.disambiguation ≡ DisambiguateState.None
 
 pub alike-begun : AreBegun alike

@@ -1,5 +1,5 @@
 -- What is asked by two requests of one cite each, in a style whose layout is empty, and what that costs.
-use Rattle.std.specs.Prelude.{ℕ, false, List, [], ◌∷◌, None}
+use Rattle.std.specs.Prelude.{ℕ, false, [], ◌∷◌, None}
 use Rattle.csl_driver.specs.Answer.{Asked}
 use Rattle.csl_passes.specs.Request.{Request}
 use Rattle.test_wrong_answers.specs.Samples.{entry, style}

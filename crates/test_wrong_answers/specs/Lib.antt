@@ -8,3 +8,4 @@ pub mod Rounds
 pub mod Letters
 pub mod Cites
 pub mod Listed
+pub mod Marks

@@ -1,7 +1,5 @@
 -- Cites as they were rendered first, and the tables of states that rounds give their entries.
-use Rattle.std.specs.Prelude.{ℕ, true, List, [], ◌∷◌, Some, None, codes, find, nat_eq, option_map}
-use Rattle.csl_base.specs.Child.{Child}
-use Rattle.csl_base.specs.declared.entry.Person.{Person}
+use Rattle.std.specs.Prelude.{ℕ, true, List, [], ◌∷◌, Some, codes, find, nat_eq, option_map}
 use Rattle.csl_base.specs.declared.names.DisambiguatedNameForm.{DisambiguatedNameForm}
 use Rattle.csl_base.specs.declared.names.NameDisambiguationProperties.{NameDisambiguationProperties}
 use Rattle.csl_lookup.specs.declared.state.DisambiguateState.{DisambiguateState}

@@ -1,14 +1,12 @@
 -- Small requests and cites, on which answers are tried.
-use Rattle.std.specs.Prelude.{ℕ, Bool, true, false, List, [], ◌∷◌, Option, None, Some, codes}
+use Rattle.std.specs.Prelude.{ℕ, true, false, List, [], ◌∷◌, None, Some, codes}
 use Rattle.csl_base.specs.Child.{Child, elem, kid, no_kids, text}
-use Rattle.csl_base.specs.Element.{NameOptions, no_elements}
+use Rattle.csl_base.specs.Element.{no_elements}
 use Rattle.csl_base.specs.Formatting.{normal}
 use Rattle.csl_base.specs.PlainLook.{no_options}
 use Rattle.csl_base.specs.Style.{StyleValue}
-use Rattle.csl_base.specs.declared.elem.Elem.{Elem}
 use Rattle.csl_base.specs.declared.elem.ElemMeta.{ElemMeta}
 use Rattle.csl_base.specs.declared.entry.Person.{Person}
-use Rattle.csl_base.specs.declared.formatting.StyleFormatting.{StyleFormatting}
 use Rattle.csl_base.specs.declared.style.Collapse.{Collapse}
 use Rattle.csl_base.specs.declared.style.DisambiguationRule.{DisambiguationRule}
 use Rattle.csl_base.specs.declared.style.StyleClass.{StyleClass}
@@ -17,7 +15,6 @@ use Rattle.csl_lookup.specs.declared.state.DisambiguateState.{DisambiguateState}
 use Rattle.csl_lookup.specs.declared.state.IbidState.{IbidState}
 use Rattle.csl_lookup.specs.declared.state.IdentifierUsage.{IdentifierUsage}
 use Rattle.csl_passes.specs.Renders.{CiteRender, ItemRender}
-use Rattle.csl_passes.specs.Request.{Request}
 use Rattle.test_wrong_answers.specs.declared.sample.Sample.{Sample}
 
 -- the entry of this number

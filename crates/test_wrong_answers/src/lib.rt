@@ -8,6 +8,7 @@
 
 pub mod cites;
 pub mod listed;
+pub mod marks;
 pub mod numbers;
 pub mod orders;
 pub mod rounds;

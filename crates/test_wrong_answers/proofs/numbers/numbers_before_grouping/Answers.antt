@@ -1,4 +1,4 @@
-use Rattle.std.proofs.Common.{◌≡◌, refl, ap, arith}
+use Rattle.std.proofs.Common.{refl, ap, arith}
 use Rattle.std.specs.Prelude.{slice_index}
 use Rattle.test_wrong_answers.proofs.Differ.{above}
 use Rattle.test_wrong_answers.proofs.numbers.numbers_before_grouping.Goals as goal
