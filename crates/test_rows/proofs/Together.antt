@@ -1,8 +1,8 @@
 -- Two entries that got their suffixes in one group of one round have different suffixes in the account.
 use Rattle.std.proofs.Common.{◌≡◌, ◌⊎◌, inl, inr, ℕ, zero, suc, ◌+◌, ◌-◌, ◌<◌, ◌≤◌, Bool, true, false, ◌||◌, List, [], ◌∷◌, Option, Some, None, length, map, get_or, refl, ap, sym, subst, ◌∙◌, true≢false, arith}
-use Rattle.std.specs.Prelude.{◌≢◌, All, AllPairs, Any, option_and_then, option_map, slice_get, slice_index_or}
+use Rattle.std.specs.Prelude.{◌≢◌, ◌^◌, All, AllPairs, min, option_and_then, option_map, slice_get, slice_index_or}
 use Rattle.std.specs.Cmp.{IsEquivalence}
-use Rattle.std.specs.List.{enumerate_from, list_any}
+use Rattle.std.specs.List.{AllAdjacentBelow, enumerate_from, list_any}
 use Rattle.std.proofs.lemmas.Bool.{or_right}
 use Rattle.std.proofs.lemmas.List.Elements.{All-head, All-tail}
 use Rattle.std.proofs.lemmas.List.Folds.{Any-from_list_any, list_any-from_Any}
@@ -22,11 +22,11 @@ use Rattle.csl_lookup.specs.declared.state.DisambiguateState.{DisambiguateState}
 use Rattle.csl_lookup.specs.declared.state.DisambiguateState.TheVariants.{YearSuffix}
 use Rattle.csl_passes.specs.Renders.{Place}
 use Rattle.csl_round_laws.specs.Rounds.{StateTable, no_states, told_by}
-use Rattle.csl_round_laws.specs.RunLaws.{GetsSuffixInGroup, HasSuffixesInOrder, shown_at}
+use Rattle.csl_round_laws.specs.RunLaws.{GetsSuffixInGroup, GetsSuffixes, shown_at}
 use Rattle.csl_round_laws.specs.Tables.{last_table}
 use Rattle.csl_round_laws.specs.declared.mode.RoundMode.{RoundMode}
 use Rattle.csl_round_laws.proofs.Numbered.{any-map}
-use Rattle.test_rows.specs.Clients.{GotSuffix, firsts, table_of_round}
+use Rattle.test_rows.specs.Clients.{GotLetters, GotSuffix, firsts, table_of_round}
 
 some-inj : {X : Type 0} (x y : X) → Some x ≡ Some y → x ≡ y
 some-inj x y h = cc
@@ -63,6 +63,25 @@ first-is (y ∷ ys) d x h = some-inj y x h
 has-one : {X : Type 0} (xs : List X) (x : X) → slice_get xs 0 ≡ Some x → 0 < length xs
 has-one [] x h = cc
 has-one (y ∷ ys) x h = omega arith
+
+-- what the first table hasn't came about from some table to the next
+module _ {T : Type 0} (Has : T → Type 0) (Gets : T → T → Type 0) (ts : List T) (d : T) where
+  abbrev Came : Type 0
+  Came = (j : ℕ) × (j + 1 < length ts) × Gets (get_or ts j d) (get_or ts (j + 1) d)
+
+  came : (Has (get_or ts 0 d) → ⊥) → AllAdjacentBelow (λ t later. Has later → Has t ⊎ Gets t later) ts (length ts) → (k : ℕ) → k < length ts → Has (get_or ts k d) → Came
+  came first on zero within h = absurd (first h)
+  came first on (suc k) within h =
+      let next : suc k ≡ k + 1 = omega arith in
+      let inside : k + 1 < length ts = omega (arith, within) in
+      by inside (came first on k (omega (arith, within))) (on k d inside (subst (λ j. Has (get_or ts j d)) next h))
+    where
+      by : k + 1 < length ts → (Has (get_or ts k d) → Came) → Has (get_or ts k d) ⊎ Gets (get_or ts k d) (get_or ts (k + 1) d) → Came
+      by inside earlier (inl before) = earlier before
+      by inside earlier (inr gets) = (k, inside, gets)
+
+no-state : {s : DisambiguateState} → None ≡ Some s → ⊥
+no-state h = cc
 
 -- members at different places aren't equal
 module _ {E : Type 0} (eq : E → E → Bool) (equal : IsEquivalence eq) where
@@ -103,6 +122,13 @@ read-off entries table place n h = by (slice_get entries place) refl (sym (ap (o
     by None e h = cc
     by (Some x) e h = record { entry = x; is_entry = e; state = suffix-told (table x) n h }
 
+-- where one round marked it is the first
+only-one : (n : ℕ) → min n (2 ^ 128 - 1) ≡ 1 → n ≡ 1
+only-one n h = omega (arith, h)
+
+earliest : (n a b : ℕ) → n - 1 ≡ 1 → a + 1 < n → b + 1 < n → a ≡ b
+earliest n a b one low lower = omega (arith, one, low, lower)
+
 module _ {E P : Type 0} (eq : E → E → Bool) (equal : IsEquivalence eq) (payload_eq : P → P → Bool) (writing : Writing E P) (mode : RoundMode) (asked : Asked E P) (r : Rendered × Account E)
     (laws : KeepsLaws eq payload_eq writing mode asked r) where
   abbrev table : ℕ → StateTable E
@@ -114,20 +140,14 @@ module _ {E P : Type 0} (eq : E → E → Bool) (equal : IsEquivalence eq) (payl
   abbrev Got : ℕ → Type 0
   Got place = GotSuffix eq payload_eq writing mode asked r laws place
 
-  -- an entry that has a suffix at a table got it in a round before
-  got : (place n : ℕ) (e : E) → slice_get entries place ≡ Some e → (k : ℕ) → k < length laws.tables → table k e ≡ Some (YearSuffix n) → (g : Got place) × (g.entry ≡ e)
-  got place n e is zero within h =
-      let first : None ≡ Some (YearSuffix n) = sym (ap (λ (t : StateTable E). t e) (first-is laws.tables no_states no_states laws.first_is_empty)) ∙ h in
-      cc
-  got place n e is (suc k) within h =
-      let next : suc k ≡ k + 1 = omega arith in
-      let inside : k + 1 < length laws.tables = omega (arith, within) in
-      by inside (laws.rounds.stay.by_group k no_states inside e n (subst (λ j. table j e ≡ Some (YearSuffix n)) next h))
-    where
-      by : k + 1 < length laws.tables → (table k e ≡ Some (YearSuffix n)) ⊎ GetsSuffixInGroup mode eq writing (firsts eq payload_eq writing mode asked r laws) (table k) (table (k + 1)) e
-          → (g : Got place) × (g.entry ≡ e)
-      by inside (inl before) = got place n e is k (omega (arith, inside)) before
-      by inside (inr g) = (record { entry = e; is_entry = is; round = k; marked = inside; in_group = g }, refl)
+  -- an entry that has a suffix in the end got it in a round
+  got : (place n : ℕ) (e : E) → slice_get entries place ≡ Some e → last_table laws.tables e ≡ Some (YearSuffix n) → (g : Got place) × (g.entry ≡ e)
+  got place n e is h =
+      let some : 0 < length laws.tables = has-one laws.tables no_states laws.first_is_empty in
+      let way = came (λ t. t e ≡ Some (YearSuffix n)) (λ t later. GetsSuffixInGroup mode eq writing (firsts eq payload_eq writing mode asked r laws) t later e) laws.tables no_states
+      (λ first. no-state (sym (ap (λ (t : StateTable E). t e) (first-is laws.tables no_states no_states laws.first_is_empty)) ∙ first))
+      (λ k d w. laws.rounds.stay.by_group k d w e n) (length laws.tables - 1) (omega (arith, some)) h in
+      (record { entry = e; is_entry = is; round = way.0; marked = way.1; in_group = way.2 }, refl)
 
   -- where a suffix was read its entry got it in a round, and has it in the end
   pub record IsRead (place n : ℕ) : Type 0 where
@@ -139,8 +159,7 @@ module _ {E P : Type 0} (eq : E → E → Bool) (equal : IsEquivalence eq) (payl
       let told : r.1.states.items ≡ map (λ e. told_by (last_table laws.tables e)) entries =
       laws.last_is_told ∙ sym (map-map (λ e. told_by (last_table laws.tables e)) (λ e. e.now) r.1.entries.items) in
       let off = read-off entries (last_table laws.tables) place n (sym (ap (λ l. option_and_then year_suffix (slice_get l place)) told) ∙ h) in
-      let some : 0 < length laws.tables = has-one laws.tables no_states laws.first_is_empty in
-      let one = got place n off.entry off.is_entry (length laws.tables - 1) (omega (arith, some)) off.state in
+      let one = got place n off.entry off.is_entry off.state in
       record { got_it = one.0; in_the_end = ap (last_table laws.tables) one.1 ∙ off.state }
 
   -- the distinct entries of a group at the table of a round
@@ -176,9 +195,6 @@ module _ {E P : Type 0} (eq : E → E → Bool) (equal : IsEquivalence eq) (payl
             (got.round + 1) got.marked got.entry one.0 next;
       }
 
-  suffix_of : Option DisambiguateState → Option ℕ
-  suffix_of o = option_and_then year_suffix o
-
   same-suffix : (e : E) (m n : ℕ) → last_table laws.tables e ≡ Some (YearSuffix m) → last_table laws.tables e ≡ Some (YearSuffix n) → m ≡ n
   same-suffix e m n h g = some-inj m n (ap (option_and_then year_suffix) (sym h ∙ g))
 
@@ -194,3 +210,16 @@ module _ {E P : Type 0} (eq : E → E → Bool) (equal : IsEquivalence eq) (payl
       let alike : p.alike ≡ q.alike = some-inj p.alike q.alike (sym p.there ∙ (λ i. slice_get (entries_of (same_round i) (same_group i)) (places i)) ∙ q.there) in
       let both : eq e f ≡ true = equal.congr e q.alike f (ap (eq e) (sym alike) ∙ p.same) ∙ equal.symm q.alike f ∙ q.same in
       apart eq equal entries laws.numbers.apart first second e f ne one.got_it.is_entry other.got_it.is_entry both
+
+  -- in mode three those of one round are of one group; so where one round marked all letters differ
+  pub letters-differ : mode ≡ RoundMode.Three → r.1.rounds ≡ 1 → (first second : ℕ) (letters others : List ℕ) → first ≢ second
+      → GotLetters eq payload_eq writing mode asked r laws first second letters others → letters ≢ others
+  letters-differ three rounds first second letters others ne both =
+      let one = both.one in
+      let other = both.other in
+      let marking : length laws.tables - 1 ≡ 1 = only-one (length laws.tables - 1) (sym laws.one_for_each_round ∙ rounds) in
+      let same_round : one.round ≡ other.round = earliest (length laws.tables) one.round other.round marking one.marked other.marked in
+      let same_group : one.in_group.group ≡ other.in_group.group =
+      laws.rounds.stay.one_group three one.round no_states one.marked one.in_group.group other.in_group.group one.in_group.gets_suffixes
+      (subst (λ k. GetsSuffixes mode eq writing (firsts eq payload_eq writing mode asked r laws) (table k) other.in_group.group) (sym same_round) other.in_group.gets_suffixes) in
+      both.differ ne same_round same_group
