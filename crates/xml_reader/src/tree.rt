@@ -1,0 +1,106 @@
+//! The tree of a document.
+ghost use Rattle.std.specs.Prelude.{length};
+ghost use Rattle.std.specs.Iterator.{at_most};
+
+use std::alloc::{AllocError, Global};
+
+/// An element.
+#[derive(Debug, Drop)]
+#[cycle(tree)]
+pub struct Element {
+    /// The name as it is written, with its prefix.
+    pub name: String,
+    /// The attributes in the order of the document, namespace declarations among them. No two have one name.
+    pub attributes: Vec<Attribute>,
+    /// What stands between its tags, in the order of the document.
+    pub content: Vec<Content>,
+    /// Where its start tag begins, in bytes from the start of the text.
+    pub offset: usize,
+}
+
+/// A part of an element's content.
+#[derive(Debug, Drop)]
+#[cycle(tree)]
+pub enum Content {
+    Element(Element),
+    /// All text between two tags. It is never empty.
+    Text(String),
+}
+
+/// An attribute.
+#[derive(Debug, Drop)]
+pub struct Attribute {
+    /// The name as it is written, with its prefix.
+    pub name: String,
+    /// The value, with its entities replaced.
+    pub value: String,
+    /// Where its name begins, in bytes from the start of the text.
+    pub offset: usize,
+}
+
+impl Element {
+    /// The value of the attribute of this name.
+    pub fn attribute(&self, name: &str) -> Option<&str> {
+        self.attributes
+            .iter()
+            .find(|attribute| attribute.name.as_str() == name)
+            .map(|attribute| attribute.value.as_str())
+    }
+
+    /// The elements in its content, in the order of the document.
+    pub fn children(&self) -> Children<'_> {
+        Children {
+            rest: self.content.as_slice(),
+        }
+    }
+
+    /// Puts text behind the content.
+    ///
+    /// # Errors
+    ///
+    /// Where memory is refused.
+    pub(crate) fn push_text(&mut self, text: String) -> Result<(), AllocError> {
+        if let Some(Content::Text(before)) = self.content.last_mut() {
+            return before.push_str(text.as_str());
+        }
+        self.content.push(Content::Text(text))?;
+        Ok(())
+    }
+}
+
+/// The elements in a content.
+#[derive(Drop)]
+pub struct Children<'a> {
+    rest: &'a [Content],
+}
+
+impl<'a> Iterator for Children<'a> {
+    type Item = &'a Element;
+
+    ghost remaining = { λ s. at_most (length s.rest.now) };
+
+    fn next(&mut self) -> Option<&'a Element> {
+        'parts: while let Some((first, others)) = self.rest.split_first() {
+            self.rest = others;
+            if let Content::Element(element) = first {
+                return Some(element);
+            }
+        }
+        None
+    }
+}
+
+/// The text of some content, without what stands in its elements.
+///
+/// # Errors
+///
+/// Where memory is refused.
+pub fn text_of(alloc: Global, content: &[Content]) -> Result<String, AllocError> {
+    let mut all = String::new(alloc);
+    for part in content {
+        if let Content::Text(text) = part {
+            all.push_str(text.as_str())?;
+        }
+    }
+    Ok(all)
+}
