@@ -1,34 +1,18 @@
-//! Why a text is no document, and where.
+//! Why a text is no document that is read, and where.
 ghost use Rattle.std.specs.Prelude.{◌≡◌, ◌+◌, ◌≤◌, take};
 ghost use Rattle.xml_reader.specs.Newlines.{newline_count};
-ghost use Rattle.xml_reader.specs.Places.{IsErrorIn};
 
-use std::alloc::{AllocError, AllocFailed, Global};
+use crate::limits::{MAX_ATTRIBUTES, MAX_DEPTH, MAX_PREFIXES};
 use std::error::Error;
 use std::fmt;
 
-/// How many characters of what was found an error tells.
-pub const FOUND_LENGTH: usize = 40;
-
-/// What a document must have at a place.
+/// Why there is no tree.
 #[derive(Debug, PartialEq, Eq, Drop)]
-pub enum Wanted {
-    Utf8,
-    Character,
-    NoDoctype,
-    CommentEnd,
-    Instruction,
-    Name,
-    Attribute,
-    OtherAttribute,
-    FewerAttributes,
-    Entity,
-    TagEnd,
-    EndTag(String),
-    LessDepth,
-    Text,
-    RootElement,
-    NothingBehind,
+pub enum XmlError {
+    /// The text is no document that is read: what is wrong, and the first place where that shows.
+    Malformed(Fault, Place),
+    /// Memory was refused.
+    OutOfMemory,
 }
 
 /// What is wrong at a place of a text.
@@ -36,78 +20,92 @@ pub enum Wanted {
 pub struct Fault {
     /// What must stand there.
     pub wanted: Wanted,
-    /// What stands there: the text from the place, at most `FOUND_LENGTH` characters of its line. At the
-    /// end of the text it is empty.
+    /// What stands there: the text up to the end of its line, at most `MAX_FOUND` characters, with U+FFFD for
+    /// each control character. Empty at the end of a line or of the text.
     pub found: String,
 }
 
-/// A place in a text: its line and column, from 1. The column counts characters.
+/// A place in a text: its line and its column in characters, both from 1.
 #[derive(Clone, Copy, Debug, PartialEq, Eq)]
 pub struct Place {
     pub line: usize,
     pub column: usize,
 }
 
-/// Why there is no tree.
+/// What must stand at a place.
 #[derive(Debug, PartialEq, Eq, Drop)]
-pub enum XmlError {
-    /// The text is no document that is read: what is wrong at the first place where that shows.
-    Malformed(Fault, Place),
-    /// Memory was refused.
-    OutOfMemory,
+pub enum Wanted {
+    /// Bytes that are UTF-8.
+    Utf8,
+    /// A character that a document may contain.
+    AllowedCharacter,
+    /// `version="1.0"`, at the beginning of an XML declaration.
+    Version,
+    /// `encoding="UTF-8"`, if any, in an XML declaration.
+    Utf8Encoding,
+    /// `standalone="yes"` or `"no"`, if any, and the end of the XML declaration.
+    DeclarationEnd,
+    /// The element of the document.
+    Root,
+    /// Nothing more, behind the element of the document.
+    End,
+    /// An element, text or a CDATA section, and no DOCTYPE or other declaration.
+    NoDeclaration,
+    /// A comment with an end.
+    ClosedComment,
+    /// The `>` behind the `--` of a comment.
+    CommentEnd,
+    /// A processing instruction with an end.
+    ClosedInstruction,
+    /// The name of a processing instruction, without a colon, other than `xml`.
+    Target,
+    /// A CDATA section with an end.
+    ClosedSection,
+    /// Text without `]]>`.
+    NoSectionEnd,
+    /// A name.
+    Name,
+    /// White space, `>` or `/>`.
+    TagEnd,
+    /// The `=` behind an attribute's name.
+    Equals,
+    /// An attribute's value in quotes.
+    Value,
+    /// An attribute's value with an end.
+    ClosedValue,
+    /// An attribute's value without `<`.
+    NoTag,
+    /// A predefined entity, or the number of a character that a document may contain.
+    Reference,
+    /// An attribute that its element hasn't already.
+    OtherAttribute,
+    /// At most `MAX_ATTRIBUTES` attributes.
+    FewerAttributes,
+    /// A prefix that is declared.
+    DeclaredPrefix,
+    /// A declaration that leaves the prefixes `xml` and `xmlns` and their namespaces alone, and gives each
+    /// other prefix a namespace.
+    PrefixDeclaration,
+    /// At most `MAX_PREFIXES` declared prefixes.
+    FewerPrefixes,
+    /// The end tag of the element of this name.
+    EndTag(String),
+    /// At most `MAX_DEPTH` elements in one another.
+    LessDepth,
 }
 
-/// Why reading stops: with how many bytes left.
-#[derive(Debug, Drop)]
-pub(crate) enum Stop {
-    At(Wanted, usize),
-    OutOfMemory,
-}
-
-impl Stop {
-    /// Here, at the rest of the text.
-    pub(crate) fn at(wanted: Wanted, rest: &str) -> Stop {
-        Stop::At(wanted, rest.len())
-    }
-
-    /// The same, of a text behind which these many bytes stand.
-    pub(crate) fn before(self, behind: usize) -> Stop {
-        match self {
-            Stop::At(wanted, left) => Stop::At(wanted, left.saturating_add(behind)),
-            Stop::OutOfMemory => Stop::OutOfMemory,
-        }
-    }
-
-    /// The error, where this is the text.
-    pub(crate) fn in_text(self, alloc: Global, text: &str) -> XmlError
-        ensures { IsErrorIn text.now result }
-    {
-        let Stop::At(wanted, left) = self else {
-            return XmlError::OutOfMemory;
-        };
-        let offset = text.len().saturating_sub(left);
-        let Ok(found) = found_at(alloc, text, offset) else {
-            return XmlError::OutOfMemory;
-        };
-        XmlError::Malformed(Fault { wanted, found }, place_at(text, offset))
-    }
-}
-
-/// What stands at a place of a text: the rest of its line, as far as an error tells it.
-fn found_at(alloc: Global, text: &str, offset: usize) -> Result<String, AllocError> {
-    let rest = text.get(offset..).unwrap_or("");
-    let line = rest.lines().next().unwrap_or("");
-    line.chars().take(FOUND_LENGTH).collect(alloc)
-}
-
-/// The place of an offset in bytes; behind the text, the place of its end.
+/// The place of an offset in bytes. Behind the end of the text it is the place of the end. A byte order mark
+/// has no column.
 pub fn place_at(text: &str, offset: usize) -> Place
     ensures line { result.line ≡ newline_count (take offset text.now) + 1 }
     ensures column { result.column ≤ offset + 1 }
 {
-    let mut place = Place { line: 1, column: 1 };
-    let front = &text.as_bytes()[..offset.min(text.len())];
-    for byte in front {
+    let mut place = Place {
+        line: 1,
+        column: usize::from(!text.starts_with('\u{feff}')),
+    };
+    let bytes = text.as_bytes();
+    for byte in &bytes[..offset.min(bytes.len())] {
         if *byte == b'\n' {
             place.line += 1;
             place.column = 1;
@@ -115,36 +113,50 @@ pub fn place_at(text: &str, offset: usize) -> Place
             place.column += 1;
         }
     }
+    place.column = place.column.max(1);
     place
 }
 
 impl fmt::Display for Wanted {
     fn fmt<W: fmt::Write>(&self, f: &mut fmt::Formatter<W>) -> fmt::Result {
-        match self {
-            Wanted::Utf8 => write!(f, "text in UTF-8"),
-            Wanted::Character => write!(f, "a character that XML allows"),
-            Wanted::NoDoctype => write!(f, "no DOCTYPE, and no other declaration"),
-            Wanted::CommentEnd => write!(f, "a comment that ends by `-->`"),
-            Wanted::Instruction => write!(f, "a processing instruction that ends by `?>`"),
-            Wanted::Name => write!(f, "a name"),
-            Wanted::Attribute => write!(f, "an attribute"),
-            Wanted::OtherAttribute => write!(f, "an attribute that the tag hasn't yet"),
-            Wanted::FewerAttributes => write!(f, "fewer attributes"),
-            Wanted::Entity => write!(f, "an entity that is known"),
-            Wanted::TagEnd => write!(f, "the end of the tag"),
-            Wanted::EndTag(name) => write!(f, "the end tag of `{name}`"),
-            Wanted::LessDepth => write!(f, "fewer elements in one another"),
-            Wanted::Text => write!(f, "text"),
-            Wanted::RootElement => write!(f, "an element"),
-            Wanted::NothingBehind => write!(f, "nothing behind the element of the document"),
-        }
+        let words = match self {
+            Wanted::Utf8 => "UTF-8",
+            Wanted::AllowedCharacter => "a character that XML allows",
+            Wanted::Version => "`version=\"1.0\"`",
+            Wanted::Utf8Encoding => "the encoding UTF-8",
+            Wanted::DeclarationEnd => "`?>` at the end of the XML declaration",
+            Wanted::Root => "the element of the document",
+            Wanted::End => "nothing behind the element of the document",
+            Wanted::NoDeclaration => "no DOCTYPE or other declaration",
+            Wanted::ClosedComment => "a comment that ends with `-->`",
+            Wanted::CommentEnd => "`>` behind the `--` in a comment",
+            Wanted::ClosedInstruction => "a processing instruction that ends with `?>`",
+            Wanted::Target => "the name of a processing instruction, other than `xml`",
+            Wanted::ClosedSection => "a CDATA section that ends with `]]>`",
+            Wanted::NoSectionEnd => "text without `]]>`",
+            Wanted::Name => "a name",
+            Wanted::TagEnd => "white space, `>` or `/>`",
+            Wanted::Equals => "`=`",
+            Wanted::Value => "a value in quotes",
+            Wanted::ClosedValue => "a value that ends with its quote",
+            Wanted::NoTag => "a value without `<`",
+            Wanted::Reference => "an entity that XML predefines, or a character's number",
+            Wanted::OtherAttribute => "an attribute that the tag hasn't already",
+            Wanted::FewerAttributes => return write!(f, "at most {MAX_ATTRIBUTES} attributes"),
+            Wanted::DeclaredPrefix => "a prefix that is declared",
+            Wanted::PrefixDeclaration => "a declaration that namespaces allow",
+            Wanted::FewerPrefixes => return write!(f, "at most {MAX_PREFIXES} declared prefixes"),
+            Wanted::EndTag(name) => return write!(f, "the end tag of `{name:.40}`"),
+            Wanted::LessDepth => return write!(f, "at most {MAX_DEPTH} elements in one another"),
+        };
+        f.write_str(words)
     }
 }
 
 impl fmt::Display for Fault {
     fn fmt<W: fmt::Write>(&self, f: &mut fmt::Formatter<W>) -> fmt::Result {
         if self.found.is_empty() {
-            return write!(f, "wanted {}", self.wanted);
+            return write!(f, "found an end, wanted {}", self.wanted);
         }
         write!(f, "found `{}`, wanted {}", self.found, self.wanted)
     }
@@ -162,15 +174,3 @@ impl fmt::Display for XmlError {
 }
 
 impl Error for XmlError {}
-
-impl From<AllocError> for Stop {
-    fn from(_error: AllocError) -> Stop {
-        Stop::OutOfMemory
-    }
-}
-
-impl<T: Drop> From<AllocFailed<T>> for Stop {
-    fn from(_error: AllocFailed<T>) -> Stop {
-        Stop::OutOfMemory
-    }
-}

@@ -20,6 +20,6 @@ fn a_doctype(rt: HostRuntime) {
     let Err(XmlError::Malformed(fault, place)) = outcome else {
         panic!(rt; "no error");
     };
-    assert_eq!(rt; fault.wanted, Wanted::NoDoctype);
+    assert_eq!(rt; fault.wanted, Wanted::NoDeclaration);
     assert_eq!(rt; place, Place { line: 1, column: 1 });
 }

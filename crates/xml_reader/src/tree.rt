@@ -53,19 +53,6 @@ impl Element {
             rest: self.content.as_slice(),
         }
     }
-
-    /// Puts text behind the content.
-    ///
-    /// # Errors
-    ///
-    /// Where memory is refused.
-    pub(crate) fn push_text(&mut self, text: String) -> Result<(), AllocError> {
-        if let Some(Content::Text(before)) = self.content.last_mut() {
-            return before.push_str(text.as_str());
-        }
-        self.content.push(Content::Text(text))?;
-        Ok(())
-    }
 }
 
 /// The elements in a content.

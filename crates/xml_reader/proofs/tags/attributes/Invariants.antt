@@ -1,0 +1,15 @@
+use denote.Shadow.{shadow}
+use denote.Text.{Utf8}
+use Rattle.std.proofs.Common.{length, ◌≤◌, vec_len}
+use Rattle.xml_reader.specs.declared.limits.TheConstants.{MAX_ATTRIBUTES}
+use Rattle.xml_reader.proofs.tags.attributes.Given as goal
+
+abbrev pub invariant-attributes : goal.invariant-attributes
+invariant-attributes l = record {
+  within : length l.rest ≤ length l.fn.text;
+  limit : vec_len l.attributes ≤ MAX_ATTRIBUTES;
+  utf8 : shadow (Utf8 l.rest);
+}
+
+abbrev pub decreases-attributes : goal.decreases-attributes
+decreases-attributes l = length l.rest
