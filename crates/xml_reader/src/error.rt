@@ -88,7 +88,7 @@ pub enum Wanted {
     PrefixDeclaration,
     /// At most `MAX_PREFIXES` declared prefixes.
     FewerPrefixes,
-    /// The end tag of the element of this name.
+    /// The end tag of the element of this name, of which no more than `MAX_FOUND` characters are here.
     EndTag(String),
     /// At most `MAX_DEPTH` elements in one another.
     LessDepth,
@@ -146,7 +146,7 @@ impl fmt::Display for Wanted {
             Wanted::DeclaredPrefix => "a prefix that is declared",
             Wanted::PrefixDeclaration => "a declaration that namespaces allow",
             Wanted::FewerPrefixes => return write!(f, "at most {MAX_PREFIXES} declared prefixes"),
-            Wanted::EndTag(name) => return write!(f, "the end tag of `{name:.40}`"),
+            Wanted::EndTag(name) => return write!(f, "the end tag of `{name}`"),
             Wanted::LessDepth => return write!(f, "at most {MAX_DEPTH} elements in one another"),
         };
         f.write_str(words)

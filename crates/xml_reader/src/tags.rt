@@ -1,5 +1,6 @@
 //! Start tags and end tags.
-ghost use Rattle.std.specs.Prelude.{◌≡◌, ◌+◌, ◌<◌, ◌≤◌, length, vec_len, IfOk, IfSome};
+ghost use Rattle.std.specs.Prelude.{◌≡◌, ◌+◌, ◌<◌, ◌≤◌, length, map, suc, vec_len, IfOk, IfSome};
+ghost use Rattle.xml_reader.specs.Trees.{IsStart, most};
 
 use crate::error::Wanted;
 use crate::limits::MAX_ATTRIBUTES;
@@ -31,6 +32,7 @@ fn attributes<'a>(source: Source, text: &'a str) -> Result<(Vec<Attribute>, &'a 
     requires { length text.now ≤ source.length }
     ensures shorter { IfOk result (λ p. length p.1.now ≤ length text.now) }
     ensures limit { IfOk result (λ p. vec_len p.0 ≤ MAX_ATTRIBUTES) }
+    ensures offsets { IfOk result (λ p. most (map (λ a. suc a.offset) p.0.items) ≤ source.length) }
 {
     let mut attributes: Vec<Attribute> = Vec::new(source.alloc);
     let mut rest = text;
@@ -54,13 +56,13 @@ fn attributes<'a>(source: Source, text: &'a str) -> Result<(Vec<Attribute>, &'a 
     }
 }
 
-/// The element with whose start tag the text begins, with no content yet, and the rest, which begins with the
-/// end of the tag.
-pub(crate) fn start_tag<'a>(source: Source, text: &'a str) -> Result<(Element, &'a str), Stop>
+/// The element with whose tag the text begins, without its content; whether it has none; and the rest behind
+/// the tag.
+pub(crate) fn start_tag<'a>(source: Source, text: &'a str) -> Result<(Element, bool, &'a str), Stop>
     requires { length text.now ≤ source.length }
-    ensures shorter { IfOk result (λ p. length p.1.now < length text.now) }
+    ensures shorter { IfOk result (λ p. length p.2.now < length text.now) }
     ensures place { IfOk result (λ p. p.0.offset + length text.now ≡ source.length) }
-    ensures limit { IfOk result (λ p. vec_len p.0.attributes ≤ MAX_ATTRIBUTES) }
+    ensures start { IfOk result (λ p. IsStart source.length p.0) }
 {
     let (name, rest) = name(expect("<", text, Wanted::Root)?)?;
     let (attributes, rest) = attributes(source, rest)?;
@@ -70,7 +72,10 @@ pub(crate) fn start_tag<'a>(source: Source, text: &'a str) -> Result<(Element, &
         content: Vec::new(source.alloc),
         offset: source.offset_of(text),
     };
-    Ok((element, rest))
+    match rest.strip_prefix("/>") {
+        Some(behind) => Ok((element, true, behind)),
+        None => Ok((element, false, expect(">", rest, Wanted::TagEnd)?)),
+    }
 }
 
 /// Behind the end tag of an element of this name, where the text begins with it.

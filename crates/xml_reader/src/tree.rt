@@ -1,5 +1,5 @@
 //! The tree of a document.
-ghost use Rattle.std.specs.Prelude.{length};
+ghost use Rattle.std.specs.Prelude.{ℕ, ◌+◌, ◌≤◌, length, max};
 ghost use Rattle.std.specs.Iterator.{at_most};
 
 use std::alloc::{AllocError, Global};
@@ -39,6 +39,8 @@ pub struct Attribute {
 }
 
 impl Element {
+    ghost use Rattle.xml_reader.specs.Trees.{Own, greatest_of, greatest_of_part};
+
     /// The value of the attribute of this name.
     pub fn attribute(&self, name: &str) -> Option<&str> {
         self.attributes
@@ -52,6 +54,15 @@ impl Element {
         Children {
             rest: self.content.as_slice(),
         }
+    }
+
+    /// Puts a part behind the content.
+    pub(crate) fn push(&mut self, part: Content) -> Result<(), AllocError>
+        ensures { (own : Own) (more : ℕ) → greatest_of own more self.new
+            ≤ max (greatest_of own more self.old) (more + greatest_of_part own more part) }
+    {
+        self.content.push(part)?;
+        Ok(())
     }
 }
 

@@ -1,6 +1,7 @@
 use denote.Shadow.{shadow}
 use denote.Text.{Utf8}
-use Rattle.std.proofs.Common.{length, ◌≤◌, vec_len}
+use Rattle.std.proofs.Common.{length, ◌≤◌, map, suc, vec_len}
+use Rattle.xml_reader.specs.Trees.{most}
 use Rattle.xml_reader.specs.declared.limits.TheConstants.{MAX_ATTRIBUTES}
 use Rattle.xml_reader.proofs.tags.attributes.Given as goal
 
@@ -8,6 +9,7 @@ abbrev pub invariant-attributes : goal.invariant-attributes
 invariant-attributes l = record {
   within : length l.rest ≤ length l.fn.text;
   limit : vec_len l.attributes ≤ MAX_ATTRIBUTES;
+  offsets : most (map (λ a. suc a.offset) l.attributes.items) ≤ l.source.length;
   utf8 : shadow (Utf8 l.rest);
 }
 
