@@ -62,8 +62,9 @@ fn push_attributes(
     Ok(())
 }
 
-/// Appends an element. Before its name stands U+0001, before an attribute's name U+0002, before its value
-/// U+0003, before a text U+0004, and behind the element U+0005: a document contains none of these.
+/// Appends an element. Before its name stands U+0001, before an attribute's name U+0002, before its
+/// value U+0003, before a text U+0004, and behind the element U+0005: a document contains none of
+/// these.
 pub(crate) fn push_element<'a>(
     element: &'a Element,
     out: &mut String,

@@ -1,9 +1,9 @@
 //! Reads XML documents with `xml_reader` and says what they are: tests/xml/run.py runs it.
 //!
-//! Standard input has documents, each behind a line with its length in bytes. For each a line is printed: the
-//! MD5 digest of its tree (src/dump.rt), or the line, column and words of its fault. With the argument `count`
-//! only the number of trees is printed; with `calls` standard error tells before which call the program is.
-//! The exit status is 5 where memory is refused.
+//! Standard input has documents, each behind a line with its length in bytes. For each a line is
+//! printed: the MD5 digest of its tree (src/dump.rt), or the line, column and words of its fault.
+//! With the argument `count` only the number of trees is printed; with `calls` standard error tells
+//! before which call the program is. The exit status is 5 where memory is refused.
 #![tactic(auto)]
 
 ghost use Rattle.std.specs.Prelude.{◌<◌, length, IfSome};

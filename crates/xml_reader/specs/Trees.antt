@@ -31,10 +31,12 @@ greatest_of own more = fold-Element ℕ ℕ part_step (element_step own more)
 abbrev pub greatest_of_part : Own → ℕ → Content → ℕ
 greatest_of_part own more = fold-Content ℕ ℕ part_step (element_step own more)
 
--- the same of elements that each stand in the one before, the first with `above` for what is around it
+-- the same of elements that each stand in the one before, the first with `above` for what is
+-- around it
 abbrev pub greatest_of_open : Own → ℕ → ℕ → List Element → ℕ
 greatest_of_open own more above [] = 0
-greatest_of_open own more above (e ∷ es) = max (above + greatest_of own more e) (greatest_of_open own more (above + more) es)
+greatest_of_open own more above (e ∷ es) =
+    max (above + greatest_of own more e) (greatest_of_open own more (above + more) es)
 
 -- an element is one deep
 abbrev pub one : Own

@@ -20,8 +20,9 @@ pub enum XmlError {
 pub struct Fault {
     /// What must stand there.
     pub wanted: Wanted,
-    /// What stands there: the text up to the end of its line, at most `MAX_FOUND` characters, with U+FFFD for
-    /// each control character. Empty at the end of a line or of the text.
+    /// What stands there: the text up to the end of its line, at most `MAX_FOUND` characters. A
+    /// control character is written as `\u{1}`, the end of a line as `\n`, and a byte that is no
+    /// UTF-8 as `\xff`. At the end of the text it is empty.
     pub found: String,
 }
 
@@ -83,19 +84,20 @@ pub enum Wanted {
     FewerAttributes,
     /// A prefix that is declared.
     DeclaredPrefix,
-    /// A declaration that leaves the prefixes `xml` and `xmlns` and their namespaces alone, and gives each
-    /// other prefix a namespace.
+    /// A declaration that leaves the prefixes `xml` and `xmlns` and their namespaces alone, and
+    /// gives each other prefix a namespace.
     PrefixDeclaration,
     /// At most `MAX_PREFIXES` declared prefixes.
     FewerPrefixes,
-    /// The end tag of the element of this name, of which no more than `MAX_FOUND` characters are here.
+    /// The end tag of the element of this name, of which no more than `MAX_FOUND` characters are
+    /// here.
     EndTag(String),
     /// At most `MAX_DEPTH` elements in one another.
     LessDepth,
 }
 
-/// The place of an offset in bytes. Behind the end of the text it is the place of the end. A byte order mark
-/// has no column.
+/// The place of an offset in bytes. Behind the end of the text it is the place of the end. A byte
+/// order mark has no column.
 pub fn place_at(text: &str, offset: usize) -> Place
     ensures line { result.line ≡ newline_count (take offset text.now) + 1 }
     ensures column { result.column ≤ offset + 1 }
@@ -156,7 +158,7 @@ impl fmt::Display for Wanted {
 impl fmt::Display for Fault {
     fn fmt<W: fmt::Write>(&self, f: &mut fmt::Formatter<W>) -> fmt::Result {
         if self.found.is_empty() {
-            return write!(f, "found an end, wanted {}", self.wanted);
+            return write!(f, "found the end of the text, wanted {}", self.wanted);
         }
         write!(f, "found `{}`, wanted {}", self.found, self.wanted)
     }

@@ -38,7 +38,8 @@ impl Prefixes {
         }
     }
 
-    /// Takes up the declarations of an element, around which so many elements are open, and checks its names.
+    /// Takes up the declarations of an element, around which so many elements are open, and checks
+    /// its names.
     pub(crate) fn enter(
         &mut self,
         source: Source,
@@ -53,7 +54,8 @@ impl Prefixes {
         self.check_names(source, element)
     }
 
-    /// Forgets the declarations of an element, around which so many elements are open, and of those in it.
+    /// Forgets the declarations of an element, around which so many elements are open, and of those
+    /// in it.
     pub(crate) fn leave(&mut self, depth: usize) {
         self.declarations.retain(|it| it.depth < depth);
     }
@@ -97,8 +99,8 @@ impl Prefixes {
             .map(|it| it.namespace.as_str())
     }
 
-    /// Whether each prefix of an element and its attributes is declared, and no two attributes have one local
-    /// name in one namespace.
+    /// Whether each prefix of an element and its attributes is declared, and no two attributes have
+    /// one local name in one namespace.
     fn check_names(&self, source: Source, element: &Element) -> Result<(), Stop> {
         if let Some((prefix, _)) = element.name.split_once(':') {
             if self.namespace_of(prefix).is_none() {

@@ -58,8 +58,8 @@ impl Nest {
         Ok(())
     }
 
-    /// Closes the innermost element, which the one around it then contains. Returns whether there is one; the
-    /// root stays innermost.
+    /// Closes the innermost element, which the one around it then contains. Returns whether there
+    /// is one; the root stays innermost.
     pub(crate) fn leave(&mut self) -> Result<bool, Stop>
         ensures { self.new.source ≡ self.old.source }
     {

@@ -65,6 +65,9 @@ fn document(alloc: Global, text: &str) -> Result<Element, Stop>
     };
     let rest = text.strip_prefix('\u{feff}').unwrap_or(text);
     let rest = skip_remarks(skip_declaration(rest)?)?;
+    if rest.starts_with("<![") {
+        return Err(Stop::at(Wanted::Root, rest));
+    }
     if rest.starts_with("<!") {
         return Err(Stop::at(Wanted::NoDeclaration, rest));
     }
@@ -98,7 +101,8 @@ fn root<'a>(source: Source, text: &'a str) -> Result<(Element, &'a str), Stop>
     }
 }
 
-/// Reads the markup with which the text begins. Returns whether it ends the innermost element, and the rest.
+/// Reads the markup with which the text begins. Returns whether it ends the innermost element, and
+/// the rest.
 fn read_markup<'a>(nest: &mut Nest, text: &'a str) -> Result<(bool, &'a str), Stop>
     requires { length text.now ≤ nest.old.source.length }
     ensures source { nest.new.source ≡ nest.old.source }

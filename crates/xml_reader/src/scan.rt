@@ -63,8 +63,8 @@ pub(crate) fn name(text: &str) -> Result<(&str, &str), Stop>
     }
 }
 
-/// The text before the mark, and what stands behind the mark. `piece` is the text from the beginning of what
-/// the mark ends.
+/// The text before the mark, and what stands behind the mark. `piece` is the text from the
+/// beginning of what the mark ends.
 pub(crate) fn split_at_mark<'a>(
     text: &'a str,
     mark: &str,
@@ -101,7 +101,7 @@ fn skip_instruction<'a>(inside: &'a str, instruction: &str) -> Result<&'a str, S
 {
     let (target, rest) = plain_name(inside, Wanted::Target)?;
     if target.eq_ignore_ascii_case("xml") {
-        return Err(Stop::at(Wanted::Target, inside));
+        return Err(Stop::at(Wanted::Target, instruction));
     }
     if let Some(behind) = rest.strip_prefix("?>") {
         return Ok(behind);

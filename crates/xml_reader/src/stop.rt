@@ -2,6 +2,7 @@
 ghost use Rattle.std.specs.Prelude.{◌≡◌, ◌+◌, ◌≤◌, length};
 ghost use Rattle.xml_reader.specs.Places.{IsErrorIn};
 
+use crate::characters::is_allowed;
 use crate::error::{Fault, Wanted, XmlError, place_at};
 use crate::limits::MAX_FOUND;
 use std::alloc::{AllocError, AllocFailed, Global};
@@ -38,14 +39,22 @@ impl Stop {
     }
 }
 
-/// What stands at an offset of a text: the rest of its line, as far as errors tell it.
+/// What stands at an offset of a text, as `Fault` has it.
 fn found_at(alloc: Global, text: &str, offset: usize) -> Result<String, AllocError> {
     let rest = text.get(offset..).unwrap_or("");
     let line = rest.lines().next().unwrap_or("");
-    line.chars()
-        .take(MAX_FOUND)
-        .map(|c| if c.is_control() { '\u{fffd}' } else { c })
-        .collect(alloc)
+    if line.is_empty() && !rest.is_empty() {
+        return String::from_str(alloc, "\\n");
+    }
+    let mut found = String::new(alloc);
+    for c in line.chars().take(MAX_FOUND) {
+        if c.is_control() || !is_allowed(c) {
+            write!(found, "\\u{{{:x}}}", u32::from(c))?;
+        } else {
+            found.push(c)?;
+        }
+    }
+    Ok(found)
 }
 
 impl From<AllocError> for Stop {

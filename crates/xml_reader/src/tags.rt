@@ -56,8 +56,8 @@ fn attributes<'a>(source: Source, text: &'a str) -> Result<(Vec<Attribute>, &'a 
     }
 }
 
-/// The element with whose tag the text begins, without its content; whether it has none; and the rest behind
-/// the tag.
+/// The element with whose tag the text begins, without its content; whether it has none; and the
+/// rest behind the tag.
 pub(crate) fn start_tag<'a>(source: Source, text: &'a str) -> Result<(Element, bool, &'a str), Stop>
     requires { length text.now ≤ source.length }
     ensures shorter { IfOk result (λ p. length p.2.now < length text.now) }

@@ -41,8 +41,8 @@ fn reference(text: &str) -> Option<(char, &str)>
     Some((c, rest))
 }
 
-/// Behind a line end, where the text begins with one: a line feed, or a carriage return with or without a
-/// line feed behind it.
+/// Behind a line end, where the text begins with one: a line feed, or a carriage return with or
+/// without a line feed behind it.
 fn skip_line_end(text: &str) -> Option<&str>
     ensures { IfSome result (λ rest. length rest.now < length text.now) }
 {
@@ -52,8 +52,8 @@ fn skip_line_end(text: &str) -> Option<&str>
     }
 }
 
-/// Appends the text before the next tag or other markup, and gives the rest, which is empty or begins with
-/// the markup. Line ends become line feeds.
+/// Appends the text before the next tag or other markup, and gives the rest, which is empty or
+/// begins with the markup. Line ends become line feeds.
 pub(crate) fn push_text<'a>(out: &mut String, text: &'a str) -> Result<&'a str, Stop>
     ensures { IfOk result (λ rest. length rest.now ≤ length text.now) }
 {
@@ -102,8 +102,8 @@ pub(crate) fn push_section(out: &mut String, inside: &str) -> Result<(), AllocEr
     out.push_str(rest)
 }
 
-/// The value of an attribute, with whose quote the text begins, and the rest. Each white space character and
-/// each line end becomes a space (XML 1.0, section 3.3.3).
+/// The value of an attribute, with whose quote the text begins, and the rest. Each white space
+/// character and each line end becomes a space (XML 1.0, section 3.3.3).
 pub(crate) fn value(alloc: Global, text: &str) -> Result<(String, &str), Stop>
     ensures { IfOk result (λ p. length p.1.now < length text.now) }
 {

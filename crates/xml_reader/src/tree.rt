@@ -10,7 +10,8 @@ use std::alloc::{AllocError, Global};
 pub struct Element {
     /// The name as it is written, with its prefix.
     pub name: String,
-    /// The attributes in the order of the document, namespace declarations among them. No two have one name.
+    /// The attributes in the order of the document, namespace declarations among them. No two have
+    /// one name.
     pub attributes: Vec<Attribute>,
     /// What stands between its tags, in the order of the document.
     pub content: Vec<Content>,
