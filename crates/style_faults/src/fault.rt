@@ -13,8 +13,8 @@ pub struct Fault {
 /// What must stand at a place.
 #[derive(Debug, Drop)]
 pub enum Wanted {
-    /// A root of this name.
-    Root(&'static str),
+    /// The root of such a file.
+    Root(Root),
     /// A root in CSL's namespace, without a prefix.
     Namespace,
     /// An element that this one may contain.
@@ -61,6 +61,25 @@ pub enum Wanted {
     Parent,
 }
 
+/// The root of a file.
+#[derive(Clone, Copy, Debug, PartialEq, Eq)]
+pub enum Root {
+    Style,
+    Locale,
+    /// Either of these.
+    Either,
+}
+
+impl fmt::Display for Root {
+    fn fmt<W: fmt::Write>(&self, f: &mut fmt::Formatter<W>) -> fmt::Result {
+        f.write_str(match self {
+            Root::Style => "the element `style` of CSL",
+            Root::Locale => "the element `locale` of CSL",
+            Root::Either => "the element `style` or `locale` of CSL",
+        })
+    }
+}
+
 /// Kinds of variables.
 #[derive(Clone, Copy, Debug, PartialEq, Eq)]
 pub enum VariableKinds {
@@ -84,7 +103,7 @@ impl fmt::Display for VariableKinds {
 impl fmt::Display for Wanted {
     fn fmt<W: fmt::Write>(&self, f: &mut fmt::Formatter<W>) -> fmt::Result {
         match self {
-            Wanted::Root(name) => write!(f, "the element `{name}` of CSL"),
+            Wanted::Root(root) => write!(f, "{root}"),
             Wanted::Namespace => {
                 f.write_str("the namespace `http://purl.org/net/xbiblio/csl`, without a prefix")
             }

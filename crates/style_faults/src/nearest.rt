@@ -10,15 +10,15 @@ const MAX_LENGTH: usize = 40;
 
 /// The nearest of some words to another word, as far as they were looked at.
 #[derive(Drop)]
-pub struct Nearest<'a> {
+pub struct Nearest<'w, 'c> {
     alloc: Global,
-    word: &'a str,
-    best: Option<(&'a str, usize)>,
+    word: &'w str,
+    best: Option<(&'c str, usize)>,
 }
 
-impl<'a> Nearest<'a> {
+impl<'w, 'c> Nearest<'w, 'c> {
     /// Nothing was looked at yet.
-    pub fn new(alloc: Global, word: &'a str) -> Nearest<'a> {
+    pub fn new(alloc: Global, word: &'w str) -> Nearest<'w, 'c> {
         Nearest {
             alloc,
             word,
@@ -31,7 +31,7 @@ impl<'a> Nearest<'a> {
     /// # Errors
     ///
     /// Where memory is refused.
-    pub fn consider(&mut self, candidate: &'a str) -> Result<(), AllocError> {
+    pub fn consider(&mut self, candidate: &'c str) -> Result<(), AllocError> {
         let difference = self.word.len().abs_diff(candidate.len());
         if difference > MAX_DISTANCE || self.word.len() > MAX_LENGTH {
             return Ok(());
@@ -45,7 +45,7 @@ impl<'a> Nearest<'a> {
     }
 
     /// The nearest word; none where none is near.
-    pub fn word(self) -> Option<&'a str> {
+    pub fn word(self) -> Option<&'c str> {
         self.best.map(|best| best.0)
     }
 }

@@ -133,7 +133,7 @@ pub struct NamesLabel {
 #[derive(Drop)]
 #[cycle(rendering)]
 pub struct Names {
-    /// The variables, of which at least one stands here, in the order of the style.
+    /// The variables in the order of the style, without those that CSL 1.0.2 lacks.
     pub variables: Vec<NameVariable>,
     pub name: Option<Name>,
     pub et_al: Option<EtAl>,
