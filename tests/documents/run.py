@@ -32,6 +32,7 @@ import os
 import resource
 import shutil
 import signal
+import socket
 import subprocess
 import sys
 import tempfile
@@ -422,6 +423,19 @@ def input_in_pieces(program):
         hold((running.returncode, out, error), 0, text)
 
 
+def bytes_of_a_read(program):
+    """One read takes 65,536 bytes and no more: what is longer in a message is lost."""
+    document, text = one_cite()
+    document = document.strip()
+    whole = b' ' * (65536 - len(document)) + document
+    for message in (whole, whole + b'x'):
+        ours, its = socket.socketpair(socket.AF_UNIX, socket.SOCK_SEQPACKET)
+        with ours, its:
+            ours.send(message)
+            ours.shutdown(socket.SHUT_WR)
+            hold(ended(program, stdin=its), 0, text)
+
+
 def large_input_and_output(program):
     given, text = many_cites(20000)
     hold(ended(program, given), 0, text)
@@ -521,6 +535,7 @@ PROCESSES = [
     stored_run,
     arguments_change_nothing,
     input_in_pieces,
+    bytes_of_a_read,
     input_is_a_folder,
     input_is_closed,
     output_is_full,

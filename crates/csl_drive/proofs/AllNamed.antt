@@ -1,65 +1,99 @@
--- What a table lacks is named, up to the stage of what is named first.
-use Rattle.std.proofs.Common.{◌≡◌, ◌||◌, List, [], ◌∷◌, ◌++◌, zero, suc, Bool, true, false, Option, None, refl, ap, sym, subst, ◌∙◌, true≢false, arith}
-use Rattle.std.specs.Prelude.{All, Contains, is_some}
+-- What a table lacks is named, as far as it is of the earliest stage of all of that.
+use Rattle.std.proofs.Common.{◌≡◌, ◌||◌, ◌⊎◌, ℕ, List, [], ◌∷◌, ◌++◌, zero, suc, Bool, true, false, Option, None, refl, ap, sym, subst, ◌∙◌, true≢false, arith, inl, inr}
+use Rattle.std.specs.Prelude.{◌<◌, ◌≤◌, All, Contains, is_some}
 use Rattle.std.specs.Bool.{if◌then◌else◌}
 use Rattle.std.specs.List.{list_any}
-use Rattle.std.proofs.lemmas.Bool.{le-ltb}
-use Rattle.std.proofs.lemmas.List.Elements.{All-append, All-cons, All-nil, Contains-append_left, Contains-push}
+use Rattle.std.proofs.lemmas.Bool.{lt-ltb, ltb-false, ltb-true}
+use Rattle.std.proofs.lemmas.List.Elements.{All-append, All-cons, All-contains, All-nil, Contains-append_left, Contains-push}
 use Rattle.csl_ambiguity.proofs.Contained.{some-in}
 use Rattle.indexmap.specs.IndexSet.{insert_key}
 use Rattle.csl_base.specs.Answers.{Answers}
 use Rattle.csl_base.specs.Tells.{TellsEqual}
 use Rattle.csl_table.specs.Keys.{stage, task_key}
-use Rattle.csl_table.specs.Table.{IsMissingOf, is_later, key_eq, note_once}
+use Rattle.csl_table.specs.Table.{IsMissingOf, is_earlier, is_later, kept_beside, key_eq, note_once}
 use Rattle.csl_table.specs.declared.key.TaskKey.{TaskKey}
 use Rattle.csl_writers.specs.Tasks.{TaskValue}
 use Rattle.csl_writers.specs.Writing.{noted_all}
 use Rattle.csl_writers.specs.declared.cite.Cite.{Cite}
 
+-- the stage of what is named first
+abbrev first_stage : List TaskKey → ℕ
+first_stage [] = 0
+first_stage (first ∷ rest) = stage first
+
+-- all that is named is of one stage
+abbrev AreOfOneStage : List TaskKey → Type 0
+AreOfOneStage notes = All (λ key. stage key ≡ first_stage notes) notes
+
+-- it is named, or something of an earlier stage is
+abbrev IsCovered : List TaskKey → TaskKey → Type 0
+IsCovered notes key = Contains notes key ⊎ (is_later notes key ≡ true)
+
 -- one more is named
 abbrev noted_if : Bool → TaskKey → List TaskKey → List TaskKey
-noted_if skipped key notes = if skipped then notes else insert_key key_eq notes key
+noted_if skipped key notes = if skipped then notes else insert_key key_eq (kept_beside key notes) key
 
--- nothing that is named is of a later stage than the first
-abbrev AreOnTime : List TaskKey → Type 0
-AreOnTime notes = All (λ key. is_later notes key ≡ false) notes
+not-contained : (k : TaskKey) → Contains [] k → ⊥
+not-contained k (i, lt, e) = omega (arith, lt)
 
-own-stage : (key : TaskKey) → is_later (key ∷ []) key ≡ false
-own-stage key = le-ltb (stage key) (stage key) (omega arith)
+alone : (key : TaskKey) → AreOfOneStage (key ∷ [])
+alone key = All-cons (λ k. stage k ≡ stage key) key [] refl (All-nil (λ k. stage k ≡ stage key))
 
--- what is added is not of a later stage
-on-time : (notes : List TaskKey) (key : TaskKey) (skipped : Bool) → (skipped ≡ false → is_later notes key ≡ false)
-    → AreOnTime notes → AreOnTime (noted_if skipped key notes)
-on-time notes key true early h = h
-on-time [] key false early h = All-cons (λ k. is_later (key ∷ []) k ≡ false) key [] (own-stage key) (All-nil (λ k. is_later (key ∷ []) k ≡ false))
-on-time (n ∷ notes) key false early h = by (list_any (key_eq key) (n ∷ notes))
+-- what is added is of the stage of the others
+one-stage-inserted : (notes : List TaskKey) (key : TaskKey) (earlier : Bool) → is_earlier notes key ≡ earlier → is_later notes key ≡ false
+    → AreOfOneStage notes → AreOfOneStage (insert_key key_eq (if earlier then [] else notes) key)
+one-stage-inserted notes key true e l h = alone key
+one-stage-inserted [] key false e l h = alone key
+one-stage-inserted (n ∷ notes) key false e l h = by (list_any (key_eq key) (n ∷ notes))
   where
-    by : (b : Bool) → AreOnTime (if b then n ∷ notes else (n ∷ notes) ++ key ∷ [])
+    same : stage key ≡ stage n
+    same =
+        let above = ltb-false (stage key) (stage n) e in
+        let below = ltb-false (stage n) (stage key) l in
+        omega (arith, above, below)
+
+    by : (b : Bool) → AreOfOneStage (if b then n ∷ notes else (n ∷ notes) ++ key ∷ [])
     by true = h
     by false =
-        let P = λ (k : TaskKey). is_later (n ∷ notes) k ≡ false in
-        All-append P (n ∷ notes) (key ∷ []) h (All-cons P key [] (early refl) (All-nil P))
+        let P = λ (k : TaskKey). stage k ≡ stage n in
+        All-append P (n ∷ notes) (key ∷ []) h (All-cons P key [] same (All-nil P))
 
--- what is named stays so
-stays : (notes : List TaskKey) (key k : TaskKey) (skipped : Bool) → Contains notes k → Contains (noted_if skipped key notes) k
-stays notes key k true h = h
-stays notes key k false h = by (list_any (key_eq key) notes)
+one-stage : (notes : List TaskKey) (key : TaskKey) (skipped : Bool) → (skipped ≡ false → is_later notes key ≡ false)
+    → AreOfOneStage notes → AreOfOneStage (noted_if skipped key notes)
+one-stage notes key true early h = h
+one-stage notes key false early h = one-stage-inserted notes key (is_earlier notes key) refl (early refl) h
+
+-- what is covered stays so where something is added
+covered-inserted : (notes : List TaskKey) (key k : TaskKey) (earlier : Bool) → is_earlier notes key ≡ earlier
+    → AreOfOneStage notes → IsCovered notes k → IsCovered (insert_key key_eq (if earlier then [] else notes) key) k
+covered-inserted [] key k earlier e h (inl c) = absurd (not-contained k c)
+covered-inserted [] key k earlier e h (inr l) = absurd (true≢false (sym l))
+covered-inserted (n ∷ notes) key k true e h (inl c) =
+    let same = All-contains (λ (t : TaskKey). stage t ≡ stage n) (n ∷ notes) k h c in
+    let before = ltb-true (stage key) (stage n) e in
+    let bound : stage key < stage k = omega (arith, same, before) in
+    inr (lt-ltb (stage key) (stage k) bound)
+covered-inserted (n ∷ notes) key k true e h (inr l) =
+    let before = ltb-true (stage key) (stage n) e in
+    let behind = ltb-true (stage n) (stage k) l in
+    let bound : stage key < stage k = omega (arith, before, behind) in
+    inr (lt-ltb (stage key) (stage k) bound)
+covered-inserted (n ∷ notes) key k false e h (inl c) = by (list_any (key_eq key) (n ∷ notes))
   where
-    by : (b : Bool) → Contains (if b then notes else notes ++ key ∷ []) k
-    by true = h
-    by false = Contains-append_left notes (key ∷ []) k h
-
--- and what is of a later stage than the first stays that
-later-stays : (notes : List TaskKey) (key k : TaskKey) (skipped : Bool) → is_later notes k ≡ true → is_later (noted_if skipped key notes) k ≡ true
-later-stays notes key k true h = h
-later-stays [] key k false h = absurd (true≢false (sym h))
-later-stays (n ∷ notes) key k false h = by (list_any (key_eq key) (n ∷ notes))
+    by : (b : Bool) → IsCovered (if b then n ∷ notes else (n ∷ notes) ++ key ∷ []) k
+    by true = inl c
+    by false = inl (Contains-append_left (n ∷ notes) (key ∷ []) k c)
+covered-inserted (n ∷ notes) key k false e h (inr l) = by (list_any (key_eq key) (n ∷ notes))
   where
-    by : (b : Bool) → is_later (if b then n ∷ notes else (n ∷ notes) ++ key ∷ []) k ≡ true
-    by true = h
-    by false = h
+    by : (b : Bool) → IsCovered (if b then n ∷ notes else (n ∷ notes) ++ key ∷ []) k
+    by true = inr l
+    by false = inr l
 
--- what is named is there
+covered-stays : (notes : List TaskKey) (key k : TaskKey) (skipped : Bool) → AreOfOneStage notes → IsCovered notes k → IsCovered (noted_if skipped key notes) k
+covered-stays notes key k true h c = c
+covered-stays notes key k false h c = covered-inserted notes key k (is_earlier notes key) refl h c
+
+-- what is added is there
 is-there : TellsEqual key_eq → (notes : List TaskKey) (key : TaskKey) → Contains (insert_key key_eq notes key) key
 is-there tells notes key = by (list_any (key_eq key) notes) refl
   where
@@ -73,34 +107,31 @@ module _ {E P : Type 0} (table : TaskKey → Option Cite) (answers : E → Answe
   abbrev noting : TaskValue E P → List TaskKey → List TaskKey
   noting task = note_once table (task_key answers task)
 
-  all-on-time : (asked : List (TaskValue E P)) (notes : List TaskKey) → AreOnTime notes → AreOnTime (noted_all noting asked notes)
-  all-on-time [] notes h = h
-  all-on-time (task ∷ asked) notes h =
+  one-stage-more : (task : TaskValue E P) (notes : List TaskKey) → AreOfOneStage notes → AreOfOneStage (noting task notes)
+  one-stage-more task notes =
       let key = task_key answers task in
-      all-on-time asked (noting task notes) (on-time notes key (is_some (table key) || is_later notes key) (early (is_some (table key)) (is_later notes key)) h)
+      one-stage notes key (is_some (table key) || is_later notes key) (early (is_some (table key)) (is_later notes key))
     where
       early : (has later : Bool) → has || later ≡ false → later ≡ false
       early true later e = absurd (true≢false e)
       early false later e = e
 
-  all-stay : (asked : List (TaskValue E P)) (notes : List TaskKey) (k : TaskKey) → Contains notes k → Contains (noted_all noting asked notes) k
-  all-stay [] notes k h = h
-  all-stay (task ∷ asked) notes k h =
-      let key = task_key answers task in
-      all-stay asked (noting task notes) k (stays notes key k (is_some (table key) || is_later notes key) h)
+  all-one-stage : (asked : List (TaskValue E P)) (notes : List TaskKey) → AreOfOneStage notes → AreOfOneStage (noted_all noting asked notes)
+  all-one-stage [] notes h = h
+  all-one-stage (task ∷ asked) notes h = all-one-stage asked (noting task notes) (one-stage-more task notes h)
 
-  all-later-stay : (asked : List (TaskValue E P)) (notes : List TaskKey) (k : TaskKey) → is_later notes k ≡ true → is_later (noted_all noting asked notes) k ≡ true
-  all-later-stay [] notes k h = h
-  all-later-stay (task ∷ asked) notes k h =
+  all-covered-stay : (asked : List (TaskValue E P)) (notes : List TaskKey) (k : TaskKey) → AreOfOneStage notes → IsCovered notes k
+      → IsCovered (noted_all noting asked notes) k
+  all-covered-stay [] notes k h c = c
+  all-covered-stay (task ∷ asked) notes k h c =
       let key = task_key answers task in
-      all-later-stay asked (noting task notes) k (later-stays notes key k (is_some (table key) || is_later notes key) h)
+      all-covered-stay asked (noting task notes) k (one-stage-more task notes h)
+      (covered-stays notes key k (is_some (table key) || is_later notes key) h c)
 
   module _ (tells : TellsEqual key_eq) where
-    -- what is asked for here and lacked is named, where it isn't of a later stage in the end
-    named-here : (task : TaskValue E P) (asked : List (TaskValue E P)) (notes : List TaskKey) → table (task_key answers task) ≡ None
-        → is_later (noted_all noting asked (noting task notes)) (task_key answers task) ≡ false
-        → Contains (noted_all noting asked (noting task notes)) (task_key answers task)
-    named-here task asked notes lacked early = by (is_later notes key) refl
+    -- what is lacked is covered once it is asked for
+    covered-here : (task : TaskValue E P) (notes : List TaskKey) → table (task_key answers task) ≡ None → IsCovered (noting task notes) (task_key answers task)
+    covered-here task notes lacked = by (is_later notes key) refl
       where
         key : TaskKey
         key = task_key answers task
@@ -108,32 +139,50 @@ module _ {E P : Type 0} (table : TaskKey → Option Cite) (answers : E → Answe
         here : (b : Bool) → is_later notes key ≡ b → noting task notes ≡ noted_if b key notes
         here b e = ap (λ o. noted_if (is_some o || is_later notes key) key notes) lacked ∙ ap (λ l. noted_if l key notes) e
 
-        by : (b : Bool) → is_later notes key ≡ b → Contains (noted_all noting asked (noting task notes)) key
-        by true e =
-            let kept = all-later-stay asked (noting task notes) key (subst (λ ns. is_later ns key ≡ true) (sym (here true e)) e) in
-            absurd (true≢false (sym kept ∙ early))
-        by false e = all-stay asked (noting task notes) key (subst (λ ns. Contains ns key) (sym (here false e)) (is-there tells notes key))
+        by : (b : Bool) → is_later notes key ≡ b → IsCovered (noting task notes) key
+        by true e = inr (subst (λ ns. is_later ns key ≡ true) (sym (here true e)) e)
+        by false e = inl (subst (λ ns. Contains ns key) (sym (here false e)) (is-there tells (kept_beside key notes) key))
 
-    named-among : (task : TaskValue E P) (asked : List (TaskValue E P)) (notes : List TaskKey) → Contains asked task → table (task_key answers task) ≡ None
-        → is_later (noted_all noting asked notes) (task_key answers task) ≡ false
-        → Contains (noted_all noting asked notes) (task_key answers task)
-    named-among task [] notes (k, lt, e) lacked early = absurd (omega (arith, lt))
-    named-among task (first ∷ asked) notes (zero, lt, e) lacked early =
-        subst (λ t. table (task_key answers t) ≡ None → is_later (noted_all noting (first ∷ asked) notes) (task_key answers t) ≡ false
-        → Contains (noted_all noting (first ∷ asked) notes) (task_key answers t)) e
-        (named-here first asked notes) lacked early
-    named-among task (first ∷ asked) notes (suc k, lt, e) lacked early =
-        named-among task asked (noting first notes) (k, omega (arith, lt), e) lacked early
+    covered-among : (task : TaskValue E P) (asked : List (TaskValue E P)) (notes : List TaskKey) → AreOfOneStage notes → Contains asked task
+        → table (task_key answers task) ≡ None → IsCovered (noted_all noting asked notes) (task_key answers task)
+    covered-among task [] notes h (k, lt, e) lacked = absurd (omega (arith, lt))
+    covered-among task (first ∷ asked) notes h (zero, lt, e) lacked =
+        subst (λ t. table (task_key answers t) ≡ None → IsCovered (noted_all noting (first ∷ asked) notes) (task_key answers t)) e
+        (λ none. all-covered-stay asked (noting first notes) (task_key answers first) (one-stage-more first notes h) (covered-here first notes none)) lacked
+    covered-among task (first ∷ asked) notes h (suc k, lt, e) lacked =
+        covered-among task asked (noting first notes) (one-stage-more first notes h) (k, omega (arith, lt), e) lacked
 
-  module _ (asked : List (TaskValue E P)) (new : List TaskKey) (noted : new ≡ noted_all noting asked []) where
-    -- nothing that is named is of a later stage than the first
-    pub none-later : All (λ key. is_later new key ≡ false) new
-    none-later = subst AreOnTime (sym noted) (all-on-time asked [] (All-nil (λ key. is_later [] key ≡ false)))
+  module _ (asked : List (TaskValue E P)) (new : List TaskKey) (noted : new ≡ noted_all noting asked []) (tells : TellsEqual key_eq) where
+    of-one-stage : AreOfOneStage new
+    of-one-stage = subst AreOfOneStage (sym noted) (all-one-stage asked [] (All-nil (λ key. stage key ≡ 0)))
 
-    -- what is asked for and lacked is named, unless it is of a later stage
-    pub all-named : TellsEqual key_eq → (key : TaskKey) → IsMissingOf table answers asked key → is_later new key ≡ false → Contains new key
-    all-named tells key missing early =
-        subst (λ k. is_later new k ≡ false → Contains new k) (sym missing.is)
-        (λ e. subst (λ ns. Contains ns (task_key answers missing.task)) (sym noted)
-        (named-among tells missing.task asked [] missing.among (ap table (sym missing.is) ∙ missing.lacked)
-        (subst (λ ns. is_later ns (task_key answers missing.task) ≡ false) noted e))) early
+    covered : (key : TaskKey) → IsMissingOf table answers asked key → IsCovered new key
+    covered key missing =
+        subst (IsCovered new) (sym missing.is)
+        (subst (λ ns. IsCovered ns (task_key answers missing.task)) (sym noted)
+        (covered-among tells missing.task asked [] (All-nil (λ k. stage k ≡ 0)) missing.among (ap table (sym missing.is) ∙ missing.lacked)))
+
+    -- nothing that is lacked is of an earlier stage than what is named
+    pub earliest : (key : TaskKey) → IsMissingOf table answers asked key → All (λ named. stage named ≤ stage key) new
+    earliest key missing = λ k d lt. below new (covered key missing) of-one-stage k d lt
+      where
+        below : (notes : List TaskKey) → IsCovered notes key → AreOfOneStage notes → All (λ named. stage named ≤ stage key) notes
+        below notes (inl c) one =
+            let same = All-contains (λ (t : TaskKey). stage t ≡ first_stage notes) notes key one c in
+            λ k d lt. let here = one k d lt in omega (arith, here, same)
+        below [] (inr l) one = All-nil (λ named. stage named ≤ stage key)
+        below (n ∷ notes) (inr l) one =
+            let behind = ltb-true (stage n) (stage key) l in
+            λ k d lt. let here = one k d lt in omega (arith, here, behind)
+
+    -- what is lacked is named where it is of the stage of what is
+    pub all-named : (key : TaskKey) → IsMissingOf table answers asked key → All (λ named. stage key ≤ stage named) new → Contains new key
+    all-named key missing = by new (covered key missing)
+      where
+        by : (notes : List TaskKey) → IsCovered notes key → All (λ named. stage key ≤ stage named) notes → Contains notes key
+        by notes (inl c) early = c
+        by [] (inr l) early = absurd (true≢false (sym l))
+        by (n ∷ notes) (inr l) early =
+            let behind = ltb-true (stage n) (stage key) l in
+            let first = early 0 n (omega arith) in
+            absurd (omega (arith, behind, first))

@@ -1,5 +1,5 @@
 -- What comes of a table: the answer where it has all that is asked for, else what it lacks of that.
-use Rattle.std.specs.Prelude.{◌≡◌, Bool, false, List, [], Option, All, Contains, IsSome}
+use Rattle.std.specs.Prelude.{◌≡◌, ◌≤◌, Bool, List, [], Option, All, Contains, IsSome}
 use Rattle.csl_base.specs.Answers.{Answers}
 use Rattle.csl_driver.specs.Answer.{Asked}
 use Rattle.csl_driver.specs.Finished.{CanBeAnswered}
@@ -8,8 +8,8 @@ use Rattle.csl_driver.specs.WriterTasks.{tasks}
 use Rattle.csl_driver.specs.declared.account.Account.{Account}
 use Rattle.csl_assembly.specs.declared.rendered.Rendered.{Rendered}
 use Rattle.csl_round_laws.specs.declared.mode.RoundMode.{RoundMode}
-use Rattle.csl_table.specs.Keys.{task_key}
-use Rattle.csl_table.specs.Table.{IsMissingOf, is_later, table_writing}
+use Rattle.csl_table.specs.Keys.{stage, task_key}
+use Rattle.csl_table.specs.Table.{IsMissingOf, table_writing}
 use Rattle.csl_drive.specs.declared.drive.Driven.{Driven}
 use Rattle.csl_drive.specs.declared.drive.Driven.TheVariants as results
 use Rattle.csl_table.specs.declared.key.TaskKey.{TaskKey}
@@ -28,15 +28,16 @@ module _ {E P : Type 0} (eq : E → E → Bool) (payload_eq : P → P → Bool) 
     pub answer : IsAnswer eq payload_eq (table_writing table answers) mode asked r
     pub there : All (λ task. IsSome (table (task_key answers task))) asked_for_all
 
-  -- these are asked for, and the table lacks them; and they are all such keys that aren't of a later stage
-  -- than the first of them
+  -- these are asked for, and the table lacks them; they are of the earliest stage of all such keys, and all
+  -- such keys of that stage
   pub record IsLacking (missing : List TaskKey) : Type 0 where
     pub possible : CanBeAnswered eq asked
     pub each : All (IsMissingOf table answers asked_for_all) missing
     pub some : missing ≡ [] → ⊥
-    pub none_later : All (λ key. is_later missing key ≡ false) missing
-    pub all : (key : TaskKey) → IsMissingOf table answers asked_for_all key → is_later missing key ≡ false
-        → Contains missing key
+    pub earliest : (key : TaskKey) → IsMissingOf table answers asked_for_all key
+        → All (λ named. stage named ≤ stage key) missing
+    pub all : (key : TaskKey) → IsMissingOf table answers asked_for_all key
+        → All (λ named. stage key ≤ stage named) missing → Contains missing key
 
   abbrev pub IsDriven : Driven E → Type 0
   IsDriven (results.Answer rendered account) = IsWhole (rendered, account)

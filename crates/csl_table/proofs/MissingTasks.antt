@@ -7,7 +7,7 @@ use Rattle.std.proofs.lemmas.List.Elements.{All-append, All-cons, All-nil, Conta
 use Rattle.indexmap.specs.IndexSet.{insert_key}
 use Rattle.csl_base.specs.Answers.{Answers}
 use Rattle.csl_table.specs.Keys.{task_key}
-use Rattle.csl_table.specs.Table.{IsMissingOf, is_later, key_eq, note_once}
+use Rattle.csl_table.specs.Table.{IsMissingOf, is_earlier, is_later, kept_beside, key_eq, note_once}
 use Rattle.csl_table.specs.declared.key.TaskKey.{TaskKey}
 use Rattle.csl_writers.specs.Tasks.{TaskValue}
 use Rattle.csl_writers.specs.Writing.{noted_all}
@@ -30,30 +30,39 @@ all-noted {A} noting P whole step (a ∷ asked) notes within h =
     let first : Contains (a ∷ asked) a = (0, omega arith, refl) in
     all-noted noting P whole step asked (noting a notes) (λ b i. within b (Contains-append_right (a ∷ []) asked b i)) (step a notes (within a first) h)
 
-not-empty : (b : Bool) (key n : TaskKey) (notes : List TaskKey) → (if b then n ∷ notes else (n ∷ notes) ++ key ∷ []) ≡ [] → ⊥
-not-empty true key n notes e = cc
-not-empty false key n notes e = cc
+-- with one more there is always something
+not-empty : (b : Bool) (key : TaskKey) (notes : List TaskKey) → list_any (key_eq key) notes ≡ b → (if b then notes else notes ++ key ∷ []) ≡ [] → ⊥
+not-empty true key [] found e = cc
+not-empty true key (n ∷ notes) found e = cc
+not-empty false key [] found e = cc
+not-empty false key (n ∷ notes) found e = cc
+
+inserted-not-empty : (key : TaskKey) (notes : List TaskKey) → insert_key key_eq notes key ≡ [] → ⊥
+inserted-not-empty key notes e = not-empty (list_any (key_eq key) notes) key notes refl e
 
 -- a note that leaves nothing noted is of something that is there
-once-none : (o : Option Cite) (key : TaskKey) (notes : List TaskKey)
-    → (if is_some o || is_later notes key then notes else insert_key key_eq notes key) ≡ [] → (notes ≡ []) × IsSome o
-once-none (Some c) key notes e = (e, refl)
-once-none None key [] e = cc
-once-none None key (n ∷ notes) e = absurd (by (is_later (n ∷ notes) key) e)
-  where
-    by : (b : Bool) → (if b then n ∷ notes else insert_key key_eq (n ∷ notes) key) ≡ [] → ⊥
-    by true e = cc
-    by false e = not-empty (list_any (key_eq key) (n ∷ notes)) key n notes e
+once-none : (o : Option Cite) (later : Bool) (key : TaskKey) (notes : List TaskKey) → is_later notes key ≡ later
+    → (if is_some o || later then notes else insert_key key_eq (kept_beside key notes) key) ≡ [] → (notes ≡ []) × IsSome o
+once-none (Some c) later key notes l e = (e, refl)
+once-none None true key [] l e = cc
+once-none None true key (n ∷ notes) l e = cc
+once-none None false key notes l e = absurd (inserted-not-empty key (kept_beside key notes) e)
 
 added : (P : TaskKey → Type 0) (b : Bool) (key : TaskKey) (notes : List TaskKey) → P key → All P notes → All P (if b then notes else notes ++ key ∷ [])
 added P true key notes p h = h
 added P false key notes p h = All-append P notes (key ∷ []) h (All-cons P key [] p (All-nil P))
 
+kept : (P : TaskKey → Type 0) (earlier : Bool) (notes : List TaskKey) → All P notes → All P (if earlier then [] else notes)
+kept P true notes h = All-nil P
+kept P false notes h = h
+
 once-all : (P : TaskKey → Type 0) (o : Option Cite) (later : Bool) (key : TaskKey) (notes : List TaskKey) → (o ≡ None → P key) → All P notes
-    → All P (if is_some o || later then notes else insert_key key_eq notes key)
+    → All P (if is_some o || later then notes else insert_key key_eq (kept_beside key notes) key)
 once-all P (Some c) later key notes p h = h
 once-all P None true key notes p h = h
-once-all P None false key notes p h = added P (list_any (key_eq key) notes) key notes (p refl) h
+once-all P None false key notes p h =
+    let rest = kept_beside key notes in
+    added P (list_any (key_eq key) rest) key rest (p refl) (kept P (is_earlier notes key) notes h)
 
 module _ {E P : Type 0} (table : TaskKey → Option Cite) (answers : E → Answers) (asked : List (TaskValue E P)) (new : List TaskKey)
     (noted : new ≡ noted_all (λ task. note_once table (task_key answers task)) asked []) where
@@ -61,7 +70,7 @@ module _ {E P : Type 0} (table : TaskKey → Option Cite) (answers : E → Answe
   pub all-there : new ≡ [] → All (λ task. IsSome (table (task_key answers task))) asked
   all-there none =
       (none-noted (λ task. note_once table (task_key answers task)) (λ task. IsSome (table (task_key answers task)))
-      (λ task notes. once-none (table (task_key answers task)) (task_key answers task) notes) asked [] (sym noted ∙ none)).1
+      (λ task notes. once-none (table (task_key answers task)) (is_later notes (task_key answers task)) (task_key answers task) notes refl) asked [] (sym noted ∙ none)).1
 
   -- what was noted was asked for, and is lacked
   pub all-missing : All (IsMissingOf table answers asked) new

@@ -34,11 +34,20 @@ abbrev pub is_later : List TaskKey → TaskKey → Bool
 is_later [] key = false
 is_later (first ∷ rest) key = nat_lt (stage first) (stage key)
 
+-- the first of these is of a later stage
+abbrev pub is_earlier : List TaskKey → TaskKey → Bool
+is_earlier [] key = false
+is_earlier (first ∷ rest) key = nat_lt (stage key) (stage first)
+
+-- these, unless the first of them is of a later stage
+abbrev pub kept_beside : TaskKey → List TaskKey → List TaskKey
+kept_beside key notes = if is_earlier notes key then [] else notes
+
 module _ (table : TaskKey → Option Cite) where
-  -- what is lacked is noted once, unless something of an earlier stage is
+  -- what is lacked is noted once, beside what is of its stage, unless something of an earlier stage is noted
   abbrev pub note_once : TaskKey → List TaskKey → List TaskKey
   note_once key notes =
-      if is_some (table key) || is_later notes key then notes else insert_key key_eq notes key
+      if is_some (table key) || is_later notes key then notes else insert_key key_eq (kept_beside key notes) key
 
   module _ {E P : Type 0} (answers : E → Answers) where
     abbrev pub table_state : List TaskKey → WriterState E P TaskKey

@@ -16,8 +16,8 @@ use std::alloc::{AllocError, Global};
 pub type Table = IndexMap<TaskKey, Cite>;
 
 /// Answers from a table that it borrows. What the table lacks is answered by an empty tree, and noted once;
-/// but while something of an earlier stage is missing, what is asked for later isn't noted, since it may
-/// not be asked for any more once that is there.
+/// but only what is of the earliest stage of all that is missing stays noted, since what is of a later one
+/// may not be asked for any more once that is there.
 #[derive(Drop)]
 pub struct TableWriter<'t> {
     pub written: &'t Table,
@@ -54,7 +54,7 @@ fn nothing(alloc: Global) -> Cite
 
 impl<'t> TableWriter<'t> {
     ghost use Rattle.std.specs.Prelude.{◌≡◌, IfOk, OnOk, []};
-    ghost use Rattle.csl_table.specs.Table.{found, is_later, note_once, written_as};
+    ghost use Rattle.csl_table.specs.Table.{found, is_earlier, is_later, note_once, written_as};
 
     /// A writer that has noted nothing yet.
     pub fn new(alloc: Global, written: &'t Table) -> TableWriter<'t>
@@ -77,6 +77,16 @@ impl<'t> TableWriter<'t> {
         }
     }
 
+    // Whether what is missing is of a later stage.
+    fn is_earlier(&self, key: &TaskKey) -> bool
+        ensures { result ≡ is_earlier self.now.missing.keys key.now }
+    {
+        match self.missing.first() {
+            Some(first) => key.stage() < first.stage(),
+            None => false,
+        }
+    }
+
     // What was written; nothing, and a note, where the table lacks it.
     fn answer(&mut self, alloc: Global, key: TaskKey) -> Result<Cite, AllocError>
         ensures cite { IfOk result (λ c. c ≡ written_as (found self.old.written.now key)) }
@@ -86,6 +96,9 @@ impl<'t> TableWriter<'t> {
     {
         if let Some(cite) = self.written.get(&key) {
             return copied(cite);
+        }
+        if self.is_earlier(&key) {
+            self.missing.clear();
         }
         if !self.is_later(&key) {
             if let Err(_) = self.missing.insert_full(key) {

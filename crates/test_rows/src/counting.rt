@@ -1,15 +1,16 @@
-//! The renderings as an entry sees them, which is asked for its title in each but those of a date alone.
+//! The renderings as an entry sees them: how often it is asked for anything.
 
 use crate::rings::ringless;
 use csl_base::element::{LayoutRenderingElement, TextTarget};
 use csl_base::entry::{Chunk, ChunkKind, ChunkedString, Date, EntryLike, Person, PlainEntry};
 use csl_base::seq::Seq;
-use csl_base::style::IndependentStyle;
+use csl_base::style::{Collapse, IndependentStyle};
 use csl_base::taxonomy::{DateVariable, NameVariable, NumberVariable, StandardVariable};
 use csl_base::text::Text;
 use csl_driver::driver::BibliographyDriver;
 use csl_driver::item::CitationItem;
 use csl_driver::request::{BibliographyRequest, CitationRequest};
+use csl_lookup::state::CollapseVerdict;
 use csl_writing::counter::Renders;
 use csl_writing::properties::CiteProperties;
 use csl_writing::purpose::CitePurpose;
@@ -18,16 +19,23 @@ use std::cell::Cell;
 use std::convert::Infallible;
 use std::test::Fail;
 use test_styles::styles::{
-    author_date, bibliography_of, entry, layout_of, no_affixes, no_formatting, text_element,
+    author_date, authors, bibliography_of, entry, layout_of, no_affixes, no_formatting,
+    text_element,
 };
 
-/// An entry that counts how often it is asked for its title.
+/// An entry that counts how often it is asked for anything.
 #[derive(Drop)]
 #[derive_where(PartialEq, Eq, Hash)]
 struct Counting {
     plain: PlainEntry,
     #[derive_where(skip)]
-    titles: Cell<u64>,
+    asked: Cell<u64>,
+}
+
+impl Counting {
+    fn count(&self) {
+        self.asked.set(self.asked.get().wrapping_add(1));
+    }
 }
 
 impl EntryLike for Counting {
@@ -39,29 +47,32 @@ impl EntryLike for Counting {
     ghost equal_answer_equally = { λ a b same. equal_entries_answer_equally a.plain b.plain same };
 
     fn key(&self) -> &str {
+        self.count();
         self.plain.key()
     }
 
     fn resolve_name_variable(&self, variable: NameVariable) -> &[Person] {
+        self.count();
         self.plain.resolve_name_variable(variable)
     }
 
     fn resolve_date_variable(&self, variable: DateVariable) -> Option<&Date> {
+        self.count();
         self.plain.resolve_date_variable(variable)
     }
 
     fn resolve_standard_variable(&self, variable: StandardVariable) -> Option<&ChunkedString> {
-        if variable == StandardVariable::Title {
-            self.titles.set(self.titles.get().wrapping_add(1));
-        }
+        self.count();
         self.plain.resolve_standard_variable(variable)
     }
 
     fn resolve_number_variable(&self, variable: NumberVariable) -> Option<&str> {
+        self.count();
         self.plain.resolve_number_variable(variable)
     }
 
     fn citation_label(&self) -> Option<&str> {
+        self.count();
         self.plain.citation_label()
     }
 }
@@ -75,50 +86,70 @@ fn one_piece(alloc: Global, text: &str) -> Result<ChunkedString, AllocError> {
     Ok(ChunkedString(Seq::new(vec![in alloc; chunk]?)))
 }
 
-/// Gives an entry this title, issued in 1999.
-fn put_title(alloc: Global, plain: &mut PlainEntry, title: &str) -> Result<(), AllocError> {
+/// Gives an entry this title and year, by Doe.
+fn put_words(
+    alloc: Global,
+    plain: &mut PlainEntry,
+    title: &str,
+    year: i32,
+) -> Result<(), AllocError> {
+    let doe = Person {
+        name: Text::new(String::from_str(alloc, "Doe")?),
+        given_name: None,
+    };
+    let authors = Seq::new(vec![in alloc; doe]?);
     let title = one_piece(alloc, title)?;
+    plain.names = Seq::new(vec![in alloc; (NameVariable::Author, authors)]?);
     plain.texts = Seq::new(vec![in alloc; (StandardVariable::Title, title)]?);
-    plain.dates = Seq::new(vec![in alloc; (DateVariable::Issued, Date { year: 1999 })]?);
+    plain.dates = Seq::new(vec![in alloc; (DateVariable::Issued, Date { year })]?);
     Ok(())
 }
 
-/// An entry with this title and that date.
-fn titled(alloc: Global, key: &str, title: &str) -> Result<Counting, AllocError> {
+/// An entry with this title and year, by Doe, of which nothing was asked.
+fn titled(alloc: Global, key: &str, title: &str, year: i32) -> Result<Counting, AllocError> {
     let mut plain = entry(alloc, key)?;
-    put_title(alloc, &mut plain, title)?;
+    put_words(alloc, &mut plain, title, year)?;
     Ok(Counting {
         plain,
-        titles: Cell::new(0),
+        asked: Cell::new(0),
     })
 }
 
-/// The title and the year.
-fn title_and_year(alloc: Global) -> Result<Vec<LayoutRenderingElement>, AllocError> {
-    let year = LayoutRenderingElement::Date {
+fn title() -> LayoutRenderingElement {
+    text_element(TextTarget::Standard(StandardVariable::Title))
+}
+
+fn year() -> LayoutRenderingElement {
+    LayoutRenderingElement::Date {
         variable: DateVariable::Issued,
         affixes: no_affixes(),
         formatting: no_formatting(),
         display: None,
-    };
-    let title = text_element(TextTarget::Standard(StandardVariable::Title));
-    Ok(vec![in alloc; title, year]?)
+    }
 }
 
 /// A style of titles, years and their letters, without a bibliography.
 fn titles_and_years(alloc: Global) -> Result<IndependentStyle, AllocError> {
-    let elements = title_and_year(alloc)?;
+    let elements = vec![in alloc; title(), year()]?;
     let mut style = author_date(alloc)?;
     style.citation.layout.elements = elements;
     style.citation.disambiguate_add_year_suffix = true;
     Ok(style)
 }
 
-/// The same with a bibliography of titles.
+/// A style of authors, titles, years and their letters, with a bibliography of titles.
 fn listing_titles(alloc: Global) -> Result<IndependentStyle, AllocError> {
+    let elements = vec![in alloc; authors(alloc, None)?, title(), year()]?;
     let mut style = titles_and_years(alloc)?;
-    let title = text_element(TextTarget::Standard(StandardVariable::Title));
-    style.bibliography = Some(bibliography_of(layout_of(alloc, title)?));
+    style.citation.layout.elements = elements;
+    style.bibliography = Some(bibliography_of(layout_of(alloc, title())?));
+    Ok(style)
+}
+
+/// A style of authors and years, by which the second cite of an author is cut to its year.
+fn collapsing_years(alloc: Global) -> Result<IndependentStyle, AllocError> {
+    let mut style = author_date(alloc)?;
+    style.citation.collapse = Some(Collapse::Year);
     Ok(style)
 }
 
@@ -171,8 +202,9 @@ fn each_purpose<'a>(alloc: Global, cited: &'a Counting) -> Result<Vec<Item<'a>>,
 /// What is rendered.
 #[derive(Clone, Copy)]
 enum Part {
-    Cite(Option<CitePurpose>),
+    Cite(Option<CitePurpose>, Option<CollapseVerdict>),
     Item,
+    Date,
 }
 
 fn render(
@@ -185,7 +217,7 @@ fn render(
     let properties: CiteProperties<'_, Infallible> = CiteProperties::for_sorting(None, 0);
     let mut counter = Renders::new();
     match part {
-        Part::Cite(purpose) => {
+        Part::Cite(purpose, verdict) => {
             let _cite = context.do_citation(
                 alloc,
                 cited,
@@ -193,12 +225,22 @@ fn render(
                 None,
                 None,
                 purpose,
-                None,
+                verdict,
                 &mut counter,
             )?;
         }
         Part::Item => {
             let _item = context.bibliography(alloc, cited, &properties, None, None, &mut counter)?;
+        }
+        Part::Date => {
+            let _date = context.date_replacement(
+                alloc,
+                cited,
+                &properties,
+                None,
+                None,
+                &mut counter,
+            )?;
         }
     }
     Ok(())
@@ -206,27 +248,29 @@ fn render(
 
 /// How often one rendering asks.
 fn asked_by(alloc: Global, style: &IndependentStyle, part: Part) -> Result<u64, Fail> {
-    let cited = titled(alloc, "a", "X")?;
+    let cited = titled(alloc, "a", "X", 1999)?;
     render(alloc, style, &cited, part)?;
-    Ok(cited.titles.get())
+    Ok(cited.asked.get())
 }
 
 /// How often the first rendering and the last one of a cite for each purpose ask. The last one of a cite
-/// of the year alone is its date, which doesn't.
+/// of the year alone is its date.
 fn asked_by_purposes(alloc: Global, style: &IndependentStyle) -> Result<u64, Fail> {
-    let mut asked = asked_by(alloc, style, Part::Cite(Some(CitePurpose::Year)))?;
+    let date = asked_by(alloc, style, Part::Date)?;
+    let mut asked = asked_by(alloc, style, Part::Cite(Some(CitePurpose::Year), None))?;
+    asked = asked.wrapping_add(date);
     for purpose in [CitePurpose::Author, CitePurpose::Full, CitePurpose::Prose] {
-        let each = asked_by(alloc, style, Part::Cite(Some(purpose)))?;
+        let each = asked_by(alloc, style, Part::Cite(Some(purpose), None))?;
         asked = asked.wrapping_add(each).wrapping_add(each);
     }
     Ok(asked)
 }
 
-/// Entries of these keys and titles.
-fn all_titled(alloc: Global, titles: &[(&str, &str)]) -> Result<Vec<Counting>, AllocError> {
+/// Entries of these keys, titles and years.
+fn all_titled(alloc: Global, titles: &[(&str, &str, i32)]) -> Result<Vec<Counting>, AllocError> {
     let mut entries = Vec::new(alloc);
-    for (key, title) in titles {
-        entries.push(titled(alloc, *key, *title)?)?;
+    for (key, title, year) in titles {
+        entries.push(titled(alloc, *key, *title, *year)?)?;
     }
     Ok(entries)
 }
@@ -235,7 +279,7 @@ fn all_titled(alloc: Global, titles: &[(&str, &str)]) -> Result<Vec<Counting>, A
 fn asked_of(entries: &[Counting]) -> u64 {
     let mut asked = 0u64;
     for each in entries {
-        asked = asked.wrapping_add(each.titles.get());
+        asked = asked.wrapping_add(each.asked.get());
     }
     asked
 }
@@ -255,12 +299,12 @@ fn renders_of_cites(
 }
 
 /// Whether three cites of two entries that read alike are rendered nine times: at first, once more where
-/// a letter was added to each, and at last.
+/// a letter was added to each, and at last. Each rendering asks for the title and the date.
 fn counts_cites(alloc: Global, style: &IndependentStyle) -> Result<bool, Fail> {
-    let cite = asked_by(alloc, style, Part::Cite(None))?;
-    let entries = all_titled(alloc, &[("a", "X"), ("b", "X")])?;
+    let cite = asked_by(alloc, style, Part::Cite(None, None))?;
+    let entries = all_titled(alloc, &[("a", "X", 1999), ("b", "X", 1999)])?;
     let renders = renders_of_cites(alloc, style, &entries)?;
-    Ok(cite > 0 && renders == 9 && asked_of(&entries) == cite.wrapping_mul(9))
+    Ok(cite == 2 && renders == 9 && asked_of(&entries) == 18)
 }
 
 /// A driver of those cites, and of one for each purpose of a third entry.
@@ -289,23 +333,51 @@ fn renders_of_all(
 }
 
 /// How often these are to ask: nine renderings of cites, two for each purpose, and one for each item of the
-/// bibliography.
+/// bibliography, which has the key besides.
 fn asked_by_all(alloc: Global, style: &IndependentStyle) -> Result<u64, Fail> {
-    let cite = asked_by(alloc, style, Part::Cite(None))?;
-    let item = asked_by(alloc, style, Part::Item)?;
-    if cite == 0 || item == 0 {
-        return Err(Fail::new("the title isn't asked for"));
+    let cite = asked_by(alloc, style, Part::Cite(None, None))?;
+    if asked_by(alloc, style, Part::Item)? != 1 {
+        return Err(Fail::new("an item asks for more than its title"));
     }
-    let asked = cite.wrapping_mul(9).wrapping_add(item.wrapping_mul(3));
+    let asked = cite.wrapping_mul(9).wrapping_add(3 * (1 + 1));
     Ok(asked.wrapping_add(asked_by_purposes(alloc, style)?))
 }
 
 /// Whether they ask so often.
 fn counts_all(alloc: Global, style: &IndependentStyle) -> Result<bool, Fail> {
     let wanted = asked_by_all(alloc, style)?;
-    let entries = all_titled(alloc, &[("a", "X"), ("b", "X"), ("c", "Y")])?;
+    let entries = all_titled(
+        alloc,
+        &[("a", "X", 1999), ("b", "X", 1999), ("c", "Y", 1999)],
+    )?;
     let renders = renders_of_all(alloc, style, &entries)?;
     Ok(renders == 20 && asked_of(&entries) == wanted)
+}
+
+/// The renders of a request of both entries.
+fn renders_of_both(
+    alloc: Global,
+    style: &IndependentStyle,
+    entries: &[Counting],
+) -> Result<u128, Fail> {
+    let mut items: Vec<Item<'_>> = Vec::new(alloc);
+    for cited in entries {
+        items.push(CitationItem::with_entry(cited))?;
+    }
+    let mut driver: Driver<'_> = BibliographyDriver::new(alloc);
+    take(&mut driver, style, items)?;
+    let (_answer, account) = driver.finish_counted(BibliographyRequest::new(style, None, &[]))?;
+    Ok(account.renders)
+}
+
+/// Whether two cites of one author, of which the second is cut to its year at last, are rendered twice each.
+fn counts_collapsed(alloc: Global, style: &IndependentStyle) -> Result<bool, Fail> {
+    let cite = asked_by(alloc, style, Part::Cite(None, None))?;
+    let cut = asked_by(alloc, style, Part::Cite(None, Some(CollapseVerdict::First)))?;
+    let entries = all_titled(alloc, &[("a", "X", 1999), ("b", "Y", 2000)])?;
+    let renders = renders_of_both(alloc, style, &entries)?;
+    let wanted = cite.wrapping_mul(3).wrapping_add(cut);
+    Ok(0 < cut && cut < cite && renders == 4 && asked_of(&entries) == wanted)
 }
 
 #[test]
@@ -314,5 +386,7 @@ fn renders_on_another_counter(rt: HostRuntime) -> Result<(), Fail> {
     assert!(rt; counts_cites(rt.alloc(), &cites_alone)?);
     let listing = listing_titles(rt.alloc())?;
     assert!(rt; counts_all(rt.alloc(), &listing)?);
+    let collapsing = collapsing_years(rt.alloc())?;
+    assert!(rt; counts_collapsed(rt.alloc(), &collapsing)?);
     Ok(())
 }

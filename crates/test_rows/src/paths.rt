@@ -17,6 +17,11 @@ pub mod of_base {
         Display, FontStyle, FontWeight, Formatted, Formatting, StyleFormatting,
     };
     pub use csl_base::last_text::last_text_laws;
+    pub use csl_base::laws::{
+        choice_equality_decides, element_equality_decides, entry_equality_decides,
+        formatting_equality_decides, locale_equality_decides, names_equality_decides,
+        options_equality_decides, style_equality_decides, taxonomy_equality_decides,
+    };
     pub use csl_base::locale::{Locale, LocaleCode, LocalizedTerm};
     pub use csl_base::names::{
         DisambiguatedNameForm, NameDisambiguationProperties, forms_are_in_order,

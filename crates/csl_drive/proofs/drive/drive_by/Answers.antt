@@ -1,6 +1,6 @@
 use Rattle.std.proofs.Common.{length, ap, subst, ◌∙◌}
 use Rattle.csl_drive.specs.Driven.{IsLacking, IsWhole, asked_for_all}
-use Rattle.csl_drive.proofs.AllNamed.{all-named, none-later}
+use Rattle.csl_drive.proofs.AllNamed.{all-named, earliest}
 use Rattle.csl_driver.specs.AskedView.{asked_of}
 use Rattle.csl_table.specs.Keys.{task_key}
 use Rattle.csl_table.specs.Table.{found, note_once}
@@ -39,6 +39,6 @@ returns-clause-driven g c =
       possible = c.in_ok-rendered.ensures.finished.possible;
       each = all-missing table answers all missing noted;
       some = λ e. clash (c.is_empty.ensures.1 (ap length e)) c.if-is_empty.false;
-      none_later = none-later table answers all missing noted;
+      earliest = earliest table answers all missing noted c.key_equality_decides.ensures.key;
       all = all-named table answers all missing noted c.key_equality_decides.ensures.key;
     })
