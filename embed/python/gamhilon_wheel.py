@@ -23,6 +23,8 @@ Version: {version}
 Summary: Citations and bibliographies, by a driver whose every function is proved
 License: MIT OR Apache-2.0
 License-File: LICENSE
+License-File: LICENSE-MIT
+License-File: LICENSE-APACHE
 Requires-Python: >=3.8
 Classifier: Typing :: Typed
 Classifier: Operating System :: POSIX :: Linux
@@ -82,7 +84,8 @@ def files():
                                                 description=description).encode()
     found[f'{info}/WHEEL'] = WHEEL.format(tag=tag()).encode()
     found[f'{info}/entry_points.txt'] = SCRIPTS.encode()
-    found[f'{info}/LICENSE'] = read(f'{ROOT}/LICENSE')
+    for name in ('LICENSE', 'LICENSE-MIT', 'LICENSE-APACHE'):
+        found[f'{info}/{name}'] = read(f'{ROOT}/{name}')
     return found
 
 

@@ -53,8 +53,9 @@ def test_it_has_what_a_user_needs(wheel):
                      'style_documents/note.json', 'csl/__init__.py'):
             assert f'gamhilon/{name}' in names
         assert not any('__pycache__' in it or it.endswith('.pyc') for it in names)
-        with open(f'{ROOT}/LICENSE', 'rb') as file:
-            assert archive.read(f'{info}/LICENSE') == file.read()
+        for name in ('LICENSE', 'LICENSE-MIT', 'LICENSE-APACHE'):
+            with open(f'{ROOT}/{name}', 'rb') as file:
+                assert archive.read(f'{info}/{name}') == file.read()
         entry_points = archive.read(f'{info}/entry_points.txt').decode()
         assert 'gamhilon-pandoc = gamhilon.pandoc_filter:main' in entry_points
         for line in archive.read(f'{info}/RECORD').decode().splitlines():
