@@ -10,6 +10,7 @@ use csl_base::elem::ElemChildren;
 use csl_base::entry::PlainEntry;
 use csl_base::locale::Locale;
 use csl_base::style::IndependentStyle;
+use csl_lookup::lookup::StyleLocales;
 use csl_lookup::properties::CiteProperties;
 use csl_writing::counter::Renders;
 use csl_writing::lookup::StyleContext;
@@ -24,9 +25,10 @@ fn ringless<'a>(
 ) -> Result<StyleContext<'a>, Ended>
     ensures { IfOk result (λ context. HasNoRing (context_source context).style.macros) }
 {
-    match style.ring(alloc)? {
+    let source = StyleLocales::new(style, None, files);
+    match source.ring(alloc)? {
         Some(_) => Err(Ended::Document),
-        None => Ok(StyleContext::new(style, None, files)),
+        None => Ok(StyleContext::of_locales(source)),
     }
 }
 
