@@ -6,6 +6,9 @@ use crate::limits::{MAX_ATTRIBUTES, MAX_DEPTH, MAX_PREFIXES};
 use std::error::Error;
 use std::fmt;
 
+/// The byte order mark, U+FEFF, in UTF-8.
+const BYTE_ORDER_MARK: &[u8] = b"\xef\xbb\xbf";
+
 /// Why there is no tree.
 #[derive(Debug, PartialEq, Eq, Drop)]
 pub enum XmlError {
@@ -102,11 +105,18 @@ pub fn place_at(text: &str, offset: usize) -> Place
     ensures line { result.line ≡ newline_count (take offset text.now) + 1 }
     ensures column { result.column ≤ offset + 1 }
 {
+    place_in(text.as_bytes(), offset)
+}
+
+/// The same in the bytes of a text.
+pub(crate) fn place_in(bytes: &[u8], offset: usize) -> Place
+    ensures line { result.line ≡ newline_count (take offset bytes.now) + 1 }
+    ensures column { result.column ≤ offset + 1 }
+{
     let mut place = Place {
         line: 1,
-        column: usize::from(!text.starts_with('\u{feff}')),
+        column: usize::from(!bytes.starts_with(BYTE_ORDER_MARK)),
     };
-    let bytes = text.as_bytes();
     for byte in &bytes[..offset.min(bytes.len())] {
         if *byte == b'\n' {
             place.line += 1;

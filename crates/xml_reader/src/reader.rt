@@ -4,7 +4,7 @@ ghost use Rattle.xml_reader.specs.Places.{IsErrorIn};
 ghost use Rattle.xml_reader.specs.Trees.{IsWithinLimits};
 
 use crate::declaration::skip_declaration;
-use crate::error::{Fault, Wanted, XmlError, place_at};
+use crate::error::{Fault, Wanted, XmlError, place_in};
 use crate::nest::Nest;
 use crate::scan::{skip_remark, skip_remarks, split_at_mark};
 use crate::source::Source;
@@ -31,28 +31,29 @@ pub fn read(alloc: Global, text: &str) -> Result<Element, XmlError>
 /// # Errors
 ///
 /// Those of `read`, and `Malformed` with `Wanted::Utf8` at the first byte that is no part of UTF-8.
-pub fn read_bytes(alloc: Global, bytes: &[u8]) -> Result<Element, XmlError> {
+pub fn read_bytes(alloc: Global, bytes: &[u8]) -> Result<Element, XmlError>
+    ensures tree { IfOk result (IsWithinLimits (length bytes.now)) }
+    ensures error { IfErr result (IsErrorIn bytes.now) }
+{
     match str::from_utf8(bytes) {
         Ok(text) => read(alloc, text),
-        Err(error) => {
-            let (front, behind) = bytes.split_at(error.valid_up_to());
-            Err(refused_byte(alloc, front, behind))
-        }
+        Err(error) => Err(refused_byte(alloc, bytes, error.valid_up_to())),
     }
 }
 
-/// The error where bytes go on with what is no UTF-8.
-fn refused_byte(alloc: Global, front: &[u8], behind: &[u8]) -> XmlError {
-    let byte = behind.first().copied().unwrap_or(0);
-    let Ok(found) = format!(in alloc; "\\x{byte:02x}") else {
+/// The error of bytes that are UTF-8 only up to an offset.
+fn refused_byte(alloc: Global, bytes: &[u8], offset: usize) -> XmlError
+    requires { offset < length bytes.now }
+    ensures { IsErrorIn bytes.now result }
+{
+    let Ok(found) = format!(in alloc; "\\x{:02x}", bytes[offset]) else {
         return XmlError::OutOfMemory;
     };
-    let text = str::from_utf8(front).unwrap_or("");
     let fault = Fault {
         wanted: Wanted::Utf8,
         found,
     };
-    XmlError::Malformed(fault, place_at(text, text.len()))
+    XmlError::Malformed(fault, place_in(bytes, offset))
 }
 
 /// The element of the document that the text is.

@@ -16,13 +16,14 @@ fn attribute<'a>(source: Source, text: &'a str) -> Result<(Attribute, &'a str), 
     ensures shorter { IfOk result (λ p. length p.1.now < length text.now) }
     ensures place { IfOk result (λ p. p.0.offset + length text.now ≡ source.length) }
 {
+    let offset = source.offset_of(text);
     let (name, rest) = name(text)?;
     let rest = expect("=", skip_space(rest), Wanted::Equals)?;
     let (value, rest) = value(source.alloc, skip_space(rest))?;
     let attribute = Attribute {
         name: String::from_str(source.alloc, name)?,
         value,
-        offset: source.offset_of(text),
+        offset,
     };
     Ok((attribute, rest))
 }

@@ -1,5 +1,6 @@
 //! The tree of a document.
-ghost use Rattle.std.specs.Prelude.{ℕ, ◌+◌, ◌≤◌, length, max};
+ghost use Rattle.std.specs.Prelude.{◌≡◌, ℕ, ◌+◌, ◌≤◌, bytes_eq, find, length, max, string_bytes};
+ghost use Rattle.std.specs.Option.{option_copied, option_map};
 ghost use Rattle.std.specs.Iterator.{at_most};
 
 use std::alloc::{AllocError, Global};
@@ -43,7 +44,10 @@ impl Element {
     ghost use Rattle.xml_reader.specs.Trees.{Own, greatest_of, greatest_of_part};
 
     /// The value of the attribute of this name.
-    pub fn attribute(&self, name: &str) -> Option<&str> {
+    pub fn attribute(&self, name: &str) -> Option<&str>
+        ensures { option_copied result ≡ option_map (λ a. string_bytes a.value)
+            (find (λ a. bytes_eq (string_bytes a.name) name.now) self.now.attributes.items) }
+    {
         self.attributes
             .iter()
             .find(|attribute| attribute.name.as_str() == name)
