@@ -14,6 +14,8 @@ from . import _faults
 INTERRUPTED = 130
 """The exit status of a command that Ctrl-C ended."""
 
+_STACK = 64 * 1024 * 1024
+
 
 class OutputFailed(OSError):
     """Standard output can't be written."""
@@ -94,7 +96,8 @@ def progress(what: Union[str, Callable[[], str]]) -> Iterator[None]:
 
 def interruptible(work: Callable[[], int]) -> int:
     """The exit status of some work. Ctrl-C ends the process and its children at once, with a status
-    of its own, also in a call of the library: so the work is done in a thread of its own."""
+    of its own, also in a call of the library: so the work is done in a thread of its own, which has
+    more stack than others."""
     if threading.current_thread() is not threading.main_thread():
         return work()
     outcome: List[Union[int, BaseException]] = []
@@ -105,9 +108,11 @@ def interruptible(work: Callable[[], int]) -> int:
         except BaseException as error:
             outcome.append(error)
 
+    before = threading.stack_size(_STACK)
     worker = threading.Thread(target=run, daemon=True)
     try:
         worker.start()
+        threading.stack_size(before)
         worker.join()
     except KeyboardInterrupt:
         _end_at_once()

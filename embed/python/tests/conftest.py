@@ -1,5 +1,7 @@
 """What the tests share: the library where it is built, and what stands in for it."""
+import json
 import os
+import subprocess
 import sys
 
 import pytest
@@ -82,3 +84,61 @@ def example():
         with open(f'{ROOT}/examples/{name}', encoding='utf-8') as file:
             return file.read()
     return read
+
+
+REFERENCES = [
+    {'id': 'doe99', 'title': 'On Order', 'author': [{'family': 'Doe', 'given': 'Jane'}],
+     'issued': {'date-parts': [[1999]]}},
+    {'id': 'roe00', 'title': 'A Reply', 'author': [{'family': 'Roe', 'given': 'Richard'}],
+     'issued': {'date-parts': [[2000]]}},
+    {'id': 'doe01', 'title': 'More', 'author': [{'family': 'Doe', 'given': 'Jane'}],
+     'issued': {'date-parts': [[2001]]}},
+    {'id': 'äh b', 'title': 'Umlauts', 'author': [{'family': 'Äh'}],
+     'issued': {'date-parts': [[1900]]}},
+]
+
+FILTER = '''#!{python}
+import sys
+from gamhilon import _library
+from gamhilon.pandoc_filter import main
+if {is_model}:
+    from stand_ins import ModelOfTheLibrary
+    _library._library = _library.Library(ModelOfTheLibrary())
+sys.exit(main())
+'''
+
+
+@pytest.fixture(params=['model', 'library'])
+def pandoc(request, tmp_path):
+    """Runs pandoc over a text, and gives what it writes and what it says; first over the model of
+    the library."""
+    is_model = request.param == 'model'
+    if not is_model:
+        request.getfixturevalue('built')
+    (tmp_path / 'refs.json').write_text(json.dumps(REFERENCES))
+    script = tmp_path / 'filter.py'
+    script.write_text(FILTER.format(python=sys.executable, is_model=is_model))
+    script.chmod(0o755)
+
+    def run(text, *words, to='plain', own=True, **metadata):
+        if text is not None:
+            metadata = {'bibliography': 'refs.json', **metadata}
+        fields = [f'--metadata={name.replace("_", "-")}={value}'
+                  for name, value in metadata.items()]
+        way = ['--filter', str(script)] if own else ['--citeproc']
+        environment = {**os.environ, 'PYTHONPATH': f'{PACKAGE}{os.pathsep}{PACKAGE}/tests'}
+        done = subprocess.run(['pandoc', '-f', 'markdown', '-t', to, '--wrap=none', *fields, *way,
+                               *words],
+                              input=None if text is None else text.encode(),
+                              capture_output=True, cwd=tmp_path, env=environment, timeout=60)
+        return done.stdout.decode(), done.stderr.decode(), done.returncode
+    return run
+
+
+@pytest.fixture
+def known():
+    """For tests that compare with what pandoc's own --citeproc writes."""
+    version = subprocess.run(['pandoc', '--version'], capture_output=True,
+                             text=True).stdout.split()[1]
+    if not version.startswith('2.17'):
+        pytest.skip(f'pandoc is {version}, and what it writes is known of 2.17')

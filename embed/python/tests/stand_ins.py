@@ -7,24 +7,26 @@ import sys
 MODEL = os.path.normpath(f'{os.path.dirname(os.path.abspath(__file__))}/../../../tests/model')
 
 
-def driven():
-    """tests/model/driven.py, which finds its neighbours beside it."""
+def of_model(name):
+    """A module of tests/model, which finds its neighbours beside it."""
     sys.path.insert(0, MODEL)
     try:
-        return importlib.import_module('driven')
+        return importlib.import_module(name)
     finally:
         sys.path.remove(MODEL)
 
 
 class MadeUpLibrary:
-    """Stands in for the shared library: ends each call with a status, or with a text as its answer, and counts the calls, those
-    of gamhilon_check_limits by themselves."""
+    """Stands in for the shared library: ends each call with a status, or with a text as its answer,
+    and counts the calls, those of gamhilon_check_limits by themselves."""
 
-    def __init__(self, text=b'', status=0, fault=None, fault_status=0, ring=(0, 0, 0), limits_status=0):
+    def __init__(self, text=b'', status=0, fault=None, fault_status=0, ring=(0, 0, 0),
+                 limits_status=0):
         self.text, self.status, self.ring, self.calls = text, status, ring, []
         self.limits_status, self.limits_calls = limits_status, []
         told = fault or {'pointer': '', 'found': 'an object', 'wanted': 'something else'}
-        self.gamhilon_find_fault = lambda *given: self._put(json.dumps(told).encode(), fault_status, *given)
+        self.gamhilon_find_fault = lambda *given: self._put(json.dumps(told).encode(), fault_status,
+                                                       *given)
 
     def gamhilon_render_text(self, *given):
         return self._put(self.text, self.status, *given)
@@ -59,5 +61,29 @@ class ModelOfTheDriver(MadeUpLibrary):
     """Stands in for a library that has the driven call: the model of the repository answers it."""
 
     def gamhilon_drive(self, document, document_length, *buffer):
-        kind, value = driven().drive(json.loads(document))
+        kind, value = of_model('driven').drive(json.loads(document))
         return self._put(json.dumps({kind: value}).encode(), 0, document, document_length, *buffer)
+
+
+class ModelOfTheLibrary(ModelOfTheDriver):
+    """Stands in for the library: the model of the repository answers documents too. It has no
+    limits, and doesn't tell where a document is wrong."""
+
+    def gamhilon_render_text(self, document, *given):
+        return self._answer(document, given, lambda it: it.answer()[1])
+
+    def gamhilon_render_json(self, document, *given):
+        return self._answer(document, given, lambda it: json.dumps(it.data()))
+
+    def gamhilon_find_ring(self, document, document_length, ring):
+        return self._status(document)
+
+    def _answer(self, document, given, text_of):
+        status = self._status(document)
+        text = b'' if status else text_of(of_model('model').Document(json.loads(document))).encode()
+        return self._put(text, status, document, *given)
+
+    def _status(self, document):
+        if of_model('form').refusal(document) is not None:
+            return 2
+        return of_model('model').Document(json.loads(document)).status()

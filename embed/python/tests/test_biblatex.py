@@ -216,8 +216,8 @@ def test_roles(item):
               'illustrator': 'I'}
     made, lost = item('inbook', **fields)
     variables = ['author', 'container-author', 'translator', 'editor', 'illustrator']
-    assert {it: made[it] for it in variables} == {it: [{'family': it2}] for it,
-                                                  it2 in zip(variables, 'ABTEI')}
+    wanted = {it: [{'family': name}] for it, name in zip(variables, 'ABTEI')}
+    assert {it: made[it] for it in variables} == wanted
     assert lost == []
 
 

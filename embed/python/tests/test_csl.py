@@ -250,6 +250,29 @@ def test_cites_are_sorted_and_tell_their_places(render):
     assert [it['meta'] for it in told.answer.citations[0].content if 'meta' in it] == [{'entry': 1}, {'entry': 0}]
 
 
+def test_cites_that_stand_apart_are_not_collapsed_and_hidden_ones_are_listed(render):
+    entries = [entry(key, 'Doe', year=1999) for key in ('one', 'two', 'three')]
+    how = {'attributes': COLLAPSE.format('year'), 'bibliography': BY_TITLE}
+    cites = [[{'id': 'one'}, {'id': 'two', 'apart': True}], [{'id': 'three', 'hidden': True}]]
+    told = render(BOTH, entries, *cites, **how)
+    assert told.citations == ['(Doe 1999a; Doe 1999c)', '']
+    assert list(told.bibliography) == ['one', 'three', 'two']
+
+
+def test_what_a_style_is(tmp_path, citeproc):
+    path = tmp_path / 'style.csl'
+    path.write_text('<style xmlns="http://purl.org/net/xbiblio/csl" version="1.0" class="note">'
+                    '<citation><layout suffix="."><text variable="title"/></layout></citation></style>')
+    assert csl.about(str(path)) == csl.About(is_note=True, has_bibliography=False, suffix='.')
+    with pytest.raises(csl.StyleMissing):
+        csl.about('no-such-style')
+
+
+def test_spans_that_keep_case_are_not_written(render):
+    title = 'On <span class="nocase">de novo <i>x</i></span> and <span class="nocase">b</span>'
+    assert render('<text variable="title"/>', [entry('one', title=title)], ['one']).citations == ['(On de novo <i>x</i> and b)']
+
+
 # Collapsing
 
 COLLAPSE = 'disambiguate-add-year-suffix="true" collapse="{}" after-collapse-delimiter=" / "'

@@ -2,11 +2,11 @@
 
     from gamhilon import csl
 
-    rendered = csl.render('apa', entries, [[{'id': 'doe99', 'locator': '4'}], [{'id': 'roe'}, {'id': 'doe99'}]])
-    print(rendered.citations, rendered.bibliography)
+    rendered = csl.render('apa', entries, [[{'id': 'doe99', 'locator': '4'}], [{'id': 'roe'}, {'id':
+    'doe99'}]]) print(rendered.citations, rendered.bibliography)
 
-`entries` is CSL-JSON. It needs Debian's python3-citeproc, or `pip install citeproc-py`; names of styles are those of
-citation-style-language-styles. docs/STYLES.md tells what comes out of it.
+`entries` is CSL-JSON. It needs Debian's python3-citeproc, or `pip install citeproc-py`; names of
+styles are those of citation-style-language-styles. docs/STYLES.md tells what comes out of it.
 """
 from __future__ import annotations
 
@@ -21,7 +21,10 @@ from .cites import Cite, CiteLike, citations_of, note_of
 from .errors import CiteprocFailed, CiteprocMissing, StyleMissing
 from .marks import cleaned
 
-__all__ = ['Cite', 'CiteLike', 'CiteprocFailed', 'CiteprocMissing', 'Rendered', 'StyleMissing', 'document', 'render']
+__all__ = [
+    'About', 'Cite', 'CiteLike', 'CiteprocFailed', 'CiteprocMissing', 'Rendered', 'StyleMissing',
+    'about', 'document', 'render',
+]
 
 _STYLE, _APART = 'style', 'style, cites apart'
 _NOCASE = re.compile(r'<span class="nocase">((?:(?!<span|</span>).)*)</span>', re.DOTALL)
@@ -40,23 +43,51 @@ class Rendered:
 
     @property
     def bibliography(self) -> Dict[str, str]:
-        """The text of each item, by the id of its entry, in their order; empty where the style has no bibliography."""
+        """The text of each item, by the id of its entry, in their order; empty where the style has
+        no bibliography."""
         items = self.answer.bibliography.items if self.answer.bibliography else []
-        return {it.key: (plain(it.first_field) if it.first_field else '') + plain(it.content) for it in items}
+        return {it.key: (plain(it.first_field) if it.first_field else '') + plain(it.content)
+                for it in items}
 
 
-def render(style: str, entries: Sequence[Dict[str, Any]], citations: Sequence[Sequence[CiteLike]], *,
-           locale: Optional[str] = None) -> Rendered:
-    """Citations and the bibliography in a style: a name (`apa`), or the path of a .csl file. `locale` stands in for the
-    style's own.
+@dataclass(frozen=True)
+class About:
+    """What a style is: whether it is one of notes, whether it has a bibliography, and what the
+    layout of its citations ends with."""
 
-    Raises CiteprocMissing where citeproc-py is missing, StyleMissing (a ValueError) where there is no such style, CiteprocFailed
-    where citeproc-py ends in an error, and ValueError where a cite is of an entry that isn't there.
-    """
+    is_note: bool
+    has_bibliography: bool
+    suffix: str
+
+
+def about(style: str) -> About:
+    """What a style is. Raises CiteprocMissing and StyleMissing, as `render` does."""
+    root = _styles().load(style)
+    return About(root.get('class') == 'note', root.bibliography is not None,
+                 root.citation.layout.get('suffix', ''))
+
+
+def _styles() -> Any:
     try:
-        from . import host as _host, style as _style
+        from . import style as _style
     except ImportError as error:
-        raise CiteprocMissing(f'{error}: install python3-citeproc (Debian), or citeproc-py by pip') from error
+        raise CiteprocMissing(f'{error}: install python3-citeproc (Debian), '
+                              'or citeproc-py by pip') from error
+    return _style
+
+
+def render(style: str, entries: Sequence[Dict[str, Any]], citations: Sequence[Sequence[CiteLike]],
+           *,
+           locale: Optional[str] = None) -> Rendered:
+    """Citations and the bibliography in a style: a name (`apa`), or the path of a .csl file.
+    `locale` stands in for the style's own.
+
+    Raises CiteprocMissing where citeproc-py is missing, StyleMissing (a ValueError) where there is
+    no such style, CiteprocFailed where citeproc-py ends in an error, and ValueError where a cite is
+    of an entry that isn't there.
+    """
+    _style = _styles()
+    from . import host as _host
     known = _by_key(entries)
     given = citations_of(citations)
     cited = list(dict.fromkeys(it.id for citation in given for it in citation))
@@ -71,16 +102,17 @@ def render(style: str, entries: Sequence[Dict[str, Any]], citations: Sequence[Se
 
 def document(root: Any, entries: Dict[str, Dict[str, Any]], citations: Sequence[Sequence[Cite]],
              order: List[str]) -> Dict[str, Any]:
-    """The driven document (docs/DRIVEN.md) of citations in a style, of which this is the root element."""
+    """The driven document (docs/DRIVEN.md) of citations in a style, of which this is the root
+    element."""
     from . import attributes
     style = attributes.driven_style(root)
     dated = csl_json.entries([entries[key] for key in order]).entries
     return {
         'styles': {_STYLE: style, _APART: attributes.unshrunk(style)},
-        'entries': [{key: it for key, it in entry.items() if key == 'key' or key in csl_json.DATES} for entry in dated],
+        'entries': [{key: it for key, it in entry.items() if key == 'key' or key in csl_json.DATES}
+                    for entry in dated],
         'requests': [_request(place, citation) for place, citation in enumerate(citations)],
-        'bibliography': {'style': _STYLE, 'order': order},
-        'rounds': 'full',
+        'bibliography': {'style': _STYLE, 'order': order}, 'rounds': 'full',
     }
 
 
@@ -88,11 +120,13 @@ def _request(place: int, citation: Sequence[Cite]) -> Dict[str, Any]:
     """The request for a citation, which stands in a note of its own where none is told."""
     note = note_of(citation)
     style = _STYLE if all(it.is_plain for it in citation) else _APART
-    return {'style': style, 'note': place + 1 if note is None else note, 'items': [it.item() for it in citation]}
+    return {'style': style, 'note': place + 1 if note is None else note,
+            'items': [it.item() for it in citation]}
 
 
 def _by_key(entries: Sequence[Dict[str, Any]]) -> Dict[str, Dict[str, Any]]:
-    """The first entry of each id. Titles have no spans that keep their case, which citeproc-py would write."""
+    """The first entry of each id. Titles have no spans that keep their case, which citeproc-py
+    would write."""
     found: Dict[str, Dict[str, Any]] = {}
     for entry in _without_nocase(cleaned(list(entries))):
         found.setdefault(str(entry['id']), {'type': 'document', **entry, 'id': str(entry['id'])})
@@ -109,7 +143,8 @@ def _without_nocase(value: Any) -> Any:
     return value
 
 
-def _in_given_order(answer: Answer, sorted_citations: Sequence[Sequence[Cite]], given: Sequence[Sequence[Cite]]) -> Answer:
+def _in_given_order(answer: Answer, sorted_citations: Sequence[Sequence[Cite]],
+                    given: Sequence[Sequence[Cite]]) -> Answer:
     """The answer, in which each cite tells its place among the cites as they were handed in."""
     for citation, ordered, before in zip(answer.citations, sorted_citations, given):
         places = {id(it): place for place, it in enumerate(before)}

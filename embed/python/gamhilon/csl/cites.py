@@ -6,13 +6,16 @@ from typing import Any, Dict, List, Mapping, Optional, Sequence, Union
 
 from .marks import cleaned
 
-_KINDS = ('book', 'chapter', 'figure', 'line', 'note', 'page', 'paragraph', 'part', 'section', 'supplement', 'verse', 'volume')
+_KINDS = ('book', 'chapter', 'figure', 'line', 'note', 'page', 'paragraph', 'part', 'section',
+          'supplement', 'verse', 'volume')
 
 
 @dataclass(frozen=True)
 class Cite:
-    """A cite of an entry, by its `id`. `label` is the kind of the locator as CSL names it. The affixes are written as they
-    are, so `see ` has a space. `note` is the number of the note in which the citation stands."""
+    """A cite of an entry, by its `id`. `label` is the kind of the locator as CSL names it. The
+    affixes are written as they are, so `see ` has a space. `note` is the number of the note in
+    which the citation stands. A cite that stands `apart` has words of its own around it that are
+    written elsewhere; one that is `hidden` isn't shown, and its entry is listed."""
 
     id: str
     locator: Optional[str] = None
@@ -21,22 +24,28 @@ class Cite:
     suffix: str = ''
     suppress_author: bool = False
     note: Optional[int] = None
+    apart: bool = False
+    hidden: bool = False
 
     @property
     def is_plain(self) -> bool:
         """Whether the style may group and collapse the cite."""
-        return not (self.prefix or self.suffix or self.suppress_author)
+        return not (self.prefix or self.suffix or self.suppress_author or self.apart)
 
     def item(self) -> Dict[str, Any]:
         """The item of a request."""
+        made: Dict[str, Any] = {'entry': self.id, **({'hidden': True} if self.hidden else {})}
         if self.locator is None:
-            return {'entry': self.id}
-        kind, text = (self.label, self.locator) if self.label in _KINDS else ('custom', f'{self.label} {self.locator}')
-        return {'entry': self.id, 'locator': [kind, text]}
+            return made
+        is_known = self.label in _KINDS
+        locator = [self.label, self.locator] if is_known else ['custom',
+                                                               f'{self.label} {self.locator}']
+        return {**made, 'locator': locator}
 
 
 CiteLike = Union[Cite, Mapping[str, Any]]
-"""A cite, or an object of CSL-JSON: `id`, `locator`, `label`, `prefix`, `suffix`, `suppress-author`, `note`."""
+"""A cite, or an object of CSL-JSON: `id`, `locator`, `label`, `prefix`, `suffix`,
+`suppress-author`, `note`, `apart`, `hidden`."""
 
 
 def cite_of(value: CiteLike) -> Cite:
