@@ -59,7 +59,8 @@ def proved(*words):
         try:
             return ended(words[0], process.wait(PAUSE))
         except subprocess.TimeoutExpired:
-            done = sum(os.path.exists(f'{ROOT}/crates/{it}/out/rlib/stamp') for it in below)
+            done = sum(os.path.exists(f'{ROOT}/crates/{it}/out/rlib/{it}.rlib/format')
+                       for it in below)
             minutes, seconds = divmod(round(time.monotonic() - began), 60)
             at_work = ', '.join(crates_at_work())
             tell(f'{minutes} min {seconds} s: {done} of {len(below)} libraries stand'
