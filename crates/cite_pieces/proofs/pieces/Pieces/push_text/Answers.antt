@@ -1,0 +1,6 @@
+use Rattle.std.proofs.Common.{refl}
+use Rattle.cite_pieces.proofs.BalanceLemmas.{open_behind-append}
+use Rattle.cite_pieces.proofs.pieces.Pieces.push_text.Goals as goal
+
+pub invariant_of-self-2 : goal.invariant_of-self-2
+invariant_of-self-2 g c = rw (c.in_ok-push.ensures.items, open_behind-append) (rw c.self.invariant refl)
