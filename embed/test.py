@@ -417,13 +417,13 @@ def try_wheel(folder):
 def without_rt(folder):
     """A PATH in which there is all but the toolchain."""
     os.makedirs(f'{folder}/bin', exist_ok=True)
-    for folder in reversed(os.environ['PATH'].split(':')):
-        for name in os.listdir(folder) if os.path.isdir(folder) else []:
+    for entry in reversed(os.environ['PATH'].split(':')):
+        for name in os.listdir(entry) if os.path.isdir(entry) else []:
             at = f'{folder}/bin/{name}'
             if name not in ('rt', 'rattle'):
                 if os.path.lexists(at):
                     os.remove(at)
-                os.symlink(f'{folder}/{name}', at)
+                os.symlink(f'{entry}/{name}', at)
     return f'{folder}/bin'
 
 

@@ -1,6 +1,7 @@
 """What the tests share: the library where it is built, and what stands in for it."""
 import json
 import os
+import signal
 import subprocess
 import sys
 
@@ -14,6 +15,11 @@ sys.path.insert(0, PACKAGE)
 from gamhilon import _library  # noqa: E402
 
 from stand_ins import MadeUpLibrary, ModelOfTheDriver  # noqa: E402
+
+
+def heed_interrupts():
+    """Has a process that is about to start heed SIGINT, which one in the background ignores."""
+    signal.signal(signal.SIGINT, signal.SIG_DFL)
 
 
 @pytest.fixture

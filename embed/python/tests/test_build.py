@@ -9,17 +9,18 @@ import time
 import zipfile
 
 import pytest
-from conftest import PACKAGE, ROOT
+from conftest import PACKAGE, ROOT, heed_interrupts
 
 pytestmark = pytest.mark.skipif(not all(map(shutil.which, ('cc', 'objcopy', 'ar', 'nm'))),
                                 reason='there is no C compiler')
 
-CALLS = ('drive', 'drive_fault', 'fault', 'limits', 'print', 'print_json', 'ring')
+CALLS = ('check_limits', 'drive', 'find_driven_fault', 'find_fault', 'find_ring', 'render_json',
+         'render_text')
 RT = '''#!/bin/sh
 if [ "$1" = version ]; then echo kit-1; exit; fi
-mkdir -p ../one/out/rlib out
+mkdir -p ../one/out/rlib/one.rlib out
 sleep {}
-touch ../one/out/rlib/stamp
+touch ../one/out/rlib/one.rlib/format
 sleep {}
 cp {} out/libgamhilon_c.a
 exit {}
@@ -36,7 +37,8 @@ def tree(tmp_path, monkeypatch):
         shutil.copy(f'{PACKAGE}/../{name}', root / 'embed' / name)
     shutil.copytree(PACKAGE, root / 'embed' / 'python',
                     ignore=shutil.ignore_patterns('__pycache__'))
-    shutil.copy(f'{ROOT}/LICENSE', root)
+    for name in ('LICENSE', 'LICENSE-MIT', 'LICENSE-APACHE'):
+        shutil.copy(f'{ROOT}/{name}', root)
     (root / 'crates' / 'gamhilon_c').mkdir(parents=True)
     crates = 'one: json\ntwo: one\ngamhilon_c staticlib: two  # the library\n'
     (root / 'crates.txt').write_text(crates)
@@ -123,7 +125,7 @@ def test_an_interrupt_has_no_traceback(tree):
     root = tree(60)
     words = [sys.executable, 'embed/build.py']
     process = subprocess.Popen(words, cwd=root, stdout=subprocess.PIPE, stderr=subprocess.PIPE,
-                               start_new_session=True)
+                               start_new_session=True, preexec_fn=heed_interrupts)
     assert b'rt lib' in process.stdout.readline()
     while not os.path.isdir(root / 'crates' / 'one' / 'out'):
         assert process.poll() is None

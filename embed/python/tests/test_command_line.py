@@ -8,7 +8,7 @@ import sys
 import time
 
 import pytest
-from conftest import PACKAGE, ROOT, MadeUpLibrary
+from conftest import PACKAGE, ROOT, MadeUpLibrary, heed_interrupts
 
 import gamhilon
 from gamhilon import __main__ as command_line
@@ -220,7 +220,7 @@ def slow(words, call, **how):
     """The command over a library that takes its time in a call of C, as a process."""
     environment = {**os.environ, 'PYTHONPATH': f'{PACKAGE}{os.pathsep}{os.path.dirname(__file__)}'}
     return subprocess.Popen([sys.executable, '-c', SLOW.format(call), *words], env=environment,
-                            stdout=subprocess.PIPE, **how)
+                            stdout=subprocess.PIPE, preexec_fn=heed_interrupts, **how)
 
 
 def told_to_a_terminal(words, call):
