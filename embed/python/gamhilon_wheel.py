@@ -16,7 +16,7 @@ HERE = os.path.dirname(os.path.abspath(__file__))
 ROOT = os.path.normpath(f'{HERE}/../..')
 OUT = os.path.normpath(f'{HERE}/../out')
 NAME = 'gamhilon'
-SUFFIXES = ('.py', '.json', '.typed')
+SUFFIXES = ('.py', '.json', '.css', '.typed')
 METADATA = """Metadata-Version: 2.1
 Name: {name}
 Version: {version}

@@ -10,6 +10,7 @@ _ADDRESS = re.compile(
     r'https?://[^\s<>"\u00a0\u201c\u201d\u00ab\u00bb]+'
     r'|(?<![\w./])10\.\d{4,9}/[^\s<>"\u00a0\u201c\u201d\u00ab\u00bb]+', re.IGNORECASE)
 _CLOSING = {')': '(', ']': '[', '}': '{'}
+_PUNCTUATION = '.,;:!?\'\u2019'
 
 
 def linked(parts: Sequence[Piece]) -> List[Piece]:
@@ -69,12 +70,12 @@ def _split(piece: Piece, after: Optional[Piece]) -> Iterator[Piece]:
 
 
 def _without_punctuation(address: str) -> str:
-    """An address without the punctuation of its sentence."""
-    while address:
-        last = address[-1]
-        opening = _CLOSING.get(last)
-        is_balanced = opening is not None and address.count(opening) >= address.count(last)
-        if last not in '.,;:!?\'\u2019' and (opening is None or is_balanced):
-            break
-        address = address[:-1]
-    return address
+    """An address without the punctuation of its sentence, and without brackets that close none of
+    its own."""
+    end = len(address)
+    excess = {it: address.count(it) - address.count(opening) for it, opening in _CLOSING.items()}
+    while end and (address[end - 1] in _PUNCTUATION or excess.get(address[end - 1], 0) > 0):
+        end -= 1
+        if address[end] in excess:
+            excess[address[end]] -= 1
+    return address[:end]

@@ -7,12 +7,13 @@ import sys
 import threading
 import time
 from contextlib import contextmanager
-from typing import Any, Callable, Iterator, List, NoReturn, Union
+from typing import Any, Callable, Iterator, List, NoReturn, Tuple, Union
 
 from . import _faults
+from .errors import LimitExceeded, Refused
 
-INTERRUPTED = 130
-"""The exit status of a command that Ctrl-C ended."""
+INPUT_OR_OUTPUT_FAILED, NOT_OF_ITS_FORM, INTERRUPTED = 1, 2, 130
+"""Exit statuses: where reading or writing fails, where a file isn't of its form, and by Ctrl-C."""
 
 _STACK = 64 * 1024 * 1024
 
@@ -30,6 +31,18 @@ def say(message: str) -> None:
     """A line on standard error, where there is one."""
     if sys.stderr is not None:
         print(f'gamhilon: {_faults.in_one_line(message)}', file=sys.stderr, flush=True)
+
+
+def reason_and_status(error: Exception) -> Tuple[str, int]:
+    """What is said of a file of which nothing comes, and the exit status."""
+    if isinstance(error, LimitExceeded):
+        option = '--depth' if error.status == 7 else '--elements'
+        return f'{error} ({option} raises the limit)', error.status
+    if isinstance(error, Refused):
+        return str(error), error.status
+    if isinstance(error, OSError):
+        return error.strerror or str(error), INPUT_OR_OUTPUT_FAILED
+    return str(error), NOT_OF_ITS_FORM
 
 
 def read(path: str) -> bytes:

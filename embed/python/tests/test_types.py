@@ -5,6 +5,7 @@ import sys
 
 import pytest
 from conftest import PACKAGE
+from test_documented_code import block
 
 pytest.importorskip('mypy', reason='there is no mypy')
 
@@ -31,7 +32,8 @@ def pages(path: str) -> List[str]:
     if isinstance(told, gamhilon.Missing):
         for task in told.tasks:
             suffix: str = task.year_suffix
-        answer = gamhilon.driven(document, lambda it: gamhilon.Written([{'text': it.entry}], first_name=it.name_forms))
+        answer = gamhilon.driven(document, lambda it: gamhilon.Written([{'text': it.entry}],
+                                                                       first_name=it.name_forms))
     items = answer.bibliography.items if answer.bibliography else []
     return [it.key + gamhilon.to_html(it.content) for it in items] + [str(gamhilon.version())]
 '''
@@ -45,14 +47,31 @@ gamhilon.render({}, gamhilon.Limits(1, 1))
 
 def mypy(folder, *words):
     environment = {**os.environ, 'MYPYPATH': ''}
-    done = subprocess.run([sys.executable, '-m', 'mypy', '--strict', '--cache-dir', str(folder / 'cache'), *words],
+    done = subprocess.run([sys.executable, '-m', 'mypy', '--strict', '--cache-dir',
+                           str(folder / 'cache'), *words],
                           cwd=folder,
-                          env={**environment, 'PYTHONPATH': PACKAGE}, capture_output=True, text=True)
+                          env={**environment, 'PYTHONPATH': PACKAGE}, capture_output=True,
+                          text=True)
     return done.stdout
 
 
 def test_the_package_passes(tmp_path):
     assert mypy(tmp_path, f'{PACKAGE}/gamhilon').startswith('Success')
+
+
+DOCUMENTED = [
+    ('README.md', 'gamhilon.render(document)', ''),
+    ('embed/README.md', 'gamhilon.render(document)', ''),
+    ('README.md', 'gamhilon.csl.render', 'import gamhilon\n'),
+]
+
+
+@pytest.mark.parametrize('name, words, before', DOCUMENTED)
+def test_the_lines_of_the_documentation_pass(tmp_path, name, words, before):
+    (tmp_path / 'documented.py').write_text(before + block(name, words))
+    (tmp_path / 'gamhilon').symlink_to(f'{PACKAGE}/gamhilon')
+    told = mypy(tmp_path, 'documented.py')
+    assert told.startswith('Success'), told
 
 
 def test_callers_see_the_types(tmp_path):
@@ -62,4 +81,5 @@ def test_callers_see_the_types(tmp_path):
     assert os.path.exists(f'{PACKAGE}/gamhilon/py.typed')
     assert mypy(tmp_path, 'user.py').startswith('Success')
     told = mypy(tmp_path, 'wrong.py')
-    assert told.count('wrong.py:3: error') == 1 and 'wrong.py:4: error' in told and 'wrong.py:5: error' in told
+    assert told.count('wrong.py:3: error') == 1
+    assert 'wrong.py:4: error' in told and 'wrong.py:5: error' in told

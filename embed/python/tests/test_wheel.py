@@ -50,7 +50,7 @@ def test_it_has_what_a_user_needs(wheel):
         info = next(it.split('/')[0] for it in names if '.dist-info/' in it)
         for name in ('__init__.py', '__main__.py', 'py.typed', 'libgamhilon.so',
                      'gamhilon_build.json',
-                     'style_documents/note.json', 'csl/__init__.py'):
+                     'style_documents/note.json', 'csl/__init__.py', 'gamhilon.css'):
             assert f'gamhilon/{name}' in names
         assert not any('__pycache__' in it or it.endswith('.pyc') for it in names)
         for name in ('LICENSE', 'LICENSE-MIT', 'LICENSE-APACHE'):

@@ -1,5 +1,5 @@
-"""HTML, Markdown and LaTeX of trees, with texts that try to be more than texts. HTML is read by html.parser, the others
-by pandoc, where it is installed."""
+"""HTML, Markdown and LaTeX of trees, with texts that try to be more than texts. HTML is read by
+html.parser, the others by pandoc, where it is installed."""
 import html.parser
 import itertools
 import json
@@ -14,18 +14,16 @@ from gamhilon._writing import anchor, safe_url
 
 HOSTILE = [
     '<script>alert(1)</script>', '& &amp; &#60;', '"quoted" \'single\'', '</p><div id="x">',
-    '*stars* **two** _under_ __two__',
-    '`code` ``code``', '[a](javascript:x) ![b](c)', r'\textbf{x} \input{/etc/passwd} {x} \\', '$x^2$ 100% #1 ~a~ ^b^ a_b',
-    '# not a heading', '- not a list', '+ not a list', '1. not a list', '(1) not a list', 'a) not a list',
-    'iv. no list', '(@) no list',
-    '> not a quote', '    not code', '| not | a table |', '---', '===', ': not a definition', '% not a title',
-    '@doe99 [@roe]',
-    '``` not code', '~~~ not code', '<!-- no comment -->', 'a -- b --- c ... d', "''a'' ,,b,, <<c>> ?`d !`e",
-    'a\tb\nc\r\nd',
-    'O’Brien & “Sons” – 50 €', '\\', '~', '^', 'a\\', ':smile: a:b', 'http://example.org/a_b*c', '[^1]: no note',
-    '[x]: y', '', ' ', 'e.g. x',
-    'C. Darwin', 'II. x', '\\begin{document}', '\u2028\u2029\x00\x1b[0m', 'A.  b', '10% 5 * 6 * 7', '{#id .class}',
-    '<a@b.c> <http://x.y>', '\u00a0x',
+    '*stars* **two** _under_ __two__', '`code` ``code``', '[a](javascript:x) ![b](c)',
+    r'\textbf{x} \input{/etc/passwd} {x} \\', '$x^2$ 100% #1 ~a~ ^b^ a_b', '# not a heading',
+    '- not a list', '+ not a list', '1. not a list', '(1) not a list', 'a) not a list',
+    'iv. no list', '(@) no list', '> not a quote', '    not code', '| not | a table |', '---',
+    '===', ': not a definition', '% not a title', '@doe99 [@roe]', '``` not code', '~~~ not code',
+    '<!-- no comment -->', 'a -- b --- c ... d', "''a'' ,,b,, <<c>> ?`d !`e", 'a\tb\nc\r\nd',
+    'O’Brien & “Sons” – 50 €', '\\', '~', '^', 'a\\', ':smile: a:b', 'http://example.org/a_b*c',
+    '[^1]: no note', '[x]: y', '', ' ', 'e.g. x', 'C. Darwin', 'II. x', '\\begin{document}',
+    '\u2028\u2029\x00\x1b[0m', 'A.  b', '10% 5 * 6 * 7', '{#id .class}', '<a@b.c> <http://x.y>',
+    '\u00a0x',
 ]
 FORMATS = [('normal', 'normal'), ('italic', 'normal'), ('normal', 'bold'), ('italic', 'bold')]
 # Commands of LaTeX's kernel that Debian's pandoc doesn't read, and what it reads as the same.
@@ -39,7 +37,8 @@ def node(text, style='normal', weight='normal', **more):
 
 def spaced(text):
     """A text as it is compared: with single spaces, and no characters that show nothing."""
-    shown = ''.join(' ' if unicodedata.category(it) in ('Cc', 'Zl', 'Zp') and it in '\t\n\v\f\r\x85\u2028\u2029' else it
+    shown = ''.join(' ' if unicodedata.category(it) in ('Cc', 'Zl', 'Zp')
+                    and it in '\t\n\v\f\r\x85\u2028\u2029' else it
                     for it in text if unicodedata.category(it) != 'Cc' or it in '\t\n\v\f\r\x85')
     return ' '.join(shown.split())
 
@@ -70,24 +69,27 @@ def test_html_has_the_letters_and_no_tags_but_its_own(text, style, weight):
     read = Reader(gamhilon.to_html([node(text, style, weight)]))
     assert spaced(read.text) == spaced(text)
     formats = {'i': 'Emph', 'b': 'Strong'}
-    assert {formats[tag] for tag, _ in read.tags} == wanted_formats(text, style, weight) and not read.open
+    assert {formats[tag] for tag, _ in read.tags} == wanted_formats(text, style,
+                                                                    weight) and not read.open
 
 
 @pytest.mark.parametrize('url', [
-    'javascript:alert(1)', 'JavaScript:alert(1)', ' javascript:alert(1)', 'java\nscript:alert(1)', '\x01javascript:x',
-    'data:text/html,x',
-    'vbscript:x', 'file:///etc/passwd', '//example.org', 'example.org', '', 'https', 'ht\ttps://x', 'https://x\x00y',
+    'javascript:alert(1)', 'JavaScript:alert(1)', ' javascript:alert(1)', 'java\nscript:alert(1)',
+    '\x01javascript:x', 'data:text/html,x', 'vbscript:x', 'file:///etc/passwd', '//example.org',
+    'example.org', '', 'https', 'ht\ttps://x', 'https://x\x00y',
 ])
 def test_only_safe_addresses_are_links(url):
     tree = [node('shown', url=url)]
     assert safe_url(url) is None
-    assert gamhilon.to_html(tree) == gamhilon.to_markdown(tree) == gamhilon.to_latex(tree) == 'shown'
+    for write in (gamhilon.to_html, gamhilon.to_markdown, gamhilon.to_latex):
+        assert write(tree) == 'shown'
 
 
 @pytest.mark.parametrize('url, wanted', [
     ('https://example.org/a?b="c"&d=<e>', 'https://example.org/a?b=%22c%22&d=%3Ce%3E'),
     ('HTTP://example.org/', 'HTTP://example.org/'), ('mailto:a@b.example', 'mailto:a@b.example'),
-    ('doi:10.1000/182', 'https://doi.org/10.1000/182'), ('https://example.org/é %41', 'https://example.org/%C3%A9%20%41'),
+    ('doi:10.1000/182', 'https://doi.org/10.1000/182'),
+    ('https://example.org/é %41', 'https://example.org/%C3%A9%20%41'),
 ])
 def test_safe_addresses_are_written_as_addresses(url, wanted):
     tree = [node('shown', url=url)]
@@ -96,14 +98,16 @@ def test_safe_addresses_are_written_as_addresses(url, wanted):
 
 
 def inlines_by_pandoc(text, form):
-    done = subprocess.run(['pandoc', '-f', form, '-t', 'json'], input=text.encode(), capture_output=True, check=True)
+    done = subprocess.run(['pandoc', '-f', form, '-t', 'json'], input=text.encode(),
+                          capture_output=True, check=True)
     blocks = json.loads(done.stdout)['blocks']
     assert [it['t'] for it in blocks] in ([], ['Para']), text
     return blocks[0]['c'] if blocks else []
 
 
 def letters(inlines):
-    """The letters of pandoc's inlines, and the formats in them; anything else than texts and formats fails."""
+    """The letters of pandoc's inlines, and the formats in them; anything else than texts and
+    formats fails."""
     text, formats = '', set()
     for it in inlines:
         if it['t'] == 'Str':
@@ -128,7 +132,8 @@ def letters(inlines):
 
 def wanted_formats(text, style, weight):
     """The formats that a text is to have where it shows something."""
-    return {it for it, has in (('Emph', style == 'italic'), ('Strong', weight == 'bold')) if has and spaced(text)}
+    return {it for it, has in (('Emph', style == 'italic'), ('Strong', weight == 'bold')) if has
+            and spaced(text)}
 
 
 @PANDOC
@@ -148,7 +153,8 @@ def test_markdown_is_read_as_its_letters(form, style, weight):
 @PANDOC
 @pytest.mark.parametrize('form', ['markdown', 'commonmark'])
 def test_markdown_keeps_formats_beside_letters(form):
-    cases = list(itertools.product(('a', 'a ', 'a(', '“', 'a*', '-', '1.'), ('b', ' b ', '“b”', '*b*', '-'),
+    cases = list(itertools.product(('a', 'a ', 'a(', '“', 'a*', '-', '1.'),
+                                   ('b', ' b ', '“b”', '*b*', '-'),
                                    ('c', ' c', '”', '.', '*', '-'), FORMATS[1:]))
     written = []
     for first, middle, last, (style, weight) in cases:
@@ -195,37 +201,49 @@ CITE = [node('('), {'meta': {'entry': 0}, 'children': [node('Doe 1999')]}, node(
 
 def test_cites_link_to_their_items():
     keys = ['doe 99', 'roe']
-    bibliography = gamhilon.Bibliography([gamhilon.Item(it, [node('x')]) for it in keys], True, 1, 1)
+    bibliography = gamhilon.Bibliography([gamhilon.Item(it, [node('x')]) for it in keys], True, 1,
+                                         1)
     links = [it for it in Reader(gamhilon.to_html(CITE, keys)).tags if it[0] == 'a']
-    entries = [it for it in Reader(gamhilon.bibliography_to_html(bibliography)).tags if it[1].get('class') == 'csl-entry']
-    assert links == [('a', {'href': '#' + entries[0][1]['id']}), ('a', {'href': 'https://example.org'})]
+    entries = [it for it in Reader(gamhilon.bibliography_to_html(bibliography)).tags
+               if it[1].get('class') == 'csl-entry']
+    assert links == [('a', {'href': '#' + entries[0][1]['id']}),
+                     ('a', {'href': 'https://example.org'})]
     assert len(entries) == 2 and not any(it.isspace() for it in entries[0][1]['id'])
-    assert gamhilon.to_markdown(CITE, keys) == f'([Doe 1999](#{anchor(keys[0])}); [Roe](<https://example.org>))'
+    first = anchor(keys[0])
+    written = f'([Doe 1999](#{first}); [Roe](<https://example.org>))'
+    assert gamhilon.to_markdown(CITE, keys) == written
     assert rf'\hyperlink{{{anchor(keys[0])}}}{{Doe 1999}}' in gamhilon.to_latex(CITE, keys)
     assert rf'\hypertarget{{{anchor(keys[0])}}}' in gamhilon.bibliography_to_latex(bibliography)
-    assert f'<div id="{anchor(keys[0])}" class="csl-entry">' in gamhilon.bibliography_to_markdown(bibliography)
+    written = gamhilon.bibliography_to_markdown(bibliography)
+    assert f'<div id="{first}" class="csl-entry">' in written
 
 
 def test_ids_are_of_safe_characters_and_differ():
-    keys = ['doe99', 'doe 99', 'doe_99', 'doe__20_99', 'doe__99', 'doe_', 'doe__', 'a"b', '<x>', 'é', '', 'doe/99', '_',
+    keys = ['doe99', 'doe 99', 'doe_99', 'doe__20_99', 'doe__99', 'doe_', 'doe__', 'a"b', '<x>',
+            'é', '', 'doe/99', '_',
             '__5f_', 'a#b', 'a%20b']
     ids = [anchor(it) for it in keys]
-    assert len(set(ids)) == len(keys) and all(it.replace('-', 'a').replace('_', 'a').isascii() for it in ids)
+    assert len(set(ids)) == len(keys) and all(it.replace('-', 'a').replace('_', 'a').isascii()
+                                              for it in ids)
     assert all(not set(it) & set(' "\'<>#%&/') for it in ids)
     assert anchor('doe_99') == 'ref-doe_99'
 
 
 def test_displays_stand_where_html_lets_them():
-    tree = [{'display': 'block', 'children': [node('a')]}, {'display': 'left-margin', 'children': [node('b')]}]
-    assert gamhilon.to_html(tree) == '<span class="csl-block">a</span><span class="csl-left-margin">b</span>'
+    tree = [{'display': 'block', 'children': [node('a')]},
+            {'display': 'left-margin', 'children': [node('b')]}]
+    wanted = '<span class="csl-block">a</span><span class="csl-left-margin">b</span>'
+    assert gamhilon.to_html(tree) == wanted
     item = gamhilon.Item('k', tree, {'children': [node('1')]})
     written = gamhilon.bibliography_to_html(gamhilon.Bibliography([item], False, 1, 1))
-    assert '<div class="csl-left-margin">1</div><div class="csl-right-inline"><div class="csl-block">a</div>' in written
+    assert ('<div class="csl-left-margin">1</div>'
+            '<div class="csl-right-inline"><div class="csl-block">a</div>') in written
 
 
 def test_markup_shows_its_letters_unless_the_caller_writes_it():
     tree = [{'markup': '<b>x</b>'}]
     assert gamhilon.to_html(tree) == '&lt;b&gt;x&lt;/b&gt;'
     assert gamhilon.to_html(tree, markup=lambda it: it) == '<b>x</b>'
-    assert gamhilon.to_latex([{'markup': '$x$'}]) == r'\$x\$' and gamhilon.to_markdown([{'markup': '$x$'}]) == r'\$x\$'
+    assert gamhilon.to_latex([{'markup': '$x$'}]) == r'\$x\$'
+    assert gamhilon.to_markdown([{'markup': '$x$'}]) == r'\$x\$'
     assert gamhilon.plain(tree) == '<b>x</b>'
