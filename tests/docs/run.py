@@ -56,7 +56,7 @@ def is_path(span):
 
 def is_there(span, page):
     """Whether a path is there, from the root or from the page's folder."""
-    folders = ('', 'docs/', f'{os.path.dirname(page)}/', 'tests/model/', 'embed/', 'crates/', 'crates/*/')
+    folders = ('', 'docs/', f'{os.path.dirname(page)}/', 'tests/model/', 'embed/', 'embed/python/', 'crates/', 'crates/*/')
     return any(glob.glob(f'{ROOT}/{it}{span}') for it in folders) or any(it in span for it in MADE)
 
 

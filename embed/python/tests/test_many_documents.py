@@ -21,10 +21,10 @@ LIBRARY = '''
 #include <unistd.h>
 #include <time.h>
 
-static uint32_t put(const char *text, uint8_t *room, size_t room_length, size_t *length) {
+static uint32_t put(const char *text, uint8_t *buffer, size_t buffer_length, size_t *length) {
     *length = strlen(text);
-    if (*length > room_length) return 6;
-    memcpy(room, text, *length);
+    if (*length > buffer_length) return 6;
+    memcpy(buffer, text, *length);
     return 0;
 }
 
@@ -37,23 +37,23 @@ static uint32_t begin(const uint8_t *document, size_t *length) {
     return document[0] == 'x' ? 2 : 0;
 }
 
-uint32_t gamhilon_render_text(const uint8_t *document, size_t document_length, uint8_t *room,
-                        size_t room_length, size_t *length) {
+uint32_t gamhilon_render_text(const uint8_t *document, size_t document_length, uint8_t *buffer,
+                        size_t buffer_length, size_t *length) {
     uint32_t status = begin(document, length);
-    return status ? status : put("(Doe 1999)\\n", room, room_length, length);
+    return status ? status : put("(Doe 1999)\\n", buffer, buffer_length, length);
 }
 
-uint32_t gamhilon_render_json(const uint8_t *document, size_t document_length, uint8_t *room,
-                             size_t room_length, size_t *length) {
+uint32_t gamhilon_render_json(const uint8_t *document, size_t document_length, uint8_t *buffer,
+                             size_t buffer_length, size_t *length) {
     uint32_t status = begin(document, length);
     const char *answer = "{\\"citations\\":[{\\"content\\":[{\\"text\\":\\"Doe\\"}]}]}";
-    return status ? status : put(answer, room, room_length, length);
+    return status ? status : put(answer, buffer, buffer_length, length);
 }
 
-uint32_t gamhilon_find_fault(const uint8_t *document, size_t document_length, uint8_t *room,
-                        size_t room_length, size_t *length) {
+uint32_t gamhilon_find_fault(const uint8_t *document, size_t document_length, uint8_t *buffer,
+                        size_t buffer_length, size_t *length) {
     const char *fault = "{\\"pointer\\":\\"\\",\\"found\\":\\"no JSON\\",\\"wanted\\":\\"JSON\\"}";
-    return put(fault, room, room_length, length);
+    return put(fault, buffer, buffer_length, length);
 }
 
 uint32_t gamhilon_find_ring(const uint8_t *document, size_t document_length, void *ring) { return 0; }
@@ -68,11 +68,11 @@ uint32_t gamhilon_check_limits(const uint8_t *document, size_t document_length, 
 @pytest.fixture(scope='module')
 def environment(tmp_path_factory):
     """What has the package load that library."""
-    room = tmp_path_factory.mktemp('library')
-    (room / 'a.c').write_text(LIBRARY)
-    subprocess.run(['cc', '-shared', '-fPIC', '-o', str(room / 'a.so'), str(room / 'a.c')],
+    buffer = tmp_path_factory.mktemp('library')
+    (buffer / 'a.c').write_text(LIBRARY)
+    subprocess.run(['cc', '-shared', '-fPIC', '-o', str(buffer / 'a.so'), str(buffer / 'a.c')],
                    check=True)
-    return {**os.environ, 'PYTHONPATH': PACKAGE, 'GAMHILON_LIBRARY': str(room / 'a.so')}
+    return {**os.environ, 'PYTHONPATH': PACKAGE, 'GAMHILON_LIBRARY': str(buffer / 'a.so')}
 
 
 @pytest.fixture
