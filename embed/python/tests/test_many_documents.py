@@ -9,7 +9,7 @@ import sys
 import time
 
 import pytest
-from conftest import PACKAGE
+from conftest import PACKAGE, heed_interrupts
 
 pytestmark = pytest.mark.skipif(not shutil.which('cc'), reason='there is no C compiler')
 
@@ -197,7 +197,7 @@ def test_processes_end_with_the_command(folder, environment, number, status):
     process = subprocess.Popen([sys.executable, '-m', 'gamhilon', 'render', '--jobs', '2',
                                 str(path)], env=environment,
                                stdout=subprocess.PIPE, stderr=subprocess.PIPE,
-                               start_new_session=True)
+                               start_new_session=True, preexec_fn=heed_interrupts)
     deadline = time.monotonic() + 60
     found = []
     while len(found) < 3:
