@@ -48,16 +48,16 @@ def tell(message):
 
 def ran(*words, where=HERE):
     """Runs a command, and ends with its status where that isn't 0."""
-    ended(words[0], subprocess.run(words, cwd=where).returncode)
+    check_status(words[0], subprocess.run(words, cwd=where).returncode)
 
 
-def proved(*words):
+def run_and_tell(*words):
     """Runs a command that proves, and tells now and then how far it is."""
     began, below = time.monotonic(), libraries_below('gamhilon_c')
     process = subprocess.Popen(words, cwd=CRATE)
     while True:
         try:
-            return ended(words[0], process.wait(PAUSE))
+            return check_status(words[0], process.wait(PAUSE))
         except subprocess.TimeoutExpired:
             done = sum(os.path.exists(f'{ROOT}/crates/{it}/out/rlib/{it}.rlib/format')
                        for it in below)
@@ -67,7 +67,7 @@ def proved(*words):
                  + (f', {at_work} at work' if at_work else ''))
 
 
-def ended(name, status):
+def check_status(name, status):
     if status:
         sys.exit(f'build.py: {name} ended with status {status}')
 
@@ -138,7 +138,7 @@ def compile_after_ci(kit_folder):
               '--backend', 'llvm']
     os.makedirs(os.path.dirname(ARCHIVE), exist_ok=True)
     tell('proving and compiling crates/gamhilon_c, over the libraries that rt ci left')
-    proved(f'{kit_folder}/bin/rattle', 'build', *words, '-o', ARCHIVE)
+    run_and_tell(f'{kit_folder}/bin/rattle', 'build', *words, '-o', ARCHIVE)
 
 
 def version():
@@ -248,7 +248,7 @@ def main(words):
         count = len(libraries_below('gamhilon_c'))
         tell(f'rt lib proves and compiles crates/gamhilon_c, over {count} libraries, and keeps '
              'what it proved; from nothing that takes half an hour to an hour')
-        proved('rt', 'lib')
+        run_and_tell('rt', 'lib')
     build(archive, kit_folder)
     if with_wheel:
         build_wheel()

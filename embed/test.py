@@ -2,9 +2,9 @@
 """test.py [--many N] [--after-ci | --archive FILE]: builds the library (build.py, with these words), and tries it as its users
 would: from C, Python and Rust, on each document of tests/documents/ and examples/; then it runs the tests of the Python package.
 
-It needs the toolchain and a C compiler. What else it would use (c++, cargo, cmake, pkg-config, valgrind, pip, venv, pandoc, pytest,
-mypy, python3-pandocfilters, python3-jsonschema, python3-citeproc and its styles) is left out where it is missing, and a line says
-so. --many N has valgrind watch N calls in four threads, where it is 300 else.
+It needs the toolchain and a C compiler. What else it would use (c++, cargo, cmake, pkg-config, valgrind, pip, venv, pandoc, chromium,
+pytest, mypy, python3-pandocfilters, python3-jsonschema, python3-pybtex, python3-yaml, python3-distributed, python3-citeproc and its styles)
+is left out where it is missing, and a line says so. --many N has valgrind watch N calls in four threads, where it is 300 else.
 The last line is 'N passed, M failed', and the exit status is 1 where a test failed."""
 import collections
 import glob
@@ -475,8 +475,8 @@ def python_with_pytest():
         return os.path.exists(python) and ran(python, '-c', f'import {module}').returncode == 0
 
     pythons = [it for it in (sys.executable, '/usr/bin/python3') if has(it, 'pytest')]
-    return max(pythons, key=lambda it: sum(has(it, name) for name in ('mypy', 'pandocfilters', 'jsonschema', 'citeproc')),
-               default=None)
+    names = ('mypy', 'pandocfilters', 'jsonschema', 'citeproc', 'pybtex', 'yaml', 'distributed')
+    return max(pythons, key=lambda it: sum(has(it, name) for name in names), default=None)
 
 
 def try_tests_of_the_package(folder):

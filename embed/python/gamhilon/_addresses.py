@@ -13,11 +13,11 @@ _CLOSING = {')': '(', ']': '[', '}': '{'}
 _PUNCTUATION = '.,;:!?\'\u2019'
 
 
-def linked(parts: Sequence[Piece]) -> List[Piece]:
+def with_links(parts: Sequence[Piece]) -> List[Piece]:
     """The parts of a tree, in which each URL and each DOI of a text is a text of its own that leads
     there. What has an address stays, and so do the links of cites."""
     found: List[Piece] = []
-    merged, links = _merged(parts), 0
+    merged, links = _merge_texts(parts), 0
     for place, piece in enumerate(merged):
         links += (piece.link is not None) * ((piece.kind == 'open') - (piece.kind == 'close'))
         if piece.kind != 'text' or 'url' in piece.node or links:
@@ -34,7 +34,7 @@ def without_links(parts: Sequence[Piece]) -> List[Piece]:
             if 'url' in it.node else it for it in parts]
 
 
-def _merged(parts: Sequence[Piece]) -> List[Piece]:
+def _merge_texts(parts: Sequence[Piece]) -> List[Piece]:
     """The parts, in which neighbouring texts of one format are one text."""
     found: List[Piece] = []
     for piece in parts:

@@ -1,4 +1,5 @@
-"""The driven call: what the driver decides for a host that writes each cite itself (docs/DRIVEN.md)."""
+"""The driven call: what the driver decides for a host that writes each cite itself
+(docs/DRIVEN.md)."""
 from __future__ import annotations
 
 import json
@@ -9,13 +10,15 @@ from . import _deep_json
 from ._library import library
 from .answer import Answer, Tree, answer_of_value
 
-__all__ = ['Missing', 'State', 'Task', 'Writer', 'Writers', 'Written', 'drive_bytes', 'driven_value', 'result_of']
+__all__ = ['Missing', 'State', 'Task', 'Writer', 'Writers', 'Written', 'drive_bytes',
+           'driven_value', 'result_of']
 
 
 @dataclass(frozen=True)
 class State:
-    """What disambiguates an entry: a form for each of its first names (`count`, `short`, `initials`, `full`), or that the
-    condition `disambiguate` of the style holds, or the place of its year suffix, from 0."""
+    """What disambiguates an entry: a form for each of its first names (`count`, `short`,
+    `initials`, `full`), or that the condition `disambiguate` of the style holds, or the place of
+    its year suffix, from 0."""
 
     names: Optional[Tuple[str, ...]] = None
     choose: bool = False
@@ -37,11 +40,12 @@ class State:
 
 @dataclass(frozen=True)
 class Task:
-    """Something that the host has to write: a `cite`, an `item` of the bibliography, or the `date` of a cite alone.
+    """Something that the host has to write: a `cite`, an `item` of the bibliography, or the `date`
+    of a cite alone.
 
-    What doesn't apply is None or False. `locale` is the locale in use, `number` counts from 0. `place` is there where a cite
-    is written for the last time: the places of its request and of its item, from 0. Cites that are compared have none, and
-    no locator.
+    What doesn't apply is None or False. `locale` is the locale in use, `number` counts from 0.
+    `place` is there where a cite is written for the last time: the places of its request and of its
+    item, from 0. Cites that are compared have none, and no locator.
     """
 
     kind: str
@@ -74,7 +78,8 @@ class Task:
 
     def data(self) -> Dict[str, Any]:
         """The task as a value, as the driver asked for it."""
-        told = {key: value for key, value in vars(self).items() if value is not None and value is not False}
+        told = {key: value for key, value in vars(self).items() if value is not None
+                and value is not False}
         for key in ('place', 'locator'):
             if key in told:
                 told[key] = list(told[key])
@@ -84,15 +89,17 @@ class Task:
 
     @property
     def position(self) -> str:
-        """The position as CSL 1.0.2 names it: `first`, `subsequent`, `ibid` or `ibid-with-locator`. In a style,
-        `ibid-with-locator` holds as `ibid` and `subsequent` too, and `ibid` as `subsequent`."""
+        """The position as CSL 1.0.2 names it: `first`, `subsequent`, `ibid` or `ibid-with-locator`.
+        In a style, `ibid-with-locator` holds as `ibid` and `subsequent` too, and `ibid` as
+        `subsequent`."""
         if self.first:
             return 'first'
         return self.repeats or 'subsequent'
 
     @property
     def is_final(self) -> bool:
-        """Whether this is what the reader sees: an item, or a cite that is written for the last time."""
+        """Whether this is what the reader sees: an item, or a cite that is written for the last
+        time."""
         return self.kind == 'item' or self.place is not None
 
     @property
@@ -121,8 +128,9 @@ class Task:
 class Written:
     """What the host wrote for a task: a tree, and what it noted meanwhile.
 
-    `disambiguate_tested` tells whether a condition `disambiguate` was tested; `first_name` has the form of each name of the
-    names that were written first; `usage` is `label`, `number` or `both`, the identifiers that were written.
+    `disambiguate_tested` tells whether a condition `disambiguate` was tested; `first_name` has the
+    form of each name of the names that were written first; `usage` is `label`, `number` or `both`,
+    the identifiers that were written.
     """
 
     tree: Tree
@@ -170,16 +178,18 @@ def drive_bytes(document: bytes) -> Union[Answer, Missing]:
 
 
 def driven_value(document: Dict[str, Any], write_all: Writers) -> Answer:
-    """Calls, and has the host write what is missing, until there is an answer. A driver that asks for what was written ends
-    it with a RuntimeError."""
+    """Calls, and has the host write what is missing, until there is an answer. A driver that asks
+    for what was written ends it with a RuntimeError."""
     written: List[Any] = list(document.get('written', []))
     asked: Set[Task] = set()
     while True:
-        result = drive_bytes(json.dumps({**document, 'written': written}).encode('utf-8', 'surrogatepass'))
+        result = drive_bytes(json.dumps({**document, 'written': written}).encode('utf-8',
+                                                                                 'surrogatepass'))
         if isinstance(result, Answer):
             return result
         again = asked.intersection(result.tasks)
         if again or not result.tasks:
-            raise RuntimeError(f'the driver asked again for what was written: {sorted(map(repr, again))[:1]}')
+            first = sorted(map(repr, again))[:1]
+            raise RuntimeError(f'the driver asked again for what was written: {first}')
         asked.update(result.tasks)
         written += [it.data(task) for task, it in zip(result.tasks, write_all(result.tasks))]

@@ -99,7 +99,7 @@ def _by_processes(job: Job, targets: Dict[str, str],
         _begin_quiet_tracker()
         context = multiprocessing.get_context('spawn')
         with ProcessPoolExecutor(processes, context, _end_with_parent) as pool:
-            futures = _submitted(pool, job, targets)
+            futures = _submit_all(pool, job, targets)
             for future in as_completed(futures):
                 try:
                     yield futures[future], future.result()
@@ -122,8 +122,8 @@ def _begin_quiet_tracker() -> None:
             os.environ['PYTHONWARNINGS'] = before
 
 
-def _submitted(pool: ProcessPoolExecutor, job: Job,
-               targets: Dict[str, str]) -> Dict['Future[Outcome]', str]:
+def _submit_all(pool: ProcessPoolExecutor, job: Job,
+                targets: Dict[str, str]) -> Dict['Future[Outcome]', str]:
     futures: Dict['Future[Outcome]', str] = {}
     for path, target in targets.items():
         try:

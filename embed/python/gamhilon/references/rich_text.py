@@ -31,19 +31,19 @@ class Run(NamedTuple):
 
 def plain(runs: Iterable[Run]) -> str:
     """The text alone, with single spaces."""
-    return ''.join(it.text for it in single_spaced(runs))
+    return ''.join(it.text for it in with_single_spaces(runs))
 
 
 def csl_text(runs: Iterable[Run]) -> str:
     """The text of a field of CSL-JSON, with its tags."""
-    return _tagged([(it.text, it.formats) for it in single_spaced(runs)])
+    return _with_tags([(it.text, it.formats) for it in with_single_spaces(runs)])
 
 
 def csl_title(runs: Iterable[Run]) -> str:
     """The text of a title in CSL-JSON. Words that a style may not change stand in a span of class
     `nocase`, if it could: the case rules of CSL leave alone what has a capital."""
     parts: List[Tuple[str, Formats]] = []
-    before, left = '', single_spaced(runs)
+    before, left = '', with_single_spaces(runs)
     for is_protected, group in groupby(left, key=lambda it: it.is_protected):
         own = list(group)
         text = ''.join(it.text for it in own)
@@ -52,7 +52,7 @@ def csl_title(runs: Iterable[Run]) -> str:
         is_kept = is_protected and _stands_apart(before, text, after) and _has_lower_case_word(text)
         parts += [(it.text, ('nocase', *it.formats) if is_kept else it.formats) for it in own]
         before = text[-1:]
-    return _tagged(parts)
+    return _with_tags(parts)
 
 
 def before_colon(runs: Sequence[Run]) -> List[Run]:
@@ -66,7 +66,7 @@ def before_colon(runs: Sequence[Run]) -> List[Run]:
     return []
 
 
-def single_spaced(runs: Iterable[Run]) -> List[Run]:
+def with_single_spaces(runs: Iterable[Run]) -> List[Run]:
     """The runs with single spaces, with none at both ends, and without empty runs. Spaces that
     don't break a line stay."""
     found: List[Run] = []
@@ -93,7 +93,7 @@ def _has_lower_case_word(text: str) -> bool:
     return any(it.islower() for it in WORD.findall(text))
 
 
-def _tagged(parts: Iterable[Tuple[str, Formats]]) -> str:
+def _with_tags(parts: Iterable[Tuple[str, Formats]]) -> str:
     written: List[str] = []
     open_formats: Formats = ()
     for text, formats in parts:
