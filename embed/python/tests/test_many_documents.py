@@ -56,7 +56,9 @@ uint32_t gamhilon_find_fault(const uint8_t *document, size_t document_length, ui
     return put(fault, buffer, buffer_length, length);
 }
 
-uint32_t gamhilon_find_ring(const uint8_t *document, size_t document_length, void *ring) { return 0; }
+uint32_t gamhilon_find_ring(const uint8_t *document, size_t document_length, void *ring) {
+    return 0;
+}
 
 uint32_t gamhilon_check_limits(const uint8_t *document, size_t document_length, size_t depth,
                          size_t elements) {

@@ -193,7 +193,7 @@ def test_parents_of_hayagriva(library):
         'collection-title': 'A Series', 'collection-number': '7'}
     talk = items['talk']
     assert talk['type'] == 'paper-conference' and 'container-title' not in talk
-    assert talk['event-title'] == 'World Wide Developer Conference 2020'
+    assert talk['event-title'] == talk['event'] == 'World Wide Developer Conference 2020'
     assert talk['event-place'] == 'Mountain View, CA' and talk['publisher'] == 'Apple Inc.'
     assert talk['issued'] == {'date-parts': [[2020, 6, 26]]}
     assert talk['event-date'] == {'date-parts': [[2020, 6, 22], [2020, 6, 26]]}

@@ -192,10 +192,13 @@ class _Conversion:
 
     def _other_titles(self) -> Item:
         is_journal = self.is_periodical and not self.has_main_title
+        event = self._whole_title('event')
         return {
+            # (most published styles ask for it by its older name)
+            'event': event,
             'container-title-short': self.text('shorttitle' if is_journal else 'shortjournal'),
             'collection-title': self._series(),
-            'event-title': self._whole_title('event'),
+            'event-title': event,
             'original-title': self.title('origtitle'),
         }
 

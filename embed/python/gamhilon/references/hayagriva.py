@@ -117,6 +117,9 @@ class _Conversion:
         for part in (self._titles, self._names, self._dates, self._texts, self._publication,
                      self._identifiers):
             made.update({name: it for name, it in part().items() if it})
+        if 'event-title' in made:
+            # (most published styles ask for it by its older name)
+            made['event'] = made['event-title']
         self._note_unused()
         return made
 
