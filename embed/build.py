@@ -11,6 +11,9 @@ a C compiler (CC, or cc) with its binutils.
                     toolchain is needed
     --wheel         build the Python package's wheel too, in out/
     --wheel-only    build the wheel of what is in out/, and nothing else
+    --release       build the wheel and the archive of a release (release.py), in out/; with
+                    --after-ci of the program that `rt ci` built, else of one that `rt run` proves
+                    and builds first
 It tells each step, and during a proof how far that is.
 """
 import json
@@ -48,26 +51,26 @@ def tell(message):
 
 def ran(*words, where=HERE):
     """Runs a command, and ends with its status where that isn't 0."""
-    ended(words[0], subprocess.run(words, cwd=where).returncode)
+    check_status(words[0], subprocess.run(words, cwd=where).returncode)
 
 
-def proved(*words):
+def run_and_tell(*words):
     """Runs a command that proves, and tells now and then how far it is."""
     began, below = time.monotonic(), libraries_below('gamhilon_c')
     process = subprocess.Popen(words, cwd=CRATE)
     while True:
         try:
-            return ended(words[0], process.wait(PAUSE))
+            return check_status(words[0], process.wait(PAUSE))
         except subprocess.TimeoutExpired:
-            done = sum(os.path.exists(f'{ROOT}/crates/{it}/out/rlib/{it}.rlib/format')
-                       for it in below)
+            done = sum(os.path.exists(f'{ROOT}/crates/{name}/out/rlib/{name}.rlib/format')
+                       for name in below)
             minutes, seconds = divmod(round(time.monotonic() - began), 60)
             at_work = ', '.join(crates_at_work())
             tell(f'{minutes} min {seconds} s: {done} of {len(below)} libraries stand'
                  + (f', {at_work} at work' if at_work else ''))
 
 
-def ended(name, status):
+def check_status(name, status):
     if status:
         sys.exit(f'build.py: {name} ended with status {status}')
 
@@ -115,16 +118,17 @@ def libraries_below(name):
     below = []
     for use in uses[name]:
         if use in uses:
-            below += [it for it in [*libraries_below(use), use] if it not in below]
+            below += [name for name in [*libraries_below(use), use] if name not in below]
     return below
 
 
 def compile_after_ci(kit_folder):
     """Proves and compiles the crate over the libraries that `rt ci` proved: `rt lib` would prove
     those once more."""
-    folders = {it: f'{ROOT}/crates/{it}/out/rlib' for it in libraries_below('gamhilon_c')}
+    folders = {name: f'{ROOT}/crates/{name}/out/rlib' for name in libraries_below('gamhilon_c')}
     with open(f'{ROOT}/crates.txt', encoding='utf-8') as file:
-        own = next(it.partition(':')[2].split() for it in file if it.startswith('gamhilon_c '))
+        own = next(line.partition(':')[2].split()
+                   for line in file if line.startswith('gamhilon_c '))
     words = ['--crate-name', 'gamhilon_c', 'src/lib.rt', '--crate-type', 'staticlib']
     words += ['--extern', f'std={kit_folder}/rlibs/std.rlib', '-L',
               f'dependency={kit_folder}/rlibs']
@@ -138,7 +142,7 @@ def compile_after_ci(kit_folder):
               '--backend', 'llvm']
     os.makedirs(os.path.dirname(ARCHIVE), exist_ok=True)
     tell('proving and compiling crates/gamhilon_c, over the libraries that rt ci left')
-    proved(f'{kit_folder}/bin/rattle', 'build', *words, '-o', ARCHIVE)
+    run_and_tell(f'{kit_folder}/bin/rattle', 'build', *words, '-o', ARCHIVE)
 
 
 def version():
@@ -171,7 +175,7 @@ def defines(archive, name):
     """Whether an archive has a function of its own by this name, as the archives have that were
     built here."""
     done = subprocess.run(['nm', '--defined-only', archive], capture_output=True, text=True)
-    return any(it.split()[-1:] == [name] for it in done.stdout.splitlines())
+    return any(line.split()[-1:] == [name] for line in done.stdout.splitlines())
 
 
 def link(compiler, archive, kit_folder, folder, note):
@@ -186,7 +190,7 @@ def link(compiler, archive, kit_folder, folder, note):
             f'{HERE}/c/about.c')
         whole.append(f'{folder}/about.o')
     ran(*compiler, '-r', '-nostdlib', '-o', f'{folder}/gamhilon.o', *whole, *libraries)
-    ran('objcopy', *[f'--keep-global-symbol={it}' for it in EXPORTS], f'{folder}/gamhilon.o')
+    ran('objcopy', *[f'--keep-global-symbol={name}' for name in EXPORTS], f'{folder}/gamhilon.o')
     ran('ar', 'rcs', f'{folder}/libgamhilon.a', 'gamhilon.o', where=folder)
     soname = f'libgamhilon.so.{version().split(".")[0]}'
     own = [f'-Wl,-soname,{soname}', '-Wl,--gc-sections', '-Wl,-z,defs', '-Wl,-z,relro,-z,now']
@@ -219,19 +223,46 @@ def build(archive, kit_folder):
 def build_wheel():
     """The wheel of the Python package, in out/, of the library that is there."""
     sys.path.insert(0, f'{HERE}/python')
-    import gamhilon_wheel
     try:
+        import gamhilon_wheel
         name = gamhilon_wheel.build_wheel(OUT)
+    except ImportError as error:
+        sys.exit(f'build.py: no wheel: {error} (Python 3.11 or later has what it takes)')
     except OSError as error:
         sys.exit(f'build.py: no wheel: {error}')
+    tell(f'built {os.path.relpath(OUT)}/{name}')
+
+
+def build_program():
+    """Has `rt run` prove and build the program, whose example it answers."""
+    tell('rt run proves and builds crates/cite_run')
+    with open(f'{ROOT}/crates/cite_run/stdin', 'rb') as example:
+        done = subprocess.run(['rt', 'run'], cwd=f'{ROOT}/crates/cite_run', stdin=example,
+                              stdout=subprocess.DEVNULL)
+    check_status('rt', done.returncode)
+
+
+def build_release():
+    """The archive of a release, in out/, of the library that is there and the built program."""
+    sys.path.insert(0, HERE)
+    import release
+    with open(f'{OUT}/{NOTE}', encoding='utf-8') as file:
+        note = json.load(file)
+    try:
+        name = release.make(version(), os.environ.get('CC', 'cc').split(), note)
+    except OSError as error:
+        sys.exit(f'build.py: no release: {error}')
     tell(f'built {os.path.relpath(OUT)}/{name}')
 
 
 def main(words):
     if words == ['--wheel-only']:
         return build_wheel()
-    with_wheel = '--wheel' in words
-    words = [it for it in words if it != '--wheel']
+    with_release = '--release' in words
+    with_wheel = with_release or '--wheel' in words
+    words = [word for word in words if word not in ('--wheel', '--release')]
+    if with_release and words[:1] == ['--archive']:
+        sys.exit('build.py: no release of an archive: the toolchain builds the program beside it')
     kit_folder, archive = kit(), ARCHIVE
     if words[:1] == ['--archive'] and len(words) == 2:
         archive = os.path.abspath(words[1])
@@ -248,10 +279,14 @@ def main(words):
         count = len(libraries_below('gamhilon_c'))
         tell(f'rt lib proves and compiles crates/gamhilon_c, over {count} libraries, and keeps '
              'what it proved; from nothing that takes half an hour to an hour')
-        proved('rt', 'lib')
+        run_and_tell('rt', 'lib')
+    if with_release and not words:
+        build_program()
     build(archive, kit_folder)
     if with_wheel:
         build_wheel()
+    if with_release:
+        build_release()
 
 
 if __name__ == '__main__':

@@ -1,11 +1,14 @@
 #!/usr/bin/env python3
-"""test.py [--many N] [--after-ci | --archive FILE]: builds the library (build.py, with these words), and tries it as its users
-would: from C, Python and Rust, on each document of tests/documents/ and examples/; then it runs the tests of the Python package.
+"""test.py [--many N] [--after-ci | --archive FILE]: builds the library (build.py, with these
+words), and tries it as its users would: from C, Python and Rust, on each document of
+tests/documents/ and examples/; then it runs the tests of the Python package.
 
-It needs the toolchain and a C compiler. What else it would use (c++, cargo, cmake, pkg-config, valgrind, pip, venv, pandoc, pytest,
-mypy, python3-pandocfilters, python3-jsonschema, python3-citeproc and its styles) is left out where it is missing, and a line says
-so. --many N has valgrind watch N calls in four threads, where it is 300 else.
-The last line is 'N passed, M failed', and the exit status is 1 where a test failed."""
+It needs the toolchain and a C compiler. What else it would use (c++, cargo, cmake, pkg-config,
+valgrind, pip, venv, pandoc, chromium, pytest, mypy, python3-pandocfilters, python3-jsonschema,
+python3-pybtex, python3-yaml, python3-distributed, python3-citeproc and its styles) is left out
+where it is missing, and a line says so. --many N has valgrind watch N calls in four threads, where
+it is 300 else. The last line is 'N passed, M failed', and the exit status is 1 where a test
+failed."""
 import collections
 import glob
 import json
@@ -14,6 +17,7 @@ import resource
 import shutil
 import subprocess
 import sys
+import tarfile
 import tempfile
 import time
 import xml.etree.ElementTree
@@ -25,9 +29,9 @@ ROOT = os.path.dirname(HERE)
 FORMS = ('text', 'json')
 STACK_TOLD = 256 * 1024
 DEPTH, ELEMENTS = 100, 100000
-TEN = ['rows/*.json', 'layouts/*.json', 'disambiguation/*.json', 'grouping/*.json', 'collapsing/*.json',
-       'bibliography/*.json',
-       'parts/*.json', 'purposes/*.json', 'hostile/*.json', 'refused/*.json']
+TEN = ['rows/*.json', 'layouts/*.json', 'disambiguation/*.json', 'grouping/*.json',
+       'collapsing/*.json', 'bibliography/*.json', 'parts/*.json', 'purposes/*.json',
+       'hostile/*.json', 'refused/*.json']
 FEW_CALLS = 300
 passed, failures, left_out = 0, [], []
 
@@ -71,10 +75,12 @@ def plain(node):
 
 def printed(answer):
     """What docs/ANSWER.md says that an answer is printed as."""
-    lines = [plain(it['content']) for it in answer['citations']]
+    lines = [plain(citation['content']) for citation in answer['citations']]
     if 'bibliography' in answer:
         items = answer['bibliography']['items']
-        lines += ['', *[it['key'] + '\t' + plain(it.get('first_field', [])) + plain(it['content']) for it in items]]
+        lines += ['',
+                  *[item['key'] + '\t' + plain(item.get('first_field', [])) + plain(item['content'])
+                    for item in items]]
     return ''.join(line + '\n' for line in lines)
 
 
@@ -90,25 +96,27 @@ def compile_all(folder):
     compiler = os.environ.get('CC', 'cc').split()
     strict = ['-Wall', '-Wextra', '-pedantic', '-Werror', f'-I{HERE}']
     wraps = ['-Wl,--wrap=malloc,--wrap=realloc,--wrap=free']
-    sources = {'calls': [], 'stack': [], 'threads': [], 'many': [], 'about': [], 'limits': [], 'driven': [],
-               'failing': wraps, '../c/print': []}
+    sources = {'calls': [], 'stack': [], 'threads': [], 'many': [], 'about': [], 'limits': [],
+               'driven': [], 'failing': wraps, '../c/print': []}
     for name, more in sources.items():
         standard = '-std=c99' if name.startswith('..') else '-std=gnu11'
-        made = ran(*compiler, standard, '-O1', '-g', '-pthread', *strict, *more, '-o', f'{folder}/{os.path.basename(name)}',
-                   f'{HERE}/tests/{name}.c', f'{HERE}/out/libgamhilon.a')
+        made = ran(*compiler, standard, '-O1', '-g', '-pthread', *strict, *more, '-o',
+                   f'{folder}/{os.path.basename(name)}', f'{HERE}/tests/{name}.c',
+                   f'{HERE}/out/libgamhilon.a')
         hold(made.returncode == 0, f'{name}.c compiles: {made.stderr.decode()[:600]}')
     for name, standard, tool in (('c', 'c99', compiler), ('c++', 'c++17', ['c++'])):
         if has_tool(tool[0], f'the header as {standard}'):
             with open(f'{folder}/header.{name}', 'w', encoding='utf-8') as file:
-                file.write('#include "gamhilon.h"\n#include "gamhilon.h"\nint main(void) { return GAMHILON_OK; }\n')
-            made = ran(*tool, f'-std={standard}', *strict, '-x', name, '-c', '-o', f'{folder}/header.o',
-                       f'{folder}/header.{name}')
+                file.write('#include "gamhilon.h"\n#include "gamhilon.h"\n'
+                           'int main(void) { return GAMHILON_OK; }\n')
+            made = ran(*tool, f'-std={standard}', *strict, '-x', name, '-c', '-o',
+                       f'{folder}/header.o', f'{folder}/header.{name}')
             hold(made.returncode == 0, f'the header as {standard}: {made.stderr.decode()[:600]}')
 
 
 def answers_of(folder, form, length, cases):
     """The status and the bytes of each case, by calls from C in a buffer of that length."""
-    done = ran(f'{folder}/calls', form, str(length), *[it.path for it in cases])
+    done = ran(f'{folder}/calls', form, str(length), *[case.path for case in cases])
     hold(done.returncode == 0, f'calls {form} {length}: {done.stderr.decode()[:600]}')
     answers, at = [], 0
     for _ in cases:
@@ -124,7 +132,8 @@ def validator(name):
     try:
         import jsonschema
     except ImportError:
-        left_out.append(f'JSON against docs/{name}.schema.json: there is no jsonschema (Debian: python3-jsonschema)')
+        left_out.append(f'JSON against docs/{name}.schema.json: there is no jsonschema '
+                        '(Debian: python3-jsonschema)')
         return None
     schema = json.loads(read(f'{ROOT}/docs/{name}.schema.json'))
     jsonschema.Draft202012Validator.check_schema(schema)
@@ -140,39 +149,50 @@ def try_from_c(folder, cases):
         for one, other, case in zip(texts[form], answers_of(folder, form, 1, cases), cases):
             hold(one == other, f'{case.name}: {form} in a buffer of one byte')
     for case, text, answer in zip(cases, texts['text'], texts['json']):
-        hold(text == (case.status, case.text), f'{case.name}: the text, or status {text[0]}, and not {case.status}')
-        hold(answer[0] == case.status, f'{case.name}: JSON: status {answer[0]}, and not {case.status}')
+        hold(text == (case.status, case.text),
+             f'{case.name}: the text, or status {text[0]}, and not {case.status}')
+        hold(answer[0] == case.status,
+             f'{case.name}: JSON: status {answer[0]}, and not {case.status}')
         if case.status == 0:
             value = json.loads(answer[1])
-            hold(printed(value) == case.text.decode(), f'{case.name}: the text that is read off its JSON')
+            hold(printed(value) == case.text.decode(),
+                 f'{case.name}: the text that is read off its JSON')
             if schema:
-                hold(schema.is_valid(value), f'{case.name}: its JSON against docs/answer.schema.json')
+                hold(schema.is_valid(value),
+                     f'{case.name}: its JSON against docs/answer.schema.json')
     try_faults(folder, cases)
     one = Case(f'{HERE}/tests/every_kind.json')
     status, answer = answers_of(folder, 'json', big, [one])[0]
     wanted = json.loads(read(f'{HERE}/tests/every_kind.answer.json'))
-    hold(status == 0 and json.loads(answer) == wanted, 'the JSON that was worked out by hand for tests/every_kind.json')
-    return [it[1] for it in texts['json']]
+    hold(status == 0 and json.loads(answer) == wanted,
+         'the JSON that was worked out by hand for tests/every_kind.json')
+    return [answer[1] for answer in texts['json']]
 
 
 def faults():
     """The faults of tests/documents/faults.txt, by the names of the documents."""
-    rows = [it.split(' | ') for it in read(f'{ROOT}/tests/documents/faults.txt').decode().splitlines() if it and it[0] != '#']
-    return {f'tests/documents/{base}.json': dict(zip(('pointer', 'found', 'wanted'), row)) for base, *row in rows}
+    rows = [line.split(' | ')
+            for line in read(f'{ROOT}/tests/documents/faults.txt').decode().splitlines()
+            if line and line[0] != '#']
+    return {f'tests/documents/{base}.json': dict(zip(('pointer', 'found', 'wanted'), row))
+            for base, *row in rows}
 
 
 def try_faults(folder, cases):
-    """The first fault of each refused document, which is the one of tests/documents/faults.txt where that has it; of others none."""
+    """The first fault of each refused document, which is the one of tests/documents/faults.txt
+    where that has it; of others none."""
     must = faults()
     for length in (1 << 12, 1):
         for case, (status, told) in zip(cases, answers_of(folder, 'fault', length, cases)):
-            hold(status == 0 and bool(told) == (case.status == 2), f'{case.name}: fault, status {status}, {told!r}')
-            hold(must.get(case.name) in (None, json.loads(told or 'null')), f'{case.name}: the fault is {told!r}')
+            hold(status == 0 and bool(told) == (case.status == 2),
+                 f'{case.name}: fault, status {status}, {told!r}')
+            hold(must.get(case.name) in (None, json.loads(told or 'null')),
+                 f'{case.name}: the fault is {told!r}')
 
 
 def borders(path, depth, elements):
-    """The limits at which a document whose layouts need this depth and this number of elements is tried, and the status of
-    each: what it needs, all there is, and one less of either."""
+    """The limits at which a document whose layouts need this depth and this number of elements is
+    tried, and the status of each: what it needs, all there is, and one less of either."""
     most = 2 ** 64 - 1
     rows = [(path, depth, elements, 0), (path, most, most, 0)]
     rows += [(path, depth - 1, elements, 7)] if depth else []
@@ -180,24 +200,31 @@ def borders(path, depth, elements):
 
 
 def hold_limits(folder, stack, rows):
-    """Calls gamhilon_check_limits, in a thread of so much stack, with each of some rows: a document, limits and the status."""
-    done = ran(f'{folder}/limits', str(stack), *[str(it) for path, *limits, _ in rows for it in (*limits, path)])
+    """Calls gamhilon_check_limits, in a thread of so much stack, with each of some rows: a
+    document, limits and the status."""
+    done = ran(f'{folder}/limits', str(stack),
+               *[str(word) for path, *limits, _ in rows for word in (*limits, path)])
     statuses = done.stdout.split()
-    hold(done.returncode == 0 and len(statuses) == len(rows), f'limits in {stack} bytes of stack: {done.returncode}, {done.stderr!r}')
+    hold(done.returncode == 0 and len(statuses) == len(rows),
+         f'limits in {stack} bytes of stack: {done.returncode}, {done.stderr!r}')
     for (path, depth, elements, status), got in zip(rows, statuses):
-        hold(int(got) == status, f'{os.path.basename(path)}: limits {depth} and {elements}: status {int(got)}, and not {status}')
+        hold(int(got) == status, f'{os.path.basename(path)}: limits {depth} and {elements}: '
+             f'status {int(got)}, and not {status}')
 
 
 def limits_of_cases(layouts, cases):
-    """Rows for the documents of the tests: those that have the form, and those whose first fault is told."""
+    """Rows for the documents of the tests: those that have the form, and those whose first fault is
+    told."""
     must, rows = faults(), []
     for case in cases:
-        pointer, found = (must.get(case.name, {}).get(it, '') for it in ('pointer', 'found'))
-        if pointer.startswith('/styles') or (pointer == '' and found and not found.startswith('missing key')):
+        pointer, found = (must.get(case.name, {}).get(name, '') for name in ('pointer', 'found'))
+        is_of_document = pointer == '' and found and not found.startswith('missing key')
+        if pointer.startswith('/styles') or is_of_document:
             rows.append((case.path, DEPTH, ELEMENTS, 2))
         elif case.status != 2 or pointer:
             depth, elements = layouts.measured(json.loads(case.bytes))
-            rows += borders(case.path, depth, elements) if elements <= ELEMENTS else [(case.path, DEPTH, ELEMENTS, 8)]
+            rows += borders(case.path, depth,
+                            elements) if elements <= ELEMENTS else [(case.path, DEPTH, ELEMENTS, 8)]
     return rows
 
 
@@ -210,26 +237,33 @@ def put(folder, what, document):
 
 
 def try_limits(folder, cases):
-    """gamhilon_check_limits: of layouts of a known size and of those of each document, in the stack that the header tells; and that it
-    doesn't take long. What is within the limits is answered in that stack, and refused memory is told beyond them too."""
+    """gamhilon_check_limits: of layouts of a known size and of those of each document, in the stack
+    that the header tells; and that it doesn't take long. What is within the limits is answered in
+    that stack, and refused memory is told beyond them too."""
     sys.path.insert(0, f'{HERE}/tests')
     import layouts
     known = [(put(folder, what, document), *size) for what, document, *size in layouts.KNOWN]
     allowed = [(put(folder, what, document), *size) for what, document, *size, _ in layouts.ALLOWED]
     chains = [(put(folder, what, document), *size) for what, document, *size in layouts.CHAINS]
-    rows = [row for it in [*known, *allowed] for row in borders(*it)] + limits_of_cases(layouts, cases)
+    rows = ([row for case in [*known, *allowed] for row in borders(*case)]
+            + limits_of_cases(layouts, cases))
     hold_limits(folder, STACK_TOLD, rows + [(path, DEPTH, ELEMENTS, 7) for path, *_ in chains])
-    hold_limits(folder, 1 << 26, [row for it in chains for row in borders(*it)])
+    hold_limits(folder, 1 << 26, [row for case in chains for row in borders(*case)])
     try_much_work(folder, layouts)
     try_allowed(folder, [(path, text) for (path, *_), (*_, text) in zip(allowed, layouts.ALLOWED)])
-    exceeding = [chains[0][0], f'{ROOT}/tests/documents/hostile/macros_that_give_nothing_40_deep.json']
-    hold(ran(f'{folder}/failing', *exceeding).returncode == 0, 'each allocation refused in turn, beyond the limits')
+    exceeding = [chains[0][0],
+                 f'{ROOT}/tests/documents/hostile/macros_that_give_nothing_40_deep.json']
+    hold(ran(f'{folder}/failing', *exceeding).returncode == 0,
+         'each allocation refused in turn, beyond the limits')
 
 
 def try_much_work(folder, layouts):
-    """What would be much work beyond the limits, and what is just within them, take little processor time."""
-    rows = [(put(folder, f'macros that double {it} deep', layouts.doubling(it)), DEPTH, ELEMENTS, 8) for it in (24, 64)]
-    rows.append((put(folder, 'many macros', layouts.many_macros(10000, ELEMENTS // 2)), 2, ELEMENTS, 0))
+    """What would be much work beyond the limits, and what is just within them, take little
+    processor time."""
+    rows = [(put(folder, f'macros that double {length} deep', layouts.doubling(length)), DEPTH,
+             ELEMENTS, 8) for length in (24, 64)]
+    rows.append((put(folder, 'many macros', layouts.many_macros(10000, ELEMENTS // 2)), 2, ELEMENTS,
+                 0))
     before = resource.getrusage(resource.RUSAGE_CHILDREN)
     hold_limits(folder, STACK_TOLD, rows)
     after = resource.getrusage(resource.RUSAGE_CHILDREN)
@@ -243,61 +277,78 @@ def try_allowed(folder, rows):
         with open(f'{path[:-len(".json")]}.txt', 'w', encoding='utf-8') as file:
             file.write(text)
     cases = [Case(path) for path, _ in rows]
-    for case, text, answer in zip(cases, *[answers_of(folder, form, 1 << 21, cases) for form in FORMS]):
+    for case, text, answer in zip(cases,
+                                  *[answers_of(folder, form, 1 << 21, cases) for form in FORMS]):
         hold(text == (0, case.text), f'{case.name}: the text within the limits')
-        hold(answer[0] == 0 and printed(json.loads(answer[1])).encode() == case.text, f'{case.name}: the JSON within the limits')
-    hold_stack(folder, [it.path for it in cases])
+        hold(answer[0] == 0 and printed(json.loads(answer[1])).encode() == case.text,
+             f'{case.name}: the JSON within the limits')
+    hold_stack(folder, [case.path for case in cases])
 
 
 def members(part):
     """What there is of a part of an answer, by name."""
-    return {name: it for name, it in vars(part).items() if it is not None}
+    return {name: value for name, value in vars(part).items() if value is not None}
 
 
 def is_rebuilt(gamhilon, case, value):
     """Whether `render` gives all that the JSON has, and `plain` the text of each tree."""
     answer = gamhilon.render(case.bytes)
-    found = {'citations': [members(it) for it in answer.citations]}
+    found = {'citations': [members(citation) for citation in answer.citations]}
     if answer.bibliography:
-        found['bibliography'] = {**members(answer.bibliography), 'items': [members(it) for it in answer.bibliography.items]}
-    return found == value and all(gamhilon.plain(it.content) == plain(it.content) for it in answer.citations)
+        found['bibliography'] = {**members(answer.bibliography),
+                                 'items': [members(item) for item in answer.bibliography.items]}
+    return (found == value
+            and all(gamhilon.plain(citation.content) == plain(citation.content)
+                    for citation in answer.citations))
 
 
 def holds_shared_parts():
-    """Whether each part of docs/driven.schema.json that another schema names too is as it stands there."""
-    own, *others = [json.loads(read(f'{ROOT}/docs/{it}.schema.json'))['$defs'] for it in ('driven', 'document', 'answer')]
-    named = [(part, [it[name] for it in others if name in it]) for name, part in own.items()]
+    """Whether each part of docs/driven.schema.json that another schema names too is as it stands
+    there."""
+    own, *others = [json.loads(read(f'{ROOT}/docs/{name}.schema.json'))['$defs']
+                    for name in ('driven', 'document', 'answer')]
+    named = [(part, [schema[name] for schema in others if name in schema])
+             for name, part in own.items()]
     return all(part in elsewhere for part, elsewhere in named if elsewhere)
 
 
 def with_written(document, lines):
-    """The driven documents that the host of tests/driven.c hands in one after the other, by what it prints."""
+    """The driven documents that the host of tests/driven.c hands in one after the other, by what it
+    prints."""
     written = []
     yield document
     for line in lines[:-1]:
-        written += [{'task': task, 'tree': [{'text': task['entry'], 'font_style': 'normal', 'font_weight': 'normal'}]}
+        written += [{'task': task,
+                     'tree': [{'text': task['entry'], 'font_style': 'normal',
+                               'font_weight': 'normal'}]}
                     for task in json.loads(line.partition(' ')[2])['missing']]
         yield {**document, 'written': list(written)}
 
 
 def try_driven(folder):
-    """A host that writes what is missing until there is an answer; buffers that are too small; refused memory; and where a driven
-    document is wrong."""
+    """A host that writes what is missing until there is an answer; buffers that are too small;
+    refused memory; and where a driven document is wrong."""
     document = json.loads(read(f'{HERE}/tests/driven.json'))
     done = ran(f'{folder}/driven', f'{HERE}/tests/driven.json')
     lines = done.stdout.decode().splitlines()
-    hold(done.returncode == 0 and done.stdout == read(f'{HERE}/tests/driven.txt'), f'a host that writes what is missing: {lines}')
+    hold(done.returncode == 0 and done.stdout == read(f'{HERE}/tests/driven.txt'),
+         f'a host that writes what is missing: {lines}')
     handed_in = list(with_written(document, lines))
     schema = validator('driven')
-    hold(not schema or all(schema.is_valid(it) for it in handed_in), 'driven documents against docs/driven.schema.json')
-    hold(holds_shared_parts(), 'the parts of docs/driven.schema.json that the other schemas have too')
-    cases = [Case(put(folder, f'driven {k}', it)) for k, it in enumerate(handed_in)]
+    hold(not schema or all(schema.is_valid(document) for document in handed_in),
+         'driven documents against docs/driven.schema.json')
+    hold(holds_shared_parts(),
+         'the parts of docs/driven.schema.json that the other schemas have too')
+    cases = [Case(put(folder, f'driven {k}', document)) for k, document in enumerate(handed_in)]
     for length in (1 << 16, 1):
-        told = [f'{status} {text.decode()}' for status, text in answers_of(folder, 'drive', length, cases)]
+        told = [f'{status} {text.decode()}'
+                for status, text in answers_of(folder, 'drive', length, cases)]
         hold(told == lines, f'driven documents in a buffer of {length}: {told}')
-        hold(all(it == (0, b'') for it in answers_of(folder, 'drive_fault', length, cases)), 'driven documents have no fault')
-    hold(ran(f'{folder}/failing', *[it.path for it in cases]).returncode == 0, 'each allocation refused in turn, driven')
-    hold_stack(folder, [it.path for it in cases])
+        hold(all(answer == (0, b'') for answer in answers_of(folder, 'drive_fault', length, cases)),
+             'driven documents have no fault')
+    hold(ran(f'{folder}/failing', *[case.path for case in cases]).returncode == 0,
+         'each allocation refused in turn, driven')
+    hold_stack(folder, [case.path for case in cases])
     try_driven_faults(folder, schema, handed_in[-1])
 
 
@@ -311,46 +362,60 @@ def try_driven_faults(folder, schema, whole):
         ({**whole, 'written': [{'task': one['task']}]}, '/written/0', 'missing key tree'),
         ({**whole, 'written': [one, {**one, 'tree': [{'text': 'a', 'font_style': 'normal'}]}]},
          '/written/1/tree/0', 'missing key font_weight'),
-        ({**whole, 'written': [{**one, 'task': {**one['task'], 'kind': 'note'}}]}, '/written/0/task/kind', 'a text'),
-        ({**whole, 'written': [{**one, 'task': {**one['task'], 'place': [0]}}]}, '/written/0/task/place', 'a list'),
+        ({**whole, 'written': [{**one, 'task': {**one['task'], 'kind': 'note'}}]},
+         '/written/0/task/kind', 'a text'),
+        ({**whole, 'written': [{**one, 'task': {**one['task'], 'place': [0]}}]},
+         '/written/0/task/place', 'a list'),
     ]
-    cases = [Case(put(folder, f'driven and wrong {k}', it)) for k, (it, *_) in enumerate(rows)]
-    for (document, pointer, found), (status, _), (judged, fault) in zip(
-            rows, answers_of(folder, 'drive', 1 << 16, cases), answers_of(folder, 'drive_fault', 1 << 16, cases)):
+    cases = [Case(put(folder, f'driven and wrong {k}', document))
+             for k, (document, *_) in enumerate(rows)]
+    answers = answers_of(folder, 'drive', 1 << 16, cases)
+    faults = answers_of(folder, 'drive_fault', 1 << 16, cases)
+    for (document, pointer, found), (status, _), (judged, fault) in zip(rows, answers, faults):
         told = json.loads(fault or '{}')
-        hold(status == 2 and judged == 0 and (told.get('pointer'), told.get('found')) == (pointer, found),
+        hold(status == 2 and judged == 0
+             and (told.get('pointer'), told.get('found')) == (pointer, found),
              f'a driven document with {found} at {pointer}: status {status}, {told}')
-        hold(not schema or not schema.is_valid(document), f'docs/driven.schema.json refuses {found} at {pointer}')
-    for key, value, pointer in (('entry', 'eve', '/written/0/task/entry'), ('style', 'cottage', '/written/0/task/style')):
+        hold(not schema or not schema.is_valid(document),
+             f'docs/driven.schema.json refuses {found} at {pointer}')
+    for key, value, pointer in (('entry', 'eve', '/written/0/task/entry'),
+                                ('style', 'cottage', '/written/0/task/style')):
         unknown = {**whole, 'written': [{**one, 'task': {**one['task'], key: value}}]}
-        (status, _), = answers_of(folder, 'drive', 1 << 16, [Case(put(folder, 'driven and unknown', unknown))])
-        (_, fault), = answers_of(folder, 'drive_fault', 1 << 16, [Case(put(folder, 'driven and unknown', unknown))])
-        hold(status == 2 and json.loads(fault or '{}').get('pointer') == pointer, f'a task of an unknown {key}: {status}, {fault!r}')
+        (status, _), = answers_of(folder, 'drive', 1 << 16,
+                                  [Case(put(folder, 'driven and unknown', unknown))])
+        (_, fault), = answers_of(folder, 'drive_fault', 1 << 16,
+                                 [Case(put(folder, 'driven and unknown', unknown))])
+        hold(status == 2 and json.loads(fault or '{}').get('pointer') == pointer,
+             f'a task of an unknown {key}: {status}, {fault!r}')
 
 
 def try_from_python(cases, jsons):
     """The package, alone and in eight threads."""
-    sys.path.insert(0, f'{HERE}/python')
+    sys.path.insert(0, f'{HERE}/python/src')
     import gamhilon
 
     def tried(case, answer, buffer):
         library = gamhilon._library.library()
         try:
-            return library.print_document(case.bytes, buffer) == case.text and library.print_json(case.bytes, buffer) == answer
+            return (library.print_document(case.bytes, buffer) == case.text
+                    and library.print_json(case.bytes, buffer) == answer)
         except gamhilon.Refused as refusal:
             return refusal.status == case.status
 
     for buffer in (None, 1):
         for case, answer in zip(cases, jsons):
-            hold(tried(case, answer, buffer), f'{case.name}: from Python, in a buffer of {buffer or "its own choice"}')
+            hold(tried(case, answer, buffer),
+                 f'{case.name}: from Python, in a buffer of {buffer or "its own choice"}')
     with ThreadPoolExecutor(8) as pool:
-        hold(all(pool.map(lambda it: tried(*it, None), [*zip(cases, jsons)] * 3)), 'from eight threads of Python')
+        hold(all(pool.map(lambda pair: tried(*pair, None), [*zip(cases, jsons)] * 3)),
+             'from eight threads of Python')
     for case, answer in zip(cases, jsons):
         if case.status == 0:
             hold(is_rebuilt(gamhilon, case, json.loads(answer)), f'{case.name}: what render gives')
-    ring = {'styles': {'s': {'citation': {'elements': []}, 'macros': [
-        {'name': 'a', 'children': []}, {'name': 'b', 'children': [{'kind': 'text', 'macro': 'b'}]}]}},
-        'entries': [], 'requests': [], 'bibliography': {'style': 's'}}
+    macros = [{'name': 'a', 'children': []},
+              {'name': 'b', 'children': [{'kind': 'text', 'macro': 'b'}]}]
+    ring = {'styles': {'s': {'citation': {'elements': []}, 'macros': macros}}, 'entries': [],
+            'requests': [], 'bibliography': {'style': 's'}}
     try:
         gamhilon.render(ring)
         hold(False, 'a ring is refused')
@@ -367,20 +432,26 @@ def try_from_python(cases, jsons):
 
 
 def try_driving():
-    """The driven call beside its model, as hosts of ordinary documents make it (tests/model/driven_check.py)."""
-    done = ran(sys.executable, f'{ROOT}/tests/model/driven_check.py', '--library', f'{OUT}/libgamhilon.so', timeout=600)
+    """The driven call beside its model, as hosts of ordinary documents make it
+    (tests/model/driven_check.py)."""
+    done = ran(sys.executable, f'{ROOT}/tests/model/driven_check.py', '--library',
+               f'{OUT}/libgamhilon.so', timeout=600)
     told = done.stdout.decode() + done.stderr.decode()
-    hold(done.returncode == 0 and ' passed, 0 failed' in told, f'the driven call and its model: {told[-1200:]}')
+    hold(done.returncode == 0 and ' passed, 0 failed' in told,
+         f'the driven call and its model: {told[-1200:]}')
 
 
 def try_package(folder):
-    """`pip install embed/python`, and then a document in a process that knows nothing of this folder."""
+    """`pip install embed/python`, and then a document in a process that knows nothing of this
+    folder."""
     if ran(sys.executable, '-m', 'pip', '--version').returncode:
         left_out.append('installing the Python package: there is no pip')
         return
-    made = ran(sys.executable, '-m', 'pip', 'install', '-q', '--no-index', '--target', f'{folder}/site', f'{HERE}/python')
+    made = ran(sys.executable, '-m', 'pip', 'install', '-q', '--no-index', '--target',
+               f'{folder}/site', f'{HERE}/python')
     hold(made.returncode == 0, f'pip install: {made.stderr.decode()[-600:]}')
-    words = 'import gamhilon, sys; sys.stdout.write(gamhilon.print_document(sys.stdin.read())); print(gamhilon.__file__)'
+    words = ('import gamhilon, sys; sys.stdout.write(gamhilon.print_document(sys.stdin.read())); '
+             'print(gamhilon.__file__)')
     how = {'cwd': folder, 'env': {'PYTHONPATH': f'{folder}/site', 'PATH': os.environ['PATH']}}
     done = ran(sys.executable, '-c', words, input=read(f'{ROOT}/examples/first.json'), **how)
     wanted = read(f'{ROOT}/examples/first.txt') + f'{folder}/site/gamhilon/__init__.py\n'.encode()
@@ -390,28 +461,57 @@ def try_package(folder):
 def try_wheel(folder):
     """The wheel in a fresh virtual environment, used as its user would."""
     if ran(sys.executable, '-m', 'venv', f'{folder}/venv').returncode:
-        left_out.append('the wheel in a fresh virtual environment: venv makes none (Debian: python3-venv)')
+        left_out.append(
+            'the wheel in a fresh virtual environment: venv makes none (Debian: python3-venv)')
         return
     made = ran(sys.executable, f'{HERE}/build.py', '--archive', f'{OUT}/libgamhilon.a', '--wheel',
                env={**os.environ, 'PATH': without_rt(folder)})
-    hold(made.returncode == 0, f'build.py --archive --wheel, with no toolchain: {made.stderr.decode()[-600:]}')
+    hold(made.returncode == 0,
+         f'build.py --archive --wheel, with no toolchain: {made.stderr.decode()[-600:]}')
     wheels = glob.glob(f'{OUT}/*.whl')
     hold(len(wheels) == 1, f'one wheel: {wheels}')
     bin_folder = f'{folder}/venv/bin'
     how = {'cwd': folder, 'env': {'PATH': f'{bin_folder}:{os.environ["PATH"]}'}}
-    made = ran(f'{bin_folder}/pip', 'install', '-q', '--no-index', '--disable-pip-version-check', *wheels, **how)
+    made = ran(f'{bin_folder}/pip', 'install', '-q', '--no-index', '--disable-pip-version-check',
+               *wheels, **how)
     hold(made.returncode == 0, f'pip install of the wheel: {made.stderr.decode()[-600:]}')
     first, text = f'{ROOT}/examples/first.json', read(f'{ROOT}/examples/first.txt')
     hold(ran('gamhilon', 'render', first, **how).stdout == text, 'gamhilon render, from the wheel')
     told = ran('python', '-m', 'gamhilon', '--version', **how).stdout.decode()
     note = json.loads(read(f'{OUT}/gamhilon_build.json'))
-    hold(all(str(it or 'unknown') in told for it in note.values()), f'the version of the wheel: {told}')
+    hold(all(str(value or 'unknown') in told for value in note.values()),
+         f'the version of the wheel: {told}')
     if has_tool('pandoc', 'the filter from the wheel'):
         with open(f'{folder}/refs.json', 'w', encoding='utf-8') as file:
-            file.write('[{"id": "doe99", "title": "On Order", "author": [{"family": "Doe"}], "issued": {"date-parts": [[1999]]}}]')
-        words = ['pandoc', '--filter', 'gamhilon-pandoc', '-M', 'bibliography=refs.json', '-t', 'plain']
+            file.write('[{"id": "doe99", "title": "On Order", "author": [{"family": "Doe"}], '
+                       '"issued": {"date-parts": [[1999]]}}]')
+        words = ['pandoc', '--filter', 'gamhilon-pandoc', '-M', 'bibliography=refs.json', '-t',
+                 'plain']
         hold(ran(*words, input=b'[@doe99, p. 4]', **how).stdout.startswith(b'(Doe 1999, 4)\n'),
              'gamhilon-pandoc, from the wheel')
+
+
+def try_release(folder):
+    """The archive of a release, used as its user would."""
+    sys.path.insert(0, HERE)
+    import build
+    import release
+    if not os.path.exists(release.PROGRAM):
+        left_out.append('the archive of a release: there is no built cite_run')
+        return
+    note = json.loads(read(f'{OUT}/gamhilon_build.json'))
+    name = release.make(build.version(), os.environ.get('CC', 'cc').split(), note)
+    with tarfile.open(f'{OUT}/{name}') as archive:
+        archive.extractall(folder)
+    place = f'{folder}/{name[:-len(".tar.gz")]}'
+    done = ran('sha256sum', '--check', '--strict', '--quiet', 'SHA256SUMS', cwd=place)
+    hold(done.returncode == 0, f'the checksums of a release: {done.stderr.decode()}')
+    about = read(f'{place}/SHA256SUMS').decode().splitlines()[0]
+    hold(all(str(value or 'unknown') in about for value in note.values()),
+         f'what proved a release: {about}')
+    first, text = read(f'{ROOT}/examples/first.json'), read(f'{ROOT}/examples/first.txt')
+    for program in ('cite_run', 'gamhilon-print'):
+        hold(ran(f'{place}/bin/{program}', input=first).stdout == text, f'{program} of a release')
 
 
 def without_rt(folder):
@@ -431,12 +531,14 @@ def try_building():
     """What build.py makes, and that it leaves that alone where it can't build."""
     before = sorted(os.listdir(OUT))
     done = ran(sys.executable, f'{HERE}/build.py', '--archive', 'nofile.a')
-    hold(done.returncode == 1 and b'nofile.a' in done.stderr, 'an archive that is not there is told')
+    hold(done.returncode == 1 and b'nofile.a' in done.stderr,
+         'an archive that is not there is told')
     hold(sorted(os.listdir(OUT)) == before, 'out/ stays where there is no archive')
     sys.path.insert(0, HERE)
     import build
     shown = ran('nm', '-D', '--defined-only', f'{OUT}/libgamhilon.so').stdout.decode().split()[2::3]
-    hold(sorted(shown) == sorted(build.EXPORTS), f'the shared object shows its exports alone: {shown}')
+    hold(sorted(shown) == sorted(build.EXPORTS),
+         f'the shared object shows its exports alone: {shown}')
     soname = f'libgamhilon.so.{build.version().split(".")[0]}'
     hold(soname in ran('objdump', '-p', f'{OUT}/libgamhilon.so').stdout.decode(),
          f'the name of the shared object is {soname}')
@@ -449,7 +551,8 @@ def try_about(folder):
     lines = ran(f'{folder}/about').stdout.decode().splitlines()
     hold(lines[0] == f'{build.version()} {build.version()}', 'the version of the header')
     note = json.loads(read(f'{OUT}/gamhilon_build.json'))
-    hold(lines[1].startswith(build.version()) and all(it in lines[1] for it in note.values() if it),
+    hold(lines[1].startswith(build.version())
+         and all(value in lines[1] for value in note.values() if value),
          'the version of the library')
     hold(len(lines) == 12 and len(set(lines[2:])) == 9 and lines[3] == lines[11],
          'each status has a text of its own, and others one')
@@ -460,7 +563,8 @@ def try_cmake(folder):
     if not (has_tool('pkg-config', 'gamhilon.pc') and has_tool('cmake', 'the CMake example')):
         return
     environment = {**os.environ, 'PKG_CONFIG_PATH': OUT}
-    told = ran('pkg-config', '--cflags', '--libs', 'gamhilon', env=environment).stdout.decode().split()
+    told = ran('pkg-config', '--cflags', '--libs', 'gamhilon',
+               env=environment).stdout.decode().split()
     hold(told == [f'-I{OUT}', f'-L{OUT}', '-lgamhilon'], f'gamhilon.pc: {told}')
     for words in (['-S', f'{HERE}/c', '-B', f'{folder}/cmake'], ['--build', f'{folder}/cmake']):
         made = ran('cmake', *words, env=environment)
@@ -470,48 +574,56 @@ def try_cmake(folder):
 
 
 def python_with_pytest():
-    """This Python, or Debian's: the one that has more of what the package's tests use; None where neither has pytest."""
+    """This Python, or Debian's: the one that has more of what the package's tests use; None where
+    neither has pytest."""
     def has(python, module):
         return os.path.exists(python) and ran(python, '-c', f'import {module}').returncode == 0
 
-    pythons = [it for it in (sys.executable, '/usr/bin/python3') if has(it, 'pytest')]
-    return max(pythons, key=lambda it: sum(has(it, name) for name in ('mypy', 'pandocfilters', 'jsonschema', 'citeproc')),
-               default=None)
+    pythons = [python for python in (sys.executable, '/usr/bin/python3') if has(python, 'pytest')]
+    names = ('mypy', 'pandocfilters', 'jsonschema', 'citeproc', 'pybtex', 'yaml', 'distributed')
+    return max(pythons, key=lambda python: sum(has(python, name) for name in names), default=None)
 
 
 def try_tests_of_the_package(folder):
     """The package's own tests, counted one by one."""
     python = python_with_pytest()
     if not python:
-        left_out.append('the tests of the Python package: there is no pytest (Debian: python3-pytest)')
+        left_out.append(
+            'the tests of the Python package: there is no pytest (Debian: python3-pytest)')
         return
     global passed
     report = f'{folder}/pytest.xml'
-    environment = {name: it for name, it in os.environ.items() if name != 'GAMHILON_LIBRARY'}
+    environment = {name: value for name, value in os.environ.items() if name != 'GAMHILON_LIBRARY'}
     words = ['-m', 'pytest', '-q', '-p', 'no:cacheprovider', f'--junitxml={report}', 'tests']
     done = ran(python, *words, cwd=f'{HERE}/python', env=environment, timeout=900)
     hold(done.returncode == 0, f'pytest ends well: {done.stdout.decode()[-3000:]}')
     reasons = collections.Counter()
-    for case in xml.etree.ElementTree.parse(report).iter('testcase') if os.path.exists(report) else []:
+    is_there = os.path.exists(report)
+    for case in xml.etree.ElementTree.parse(report).iter('testcase') if is_there else []:
         name, skipped = f'{case.get("classname")}.{case.get("name")}', case.find('skipped')
         if skipped is not None:
             reasons[skipped.get('message')] += 1
         else:
             hold(case.find('failure') is None and case.find('error') is None, name)
-    left_out.extend(f'{count} tests of the Python package: {reason}' for reason, count in reasons.items())
+    left_out.extend(f'{count} tests of the Python package: {reason}'
+                    for reason, count in reasons.items())
 
 
 def compile_crate(folder):
-    """The crate of Rust, with no network, and its tests. Gives its program, or none where there is no cargo."""
+    """The crate of Rust, with no network, and its tests. Gives its program, or none where there is
+    no cargo."""
     if not has_tool('cargo', 'the crate in Rust'):
         return None
     environment = {**os.environ, 'CARGO_TARGET_DIR': f'{folder}/target'}
     for words in (['build', '--release'], ['test']):
-        made = ran('cargo', *words, '--offline', '--quiet', cwd=f'{HERE}/rust', env=environment, timeout=600)
-        hold(made.returncode == 0, f'cargo {words[0]}: {(made.stdout + made.stderr).decode()[-1200:]}')
+        made = ran('cargo', *words, '--offline', '--quiet', cwd=f'{HERE}/rust', env=environment,
+                   timeout=600)
+        hold(made.returncode == 0,
+             f'cargo {words[0]}: {(made.stdout + made.stderr).decode()[-1200:]}')
     missing = ran('cargo', 'build', '--offline', '--quiet', cwd=f'{HERE}/rust',
                   env={**environment, 'GAMHILON_LIB_DIR': folder})
-    hold(missing.returncode != 0 and b'embed/build.py' in missing.stderr, 'the crate tells where the library is missing')
+    hold(missing.returncode != 0 and b'embed/build.py' in missing.stderr,
+         'the crate tells where the library is missing')
     return f'{folder}/target/release/gamhilon-print'
 
 
@@ -524,23 +636,29 @@ def try_callers(folder):
             continue
         hold(ran(program, input=first).stdout == text, f'{name}: examples/first.json')
         answer = ran(program, 'json', input=first).stdout
-        hold(answer[:1] == b'{' and printed(json.loads(answer)).encode() == text, f'{name}: JSON of examples/first.json')
+        hold(answer[:1] == b'{' and printed(json.loads(answer)).encode() == text,
+             f'{name}: JSON of examples/first.json')
         done = ran(program, input=b'{')
-        hold(done.returncode == 2 and b'not of the form of a document' in done.stderr, f'{name}: what is no document')
+        hold(done.returncode == 2 and b'not of the form of a document' in done.stderr,
+             f'{name}: what is no document')
         with open('/dev/full', 'wb') as full:
-            done = subprocess.run([program], input=first, stdout=full, stderr=subprocess.PIPE, timeout=60)
-        hold(done.returncode == 1 and done.stderr.count(b'\n') == 1, f'{name}: output that is full is status 1')
+            done = subprocess.run([program], input=first, stdout=full, stderr=subprocess.PIPE,
+                                  timeout=60)
+        hold(done.returncode == 1 and done.stderr.count(b'\n') == 1,
+             f'{name}: output that is full is status 1')
         folder = os.open(HERE, os.O_RDONLY)
         done = ran(program, stdin=folder)
         os.close(folder)
-        hold(done.returncode == 1 and done.stderr.count(b'\n') == 1, f'{name}: a folder for input is status 1')
+        hold(done.returncode == 1 and done.stderr.count(b'\n') == 1,
+             f'{name}: a folder for input is status 1')
 
 
 def ten(cases):
     """A document of each of ten folders."""
-    paths = [sorted(glob.glob(f'{ROOT}/tests/documents/{it}'), key=os.path.getsize) for it in TEN]
-    chosen = {it[len(it) // 2] for it in paths if it}
-    return [it for it in cases if it.path in chosen]
+    paths = [sorted(glob.glob(f'{ROOT}/tests/documents/{pattern}'), key=os.path.getsize)
+             for pattern in TEN]
+    chosen = {path[len(path) // 2] for path in paths if path}
+    return [case for case in cases if case.path in chosen]
 
 
 def hold_stack(folder, paths):
@@ -549,31 +667,35 @@ def hold_stack(folder, paths):
     hold(done.returncode == 0, 'the need of stack is measured')
     for line in done.stdout.decode().strip().split('\n'):
         form, size, path = line.split(' ', 2)
-        print(f'stack: {form} takes at most {int(size) // 1024} KiB, at {os.path.relpath(path, ROOT)}')
-        hold(int(size) <= STACK_TOLD, f'{form} takes {size} bytes of stack, and the header tells {STACK_TOLD}')
+        print(f'stack: {form} takes at most {int(size) // 1024} KiB, '
+              f'at {os.path.relpath(path, ROOT)}')
+        hold(int(size) <= STACK_TOLD,
+             f'{form} takes {size} bytes of stack, and the header tells {STACK_TOLD}')
 
 
 def try_hard(folder, cases, calls):
     """Memory refused, threads, valgrind, and the need of stack."""
-    few = [it.path for it in ten(cases)]
+    few = [case.path for case in ten(cases)]
     hold(len(few) == 10, f'there are ten documents, one of each folder, and not {len(few)}')
     done = ran(f'{folder}/failing', *few)
-    wrong = [it for it in done.stdout.decode().splitlines() if ', 0 wrong' not in it]
+    wrong = [line for line in done.stdout.decode().splitlines() if ', 0 wrong' not in line]
     hold(done.returncode == 0, f'each allocation refused in turn: {wrong[:3]}')
     done = ran(f'{folder}/threads', *few)
     hold(done.returncode == 0, f'eight threads: {done.stdout.decode()}')
     if has_tool('valgrind', 'leaks and wrong reads'):
-        words = ['valgrind', '-q', '--error-exitcode=9', '--leak-check=full', '--errors-for-leak-kinds=all',
-                 f'{folder}/calls']
+        words = ['valgrind', '-q', '--error-exitcode=9', '--leak-check=full',
+                 '--errors-for-leak-kinds=all', f'{folder}/calls']
         with ThreadPoolExecutor(2) as pool:
-            for form, done in zip(FORMS, pool.map(lambda it: ran(*words, it, '1', *few), FORMS)):
+            for form, done in zip(FORMS,
+                                  pool.map(lambda form: ran(*words, form, '1', *few), FORMS)):
                 hold(done.returncode == 0, f'valgrind, {form}: {done.stderr.decode()[:900]}')
-        words = ['valgrind', '-q', '--error-exitcode=9', '--leak-check=full', '--errors-for-leak-kinds=all',
-                 '--fair-sched=yes']
+        words = ['valgrind', '-q', '--error-exitcode=9', '--leak-check=full',
+                 '--errors-for-leak-kinds=all', '--fair-sched=yes']
         done = ran(*words, f'{folder}/many', str(calls), *few, timeout=3600)
         print(f'valgrind: {done.stdout.decode().strip()}')
-        hold(done.returncode == 0, f'valgrind, {calls} calls in four threads: {done.stderr.decode()[:900]}')
-    hold_stack(folder, [it.path for it in cases])
+        hold(done.returncode == 0,
+             f'valgrind, {calls} calls in four threads: {done.stderr.decode()[:900]}')
+    hold_stack(folder, [case.path for case in cases])
 
 
 def main(words):
@@ -585,7 +707,9 @@ def main(words):
     if built == 0:
         print(f'built in {time.time() - began:.0f} s')
         began = time.time()
-        cases = [Case(it) for it in sorted(glob.glob(f'{ROOT}/tests/documents/*/*.json') + glob.glob(f'{ROOT}/examples/*.json'))]
+        cases = [Case(path)
+                 for path in sorted(glob.glob(f'{ROOT}/tests/documents/*/*.json')
+                                    + glob.glob(f'{ROOT}/examples/*.json'))]
         with tempfile.TemporaryDirectory() as folder:
             compile_all(folder)
             if not failures:
@@ -602,9 +726,10 @@ def main(words):
                 try_hard(folder, cases, calls)
                 try_tests_of_the_package(folder)
                 try_wheel(folder)
+                try_release(folder)
         print(f'{len(cases)} documents, {time.time() - began:.0f} s')
-    for it in left_out:
-        print(f'left out: {it}')
+    for message in left_out:
+        print(f'left out: {message}')
     print(f'{passed} passed, {len(failures)} failed')
     return 1 if failures else 0
 

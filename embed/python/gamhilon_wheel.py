@@ -1,9 +1,10 @@
 """Builds the wheel of the package: its files, the shared library, and what tells its licence and of
 what it was built.
 
-It is the build backend of pyproject.toml (PEP 517), and needs nothing from a package registry. The
-library and the note of its build are ../out/libgamhilon.so and ../out/gamhilon_build.json, which
-../build.py makes.
+It is the build backend of pyproject.toml (PEP 517), which has all that it says of the package but
+the version, and on Python 3.11 or later it needs nothing from a package registry. The library and
+the note of its build are ../out/libgamhilon.so and ../out/gamhilon_build.json, which ../build.py
+makes.
 """
 import base64
 import hashlib
@@ -12,30 +13,18 @@ import platform
 import re
 import zipfile
 
+try:
+    import tomllib
+except ImportError:  # before Python 3.11
+    import tomli as tomllib
+
 HERE = os.path.dirname(os.path.abspath(__file__))
 ROOT = os.path.normpath(f'{HERE}/../..')
 OUT = os.path.normpath(f'{HERE}/../out')
+SOURCE = f'{HERE}/src'
 NAME = 'gamhilon'
 SUFFIXES = ('.py', '.json', '.css', '.typed')
-METADATA = """Metadata-Version: 2.1
-Name: {name}
-Version: {version}
-Summary: Citations and bibliographies, by a driver whose every function is proved
-License: MIT OR Apache-2.0
-License-File: LICENSE
-License-File: LICENSE-MIT
-License-File: LICENSE-APACHE
-Requires-Python: >=3.8
-Classifier: Typing :: Typed
-Classifier: Operating System :: POSIX :: Linux
-Description-Content-Type: text/plain
-
-{description}
-"""
-SCRIPTS = """[console_scripts]
-gamhilon = gamhilon.__main__:main
-gamhilon-pandoc = gamhilon.pandoc_filter:main
-"""
+LICENSES = ('LICENSE', 'LICENSE-MIT', 'LICENSE-APACHE')
 WHEEL = """Wheel-Version: 1.0
 Generator: gamhilon_wheel
 Root-Is-Purelib: false
@@ -50,13 +39,40 @@ def read(path):
 
 def version():
     """The package's version, which stands in it once."""
-    text = read(f'{HERE}/{NAME}/_version.py').decode()
+    text = read(f'{SOURCE}/{NAME}/_version.py').decode()
     return re.search(r"^__version__ = '(.+)'$", text, re.MULTILINE).group(1)
+
+
+def project():
+    """What pyproject.toml says of the package."""
+    with open(f'{HERE}/pyproject.toml', 'rb') as file:
+        return tomllib.load(file)['project']
+
+
+def metadata():
+    """The metadata of the package, and its readme (Metadata 2.1)."""
+    said = project()
+    fields = [('Metadata-Version', '2.1'), ('Name', said['name']), ('Version', version()),
+              ('Summary', said['description']), ('Keywords', ','.join(said['keywords'])),
+              ('License', said['license']['text']), ('Requires-Python', said['requires-python']),
+              *(('License-File', name) for name in LICENSES),
+              *(('Classifier', classifier) for classifier in said['classifiers']),
+              *(('Project-URL', f'{label}, {url}') for label, url in said['urls'].items()),
+              ('Description-Content-Type', 'text/markdown')]
+    lines = [f'{field}: {value}\n' for field, value in fields]
+    return ''.join(lines).encode() + b'\n' + read(f'{HERE}/{said["readme"]}')
+
+
+def entry_points():
+    """The commands of the package."""
+    lines = [f'{name} = {function}\n' for name, function in project()['scripts'].items()]
+    return ('[console_scripts]\n' + ''.join(lines)).encode()
 
 
 def glibc_of(library):
     """The lowest glibc that has all that a library asks for, as 2 and a number."""
-    return max((int(it) for it in re.findall(rb'\bGLIBC_2\.(\d+)', read(library))), default=17)
+    asked = re.findall(rb'\bGLIBC_2\.(\d+)', read(library))
+    return max(map(int, asked), default=17)
 
 
 def tag():
@@ -71,20 +87,18 @@ def files():
     if not os.path.exists(library):
         raise FileNotFoundError(f'{library} is not there: build it first, by embed/build.py')
     found = {}
-    for folder, _, names in os.walk(f'{HERE}/{NAME}'):
+    for folder, _, names in os.walk(f'{SOURCE}/{NAME}'):
         for name in names:
             if name.endswith(SUFFIXES):
                 path = os.path.join(folder, name)
-                found[os.path.relpath(path, HERE)] = read(path)
+                found[os.path.relpath(path, SOURCE)] = read(path)
     found[f'{NAME}/libgamhilon.so'] = read(library)
     found[f'{NAME}/gamhilon_build.json'] = read(note) if os.path.exists(note) else b'{}\n'
     info = f'{NAME}-{version()}.dist-info'
-    description = read(f'{HERE}/{NAME}/__init__.py').decode().split('"""')[1]
-    found[f'{info}/METADATA'] = METADATA.format(name=NAME, version=version(),
-                                                description=description).encode()
+    found[f'{info}/METADATA'] = metadata()
     found[f'{info}/WHEEL'] = WHEEL.format(tag=tag()).encode()
-    found[f'{info}/entry_points.txt'] = SCRIPTS.encode()
-    for name in ('LICENSE', 'LICENSE-MIT', 'LICENSE-APACHE'):
+    found[f'{info}/entry_points.txt'] = entry_points()
+    for name in LICENSES:
         found[f'{info}/{name}'] = read(f'{ROOT}/{name}')
     return found
 
@@ -92,11 +106,13 @@ def files():
 def record(found):
     """The record of the files, with their checksums (PEP 376)."""
     info = f'{NAME}-{version()}.dist-info'
-    sums = {it: base64.urlsafe_b64encode(hashlib.sha256(data).digest()).rstrip(b'=').decode()
-            for it, data in found.items()}
-    rows = [f'{it},sha256={sums[it]},{len(data)}' for it,
-            data in found.items()] + [f'{info}/RECORD,,']
-    return ('\n'.join(rows) + '\n').encode()
+    rows = [f'{path},sha256={checksum(data)},{len(data)}\n' for path, data in found.items()]
+    return ''.join([*rows, f'{info}/RECORD,,\n']).encode()
+
+
+def checksum(data):
+    """The checksum of a file, as a record has it."""
+    return base64.urlsafe_b64encode(hashlib.sha256(data).digest()).rstrip(b'=').decode()
 
 
 def build_wheel(wheel_directory, config_settings=None, metadata_directory=None):

@@ -26,7 +26,8 @@ def page(document):
         answer = gamhilon.render(document, limits=LIMITS)
     except gamhilon.Refused as refusal:
         return None, str(refusal)
-    citations = [f'<p class="citation">{gamhilon.to_html(it)}</p>\n' for it in answer.citations]
+    citations = [f'<p class="citation">{gamhilon.to_html(citation)}</p>\n'
+                 for citation in answer.citations]
     return ''.join([*citations, gamhilon.bibliography_to_html(answer.bibliography)]), None
 
 

@@ -8,13 +8,14 @@ import sys
 import pytest
 
 HERE = os.path.dirname(os.path.abspath(__file__))
-PACKAGE = os.path.dirname(HERE)
-ROOT = os.path.normpath(f'{PACKAGE}/../..')
-sys.path.insert(0, PACKAGE)
+PROJECT = os.path.dirname(HERE)
+SOURCE = f'{PROJECT}/src'
+ROOT = os.path.normpath(f'{PROJECT}/../..')
+sys.path.insert(0, SOURCE)
 
 from gamhilon import _library  # noqa: E402
 
-from stand_ins import MadeUpLibrary, ModelOfTheDriver  # noqa: E402
+from stand_ins import MadeUpLibrary, ModelOfTheDriver, ModelOfTheLibrary  # noqa: E402
 
 
 def heed_interrupts():
@@ -53,6 +54,15 @@ def driver(request, monkeypatch):
         request.getfixturevalue('drives')
     else:
         monkeypatch.setattr(_library, '_library', _library.Library(ModelOfTheDriver()))
+
+
+@pytest.fixture(params=['model', 'library'])
+def library(request, monkeypatch):
+    """For tests of answers: first the model of the library, and then the shared library."""
+    if request.param == 'library':
+        request.getfixturevalue('built')
+    else:
+        monkeypatch.setattr(_library, '_library', _library.Library(ModelOfTheLibrary()))
 
 
 @pytest.fixture
@@ -132,7 +142,7 @@ def pandoc(request, tmp_path):
         fields = [f'--metadata={name.replace("_", "-")}={value}'
                   for name, value in metadata.items()]
         way = ['--filter', str(script)] if own else ['--citeproc']
-        environment = {**os.environ, 'PYTHONPATH': f'{PACKAGE}{os.pathsep}{PACKAGE}/tests'}
+        environment = {**os.environ, 'PYTHONPATH': f'{SOURCE}{os.pathsep}{HERE}'}
         done = subprocess.run(['pandoc', '-f', 'markdown', '-t', to, '--wrap=none', *fields, *way,
                                *words],
                               input=None if text is None else text.encode(),

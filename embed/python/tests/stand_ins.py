@@ -26,7 +26,7 @@ class MadeUpLibrary:
         self.limits_status, self.limits_calls = limits_status, []
         told = fault or {'pointer': '', 'found': 'an object', 'wanted': 'something else'}
         self.gamhilon_find_fault = lambda *given: self._put(json.dumps(told).encode(), fault_status,
-                                                       *given)
+                                                            *given)
 
     def gamhilon_render_text(self, *given):
         return self._put(self.text, self.status, *given)
@@ -70,10 +70,10 @@ class ModelOfTheLibrary(ModelOfTheDriver):
     limits, and doesn't tell where a document is wrong."""
 
     def gamhilon_render_text(self, document, *given):
-        return self._answer(document, given, lambda it: it.answer()[1])
+        return self._answer(document, given, lambda made: made.answer()[1])
 
     def gamhilon_render_json(self, document, *given):
-        return self._answer(document, given, lambda it: json.dumps(it.data()))
+        return self._answer(document, given, lambda made: json.dumps(made.data()))
 
     def gamhilon_find_ring(self, document, document_length, ring):
         return self._status(document)

@@ -33,7 +33,7 @@ def item(pybtex):
         assert found.problems == []
         first = dict(found.items[0])
         assert first.pop('id') == 'k'
-        return first, [(it.field, it.reason) for it in found.losses if it.key == 'k']
+        return first, [(loss.field, loss.reason) for loss in found.losses if loss.key == 'k']
     return read
 
 
@@ -67,13 +67,13 @@ def test_works_are_read_as_pandoc_reads_them(pybtex):
     done = subprocess.run(['pandoc', '-f', 'biblatex', '-t', 'csljson'], input=text.encode(),
                           capture_output=True,
                           check=True)
-    theirs = {it['id']: it for it in json.loads(done.stdout)}
-    own = {it['id']: it for it in references.loads(text, form='biblatex').items}
-    assert list(own) == [it for it in theirs] and len(own) == 37
+    theirs = {item['id']: item for item in json.loads(done.stdout)}
+    own = {item['id']: item for item in references.loads(text, form='biblatex').items}
+    assert list(own) == [item for item in theirs] and len(own) == 37
     found = set()
     for key, other in theirs.items():
         if 'event' in other:
-            other['event-title'] = other.pop('event')
+            other['event-title'] = other['event']
         other['type'] = other['type'] or 'document'
         found |= {(key, name) for name in {*own[key], *other}
                   if own[key].get(name) != other.get(name)}
@@ -216,8 +216,8 @@ def test_roles(item):
               'illustrator': 'I'}
     made, lost = item('inbook', **fields)
     variables = ['author', 'container-author', 'translator', 'editor', 'illustrator']
-    wanted = {it: [{'family': name}] for it, name in zip(variables, 'ABTEI')}
-    assert {it: made[it] for it in variables} == wanted
+    wanted = {variable: [{'family': name}] for variable, name in zip(variables, 'ABTEI')}
+    assert {variable: made[variable] for variable in variables} == wanted
     assert lost == []
 
 
@@ -661,15 +661,16 @@ def test_an_entry_that_breaks_off_costs_no_other(pybtex):
                       '@book{b, title = {B}, publisher = x}', '@book{c, title = {C} author = {D}}',
                       '@book{, title = {E}}', '@misc{f, title = {F}, note = nowhere}'])
     read = references.loads(text)
-    assert [it['id'] for it in read.items] == ['a', 'b', 'c', 'f']
+    assert [item['id'] for item in read.items] == ['a', 'b', 'c', 'f']
     assert read.items[1]['publisher'] == 'X Press' and read.items[3]['title'] == 'F'
-    assert [int(re.search(r'in line (\d+)', it).group(1)) for it in read.problems] == [3, 4, 5, 6]
+    assert [int(re.search(r'in line (\d+)', problem).group(1))
+            for problem in read.problems] == [3, 4, 5, 6]
 
 
 def test_a_second_field_and_a_second_entry_are_told(pybtex):
     read = references.loads('@book{k, title = {A}, TITLE = {B}}\n@book{k, title = {C}}')
-    assert [it['title'] for it in read.items] == ['A']
-    assert [(it.field, it.reason) for it in read.losses] == [
+    assert [item['title'] for item in read.items] == ['A']
+    assert [(loss.field, loss.reason) for loss in read.losses] == [
         ('title', 'a second field of this name, left out'),
         ('id', 'a second item of this id, left out')]
 
@@ -677,13 +678,14 @@ def test_a_second_field_and_a_second_entry_are_told(pybtex):
 def test_what_is_no_work_is_left_out(pybtex):
     text = '@set{s, entryset = {a}}\n@comment{x}\n@preamble{"x"}\n@book{a, title = {A}}'
     read = references.loads(text)
-    assert [it['id'] for it in read.items] == ['a'] and [it.key for it in read.losses] == ['s']
+    assert [item['id'] for item in read.items] == ['a']
+    assert [loss.key for loss in read.losses] == ['s']
 
 
 def test_many_entries_do_not_take_long(pybtex):
     entry = ('@article{{k{}, title = {{On {{NASA}} and M{{\\"u}}ller}}, date = {{2001-02}}, '
              'author = {{Doe, Jane and van Roe, R.}}}}\n')
     began = time.process_time()
-    read = references.loads(''.join(entry.format(it)
-                                    for it in range(3000)) + '@book{broken, title = {')
+    read = references.loads(''.join(entry.format(number)
+                                    for number in range(3000)) + '@book{broken, title = {')
     assert len(read.items) == 3001 and time.process_time() - began < 10

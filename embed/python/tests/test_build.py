@@ -5,11 +5,12 @@ import re
 import shutil
 import subprocess
 import sys
+import tarfile
 import time
 import zipfile
 
 import pytest
-from conftest import PACKAGE, ROOT, heed_interrupts
+from conftest import PROJECT, ROOT, heed_interrupts
 
 pytestmark = pytest.mark.skipif(not all(map(shutil.which, ('cc', 'objcopy', 'ar', 'nm'))),
                                 reason='there is no C compiler')
@@ -18,6 +19,7 @@ CALLS = ('check_limits', 'drive', 'find_driven_fault', 'find_fault', 'find_ring'
          'render_text')
 RT = '''#!/bin/sh
 if [ "$1" = version ]; then echo kit-1; exit; fi
+if [ "$1" = run ]; then mkdir -p out; cp /bin/cat out/cite_run; exit; fi
 mkdir -p ../one/out/rlib/one.rlib out
 sleep {}
 touch ../one/out/rlib/one.rlib/format
@@ -27,23 +29,41 @@ exit {}
 '''
 
 
+CMAKE = '''cmake_minimum_required(VERSION 3.13)
+project(callers C)
+find_package(gamhilon 0.2 REQUIRED)
+add_executable(shared {0})
+target_link_libraries(shared PRIVATE gamhilon::gamhilon)
+add_executable(static {0})
+target_link_libraries(static PRIVATE gamhilon::static)
+'''
+AGAIN = '''import json, release
+with open('out/gamhilon_build.json') as file:
+    release.make('0.2.0', ['cc'], json.load(file))
+'''
+
+
 @pytest.fixture
 def tree(tmp_path, monkeypatch):
     """A repository of which build.py builds the library, and what makes its rt end after a while,
     with a status."""
     root, kit = tmp_path / 'repository', tmp_path / 'kit'
-    for name in ('build.py', 'gamhilon.h', 'c/about.c', 'c/gamhilon.pc.in'):
+    for name in ('build.py', 'release.py', 'gamhilon.h', 'c/about.c', 'c/print.c',
+                 'c/gamhilon.pc.in', 'c/gamhilon-config.cmake.in',
+                 'c/gamhilon-config-version.cmake.in'):
         (root / 'embed' / name).parent.mkdir(parents=True, exist_ok=True)
-        shutil.copy(f'{PACKAGE}/../{name}', root / 'embed' / name)
-    shutil.copytree(PACKAGE, root / 'embed' / 'python',
+        shutil.copy(f'{PROJECT}/../{name}', root / 'embed' / name)
+    shutil.copytree(PROJECT, root / 'embed' / 'python',
                     ignore=shutil.ignore_patterns('__pycache__'))
     for name in ('LICENSE', 'LICENSE-MIT', 'LICENSE-APACHE'):
         shutil.copy(f'{ROOT}/{name}', root)
     (root / 'crates' / 'gamhilon_c').mkdir(parents=True)
+    (root / 'crates' / 'cite_run').mkdir()
+    (root / 'crates' / 'cite_run' / 'stdin').write_text('{}')
     crates = 'one: json\ntwo: one\ngamhilon_c staticlib: two  # the library\n'
     (root / 'crates.txt').write_text(crates)
-    (tmp_path / 'a.c').write_text(''.join(f'int gamhilon_{it}(void) {{ return 0; }}\n'
-                                          for it in CALLS))
+    (tmp_path / 'a.c').write_text(''.join(f'int gamhilon_{call}(void) {{ return 0; }}\n'
+                                          for call in CALLS))
     for words in (['cc', '-c', '-fPIC', '-o', 'a.o', 'a.c'], ['ar', 'rcs', 'a.a', 'a.o'],
                   ['ar', 'rcs', 'liblibc_c.a']):
         subprocess.run(words, cwd=tmp_path, check=True)
@@ -65,7 +85,7 @@ def build_of(root, monkeypatch):
     module = importlib.util.module_from_spec(spec)
     spec.loader.exec_module(module)
     monkeypatch.chdir(root)
-    for name in ('gamhilon_wheel', 'build_of_a_copy'):
+    for name in ('gamhilon_wheel', 'release', 'build_of_a_copy'):
         monkeypatch.delitem(sys.modules, name, raising=False)
     monkeypatch.setattr(sys, 'path', list(sys.path))
     return module
@@ -78,13 +98,13 @@ def test_it_tells_what_it_does_and_how_far_it_is(tree, monkeypatch, capfd):
     lines = capfd.readouterr().out.splitlines()
     assert lines[0] == ('build.py: rt lib proves and compiles crates/gamhilon_c, over 2 libraries, '
                         'and keeps what it proved; from nothing that takes half an hour to an hour')
-    told = [it for it in lines if 'libraries stand' in it]
+    told = [line for line in lines if 'libraries stand' in line]
     assert re.fullmatch('build.py: 0 min [0-9]+ s: 0 of 2 libraries stand', told[0])
     assert re.fullmatch('build.py: 0 min [0-9]+ s: 1 of 2 libraries stand', told[-1])
     assert lines[-3:-1] == ['build.py: linking crates/gamhilon_c/out/libgamhilon_c.a',
                             'build.py: built embed/out/libgamhilon.a and libgamhilon.so']
     assert lines[-1].startswith('build.py: built embed/out/gamhilon-0.2.0-py3-none-')
-    assert sorted(it for it in os.listdir('embed/out') if not it.endswith('.whl')) == [
+    assert sorted(name for name in os.listdir('embed/out') if not name.endswith('.whl')) == [
         'gamhilon.h', 'gamhilon.pc', 'gamhilon_build.json', 'libgamhilon.a', 'libgamhilon.so',
         'libgamhilon.so.0']
 
@@ -108,10 +128,58 @@ def test_the_wheel_alone_is_made_of_what_was_built(tree, monkeypatch, capfd):
     capfd.readouterr()
     build.main(['--wheel-only'])
     assert capfd.readouterr().out.startswith('build.py: built embed/out/gamhilon-')
-    name, = [it for it in os.listdir('embed/out') if it.endswith('.whl')]
+    name, = [name for name in os.listdir('embed/out') if name.endswith('.whl')]
     with zipfile.ZipFile(f'embed/out/{name}') as archive:
         assert archive.read('gamhilon/gamhilon_build.json') == b'{}\n'
         assert 'gamhilon/references/biblatex.py' in archive.namelist()
+
+
+@pytest.fixture
+def release(tree, monkeypatch, tmp_path):
+    """The folder of a release, and that of what was built."""
+    root = tree()
+    build_of(root, monkeypatch).main(['--release'])
+    name, = [name for name in os.listdir('embed/out') if name.endswith('.tar.gz')]
+    with tarfile.open(f'embed/out/{name}') as archive:
+        archive.extractall(tmp_path / 'installed')
+    return tmp_path / 'installed' / name[:-len('.tar.gz')], root / 'embed' / 'out'
+
+
+def test_a_release_has_checksums_that_tell_what_proved_it(release):
+    folder, out = release
+    for place, count in ((folder, 11), (out, 2)):
+        about, *sums = (place / 'SHA256SUMS').read_text().splitlines()
+        assert re.fullmatch('# gamhilon 0.2.0; commit .*; toolchain kit-1', about)
+        assert len(sums) == count
+        subprocess.run(['sha256sum', '--check', '--strict', '--quiet', 'SHA256SUMS'], cwd=place,
+                       check=True)
+
+
+def test_a_release_has_programs_and_a_library_that_callers_find(release, tmp_path):
+    folder, _ = release
+    done = subprocess.run([folder / 'bin' / 'cite_run'], input=b'{}', capture_output=True)
+    assert done.stdout == b'{}' and os.access(folder / 'bin' / 'gamhilon-print', os.X_OK)
+    assert os.readlink(folder / 'lib' / 'libgamhilon.so') == 'libgamhilon.so.0'
+    environment = {**os.environ, 'PKG_CONFIG_PATH': str(folder / 'lib' / 'pkgconfig')}
+    if shutil.which('pkg-config'):
+        told = subprocess.run(['pkg-config', '--cflags', '--libs', 'gamhilon'], env=environment,
+                              capture_output=True, text=True, check=True).stdout.split()
+        places = [os.path.normpath(word[2:]) for word in told[:2]]
+        assert places == [str(folder / 'include'), str(folder / 'lib')]
+    if shutil.which('cmake'):
+        (tmp_path / 'CMakeLists.txt').write_text(CMAKE.format(f'{PROJECT}/../c/print.c'))
+        for words in (['-S', '.', '-B', 'made', f'-DCMAKE_PREFIX_PATH={folder}'],
+                      ['--build', 'made']):
+            subprocess.run(['cmake', *words], cwd=tmp_path, check=True, capture_output=True)
+        assert (tmp_path / 'made' / 'shared').exists() and (tmp_path / 'made' / 'static').exists()
+
+
+def test_one_build_makes_one_release(release):
+    _, out = release
+    path, = out.glob('*.tar.gz')
+    first = path.read_bytes()
+    subprocess.run([sys.executable, '-c', AGAIN], cwd=out.parent, check=True)
+    assert path.read_bytes() == first
 
 
 def test_words_that_are_none_are_told(tree, monkeypatch):

@@ -8,7 +8,7 @@ import sys
 import time
 
 import pytest
-from conftest import PACKAGE, ROOT, MadeUpLibrary, heed_interrupts
+from conftest import ROOT, SOURCE, MadeUpLibrary, heed_interrupts
 
 import gamhilon
 from gamhilon import __main__ as command_line
@@ -16,7 +16,7 @@ from gamhilon import _library
 
 
 def run(*words, given=None, **how):
-    environment = {**os.environ, 'PYTHONPATH': PACKAGE, 'PYTHONIOENCODING': 'ascii'}
+    environment = {**os.environ, 'PYTHONPATH': SOURCE, 'PYTHONIOENCODING': 'ascii'}
     done = subprocess.run([sys.executable, '-m', 'gamhilon', *words], input=given, env=environment,
                           timeout=120,
                           **{'stdout': subprocess.PIPE, 'stderr': subprocess.PIPE, **how})
@@ -47,7 +47,8 @@ def test_render_in_each_form(built, example):
     path = f'{ROOT}/examples/first.json'
     assert run('render', path) == (0, example('first.txt'), '')
     assert run('render', '-', given=example('first.json').encode()) == (0, example('first.txt'), '')
-    outputs = {it: run('render', path, '--to', it) for it in ('html', 'markdown', 'latex', 'json')}
+    outputs = {form: run('render', path, '--to', form)
+               for form in ('html', 'markdown', 'latex', 'json')}
     assert all(status == 0 and error == '' for status, _, error in outputs.values())
     assert '<i>On the Origin of Species</i>' in outputs['html'][1]
     assert '<div id="ref-darwin" class="csl-entry">' in outputs['html'][1]
@@ -87,7 +88,7 @@ def test_limits_of_the_command_line(monkeypatch, tmp_path, capfd, words, limits)
         library = MadeUpLibrary(text=b'{"citations":[]}')
         monkeypatch.setattr(_library, '_library', _library.Library(library))
         assert command_line.main([*command, str(path), *words]) == 0
-        assert [it[1:] for it in library.limits_calls] == [limits] and len(library.calls) == 1
+        assert [call[1:] for call in library.limits_calls] == [limits] and len(library.calls) == 1
         assert capfd.readouterr().err == ''
 
 
@@ -140,7 +141,7 @@ def test_check_tells_what_a_document_holds_and_what_it_can_hardly_mean(built):
     assert lines[:3] == ['style a/b: in-text, without a bibliography',
                          'entries: 2, of which 1 are cited',
                          'requests: 1, of 1 cites']
-    pointers = [it.split(' ')[1].rstrip(':') for it in lines[3:]]
+    pointers = [line.split(' ')[1].rstrip(':') for line in lines[3:]]
     assert pointers == [
         '/styles/a~1b/macros/0/children/0/branches/0/children/0/macro',
         '/styles/a~1b/macros/0/children/0/else/0/macro',
@@ -183,7 +184,7 @@ def test_output_that_cannot_be_written_is_status_1():
 
 
 def test_closed_streams_are_status_1(tmp_path):
-    environment = {**os.environ, 'PYTHONPATH': PACKAGE}
+    environment = {**os.environ, 'PYTHONPATH': SOURCE}
     for words in ('styles >&-', 'render - <&-', 'styles >&- 2>&-'):
         done = subprocess.run(['sh', '-c', f'exec "$0" -m gamhilon {words}', sys.executable],
                               env=environment, capture_output=True)
@@ -193,7 +194,7 @@ def test_closed_streams_are_status_1(tmp_path):
 def test_a_missing_library_has_a_status_of_its_own(tmp_path):
     path = tmp_path / 'a.json'
     path.write_text('{}')
-    environment = {**os.environ, 'PYTHONPATH': PACKAGE, 'GAMHILON_LIBRARY': '/nowhere.so'}
+    environment = {**os.environ, 'PYTHONPATH': SOURCE, 'GAMHILON_LIBRARY': '/nowhere.so'}
     done = subprocess.run([sys.executable, '-m', 'gamhilon', 'render', str(path)], env=environment,
                           capture_output=True)
     assert done.returncode == 69 and b'GAMHILON_LIBRARY' in done.stderr
@@ -218,7 +219,7 @@ sys.exit(command_line.main(sys.argv[1:]))
 
 def slow(words, call, **how):
     """The command over a library that takes its time in a call of C, as a process."""
-    environment = {**os.environ, 'PYTHONPATH': f'{PACKAGE}{os.pathsep}{os.path.dirname(__file__)}'}
+    environment = {**os.environ, 'PYTHONPATH': f'{SOURCE}{os.pathsep}{os.path.dirname(__file__)}'}
     return subprocess.Popen([sys.executable, '-c', SLOW.format(call), *words], env=environment,
                             stdout=subprocess.PIPE, preexec_fn=heed_interrupts, **how)
 
@@ -296,7 +297,7 @@ def test_several_files_are_checked_and_named(monkeypatch, tmp_path, capfd):
     (tmp_path / 'a.json').write_text('{"styles": {}, "entries": [], "requests": []}')
     books = [{'id': 'a', 'type': 'book'}, {'id': 'b', 'type': 'book'}, {}]
     (tmp_path / 'b.json').write_text(json.dumps(books))
-    paths = [str(tmp_path / it) for it in ('a.json', 'b.json', 'c.json')]
+    paths = [str(tmp_path / name) for name in ('a.json', 'b.json', 'c.json')]
     assert command_line.main(['check', *paths]) == 1
     out, error = capfd.readouterr()
     assert out.splitlines() == [

@@ -14,7 +14,7 @@ def block(name, first_words):
     """The block of Python in a file that has these words."""
     with open(f'{ROOT}/{name}', encoding='utf-8') as file:
         blocks = re.findall(r'```python\n(.*?)```', file.read(), re.DOTALL)
-    found = [it for it in blocks if first_words in it]
+    found = [block for block in blocks if first_words in block]
     assert len(found) == 1, f'{name}: {len(found)} blocks have {first_words!r}'
     return found[0]
 
@@ -35,30 +35,36 @@ def test_the_loop_of_the_driven_document(driver):
 
     def write(task):
         seen.append({'missing': [task.data()]})
-        return gamhilon.Written([{'text': texts[len(seen) - 1], 'font_style': 'normal', 'font_weight': 'normal'}])
+        return gamhilon.Written([{'text': texts[len(seen) - 1], 'font_style': 'normal',
+                                  'font_weight': 'normal'}])
 
-    answer = gamhilon.driven(document, write)
-    assert seen == asked and [gamhilon.plain(it.content) for it in answer.citations] == ['(Doe 1999, 4)']
+    answer = gamhilon.render_with(document, write)
+    assert seen == asked
+    assert [gamhilon.plain(citation.content) for citation in answer.citations] == ['(Doe 1999, 4)']
 
 
 def test_the_host_of_the_readme(driver):
-    code = block('embed/README.md', 'gamhilon.driven(document, write)')
+    code = block('embed/README.md', 'gamhilon.render_with(document, write)')
     assert len(code.strip().splitlines()) <= 30
     assert printed(code) == '(Doe 1999a, b, 4; Roe 2003)\n(John Doe 1999)\n'
 
 
 @pytest.mark.filterwarnings('ignore')
 def test_published_styles_of_the_documentation(published, driver):
-    assert printed(block('docs/STYLES.md', 'csl.render')) == '(A. Smith, 2010, p. 4)\n(see B. Smith, 2010)\n'
+    assert printed(block('docs/STYLES.md',
+                         'csl.render')) == '(A. Smith, 2010, p. 4)\n(see B. Smith, 2010)\n'
 
 
-def test_the_document_of_the_readme(built, monkeypatch):
+@pytest.mark.parametrize('page', ['README.md', 'embed/python/README.md'])
+def test_the_document_of_the_readme(page, library, monkeypatch):
     monkeypatch.chdir(f'{ROOT}/embed/python/example')
-    first, *items = printed(block('README.md', 'gamhilon.render(document)')).splitlines()
-    assert first == '(<a href="#ref-darwin">Darwin 1859, 84</a>)' and '<div id="ref-darwin" class="csl-entry">' in ''.join(items)
+    first, *items = printed(block(page, 'gamhilon.render(document)')).splitlines()
+    assert first == '(<a href="#ref-darwin">Darwin 1859, 84</a>)'
+    assert '<div id="ref-darwin" class="csl-entry">' in ''.join(items)
 
 
 @pytest.mark.filterwarnings('ignore')
 def test_the_published_style_of_the_readme(published, driver, monkeypatch):
     monkeypatch.chdir(f'{ROOT}/embed/python/example')
-    assert printed(block('README.md', 'gamhilon.csl.render'), gamhilon=gamhilon) == "['(Darwin 1859, 84)']\n"
+    assert printed(block('README.md', 'gamhilon.csl.render'),
+                   gamhilon=gamhilon) == "['(Darwin 1859, 84)']\n"

@@ -9,7 +9,7 @@ import sys
 import time
 
 import pytest
-from conftest import PACKAGE, heed_interrupts
+from conftest import PROJECT, SOURCE, heed_interrupts
 
 pytestmark = pytest.mark.skipif(not shutil.which('cc'), reason='there is no C compiler')
 
@@ -56,7 +56,9 @@ uint32_t gamhilon_find_fault(const uint8_t *document, size_t document_length, ui
     return put(fault, buffer, buffer_length, length);
 }
 
-uint32_t gamhilon_find_ring(const uint8_t *document, size_t document_length, void *ring) { return 0; }
+uint32_t gamhilon_find_ring(const uint8_t *document, size_t document_length, void *ring) {
+    return 0;
+}
 
 uint32_t gamhilon_check_limits(const uint8_t *document, size_t document_length, size_t depth,
                          size_t elements) {
@@ -72,7 +74,7 @@ def environment(tmp_path_factory):
     (buffer / 'a.c').write_text(LIBRARY)
     subprocess.run(['cc', '-shared', '-fPIC', '-o', str(buffer / 'a.so'), str(buffer / 'a.c')],
                    check=True)
-    return {**os.environ, 'PYTHONPATH': PACKAGE, 'GAMHILON_LIBRARY': str(buffer / 'a.so')}
+    return {**os.environ, 'PYTHONPATH': SOURCE, 'GAMHILON_LIBRARY': str(buffer / 'a.so')}
 
 
 @pytest.fixture
@@ -101,12 +103,13 @@ def render(environment):
 
 @pytest.mark.parametrize('jobs', [1, 3])
 def test_each_document_has_a_page(folder, render, jobs):
-    path = folder(**{f'n{it}': '{}' for it in range(20)})
+    path = folder(**{f'n{number}': '{}' for number in range(20)})
     assert render('--jobs', jobs, path) == (0, '', '')
-    pages = {it.name: it.read_text() for it in (path / 'pages').iterdir()}
-    assert pages == {f'n{it}.txt': '(Doe 1999)\n' for it in range(20)}
-    assert {it.name for it in path.iterdir()} == {'notes.txt', 'pages',
-                                                  *[f'n{it}.json' for it in range(20)]}
+    pages = {page.name: page.read_text() for page in (path / 'pages').iterdir()}
+    assert pages == {f'n{number}.txt': '(Doe 1999)\n' for number in range(20)}
+    assert {file.name
+            for file in path.iterdir()} == {'notes.txt', 'pages',
+                                            *[f'n{number}.json' for number in range(20)]}
 
 
 @pytest.mark.parametrize('form, suffix, text', [
@@ -129,7 +132,7 @@ def test_what_is_refused_costs_no_other(folder, render, jobs):
         f'gamhilon: {path}/b.json: the elements of a layout nest deeper than 100 '
         '(--depth raises the limit)',
         f'gamhilon: {path}/c.json: no JSON']
-    assert sorted(it.name for it in (path / 'pages').iterdir()) == ['a.txt', 'd.txt']
+    assert sorted(page.name for page in (path / 'pages').iterdir()) == ['a.txt', 'd.txt']
 
 
 def test_a_process_that_ends_costs_no_other_document(folder, render):
@@ -137,20 +140,20 @@ def test_a_process_that_ends_costs_no_other_document(folder, render):
     status, out, error = render('--jobs', 2, path)
     assert (status, out) == (1, '')
     assert error == f'gamhilon: {path}/b.json: the process that answered it ended\n'
-    assert sorted(it.name for it in (path / 'pages').iterdir()) == ['a.txt', 'c.txt', 'd.txt',
-                                                                    'e.txt']
+    assert sorted(page.name
+                  for page in (path / 'pages').iterdir()) == ['a.txt', 'c.txt', 'd.txt', 'e.txt']
 
 
 def test_processes_work_at_once(folder, render):
-    """Sixteen documents of 0.3 s each."""
-    path = folder(**{f'n{it}': 'slow' for it in range(16)})
+    """Twenty-four documents of 0.3 s each; a process takes a while to begin."""
+    path = folder(**{f'n{number}': 'slow' for number in range(24)})
     began = time.monotonic()
     assert render(path)[0] == 0
     alone = time.monotonic() - began
     shutil.rmtree(path / 'pages')
     began = time.monotonic()
-    assert render('--jobs', 8, path)[0] == 0
-    assert alone > 4.8 and time.monotonic() - began < alone - 1
+    assert render('--jobs', 4, path)[0] == 0
+    assert alone > 7.2 and time.monotonic() - began < alone - 1
 
 
 def test_a_folder_without_documents_has_no_pages(folder, render):
@@ -175,7 +178,7 @@ def test_words_that_are_for_folders(folder, render, words):
 
 def test_a_missing_library_is_told_once(folder):
     path = folder(a='{}', b='{}')
-    environment = {**os.environ, 'PYTHONPATH': PACKAGE, 'GAMHILON_LIBRARY': '/nowhere.so'}
+    environment = {**os.environ, 'PYTHONPATH': SOURCE, 'GAMHILON_LIBRARY': '/nowhere.so'}
     done = subprocess.run([sys.executable, '-m', 'gamhilon', 'render', '--jobs', '2', str(path)],
                           env=environment,
                           capture_output=True, timeout=60)
@@ -193,7 +196,7 @@ def is_there(number):
 @pytest.mark.skipif(not os.path.exists('/proc/self/task'), reason='there is no /proc')
 @pytest.mark.parametrize('number, status', [(signal.SIGINT, 130), (signal.SIGKILL, -9)])
 def test_processes_end_with_the_command(folder, environment, number, status):
-    path = folder(**{f'n{it}': 'z' for it in range(4)})
+    path = folder(**{f'n{number}': 'z' for number in range(4)})
     process = subprocess.Popen([sys.executable, '-m', 'gamhilon', 'render', '--jobs', '2',
                                 str(path)], env=environment,
                                stdout=subprocess.PIPE, stderr=subprocess.PIPE,
@@ -222,14 +225,14 @@ def all_below(process):
     for thread in os.listdir(f'/proc/{process.pid}/task'):
         try:
             with open(f'/proc/{process.pid}/task/{thread}/children', encoding='utf-8') as file:
-                found += [int(it) for it in file.read().split()]
+                found += [int(process) for process in file.read().split()]
         except OSError:
             continue
     return found
 
 
 def test_progress_of_a_folder(folder, environment):
-    path = folder(**{f'n{it}': 'slow' for it in range(8)})
+    path = folder(**{f'n{number}': 'slow' for number in range(8)})
     terminal, theirs = pty.openpty()
     process = subprocess.Popen([sys.executable, '-m', 'gamhilon', 'render', str(path)],
                                env=environment, stderr=theirs)
@@ -242,11 +245,12 @@ def test_progress_of_a_folder(folder, environment):
 
 def test_the_example_on_dask(folder, environment, tmp_path):
     pytest.importorskip('distributed', reason='there is no Dask (Debian: python3-distributed)')
-    path, pages = folder(**{f'n{it}': 'slow' for it in range(6)}, wrong='x'), tmp_path / 'pages'
-    done = subprocess.run([sys.executable, f'{PACKAGE}/example/dask_folder.py', str(path),
+    path, pages = folder(**{f'n{number}': 'slow' for number in range(6)},
+                         wrong='x'), tmp_path / 'pages'
+    done = subprocess.run([sys.executable, f'{PROJECT}/example/dask_folder.py', str(path),
                            str(pages), '--workers', '2'],
                           env=environment, capture_output=True, text=True, timeout=180)
     assert done.stdout == '6 of 7 documents answered\n', done.stderr
     assert done.returncode == 1 and f'{path}/wrong.json: no JSON' in done.stderr
-    assert {it.name: it.read_text() for it in pages.iterdir()} == {
-        f'n{it}.html': '<p class="citation">Doe</p>\n' for it in range(6)}
+    assert {page.name: page.read_text() for page in pages.iterdir()} == {
+        f'n{number}.html': '<p class="citation">Doe</p>\n' for number in range(6)}

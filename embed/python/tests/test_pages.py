@@ -6,7 +6,7 @@ import subprocess
 import time
 
 import pytest
-from conftest import PACKAGE
+from conftest import SOURCE
 
 import gamhilon
 from gamhilon import __main__ as command_line
@@ -22,7 +22,7 @@ def node(text, **more):
 
 def bibliography(*trees, first=(), hanging=False, lines=1, entries=1, align=None):
     """A bibliography of these trees, which may have first fields."""
-    fields = [node(it) for it in first] or [None] * len(trees)
+    fields = [node(line) for line in first] or [None] * len(trees)
     items = [gamhilon.Item(f'k{place}', tree, field)
              for place, (tree, field) in enumerate(zip(trees, fields))]
     return gamhilon.Bibliography(items, hanging, lines, entries, align)
@@ -110,14 +110,14 @@ def test_a_list_tells_its_layout():
 
 def test_the_style_sheet_has_rules_for_what_is_written():
     sheet = gamhilon.style_sheet()
-    with open(f'{PACKAGE}/gamhilon/gamhilon.css', encoding='utf-8') as file:
+    with open(f'{SOURCE}/gamhilon/gamhilon.css', encoding='utf-8') as file:
         assert sheet == file.read()
     for name in ('csl-bib-body', 'csl-entry', 'hanging-indent', 'csl-left-margin',
                  'csl-right-inline', 'csl-block', 'csl-indent',
                  'second-field-align-flush', 'second-field-align-margin', 'citation'):
         assert f'.{name}' in sheet
     assert sheet.count('{') == sheet.count('}')
-    assert all(f'var({it}, 1)' in sheet for it in ('--csl-line-spacing', '--csl-entry-spacing'))
+    assert all(f'var({name}, 1)' in sheet for name in ('--csl-line-spacing', '--csl-entry-spacing'))
 
 
 def test_the_commands_write_the_style_sheet(monkeypatch, tmp_path, capfd):
@@ -193,22 +193,22 @@ def test_hanging_indents_and_spacing_in_a_browser(measured, before):
                             bibliography(*trees(), entries=2), before=before)
     em = wide['size']
     left = wide['list'][0]
-    assert all(it[0] == left and set(it[1:]) == {left + 2 * em} for it in wide['lines'])
-    assert all(set(it) == {left} for it in narrow['lines'])
+    assert all(line[0] == left and set(line[1:]) == {left + 2 * em} for line in wide['lines'])
+    assert all(set(line) == {left} for line in narrow['lines'])
     assert wide['lineHeight'] == pytest.approx(2 * narrow['lineHeight'], abs=1)
-    gaps = [[after[2] - before[3] for before, after in zip(it['entries'], it['entries'][1:])]
-            for it in (wide, narrow)]
+    gaps = [[after[2] - before[3] for before, after in zip(page['entries'], page['entries'][1:])]
+            for page in (wide, narrow)]
     assert gaps == [[0, 0], [2 * em] * 2]
 
 
 def test_first_fields_in_columns_in_a_browser(measured):
     first = ['[1]', '[2]', '[100]']
-    flush, margin = measured(*[bibliography(*trees(), first=first, align=it)
-                               for it in ('flush', 'margin')])
+    flush, margin = measured(*[bibliography(*trees(), first=first, align=align)
+                               for align in ('flush', 'margin')])
     # (all that stands right begins where the widest number ends)
-    assert len({it[0] for it in flush['rest']}) == 1
-    assert {it[0] for it in flush['first']} == {flush['list'][0]}
+    assert len({place[0] for place in flush['rest']}) == 1
+    assert {place[0] for place in flush['first']} == {flush['list'][0]}
     assert all(number[1] <= rest[0] and number[2] == rest[2]
                for number, rest in zip(flush['first'], flush['rest']))
     assert all(number[1] <= margin['list'][0] for number in margin['first'])
-    assert {it[0] for it in margin['rest']} == {margin['list'][0]}
+    assert {place[0] for place in margin['rest']} == {margin['list'][0]}

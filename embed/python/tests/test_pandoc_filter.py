@@ -2,15 +2,13 @@
 --citeproc, whose style is Chicago's author-date and so near the author-date style here that entries
 of one author read alike."""
 import json
-import os
 import re
 import shutil
 import subprocess
-import sys
 from random import Random
 
 import pytest
-from conftest import PACKAGE, REFERENCES, ROOT
+from conftest import PROJECT, REFERENCES, ROOT
 
 from gamhilon import _locators
 
@@ -42,7 +40,7 @@ LOCATORS = ['p. 3', 'pp. 3-5', 'chap. 2', '3', 'vol. 2', 'sec. 1.2', 'l. 4', 'fi
 
 def test_citations_read_as_pandoc_writes_them(pandoc, known):
     # (each between lines of its own, since the notes stand at the end)
-    text = '\n\n'.join(f'{it}\n\n-- {place} --' for place, it in enumerate(LIKE_CITEPROC))
+    text = '\n\n'.join(f'{text}\n\n-- {place} --' for place, text in enumerate(LIKE_CITEPROC))
     wanted, said, _ = pandoc(text, own=False, suppress_bibliography='true')
     assert said == ''
     out, said, status = pandoc(text, suppress_bibliography='true')
@@ -68,13 +66,13 @@ def random_citation(random):
 def test_random_citations_read_as_pandoc_writes_them(pandoc, known, tmp_path):
     authors = ['Doe', 'Roe', 'Äbc', 'van Dyke', 'Li']
     (tmp_path / 'random.json').write_text(json.dumps([
-        {'id': f'k{place}', 'title': f'T{place}', 'author': [{'family': it, 'given': 'A.'}],
+        {'id': f'k{place}', 'title': f'T{place}', 'author': [{'family': author, 'given': 'A.'}],
          'issued': {'date-parts': [[1990 + place]]}}
-        for place, it in enumerate(authors)]))
+        for place, author in enumerate(authors)]))
     random = Random(7)
     texts = [random_citation(random) for _ in range(150)]
     how = {'bibliography': 'random.json', 'suppress_bibliography': 'true'}
-    wanted, own = (pandoc('\n\n'.join(texts), own=it, **how) for it in (False, True))
+    wanted, own = (pandoc('\n\n'.join(texts), own=way, **how) for way in (False, True))
     assert own[1:] == ('', 0)
     for text, one, other in zip(texts, wanted[0].split('\n\n'), own[0].split('\n\n')):
         assert other.replace('\u00a0', ' ') == one.replace('\u00a0', ' '), text
@@ -82,8 +80,8 @@ def test_random_citations_read_as_pandoc_writes_them(pandoc, known, tmp_path):
 
 def test_the_reference_list_is_made_as_pandoc_makes_it(pandoc):
     text = 'A [@roe00; @doe99].\n'
-    own, theirs = (pandoc(text, to='html', own=it, reference_section_title='Refs')[0]
-                   for it in (True, False))
+    own, theirs = (pandoc(text, to='html', own=way, reference_section_title='Refs')[0]
+                   for way in (True, False))
     for pattern in (r'<h1[^>]*>Refs</h1>', r'<div id="refs"',
                     r'<div id="ref-\w+" class="csl-entry"',
                     r'data-cites="roe00 doe99"'):
@@ -138,16 +136,16 @@ def test_numbers(pandoc):
     text = 'A [@roe00]. B [@roe00; @doe99; @doe01]. C [see @doe99, p. 3; @roe00]. @doe01 says.'
     out = pandoc(text, gamhilon_style='numeric')[0].split('\n')
     assert out[0] == 'A [1]. B [1–3]. C [see 2, p. 3, 1]. J. Doe [3] says.'
-    assert [it for it in out if it.startswith('[')] == ['[1] R. Roe, A Reply, 2000.',
-                                                        '[2] J. Doe, On Order, 1999.',
-                                                        '[3] J. Doe, More, 2001.']
+    assert [line for line in out
+            if line.startswith('[')] == ['[1] R. Roe, A Reply, 2000.',
+                                         '[2] J. Doe, On Order, 1999.', '[3] J. Doe, More, 2001.']
 
 
 def test_labels(pandoc):
     out = pandoc('A [@roe00; @doe99, p. 3].', gamhilon_style='alphanumeric')[0].split('\n')
     assert out[0] == 'A [Roe00; Doe99, p. 3].'
-    assert [it for it in out[1:] if it] == ['Doe99 J. Doe. On Order. 1999.',
-                                            'Roe00 R. Roe. A Reply. 2000.']
+    assert [line for line in out[1:]
+            if line] == ['Doe99 J. Doe. On Order. 1999.', 'Roe00 R. Roe. A Reply. 2000.']
 
 
 def test_notes(pandoc):
@@ -210,11 +208,11 @@ def test_what_entries_can_not_hold_is_told_where_the_style_would_have_shown_it(p
 
 def test_the_example_page(pandoc, tmp_path):
     for name in ('page.md', 'references.json'):
-        shutil.copy(f'{PACKAGE}/example/{name}', tmp_path)
-    with open(f'{PACKAGE}/example/page.md', encoding='utf-8') as file:
+        shutil.copy(f'{PROJECT}/example/{name}', tmp_path)
+    with open(f'{PROJECT}/example/page.md', encoding='utf-8') as file:
         out, said, status = pandoc(file.read(), to='html', bibliography='references.json')
-    shown = [re.sub('<[^>]*>', '', it)
-             for it in re.findall(r'<span class="citation"[^>]*>(.*?)</span>', out)]
+    shown = [re.sub('<[^>]*>', '', text)
+             for text in re.findall(r'<span class="citation"[^>]*>(.*?)</span>', out)]
     assert shown == [
         '(Darwin 1859, 84)', '(Einstein 1905a, b)', 'Watson &amp; Crick (1953, 737)',
         '(see also Darwin 1859, chap. 4, on inheritance)', '(1859, 129)', '(van Gogh 1914)',

@@ -26,7 +26,7 @@ def page(metadata, text='[@doe99]'):
 
 
 def told(said):
-    return [it.replace('gamhilon-pandoc: ', '') for it in said.splitlines()]
+    return [line.replace('gamhilon-pandoc: ', '') for line in said.splitlines()]
 
 
 # Files of references
@@ -211,7 +211,7 @@ CITATIONS = [
                          ['apa', 'chicago-author-date', 'ieee',
                           'american-sociological-association'])
 def test_published_styles_as_pandoc_writes_them(pandoc, known, published, style):
-    text = '\n\n'.join(f'{it}\n\n-- {place} --' for place, it in enumerate(CITATIONS))
+    text = '\n\n'.join(f'{citation}\n\n-- {place} --' for place, citation in enumerate(CITATIONS))
     path = f'/usr/share/citation-style-language/styles/{style}.csl'
     wanted = pandoc(text, own=False, csl=path, suppress_bibliography='true')[0]
     for name in (style, path):
@@ -265,8 +265,8 @@ def test_the_language_of_a_style_without_terms_of_it_is_told(pandoc):
 
 def test_the_locale_of_a_style_is_that_of_the_page(pandoc, tmp_path):
     style = {'citation': {'elements': [{'kind': 'text', 'term': 'and'}]}}
-    locales = [{'lang': it, 'terms': [{'name': 'and', 'single': word}]}
-               for it, word in (('en-US', 'and'), ('de-DE', 'und'))]
+    locales = [{'lang': tag, 'terms': [{'name': 'and', 'single': word}]}
+               for tag, word in (('en-US', 'and'), ('de-DE', 'und'))]
     own = {'styles': {'own': style}, 'locales': locales, 'bibliography': {'style': 'own'}}
     (tmp_path / 'own.json').write_text(json.dumps(own))
     for lang, word in (('de', 'und'), ('de-AT', 'und'), ('en-US', 'and')):

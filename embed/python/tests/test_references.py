@@ -12,7 +12,7 @@ import time
 from random import Random
 
 import pytest
-from conftest import PACKAGE
+from conftest import SOURCE
 
 from gamhilon import csl_json, references
 
@@ -36,8 +36,9 @@ def test_items_of_one_id_or_without_one_are_told():
     text = json.dumps([{'id': 1, 'title': 'a'}, {'id': '1'}, {'title': 'c'}, 3, {'id': ''}])
     read = references.loads(text)
     assert read.items == [{'id': 1, 'title': 'a'}] and read.problems == ['item 3 is not an object']
-    assert [it.reason for it in read.losses] == ['a second item of this id, left out',
-                                                 *['an item without an id, left out'] * 2]
+    assert [loss.reason
+            for loss in read.losses] == ['a second item of this id, left out',
+                                         *['an item without an id, left out'] * 2]
 
 
 @pytest.mark.parametrize('name, text, form', [
@@ -104,7 +105,7 @@ def test_what_reads_a_form_may_be_missing(module, form, name):
     words = (f'import sys\nsys.modules["{module}"] = None\nfrom gamhilon import references\n'
              f'try: references.loads("a", form="{form}")\n'
              'except references.ReaderMissing as error: print(error)')
-    environment = {**os.environ, 'PYTHONPATH': PACKAGE}
+    environment = {**os.environ, 'PYTHONPATH': SOURCE}
     done = subprocess.run([sys.executable, '-c', words], env=environment, capture_output=True,
                           text=True)
     assert name in done.stdout, done.stderr
@@ -145,7 +146,7 @@ def test_whatever_stands_in_a_file_ends_in_items_or_in_an_error_of_ours(pybtex, 
             continue
         finally:
             assert time.process_time() - began < 2
-        assert all(isinstance(it['id'], str) and it['type'] for it in read.items)
+        assert all(isinstance(item['id'], str) and item['type'] for item in read.items)
         assert all(map(str, read.losses)) and all(read.problems)
         csl_json.entries(read.items)
 
@@ -157,8 +158,8 @@ def library(yaml):
     """The items of references/library.yml, and what isn't kept of them."""
     read = references.load(LIBRARY)
     assert read.problems == []
-    return {it['id']: {key: value for key, value in it.items() if key != 'id'}
-            for it in read.items}, read.losses
+    return {item['id']: {key: value for key, value in item.items() if key != 'id'}
+            for item in read.items}, read.losses
 
 
 def test_books_and_articles_of_hayagriva(library):
@@ -193,7 +194,7 @@ def test_parents_of_hayagriva(library):
         'collection-title': 'A Series', 'collection-number': '7'}
     talk = items['talk']
     assert talk['type'] == 'paper-conference' and 'container-title' not in talk
-    assert talk['event-title'] == 'World Wide Developer Conference 2020'
+    assert talk['event-title'] == talk['event'] == 'World Wide Developer Conference 2020'
     assert talk['event-place'] == 'Mountain View, CA' and talk['publisher'] == 'Apple Inc.'
     assert talk['issued'] == {'date-parts': [[2020, 6, 26]]}
     assert talk['event-date'] == {'date-parts': [[2020, 6, 22], [2020, 6, 26]]}
@@ -203,7 +204,7 @@ def test_parents_of_hayagriva(library):
 def test_originals_and_series_of_hayagriva(library):
     items, _ = library
     reprint = items['reprint']
-    assert {key: it for key, it in reprint.items() if key.startswith('original')} == {
+    assert {key: value for key, value in reprint.items() if key.startswith('original')} == {
         'original-title': 'Il Principe', 'original-date': {'date-parts': [[1532]]},
         'original-publisher': 'Blado',
         'original-publisher-place': 'Rome'}
@@ -229,7 +230,7 @@ def test_names_and_texts_of_hayagriva(library):
     assert names['title'] == ('On iPhones and <span class="nocase">de novo</span> '
                               '<span class="nocase"><i>x</i><sup>2</sup></span>')
     assert names['issued'] == {'date-parts': [[1890]], 'circa': True}
-    assert [(it.key, it.field, it.reason) for it in losses] == [
+    assert [(loss.key, loss.field, loss.reason) for loss in losses] == [
         ('talk', 'parent.runtime', 'CSL has no place for it'),
         ('names', 'author', 'CSL has no place for an alias'),
         ('names', 'affiliated', 'CSL has no place for the role cinematography')]
@@ -271,8 +272,8 @@ def test_other_works_of_hayagriva(library):
 ])
 def test_what_is_not_kept_of_hayagriva_is_told(yaml, text, item, lost):
     read = references.loads(text, form='hayagriva')
-    assert read.items == [{'id': 'k', **item}] and [(it.field, it.reason)
-                                                    for it in read.losses] == [lost]
+    assert read.items == [{'id': 'k', **item}] and [(loss.field, loss.reason)
+                                                    for loss in read.losses] == [lost]
 
 
 @pytest.mark.parametrize('text, problem', [
@@ -286,7 +287,7 @@ def test_what_is_no_entry_is_told(yaml, text, problem):
 # The command
 
 def run(*words, given=None):
-    environment = {**os.environ, 'PYTHONPATH': PACKAGE}
+    environment = {**os.environ, 'PYTHONPATH': SOURCE}
     done = subprocess.run([sys.executable, '-m', 'gamhilon', 'entries', *words], input=given,
                           env=environment,
                           capture_output=True, timeout=120)
@@ -327,7 +328,7 @@ def test_entries_of_a_document(tmp_path):
 def test_a_file_in_which_something_is_no_entry_has_a_status(tmp_path, pybtex):
     (tmp_path / 'a.bib').write_text('@book{a, title = {A}}\n@book{b, title = {B')
     status, out, error = run(str(tmp_path / 'a.bib'))
-    assert status == 2 and [it['id'] for it in json.loads(out)] == ['a', 'b']
+    assert status == 2 and [item['id'] for item in json.loads(out)] == ['a', 'b']
     assert error == f'gamhilon: {tmp_path}/a.bib: syntax error in line 2: premature end of file\n'
 
 

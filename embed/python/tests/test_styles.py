@@ -10,7 +10,8 @@ def test_there_are_four_and_each_makes_a_document(built):
     assert gamhilon.styles.names() == ['alphanumeric', 'author-date', 'note', 'numeric']
     for name in gamhilon.styles.names():
         document = gamhilon.styles.document(name)
-        document['entries'] = [{'key': 'a', 'label': 'L', 'author': [['Doe']], 'title': 'T', 'issued': 1999}]
+        document['entries'] = [{'key': 'a', 'label': 'L', 'author': [['Doe']], 'title': 'T',
+                                'issued': 1999}]
         document['requests'] = [{'style': name, 'items': [{'entry': 'a'}]}]
         answer = gamhilon.render(document)
         assert gamhilon.plain(answer.citations[0].content) and len(answer.bibliography.items) == 1
@@ -18,15 +19,20 @@ def test_there_are_four_and_each_makes_a_document(built):
 
 @pytest.mark.parametrize('name', ['alphanumeric', 'author-date', 'note', 'numeric'])
 def test_they_are_the_styles_of_the_examples(name, example):
-    document, of_example = gamhilon.styles.document(name), json.loads(example(name.replace('-', '_') + '.json'))
+    document = gamhilon.styles.document(name)
+    of_example = json.loads(example(name.replace('-', '_') + '.json'))
     assert document['styles'] == of_example['styles']
-    assert (document['entries'], document['requests'], document['bibliography']) == ([], [], {'style': name})
+    assert ((document['entries'], document['requests'], document['bibliography'])
+            == ([], [], {'style': name}))
     terms, own = of_example['locales'][0].pop('terms'), document['locales'][0].pop('terms')
     assert document['locales'] == of_example['locales']
     # (with a short term for each kind of locator that has a usual one)
-    assert [it for it in own if not it['name'].startswith('locator-')] == [it for it in terms if not it['name'].startswith('locator-')]
-    shorts = {it['name']: it['single'] for it in own if it['name'].startswith('locator-')}
-    assert all(shorts[it['name']] == it['single'] for it in terms if it['name'].startswith('locator-')) and len(shorts) == 12
+    others = [term for term in own if not term['name'].startswith('locator-')]
+    assert others == [term for term in terms if not term['name'].startswith('locator-')]
+    shorts = {term['name']: term['single'] for term in own if term['name'].startswith('locator-')}
+    assert all(shorts[term['name']] == term['single']
+               for term in terms if term['name'].startswith('locator-'))
+    assert len(shorts) == 12
 
 
 def test_a_document_is_a_new_one_each_time():

@@ -4,7 +4,7 @@ import subprocess
 import sys
 
 import pytest
-from conftest import PACKAGE
+from conftest import SOURCE
 from test_documented_code import block
 
 pytest.importorskip('mypy', reason='there is no mypy')
@@ -28,12 +28,13 @@ def pages(path: str) -> List[str]:
         gamhilon.check(document, limits=limits)
     except (gamhilon.TooDeep, gamhilon.TooManyElements) as exceeded:
         raise SystemExit(exceeded.status)
-    told = gamhilon.drive(document)
+    told = gamhilon.drive_once(document)
     if isinstance(told, gamhilon.Missing):
         for task in told.tasks:
             suffix: str = task.year_suffix
-        answer = gamhilon.driven(document, lambda it: gamhilon.Written([{'text': it.entry}],
-                                                                       first_name=it.name_forms))
+        answer = gamhilon.render_with(
+            document, lambda task: gamhilon.Written([{'text': task.entry}],
+                                                    first_name=task.name_forms))
     items = answer.bibliography.items if answer.bibliography else []
     return [it.key + gamhilon.to_html(it.content) for it in items] + [str(gamhilon.version())]
 '''
@@ -50,13 +51,13 @@ def mypy(folder, *words):
     done = subprocess.run([sys.executable, '-m', 'mypy', '--strict', '--cache-dir',
                            str(folder / 'cache'), *words],
                           cwd=folder,
-                          env={**environment, 'PYTHONPATH': PACKAGE}, capture_output=True,
+                          env={**environment, 'PYTHONPATH': SOURCE}, capture_output=True,
                           text=True)
     return done.stdout
 
 
 def test_the_package_passes(tmp_path):
-    assert mypy(tmp_path, f'{PACKAGE}/gamhilon').startswith('Success')
+    assert mypy(tmp_path, f'{SOURCE}/gamhilon').startswith('Success')
 
 
 DOCUMENTED = [
@@ -69,7 +70,7 @@ DOCUMENTED = [
 @pytest.mark.parametrize('name, words, before', DOCUMENTED)
 def test_the_lines_of_the_documentation_pass(tmp_path, name, words, before):
     (tmp_path / 'documented.py').write_text(before + block(name, words))
-    (tmp_path / 'gamhilon').symlink_to(f'{PACKAGE}/gamhilon')
+    (tmp_path / 'gamhilon').symlink_to(f'{SOURCE}/gamhilon')
     told = mypy(tmp_path, 'documented.py')
     assert told.startswith('Success'), told
 
@@ -77,8 +78,8 @@ def test_the_lines_of_the_documentation_pass(tmp_path, name, words, before):
 def test_callers_see_the_types(tmp_path):
     for name, text in (('user.py', USER), ('wrong.py', WRONG)):
         (tmp_path / name).write_text(text)
-    (tmp_path / 'gamhilon').symlink_to(f'{PACKAGE}/gamhilon')
-    assert os.path.exists(f'{PACKAGE}/gamhilon/py.typed')
+    (tmp_path / 'gamhilon').symlink_to(f'{SOURCE}/gamhilon')
+    assert os.path.exists(f'{SOURCE}/gamhilon/py.typed')
     assert mypy(tmp_path, 'user.py').startswith('Success')
     told = mypy(tmp_path, 'wrong.py')
     assert told.count('wrong.py:3: error') == 1

@@ -1,5 +1,6 @@
 """The wheel, from a library that stands in for the shared one."""
 import base64
+import email
 import hashlib
 import json
 import shutil
@@ -8,9 +9,9 @@ import sys
 import zipfile
 
 import pytest
-from conftest import PACKAGE, ROOT
+from conftest import PROJECT, ROOT
 
-sys.path.insert(0, PACKAGE)
+sys.path.insert(0, PROJECT)
 import gamhilon_wheel  # noqa: E402
 
 pytestmark = pytest.mark.skipif(not shutil.which('cc') or not shutil.which('objdump'),
@@ -47,12 +48,12 @@ def test_its_tag_tells_the_glibc_that_the_library_asks_for(wheel):
 def test_it_has_what_a_user_needs(wheel):
     with zipfile.ZipFile(wheel) as archive:
         names = archive.namelist()
-        info = next(it.split('/')[0] for it in names if '.dist-info/' in it)
+        info = next(name.split('/')[0] for name in names if '.dist-info/' in name)
         for name in ('__init__.py', '__main__.py', 'py.typed', 'libgamhilon.so',
                      'gamhilon_build.json',
                      'style_documents/note.json', 'csl/__init__.py', 'gamhilon.css'):
             assert f'gamhilon/{name}' in names
-        assert not any('__pycache__' in it or it.endswith('.pyc') for it in names)
+        assert not any('__pycache__' in name or name.endswith('.pyc') for name in names)
         for name in ('LICENSE', 'LICENSE-MIT', 'LICENSE-APACHE'):
             with open(f'{ROOT}/{name}', 'rb') as file:
                 assert archive.read(f'{info}/{name}') == file.read()
@@ -65,6 +66,19 @@ def test_it_has_what_a_user_needs(wheel):
                 told = base64.urlsafe_b64encode(hashlib.sha256(data).digest()).rstrip(b'=').decode()
                 assert (checksum, size) == (f'sha256={told}', str(len(data)))
         assert len(archive.read(f'{info}/RECORD').decode().splitlines()) == len(names)
+
+
+def test_it_says_what_pyproject_says(wheel):
+    with zipfile.ZipFile(wheel) as archive:
+        info = f'gamhilon-{gamhilon_wheel.version()}.dist-info'
+        said = email.message_from_bytes(archive.read(f'{info}/METADATA'))
+        for name in said.get_all('License-File'):
+            assert f'{info}/{name}' in archive.namelist()
+    assert said['Name'] == 'gamhilon' and said['Version'] == gamhilon_wheel.version()
+    assert said['Requires-Python'] == '>=3.8' and said['License'] == 'MIT OR Apache-2.0'
+    assert 'License :: OSI Approved :: MIT License' in said.get_all('Classifier')
+    assert said.get_all('Project-URL')[1] == 'The original, https://github.com/typst/hayagriva'
+    assert said.get_payload().startswith('# Gamhilon for Python\n\nCitations and')
 
 
 def test_one_library_makes_one_wheel(wheel, tmp_path):

@@ -37,9 +37,11 @@ def node(text, style='normal', weight='normal', **more):
 
 def spaced(text):
     """A text as it is compared: with single spaces, and no characters that show nothing."""
-    shown = ''.join(' ' if unicodedata.category(it) in ('Cc', 'Zl', 'Zp')
-                    and it in '\t\n\v\f\r\x85\u2028\u2029' else it
-                    for it in text if unicodedata.category(it) != 'Cc' or it in '\t\n\v\f\r\x85')
+    shown = ''.join(' '
+                    if unicodedata.category(letter) in ('Cc', 'Zl', 'Zp')
+                    and letter in '\t\n\v\f\r\x85\u2028\u2029' else letter
+                    for letter in text
+                    if unicodedata.category(letter) != 'Cc' or letter in '\t\n\v\f\r\x85')
     return ' '.join(shown.split())
 
 
@@ -101,7 +103,7 @@ def inlines_by_pandoc(text, form):
     done = subprocess.run(['pandoc', '-f', form, '-t', 'json'], input=text.encode(),
                           capture_output=True, check=True)
     blocks = json.loads(done.stdout)['blocks']
-    assert [it['t'] for it in blocks] in ([], ['Para']), text
+    assert [block['t'] for block in blocks] in ([], ['Para']), text
     return blocks[0]['c'] if blocks else []
 
 
@@ -109,31 +111,71 @@ def letters(inlines):
     """The letters of pandoc's inlines, and the formats in them; anything else than texts and
     formats fails."""
     text, formats = '', set()
-    for it in inlines:
-        if it['t'] == 'Str':
-            text += it['c']
-        elif it['t'] in ('Space', 'SoftBreak'):
+    for inline in inlines:
+        if inline['t'] == 'Str':
+            text += inline['c']
+        elif inline['t'] in ('Space', 'SoftBreak'):
             text += ' '
-        elif it['t'] == 'RawInline' and it['c'][1] in ('<em>', '</em>', '<strong>', '</strong>'):
-            formats.add({'em': 'Emph', 'strong': 'Strong'}[it['c'][1].strip('</>')])
-        elif it['t'] == 'Span' and it['c'][0] == ['', [], []]:
-            inside, more = letters(it['c'][1])
+        elif (inline['t'] == 'RawInline'
+                and inline['c'][1] in ('<em>', '</em>', '<strong>', '</strong>')):
+            formats.add({'em': 'Emph', 'strong': 'Strong'}[inline['c'][1].strip('</>')])
+        elif inline['t'] == 'Span' and inline['c'][0] == ['', [], []]:
+            inside, more = letters(inline['c'][1])
             text, formats = text + inside, formats | more
-        elif it['t'] == 'Quoted':
-            inside, more = letters(it['c'][1])
-            marks = '\u201c\u201d' if it['c'][0]['t'] == 'DoubleQuote' else '\u2018\u2019'
+        elif inline['t'] == 'Quoted':
+            inside, more = letters(inline['c'][1])
+            marks = '\u201c\u201d' if inline['c'][0]['t'] == 'DoubleQuote' else '\u2018\u2019'
             text, formats = text + marks[0] + inside + marks[1], formats | more
         else:
-            assert it['t'] in ('Emph', 'Strong'), it
-            inside, more = letters(it['c'])
-            text, formats = text + inside, formats | more | {it['t']}
+            assert inline['t'] in ('Emph', 'Strong'), inline
+            inside, more = letters(inline['c'])
+            text, formats = text + inside, formats | more | {inline['t']}
     return text, formats
 
 
 def wanted_formats(text, style, weight):
     """The formats that a text is to have where it shows something."""
-    return {it for it, has in (('Emph', style == 'italic'), ('Strong', weight == 'bold')) if has
+    return {kind for kind, has in (('Emph', style == 'italic'), ('Strong', weight == 'bold')) if has
             and spaced(text)}
+
+
+LETTERS = [
+    ('font_variant', 'small-caps', '<span style="font-variant:small-caps;">', '</span>', r'\textsc',
+     'SmallCaps'),
+    ('text_decoration', 'underline', '<u>', '</u>', r'\underline', 'Underline'),
+    ('vertical_align', 'sup', '<sup>', '</sup>', r'\textsuperscript', 'Superscript'),
+    ('vertical_align', 'sub', '<sub>', '</sub>', r'\textsubscript', 'Subscript'),
+]
+
+
+@pytest.mark.parametrize('key, value, opening, closing, command, kind', LETTERS)
+def test_letters_of_each_form_are_written(key, value, opening, closing, command, kind):
+    tree = [node('x', **{key: value})]
+    assert gamhilon.to_html(tree) == gamhilon.to_markdown(tree) == f'{opening}x{closing}'
+    assert gamhilon.to_latex(tree) == command + '{x}'
+    bold = [node('x', 'italic', 'bold', **{key: value})]
+    assert gamhilon.to_html(bold) == f'<b><i>{opening}x{closing}</i></b>'
+    assert gamhilon.to_markdown(bold) == f'<strong><em>{opening}x{closing}</em></strong>'
+    assert gamhilon.to_latex(bold) == rf'\textbf{{\textit{{{command}{{x}}}}}}'
+
+
+@pytest.mark.parametrize('key, value', [
+    ('font_variant', 'normal'), ('text_decoration', 'none'), ('vertical_align', 'none'),
+    ('vertical_align', 'baseline'),
+])
+def test_usual_letters_have_no_marks(key, value):
+    tree = [node('x', **{key: value})]
+    for write in (gamhilon.to_html, gamhilon.to_markdown, gamhilon.to_latex):
+        assert write(tree) == 'x'
+
+
+@PANDOC
+@pytest.mark.parametrize('key, value, opening, closing, command, kind', LETTERS)
+def test_letters_of_each_form_are_read_by_pandoc(key, value, opening, closing, command, kind):
+    tree = [node('x', **{key: value})]
+    read = [{'t': kind, 'c': [{'t': 'Str', 'c': 'x'}]}]
+    assert inlines_by_pandoc(f'<p>{gamhilon.to_html(tree)}</p>', 'html') == read
+    assert inlines_by_pandoc(gamhilon.to_latex(tree), 'latex') == read
 
 
 @PANDOC
@@ -201,14 +243,14 @@ CITE = [node('('), {'meta': {'entry': 0}, 'children': [node('Doe 1999')]}, node(
 
 def test_cites_link_to_their_items():
     keys = ['doe 99', 'roe']
-    bibliography = gamhilon.Bibliography([gamhilon.Item(it, [node('x')]) for it in keys], True, 1,
+    bibliography = gamhilon.Bibliography([gamhilon.Item(key, [node('x')]) for key in keys], True, 1,
                                          1)
-    links = [it for it in Reader(gamhilon.to_html(CITE, keys)).tags if it[0] == 'a']
-    entries = [it for it in Reader(gamhilon.bibliography_to_html(bibliography)).tags
-               if it[1].get('class') == 'csl-entry']
+    links = [key for key in Reader(gamhilon.to_html(CITE, keys)).tags if key[0] == 'a']
+    entries = [tag for tag in Reader(gamhilon.bibliography_to_html(bibliography)).tags
+               if tag[1].get('class') == 'csl-entry']
     assert links == [('a', {'href': '#' + entries[0][1]['id']}),
                      ('a', {'href': 'https://example.org'})]
-    assert len(entries) == 2 and not any(it.isspace() for it in entries[0][1]['id'])
+    assert len(entries) == 2 and not any(letter.isspace() for letter in entries[0][1]['id'])
     first = anchor(keys[0])
     written = f'([Doe 1999](#{first}); [Roe](<https://example.org>))'
     assert gamhilon.to_markdown(CITE, keys) == written
@@ -222,10 +264,10 @@ def test_ids_are_of_safe_characters_and_differ():
     keys = ['doe99', 'doe 99', 'doe_99', 'doe__20_99', 'doe__99', 'doe_', 'doe__', 'a"b', '<x>',
             'é', '', 'doe/99', '_',
             '__5f_', 'a#b', 'a%20b']
-    ids = [anchor(it) for it in keys]
-    assert len(set(ids)) == len(keys) and all(it.replace('-', 'a').replace('_', 'a').isascii()
-                                              for it in ids)
-    assert all(not set(it) & set(' "\'<>#%&/') for it in ids)
+    ids = [anchor(key) for key in keys]
+    assert len(set(ids)) == len(keys) and all(name.replace('-', 'a').replace('_', 'a').isascii()
+                                              for name in ids)
+    assert all(not set(name) & set(' "\'<>#%&/') for name in ids)
     assert anchor('doe_99') == 'ref-doe_99'
 
 
@@ -243,7 +285,7 @@ def test_displays_stand_where_html_lets_them():
 def test_markup_shows_its_letters_unless_the_caller_writes_it():
     tree = [{'markup': '<b>x</b>'}]
     assert gamhilon.to_html(tree) == '&lt;b&gt;x&lt;/b&gt;'
-    assert gamhilon.to_html(tree, markup=lambda it: it) == '<b>x</b>'
+    assert gamhilon.to_html(tree, markup=lambda text: text) == '<b>x</b>'
     assert gamhilon.to_latex([{'markup': '$x$'}]) == r'\$x\$'
     assert gamhilon.to_markdown([{'markup': '$x$'}]) == r'\$x\$'
     assert gamhilon.plain(tree) == '<b>x</b>'

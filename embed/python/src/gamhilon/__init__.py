@@ -1,0 +1,118 @@
+"""Gamhilon for Python: citations and bibliographies of a document, with formatting, links and keys.
+
+    import gamhilon
+
+    answer = gamhilon.render(document)          # a dict as docs/DOCUMENT.md tells it
+    for citation in answer.citations:
+        print(gamhilon.to_html(citation.content))
+
+A document from others is answered within limits: `gamhilon.render(document,
+limits=gamhilon.Limits(100, 100000))`.
+
+A host that writes cites itself, such as a CSL processor, has the driver tell it what to write:
+`gamhilon.render_with(document, write)`, as docs/DRIVEN.md tells it.
+
+`references` reads the files of reference managers, `csl_json` makes a document's entries of them,
+`styles` has four styles to begin with, and `python -m gamhilon` does the same from the command
+line. Calls may be made from any number of threads and processes at once.
+"""
+from __future__ import annotations
+
+import json
+from typing import Any, Dict, Optional, Union
+
+from . import csl, csl_json, references, styles
+from ._driving import Missing, State, Task, Writer, Written, drive_bytes, render_with_all
+from ._library import library
+from ._limits import Limits
+from ._version import Version, __version__, version
+from .answer import Answer, Bibliography, Citation, Item, Node, Tree, answer_of, plain
+from .errors import (DocumentRefused, LibraryMissing, LimitExceeded, MacroRing, NumberOverflow,
+                     OutOfMemory, Refused,
+                     TooDeep, TooManyElements)
+from .html_writer import bibliography_to_html, style_sheet, to_html
+from .latex_writer import bibliography_to_latex, to_latex
+from .markdown_writer import bibliography_to_markdown, to_markdown
+
+__all__ = [
+    'Answer', 'Bibliography', 'Citation', 'Document', 'DocumentRefused', 'Item', 'LibraryMissing',
+    'LimitExceeded', 'Limits', 'MacroRing', 'Missing', 'Node', 'NumberOverflow', 'OutOfMemory',
+    'Refused', 'State', 'Task', 'TooDeep', 'TooManyElements', 'Tree', 'Version', 'Writer',
+    'Written', '__version__', 'bibliography_to_html', 'bibliography_to_latex',
+    'bibliography_to_markdown', 'check', 'csl', 'csl_json', 'drive_once', 'plain',
+    'print_document', 'print_json', 'references', 'render', 'render_with', 'style_sheet', 'styles',
+    'to_html', 'to_latex', 'to_markdown', 'version',
+]
+
+Document = Union[Dict[str, Any], str, bytes]
+"""A document: the value, or its JSON."""
+
+
+def _nested_too_deep() -> DocumentRefused:
+    """The refusal of a value that not even Python writes as JSON."""
+    found, wanted = 'a value that nests deeper than 127 levels', 'at most 127 levels'
+    return DocumentRefused(f'the document: {found}', '', found, wanted)
+
+
+def _bytes_of(document: Document) -> bytes:
+    """The JSON of a document. Half of a surrogate pair becomes what the library refuses."""
+    if isinstance(document, bytes):
+        return document
+    try:
+        text = document if isinstance(document, str) else json.dumps(document)
+    except RecursionError:
+        raise _nested_too_deep() from None
+    return text.encode('utf-8', 'surrogatepass')
+
+
+def _within(document: Document, limits: Optional[Limits]) -> bytes:
+    """The JSON of a document, which is within the limits where there are some."""
+    given = _bytes_of(document)
+    if limits is not None:
+        library().check_limits(given, limits)
+    return given
+
+
+def print_document(document: Document, *, limits: Optional[Limits] = None) -> str:
+    """The text that the document prints: each citation on a line, and then, where there is a
+    bibliography, an empty line and a line for each item, with its key, a tab and its text. Raises
+    as `render` does."""
+    return library().print_document(_within(document, limits)).decode()
+
+
+def print_json(document: Document, *, limits: Optional[Limits] = None) -> str:
+    """The answer to the document as JSON (docs/ANSWER.md). Raises as `render` does."""
+    return library().print_json(_within(document, limits)).decode()
+
+
+def render(document: Document, *, limits: Optional[Limits] = None) -> Answer:
+    """The answer to the document.
+
+    Raises DocumentRefused, MacroRing, NumberOverflow or OutOfMemory, each a Refused, where there is
+    none, and LibraryMissing where there is no library. Where there are limits, they are checked
+    before anything is rendered: a document that isn't within them raises TooDeep or
+    TooManyElements, each a LimitExceeded and so a Refused.
+    """
+    return answer_of(print_json(document, limits=limits))
+
+
+def drive_once(document: Document) -> Union[Answer, Missing]:
+    """One turn of the loop: the answer to a driven document (docs/DRIVEN.md), or the tasks that the
+    host has to write before there is one. Raises as `render` does, but for MacroRing: there are no
+    macros."""
+    return drive_bytes(_bytes_of(document))
+
+
+def render_with(document: Dict[str, Any], write: Writer) -> Answer:
+    """The whole loop: the answer to a driven document, in which the host writes each cite. `write`
+    is called once for each task that the driver asks for, and gives what was written. What the
+    document has in `written` isn't asked for.
+
+    The document is handed in again with what was written, in all at most three times more than
+    rounds of disambiguation mark. Raises as `drive_once` does, and what `write` raises."""
+    return render_with_all(document, lambda tasks: [write(task) for task in tasks])
+
+
+def check(document: Document, *, limits: Optional[Limits] = None) -> None:
+    """Raises what `render` would raise, and gives nothing where there is an answer."""
+    library().check(_within(document, limits))

@@ -1,0 +1,251 @@
+"""python -m gamhilon: documents answered and checked, and references read."""
+from __future__ import annotations
+
+import argparse
+import json
+import os
+import sys
+from functools import partial
+from typing import Any, Dict, List, NoReturn, Optional, Sequence, Tuple
+
+from . import (Limits, _console, _faults, _remarks, check, csl_json, pages, references,
+               style_sheet, styles, version)
+from ._console import (INPUT_OR_OUTPUT_FAILED, NOT_OF_ITS_FORM, json_text, name_of, progress, read,
+                       reason_and_status, say, write)
+from ._limits import DEFAULT_DEPTH, DEFAULT_ELEMENTS, UNLIMITED
+from ._render_folder import Job, page_of, render_folder
+from .errors import LibraryMissing, Refused
+
+BAD_COMMAND_LINE, NO_LIBRARY = 64, 69
+ENDINGS = """exit status: 0 done; 1 reading or writing failed; 2 document refused, or a file that
+isn't of its form; 3 its macros call each other in a ring; 4 its citation numbers don't fit; 5 out
+of memory; 7 a layout nests deeper than --depth; 8 a layout has more elements than --elements; 64
+not a command line; 69 the library is missing, or what reads files of a form; 130 ended by
+Ctrl-C"""
+
+
+class Parser(argparse.ArgumentParser):
+    """A parser whose errors have a status of their own, which no document has."""
+
+    def error(self, message: str) -> NoReturn:
+        self.print_usage(sys.stderr)
+        self.exit(BAD_COMMAND_LINE, f'{self.prog}: {message}\n')
+
+
+def parser() -> argparse.ArgumentParser:
+    """What the command line may say."""
+    made = Parser(prog='gamhilon', description='Citations and bibliographies.', epilog=ENDINGS)
+    made.add_argument('--version', action='store_true',
+                      help='the version, and what the library was built of')
+    commands = made.add_subparsers(dest='command', metavar='COMMAND')
+    _add_render(commands)
+    checked = commands.add_parser('check', help='what is wrong in documents and references, or '
+                                                'what they hold')
+    checked.add_argument('files', nargs='+', metavar='FILE',
+                         help='a document, or references; - for standard input')
+    _add_limits(checked)
+    _add_entries(commands)
+    named = commands.add_parser('styles', help='the names of the styles, or a document in one')
+    named.add_argument('name', nargs='?', help='a name of a style')
+    commands.add_parser('css', help='the style sheet of reference lists in HTML')
+    return made
+
+
+def _add_render(commands: Any) -> None:
+    render = commands.add_parser('render', help='the citations and the bibliography of a document')
+    render.add_argument('document', metavar='FILE',
+                        help='a document (docs/DOCUMENT.md), - for standard input, or a folder of '
+                             'documents')
+    render.add_argument('--to', choices=pages.FORMS, default='text',
+                        help='the form of what is written (text)')
+    render.add_argument('--standalone', action='store_true',
+                        help='a whole page, with the style sheet (of the form html alone)')
+    render.add_argument('--jobs', type=_count, metavar='N', default=1,
+                        help='how many processes answer the documents of a folder (1)')
+    render.add_argument('--output', metavar='FOLDER',
+                        help='where the pages of a folder are put (its folder pages)')
+    _add_limits(render)
+
+
+def _add_entries(commands: Any) -> None:
+    entries = commands.add_parser('entries',
+                                  help="references as CSL-JSON; what isn't kept on standard error")
+    entries.add_argument('files', nargs='+', metavar='FILE',
+                         help="CSL-JSON, BibLaTeX, BibTeX or hayagriva's YAML; - for standard "
+                              'input')
+    entries.add_argument('--from', dest='form', choices=references.FORMS,
+                         help='the form of the files, where their names and what they begin with '
+                              'tell another')
+    entries.add_argument('--lang', default='en-US', metavar='LANG',
+                         help='the language of entries of .bib files that tell none (en-US)')
+    entries.add_argument('--to', choices=('csl-json', 'document'), default='csl-json',
+                         help='CSL-JSON (where this is absent), or the entries of a document')
+
+
+def _add_limits(command: argparse.ArgumentParser) -> None:
+    """What the layouts of a document may hold, where the command line doesn't tell otherwise."""
+    command.add_argument('--depth', type=_limit, metavar='N', default=DEFAULT_DEPTH,
+                         help=f'how deep the elements of a layout may nest ({DEFAULT_DEPTH})')
+    command.add_argument('--elements', type=_limit, metavar='N', default=DEFAULT_ELEMENTS,
+                         help=f'how many elements a layout may have ({DEFAULT_ELEMENTS})')
+
+
+def _limit(word: str) -> int:
+    """A limit that the command line gives. Raises ValueError where it is none."""
+    return Limits(int(word), UNLIMITED).depth
+
+
+def _count(word: str) -> int:
+    """A number of processes that the command line gives. Raises ValueError where it is none."""
+    count = int(word)
+    if count < 1:
+        raise ValueError
+    return count
+
+
+def main(arguments: Optional[List[str]] = None) -> int:
+    """Runs a command line, and gives its exit status."""
+    made = parser()
+    words = made.parse_args(arguments)
+    if not words.version and not words.command:
+        made.print_help(sys.stderr)
+        return BAD_COMMAND_LINE
+    if words.command == 'render' and words.standalone and words.to != 'html':
+        made.error('--standalone makes a page of the form html: add --to html')
+    return _console.interruptible(partial(run, words))
+
+
+def run(words: argparse.Namespace) -> int:
+    """Does what the command line says, and gives the exit status."""
+    try:
+        if words.version:
+            write(f'{version()}\n')
+        elif words.command == 'render':
+            job = Job(words.to, words.standalone, Limits(words.depth, words.elements))
+            return render_command(words.document, words.output, job, words.jobs)
+        elif words.command == 'check':
+            return check_command(words.files, Limits(words.depth, words.elements))
+        elif words.command == 'entries':
+            return entries_command(words.files, words.form, words.lang, words.to)
+        elif words.command == 'css':
+            write(style_sheet())
+        else:
+            return styles_command(words.name)
+        return 0
+    except _console.OutputFailed as error:
+        say(f'standard output: {error}')
+        _console.close_output()
+        return INPUT_OR_OUTPUT_FAILED
+    except (LibraryMissing, references.ReaderMissing) as error:
+        say(str(error))
+        return NO_LIBRARY
+
+
+def refusal(path: str, error: Exception) -> int:
+    """Tells why nothing comes of a file, with its name, and gives the exit status."""
+    message, status = reason_and_status(error)
+    say(f'{name_of(path)}: {message}')
+    return status
+
+
+def render_command(path: str, output: Optional[str], job: Job, processes: int) -> int:
+    """Writes the answer to a document, or those to the documents of a folder."""
+    try:
+        if os.path.isdir(path):
+            return render_folder(path, output or os.path.join(path, 'pages'), job, processes)
+        if output is not None or processes != 1:
+            say(f'{name_of(path)}: --output and --jobs are for folders of documents')
+            return BAD_COMMAND_LINE
+        document = read(path)
+        with progress(f'answering {name_of(path)}'):
+            page = page_of(job, document)
+    except LibraryMissing:
+        raise
+    except (Refused, OSError, ValueError) as error:
+        return refusal(path, error)
+    write(page)
+    return 0
+
+
+def check_command(paths: Sequence[str], limits: Limits) -> int:
+    """Writes what files hold, and what in them can hardly be meant. The status is that of the first
+    that is refused, or in which something is no entry."""
+    statuses = []
+    for path in paths:
+        name = f'{name_of(path)}: ' if len(paths) > 1 else ''
+        try:
+            data = read(path)
+            with progress(f'checking {name_of(path)}'):
+                lines, problems = _check_one(path, data, limits)
+        except LibraryMissing:
+            raise
+        except (Refused, OSError, ValueError) as error:
+            statuses.append(refusal(path, error))
+            continue
+        write(''.join(f'{name}{_faults.in_one_line(line)}\n' for line in lines))
+        for problem in problems:
+            say(f'{name_of(path)}: {problem}')
+        statuses += [NOT_OF_ITS_FORM] if problems else []
+    return next(iter(statuses), 0)
+
+
+def _check_one(path: str, data: bytes, limits: Limits) -> Tuple[List[str], List[str]]:
+    """What a document or a file of references holds, and remarks on it; and what in it is no
+    entry."""
+    if references.is_named(path) or data.lstrip(b'\xef\xbb\xbf \t\r\n')[:1] == b'[':
+        told = references.read(path, data)
+        return _remarks.of_references(told), told.problems
+    check(data, limits=limits)
+    said: Dict[str, Any] = json.loads(data)
+    return [*_remarks.holds(said), *[f'remark: {remark}' for remark in _remarks.remarks(said)]], []
+
+
+def entries_command(paths: Sequence[str], form: Optional[str], lang: str, to: str) -> int:
+    """Writes references, and on standard error what isn't kept of their entries, by entry and
+    field. The status is that of the first file that is refused, or in which something is no
+    entry."""
+    found: Dict[str, Any] = {}
+    statuses = []
+    for path in paths:
+        try:
+            data = read(path)
+            with progress(f'reading {name_of(path)}'):
+                told = references.read(path, data, form=form, lang=lang)
+        except (OSError, ValueError) as error:
+            statuses.append(refusal(path, error))
+            continue
+        for item in told.items:
+            if found.setdefault(str(item['id']), item) is not item:
+                reason = 'an earlier file has an item of this id, left out'
+                say(f'{name_of(path)}: {item["id"]}: id: {reason}')
+        _say_what_is_lost(path, told)
+        statuses += [NOT_OF_ITS_FORM] if told.problems else []
+    items = list(found.values())
+    converted = csl_json.entries(items if to == 'document' else [])
+    if items or not statuses:
+        write(json_text(converted.entries if to == 'document' else items))
+    for line in csl_json.summary(converted.losses):
+        say(line)
+    return next(iter(statuses), 0)
+
+
+def _say_what_is_lost(path: str, told: references.References) -> None:
+    for loss in told.losses:
+        shown = _faults.shown(loss.value)
+        say(f'{name_of(path)}: {loss.key}: {loss.field}: {loss.reason} ({shown})')
+    for problem in told.problems:
+        say(f'{name_of(path)}: {problem}')
+
+
+def styles_command(name: Optional[str]) -> int:
+    """Writes the names of the styles, or a document in one."""
+    if name and name not in styles.names():
+        say(f'there is no style {name!r}: the styles are {", ".join(styles.names())}')
+        return BAD_COMMAND_LINE
+    write(json_text(styles.document(name)) if name
+          else ''.join(name + '\n' for name in styles.names()))
+    return 0
+
+
+if __name__ == '__main__':
+    sys.exit(main())

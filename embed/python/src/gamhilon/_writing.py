@@ -1,0 +1,103 @@
+"""What the writers of HTML, Markdown and LaTeX share."""
+from __future__ import annotations
+
+import re
+from typing import Any, Callable, List, NamedTuple, Optional, Sequence, Union
+from urllib.parse import quote
+
+from .answer import Node, Tree
+
+Escape = Callable[[str], str]
+
+_FORMATS = {'font_weight': ('bold',), 'font_style': ('italic',), 'font_variant': ('small-caps',),
+            'text_decoration': ('underline',), 'vertical_align': ('sup', 'sub')}
+_SCHEME = re.compile(r'(https?|mailto|doi):', re.IGNORECASE)
+_CONTROL = re.compile('[\x00-\x1f\x7f-\x9f\u2028\u2029]')
+_OUTSIDE_ID = re.compile(r'[^A-Za-z0-9.:_-]|_(?![A-Za-z0-9.:-])')
+
+
+class Piece(NamedTuple):
+    """A part of a flattened tree.
+
+    `kind` is `text` or `markup`, of which `node` is the node; or `open` or `close`, of an element,
+    of which `node` is the node and `link` the id that it leads to, where it is a cite that has one.
+    """
+
+    kind: str
+    node: Node
+    link: Optional[str] = None
+
+
+def single_spaced(text: str) -> str:
+    """The text with a space for each run of line feeds, tabs and the like; no control characters
+    stay."""
+    return _CONTROL.sub('', re.sub('[\t\n\v\f\r\x85\u2028\u2029]+', ' ', text))
+
+
+def safe_url(url: str) -> Optional[str]:
+    """The address that a link may lead to: of http, https, mailto or doi; or None. A doi leads to
+    doi.org."""
+    scheme = _SCHEME.match(url)
+    if not scheme or _CONTROL.search(url):
+        return None
+    if scheme.group(1).lower() == 'doi':
+        url = 'https://doi.org/' + url[scheme.end():].lstrip('/')
+    return quote(url.encode('utf-8', 'replace'), safe="%/:?#[]@!$&'()*+,;=~-._")
+
+
+def anchor(key: str) -> str:
+    """The id of an item of the bibliography: `ref-` and the key, in which each character that an id
+    can't have is written by its number. Different keys have different ids."""
+    return 'ref-' + _OUTSIDE_ID.sub(lambda match: f'__{ord(match.group()):x}_', key)
+
+
+def formats(node: Node) -> List[str]:
+    """What the text of a node has of `bold`, `italic`, `small-caps`, `underline`, and `sup` or
+    `sub`, where it shows something."""
+    if not single_spaced(node['text']).strip():
+        return []
+    return [node[key] for key, names in _FORMATS.items() if node.get(key) in names]
+
+
+def pieces(tree: Union[Node, Tree], keys: Sequence[str] = ()) -> List[Piece]:
+    """The parts of a tree, from first to last, with no recursion. A cite leads to the item of its
+    entry, the key of which `keys` has at the cite's place, unless a text in it leads elsewhere."""
+    found: List[Piece] = []
+    left: List[Any] = [tree]
+    while left:
+        part = left.pop()
+        if isinstance(part, Piece):
+            found.append(part)
+        elif isinstance(part, list):
+            left.extend(reversed(part))
+        elif 'children' in part:
+            link = _link_of(part, keys)
+            found.append(Piece('open', part, link))
+            left.append(Piece('close', part, link))
+            left.append(part['children'])
+        elif 'text' in part:
+            found.append(Piece('text', part))
+        elif 'markup' in part:
+            found.append(Piece('markup', part))
+    return found
+
+
+def _link_of(element: Node, keys: Sequence[str]) -> Optional[str]:
+    meta = element.get('meta')
+    place = meta.get('entry') if isinstance(meta, dict) else None
+    if not isinstance(place, int) or place >= len(keys) or _has_url(element):
+        return None
+    return anchor(keys[place])
+
+
+def _has_url(element: Node) -> bool:
+    left: List[Any] = [element]
+    while left:
+        part = left.pop()
+        if isinstance(part, list):
+            left.extend(part)
+        elif 'children' in part:
+            left.append(part['children'])
+        elif 'url' in part and safe_url(part['url']):
+            return True
+    return False

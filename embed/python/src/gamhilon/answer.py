@@ -1,0 +1,90 @@
+"""The answer to a document, as values."""
+from __future__ import annotations
+
+from dataclasses import dataclass
+from typing import Any, Dict, List, Optional, Union
+
+from . import _deep_json
+
+__all__ = ['Answer', 'Bibliography', 'Citation', 'Item', 'Node', 'Tree', 'plain']
+
+Node = Dict[str, Any]
+"""A node of a tree: one of the objects that docs/ANSWER.md tells of."""
+
+Tree = List[Node]
+"""A tree: its nodes, in their order."""
+
+
+@dataclass(frozen=True)
+class Citation:
+    """A citation: its tree, and the number of its note, if it stands in one."""
+
+    content: Tree
+    note_number: Optional[int] = None
+
+
+@dataclass(frozen=True)
+class Item:
+    """An item of the bibliography: the key of its entry, its tree, and the field that stands apart
+    before it, if one does."""
+
+    key: str
+    content: Tree
+    first_field: Optional[Node] = None
+
+
+@dataclass(frozen=True)
+class Bibliography:
+    """The bibliography's items and settings."""
+
+    items: List[Item]
+    hanging_indent: bool
+    line_spacing: int
+    entry_spacing: int
+    second_field_align: Optional[str] = None
+
+
+@dataclass(frozen=True)
+class Answer:
+    """A citation for each request, in the order of the requests, and the bibliography, if the style
+    has one."""
+
+    citations: List[Citation]
+    bibliography: Optional[Bibliography] = None
+
+
+def answer_of(text: str) -> Answer:
+    """The answer of which this is the JSON (docs/ANSWER.md)."""
+    return answer_of_value(_deep_json.loads(text))
+
+
+def answer_of_value(said: Dict[str, Any]) -> Answer:
+    """The answer that a value says, as JSON reads it."""
+    citations = [Citation(**citation) for citation in said['citations']]
+    if 'bibliography' not in said:
+        return Answer(citations)
+    settings: Dict[str, Any] = dict(said['bibliography'])
+    settings['items'] = [Item(**item) for item in settings['items']]
+    return Answer(citations, Bibliography(**settings))
+
+
+def tree_of(part: Union[Citation, Node, Tree]) -> Tree:
+    """The tree of a citation, or the tree or node itself, as a tree."""
+    if isinstance(part, Citation):
+        return part.content
+    return part if isinstance(part, list) else [part]
+
+
+def plain(part: Union[Citation, Node, Tree]) -> str:
+    """The text of a citation, of a tree or of a node, without its formatting."""
+    written: List[str] = []
+    left: List[Any] = [tree_of(part)]
+    while left:
+        node = left.pop()
+        if isinstance(node, list):
+            left.extend(reversed(node))
+        elif 'children' in node:
+            left.append(node['children'])
+        else:
+            written.append(node.get('text', node.get('markup', '')))
+    return ''.join(written)

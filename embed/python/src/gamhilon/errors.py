@@ -1,0 +1,83 @@
+"""Why there is no answer."""
+from __future__ import annotations
+
+from typing import Optional
+
+__all__ = [
+    'DocumentRefused', 'LibraryMissing', 'LimitExceeded', 'MacroRing', 'NumberOverflow',
+    'OutOfMemory', 'Refused', 'TooDeep', 'TooManyElements',
+]
+
+
+class Refused(Exception):
+    """There is no answer. `status` is that of gamhilon.h."""
+
+    status = 0
+
+
+class DocumentRefused(Refused, ValueError):
+    """The document isn't JSON, or not of the form of a document.
+
+    `pointer` is the JSON Pointer (RFC 6901) of the first fault, `found` what stands there, and
+    `wanted` what is asked for there, as docs/DOCUMENT.md has them. The message says the same, with
+    the text or number that stands there.
+    """
+
+    status = 2
+
+    def __init__(self, message: str, pointer: str, found: str, wanted: str) -> None:
+        super().__init__(message, pointer, found, wanted)
+        self.pointer, self.found, self.wanted = pointer, found, wanted
+
+    def __str__(self) -> str:
+        return str(self.args[0])
+
+
+class MacroRing(Refused, ValueError):
+    """The macros of a style call each other in a ring.
+
+    `request` is the place of the request whose style it is, from 0, or None where it is the
+    bibliography's; `macro_place` is the place of the first macro on a ring, among the macros of
+    that style, from 0.
+    """
+
+    status = 3
+
+    def __init__(self, message: str, request: Optional[int], macro_place: int) -> None:
+        super().__init__(message, request, macro_place)
+        self.request, self.macro_place = request, macro_place
+
+    def __str__(self) -> str:
+        return str(self.args[0])
+
+
+class NumberOverflow(Refused, OverflowError):
+    """The citation numbers don't fit 64 bits."""
+
+    status = 4
+
+
+class OutOfMemory(Refused, MemoryError):
+    """Memory was refused."""
+
+    status = 5
+
+
+class LimitExceeded(Refused, ValueError):
+    """A layout of a style isn't within the limits that the caller gave."""
+
+
+class TooDeep(LimitExceeded):
+    """The elements of a layout nest deeper than the limit."""
+
+    status = 7
+
+
+class TooManyElements(LimitExceeded):
+    """A layout has more elements than the limit."""
+
+    status = 8
+
+
+class LibraryMissing(OSError):
+    """The shared library isn't there, or can't be loaded."""

@@ -1,0 +1,99 @@
+"""Trees as HTML."""
+from __future__ import annotations
+
+import html
+import os
+from typing import List, Optional, Sequence, Union
+
+from . import _addresses
+from ._writing import Escape, Piece, anchor, formats, pieces, safe_url, single_spaced
+from .answer import Bibliography, Citation, Item, Node, Tree, tree_of
+
+__all__ = ['bibliography_to_html', 'style_sheet', 'to_html']
+
+_TAGS = {
+    'bold': ('<b>', '</b>'), 'italic': ('<i>', '</i>'), 'underline': ('<u>', '</u>'),
+    'sup': ('<sup>', '</sup>'), 'sub': ('<sub>', '</sub>'),
+    'small-caps': ('<span style="font-variant:small-caps;">', '</span>'),
+}
+_STYLE_SHEET = os.path.join(os.path.dirname(os.path.abspath(__file__)), 'gamhilon.css')
+
+
+def to_html(part: Union[Citation, Node, Tree], keys: Sequence[str] = (),
+            markup: Escape = html.escape) -> str:
+    """The HTML of a citation, of a tree or of a node, to stand in a paragraph.
+
+    Where `keys` has the entries of the citation's request, in their order, each cite links to the
+    item of its entry. Links lead to http, https, mailto and doi alone; a text with another address
+    stands without one. An element with a display is a `span` of class `csl-block`, `csl-indent`,
+    `csl-left-margin` or `csl-right-inline`. `markup` makes HTML of a text in markup of its own,
+    such as a formula, and shows its letters where it isn't given.
+    """
+    return _html(pieces(tree_of(part), keys), markup, 'span')
+
+
+def bibliography_to_html(bibliography: Optional[Bibliography], markup: Escape = html.escape) -> str:
+    """The HTML of a bibliography: a `div` of class `csl-entry` for each item, with the id to which
+    its cites link; nothing where there is none. URLs and DOIs are links. What the style tells of
+    indents, columns and spacing is there for `style_sheet`."""
+    if bibliography is None:
+        return ''
+    classes = ['references', 'csl-bib-body', *layout_classes(bibliography)]
+    entries = [f'<div id="{anchor(item.key)}" class="csl-entry">{_item(item, markup)}</div>\n'
+               for item in bibliography.items]
+    return (f'<div id="refs" class="{" ".join(classes)}" style="{spacing(bibliography)}">\n'
+            f'{"".join(entries)}</div>\n')
+
+
+def style_sheet() -> str:
+    """The style sheet of reference lists, by these classes (and by those that pandoc writes)."""
+    with open(_STYLE_SHEET, encoding='utf-8') as file:
+        return file.read()
+
+
+def layout_classes(bibliography: Bibliography) -> List[str]:
+    """The classes that tell how the items of a bibliography are laid out."""
+    hanging = ['hanging-indent'] if bibliography.hanging_indent else []
+    align = bibliography.second_field_align
+    return [*hanging, f'second-field-align-{align}'] if align else hanging
+
+
+def spacing(bibliography: Bibliography) -> str:
+    """The properties of CSS that tell how far lines and items are apart."""
+    return (f'--csl-line-spacing: {bibliography.line_spacing}; '
+            f'--csl-entry-spacing: {bibliography.entry_spacing}')
+
+
+def _item(item: Item, markup: Escape) -> str:
+    content = _html(_addresses.with_links(pieces(item.content)), markup, 'div')
+    if item.first_field is None:
+        return content
+    first = _html(_addresses.with_links(pieces(item.first_field)), markup, 'div')
+    return (f'<div class="csl-left-margin">{first}</div>'
+            f'<div class="csl-right-inline">{content}</div>')
+
+
+def _html(parts: Sequence[Piece], markup: Escape, block: str) -> str:
+    out: List[str] = []
+    for piece in parts:
+        display = piece.node.get('display')
+        if piece.kind == 'text':
+            out.append(_text(piece.node))
+        elif piece.kind == 'markup':
+            out.append(markup(piece.node['markup']))
+        elif piece.kind == 'open':
+            out.append(f'<{block} class="csl-{html.escape(display)}">' if display else '')
+            out.append(f'<a href="#{piece.link}">' if piece.link else '')
+        else:
+            out.append('</a>' if piece.link else '')
+            out.append(f'</{block}>' if display else '')
+    return ''.join(out)
+
+
+def _text(node: Node) -> str:
+    text = html.escape(single_spaced(node['text']))
+    for name in reversed(formats(node)):
+        opening, closing = _TAGS[name]
+        text = opening + text + closing
+    url = safe_url(node['url']) if 'url' in node else None
+    return f'<a href="{html.escape(url)}">{text}</a>' if url and text else text

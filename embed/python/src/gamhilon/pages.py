@@ -1,0 +1,74 @@
+"""Whole answers in each form that `python -m gamhilon render` gives."""
+from __future__ import annotations
+
+import json
+from typing import Any, Callable, Dict, List
+
+from .answer import Answer, answer_of
+from .html_writer import bibliography_to_html, style_sheet, to_html
+from .latex_writer import bibliography_to_latex, to_latex
+from .markdown_writer import bibliography_to_markdown, to_markdown
+
+__all__ = ['FORMS', 'standalone', 'written']
+
+FORMS = ('text', 'html', 'markdown', 'latex', 'json')
+
+_PAGE = """<!DOCTYPE html>
+<html lang="en">
+<head>
+<meta charset="utf-8">
+<meta name="viewport" content="width=device-width, initial-scale=1">
+<title>Citations</title>
+<style>
+{style_sheet}</style>
+</head>
+<body>
+{content}</body>
+</html>
+"""
+
+
+def written(form: str, document: bytes, print_document: Callable[[bytes], str],
+            print_json: Callable[[bytes], str]) -> str:
+    """The answer to a document in a form: its citations, each a paragraph, and its bibliography."""
+    if form == 'text':
+        return print_document(document)
+    text = print_json(document)
+    if form == 'json':
+        return text + '\n'
+    return _WRITERS[form](answer_of(text), _keys(json.loads(document)))
+
+
+def standalone(content: str) -> str:
+    """A whole page of HTML, with the style sheet of reference lists."""
+    return _PAGE.format(style_sheet=style_sheet(), content=content)
+
+
+def _keys(document: Dict[str, Any]) -> List[List[str]]:
+    """The keys that each request cites, where the bibliography lists them so that cites can link
+    there."""
+    has_list = 'bibliography' in document['styles'][document['bibliography']['style']]
+    return [[item['entry'] for item in request['items']] if has_list else []
+            for request in document['requests']]
+
+
+def _html(answer: Answer, keys: List[List[str]]) -> str:
+    citations = [f'<p class="citation">{to_html(citation, own)}</p>\n'
+                 for citation, own in zip(answer.citations, keys)]
+    return ''.join([*citations, bibliography_to_html(answer.bibliography)])
+
+
+def _markdown(answer: Answer, keys: List[List[str]]) -> str:
+    citations = [f'{to_markdown(citation, own)}\n\n'
+                 for citation, own in zip(answer.citations, keys)]
+    return ''.join([*citations, bibliography_to_markdown(answer.bibliography)])
+
+
+def _latex(answer: Answer, keys: List[List[str]]) -> str:
+    citations = [f'{to_latex(citation, own)}\n\n' for citation, own in zip(answer.citations, keys)]
+    return ''.join([*citations, bibliography_to_latex(answer.bibliography)])
+
+
+_WRITERS: Dict[str, Callable[[Answer, List[List[str]]], str]] = {
+    'html': _html, 'markdown': _markdown, 'latex': _latex,
+}

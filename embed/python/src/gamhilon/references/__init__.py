@@ -1,0 +1,145 @@
+"""References as people have them: CSL-JSON, BibTeX, BibLaTeX and hayagriva's YAML, each as
+CSL-JSON.
+
+    from gamhilon import references
+
+    read = references.load('library.bib')
+    print(read.items)                   # CSL-JSON
+    for loss in read.losses:
+        print(loss)                     # doe99: editorc: CSL has no place for a second list of
+        names of the kind founder
+
+BibTeX and BibLaTeX are read by pybtex (Debian's python3-pybtex), and YAML by PyYAML (python3-yaml);
+CSL-JSON needs neither.
+"""
+from __future__ import annotations
+
+import json
+import os
+import re
+from dataclasses import dataclass
+from typing import Any, Dict, List, Optional, Tuple
+
+from .. import _console
+from ..csl_json import Loss
+from . import biblatex, hayagriva
+from .errors import ReaderMissing, ReferencesError
+
+__all__ = [
+    'FORMS', 'Item', 'ReaderMissing', 'References', 'ReferencesError', 'form_of', 'is_named',
+    'load', 'loads', 'read',
+]
+
+Item = Dict[str, Any]
+"""An item of CSL-JSON."""
+
+FORMS = ('csl-json', 'biblatex', 'bibtex', 'hayagriva')
+
+_SUFFIXES = {
+    '.json': 'csl-json', '.bib': 'biblatex', '.biblatex': 'biblatex', '.bibtex': 'bibtex',
+    '.yaml': 'hayagriva', '.yml': 'hayagriva',
+}
+_COMMAND = re.compile(r'^[ \t]*@[ \t]*[A-Za-z]+[ \t]*[{(]', re.MULTILINE)
+_BYTE_ORDER_MARK = '\ufeff'
+
+
+@dataclass(frozen=True)
+class References:
+    """The items of a file as CSL-JSON, each of another id; what isn't kept of its entries, by entry
+    and field; and what in the file is no entry that can be read."""
+
+    items: List[Item]
+    losses: List[Loss]
+    problems: List[str]
+
+
+def load(path: str, *, form: Optional[str] = None, lang: str = 'en-US') -> References:
+    """The references of a file, or of standard input where the path is `-`.
+
+    The form is one of FORMS; where none is told the name of the file tells it, and else the file.
+    `lang` is the language of entries of .bib files that tell none: English titles are put into
+    sentence case, which CSL asks for. Raises ReferencesError where the file isn't of its form,
+    ReaderMissing where nothing reads it, and OSError.
+    """
+    try:
+        return read(path, _console.read(path), form=form, lang=lang)
+    except ReferencesError as error:
+        raise ReferencesError(f'{_console.name_of(path)}: {error}') from error
+
+
+def read(path: str, data: bytes, *, form: Optional[str] = None, lang: str = 'en-US') -> References:
+    """The references in the bytes of a file of this name. Raises as `load` does, without the
+    name."""
+    return loads(_decoded(data), form=form or _SUFFIXES.get(_suffix(path)), lang=lang)
+
+
+def is_named(path: str) -> bool:
+    """Whether the name of a file tells that it has references, and no document."""
+    return _suffix(path) in _SUFFIXES and _suffix(path) != '.json'
+
+
+def loads(text: str, *, form: Optional[str] = None, lang: str = 'en-US') -> References:
+    """The references of a text, as `load` reads them of a file."""
+    text = text[1:] if text.startswith(_BYTE_ORDER_MARK) else text
+    form = form or form_of(text)
+    if form not in FORMS:
+        raise ValueError(f'there is no form {form!r}: the forms are {", ".join(FORMS)}')
+    if form == 'csl-json':
+        items, losses, problems = _csl_json(text)
+    elif form == 'hayagriva':
+        items, losses, problems = hayagriva.items(text)
+    else:
+        items, losses, problems = biblatex.items(text, form == 'biblatex', lang)
+    return _each_once(items, losses, problems)
+
+
+def form_of(text: str) -> str:
+    """The form of a text: CSL-JSON begins with a bracket, and lines of .bib files with an `@` and a
+    word."""
+    if text.lstrip(_BYTE_ORDER_MARK + ' \t\r\n')[:1] in ('[', '{'):
+        return 'csl-json'
+    return 'biblatex' if _COMMAND.search(text) else 'hayagriva'
+
+
+def _suffix(path: str) -> str:
+    return os.path.splitext(path)[1].lower()
+
+
+def _decoded(data: bytes) -> str:
+    try:
+        return data.decode('utf-8-sig')
+    except UnicodeDecodeError as error:
+        line = data.count(b'\n', 0, error.start) + 1
+        raise ReferencesError(f'no UTF-8 from byte {error.start}, in line {line}') from error
+
+
+def _csl_json(text: str) -> Tuple[List[Item], List[Loss], List[str]]:
+    try:
+        value = json.loads(text)
+    except RecursionError as error:
+        raise ReferencesError('JSON that nests too deep') from error
+    except ValueError as error:
+        raise ReferencesError(f'no JSON: {error}') from error
+    if isinstance(value, dict) and isinstance(value.get('items'), list):
+        value = value['items']
+    if not isinstance(value, list):
+        raise ReferencesError('CSL-JSON is a list of items')
+    items = [item for item in value if isinstance(item, dict)]
+    wrong = [place for place, item in enumerate(value) if not isinstance(item, dict)]
+    return items, [], [f'item {place} is not an object' for place in wrong]
+
+
+def _each_once(items: List[Item], losses: List[Loss], problems: List[str]) -> References:
+    """The first item of each id. An item without an id can't be cited."""
+    found: Dict[str, Item] = {}
+    left_out: List[Loss] = []
+    for place, item in enumerate(items):
+        key = item.get('id')
+        if not isinstance(key, (str, int, float)) or isinstance(key, bool) or key == '':
+            reason = 'an item without an id, left out'
+            left_out.append(Loss(f'item {place}', 'id', item, reason))
+        elif str(key) in found:
+            left_out.append(Loss(str(key), 'id', item, 'a second item of this id, left out'))
+        else:
+            found[str(key)] = item
+    return References(list(found.values()), [*losses, *left_out], problems)
