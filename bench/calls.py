@@ -16,7 +16,7 @@ import sys
 import time
 
 ROOT = pathlib.Path(__file__).resolve().parent.parent
-sys.path[:0] = [str(ROOT / "bench"), str(ROOT / "embed" / "python")]
+sys.path[:0] = [str(ROOT / "bench"), str(ROOT / "embed" / "python" / "src")]
 SIZES = [1, 10, 1_000]
 
 
@@ -47,9 +47,9 @@ def main():
     for size in SIZES:
         given = json.dumps(bench.whole_author_date(size)).encode()
         runs = max(words.runs // max(size // 10, 1), 5)
-        text_room, tree_room = len(calls.print_document(given)), len(calls.print_json(given))
-        text = best(lambda: calls.print_document(given, text_room), runs)
-        tree = best(lambda: calls.print_json(given, tree_room), runs)
+        text_length, json_length = len(calls.print_document(given)), len(calls.print_json(given))
+        text = best(lambda: calls.print_document(given, text_length), runs)
+        tree = best(lambda: calls.print_json(given, json_length), runs)
         program = f"{best(lambda: start(words.program, given), runs):.0f}" if has_program else "not built"
         print(f"{size:>9} {len(given):>9} {text:>9.0f} {tree:>9.0f} {program:>12}")
 

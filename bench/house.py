@@ -1,7 +1,10 @@
 #!/usr/bin/env python3
-"""house.py [-v]: prints how the crates read, in figures: how many `requires` above csl_writers are about rings of macros and about
-the places of cites, how many clauses and definitions are wider than 110 columns, how many functions are longer than 40
-lines, their contracts included, and how many lines the proofs have, by crate. With -v each of these places is listed."""
+"""house.py [-v]: prints how the crates read, in figures: how many `requires` above csl_writers are
+about rings of macros and about the places of cites, how many clauses and definitions are wider than
+110 columns, how many functions are longer than 40 lines, their contracts included, how many lines
+the proofs have, by crate, and how many public names and lines of pages have a word that
+docs/GLOSSARY.md doesn't want. With -v each of these places is listed."""
+import glob
 import os
 import re
 import sys
@@ -9,7 +12,8 @@ import sys
 ROOT = os.path.dirname(os.path.dirname(os.path.abspath(__file__)))
 WIDTH, LENGTH = 110, 40
 RINGS = re.compile(r'NoRing')
-PLACES = re.compile(r'IsPlace\b|IsPlaced\b|ArePlaced\b|HasShapeOf\b|AreCites\w*|IsCitedBy\b|\bplaces\b|\bplace\b')
+PLACES = re.compile(
+    r'IsPlace\b|IsPlaced\b|ArePlaced\b|HasShapeOf\b|AreCites\w*|IsCitedBy\b|\bplaces\b|\bplace\b')
 BRACKETS = {'{': 1, '}': -1, '(': 1, ')': -1}
 
 
@@ -22,14 +26,14 @@ def dependencies():
             if line:
                 name, below = line.split(':')
                 found[name.split()[0]] = below.split()
-    return {name: [it for it in below if it in found] for name, below in found.items()}
+    return {crate: [name for name in below if name in found] for crate, below in found.items()}
 
 
 def above(crate, below):
     """The crates that stand on this one, also indirectly."""
-    found = {it for it in below if crate in below[it]}
+    found = {other for other in below if crate in below[other]}
     while True:
-        more = {it for it in below if found & {*below[it]}} | found
+        more = {other for other in below if found & {*below[other]}} | found
         if more == found:
             return found
         found = more
@@ -54,7 +58,8 @@ def clauses(path):
         if re.match(r'\s*(requires|ensures)\b', line):
             end, depth = at, 0
             while True:
-                depth += sum(BRACKETS.get(it, 0) for it in re.sub(r'"[^"]*"', '', lines[end]))
+                depth += sum(BRACKETS.get(letter, 0)
+                             for letter in re.sub(r'"[^"]*"', '', lines[end]))
                 if depth <= 0:
                     break
                 end += 1
@@ -69,9 +74,61 @@ def functions(path):
         if found:
             ends = (found.group(1) + '}', found.group(1) + '{}')
             end = at
-            while end + 1 < len(lines) and lines[end] not in ends and not (end == at and line.endswith('{}')):
+            is_empty = line.endswith('{}')
+            while end + 1 < len(lines) and lines[end] not in ends and not is_empty:
                 end += 1
             yield at + 1, found.group(2), end - at + 1
+
+
+def unwanted_words():
+    """The words that docs/GLOSSARY.md lists as not to be used, by what stands in their place."""
+    whole = '\n'.join(lines_of(ROOT + '/docs/GLOSSARY.md'))
+    section = whole.partition('## Words not to be used')[2]
+    for words, instead in re.findall(r'^\| (\w[^|]*) \| ([^|]+) \|$', section, re.MULTILINE)[1:]:
+        yield words.split(', '), instead
+
+
+def words_of(name):
+    """The words of a name, in lower case with underscores around each: `_ring_place_`."""
+    return '_%s_' % re.sub(r'(?<=[a-z0-9])(?=[A-Z])', '_', name).lower()
+
+
+def public_names(crates):
+    """Each public name of the crates, of the header and of the Python package, and its place."""
+    item = r'\s*pub (?:const |fn |struct |enum |trait |type |mod )?(\w+)'
+    sources = [(item, path) for crate in crates if not crate.startswith('test_')
+               for path in files(crate, 'src', '.rt')]
+    sources += [(r'\s*(?:def|class) ([A-Za-z]\w*)', path) for path in sorted(
+        glob.glob(ROOT + '/embed/python/**/*.py', recursive=True)) if '/tests/' not in path]
+    sources.append((r'.*\b(gamhilon_\w+)\(', ROOT + '/embed/gamhilon.h'))
+    for pattern, path in sources:
+        for at, line in enumerate(lines_of(path), 1):
+            found = re.match(pattern, line)
+            if found:
+                yield found.group(1), (path, at)
+
+
+def pages():
+    """Each line of the pages but those of the glossary, and its place."""
+    names = ['README.md', 'CONTRIBUTING.md', 'embed/README.md', 'embed/python/README.md']
+    paths = ['%s/%s' % (ROOT, name) for name in names] + sorted(glob.glob(ROOT + '/docs/*.md'))
+    for path in paths:
+        for at, line in enumerate(lines_of(path), 1):
+            if not path.endswith('/GLOSSARY.md'):
+                yield line, (path, at)
+
+
+def strays(crates):
+    """For each row of the words that are not to be used: the words, what stands in their place,
+    and where names and pages have them."""
+    names, lines = [*public_names(crates)], [*pages()]
+    for words, instead in unwanted_words():
+        of_names = ['_%s_' % word for word in words if ' ' not in word]
+        of_pages = [re.compile(r'\b%s\b' % word, re.IGNORECASE)
+                    for word in words if '_' not in word]
+        found = [place for name, place in names if any(word in words_of(name) for word in of_names)]
+        found += [place for line, place in lines if any(word.search(line) for word in of_pages)]
+        yield words, instead, found
 
 
 def report(name, places, is_told):
@@ -92,7 +149,7 @@ def main():
     for crate in below:
         for path in files(crate, 'src', '.rt'):
             for line, text in clauses(path):
-                if any(len(it) > WIDTH for it in text):
+                if any(len(one) > WIDTH for one in text):
                     wide.append((path, line))
                 is_required = text[0].lstrip().startswith('requires')
                 if crate in higher and is_required and RINGS.search(' '.join(text)):
@@ -102,7 +159,8 @@ def main():
             long_functions += [(path, line) for line, _, count in functions(path) if count > LENGTH]
         for path in files(crate, 'specs', '.antt'):
             wide_lines = enumerate(lines_of(path), 1)
-            definitions += [(path, at) for at, it in wide_lines if len(it) > WIDTH and not it.startswith(('use ', 'pub use '))]
+            definitions += [(path, at) for at, text in wide_lines
+                            if len(text) > WIDTH and not text.startswith(('use ', 'pub use '))]
         proofs[crate] = sum(len(lines_of(path)) for path in files(crate, 'proofs', '.antt'))
     report('requires on rings of macros, above csl_writers', rings, is_told)
     report('requires on places of cites, above csl_writers', places, is_told)
@@ -110,9 +168,11 @@ def main():
     report('lines of definitions wider than %d columns' % WIDTH, definitions, is_told)
     report('functions longer than %d lines' % LENGTH, long_functions, is_told)
     print('%6d lines of proofs' % sum(proofs.values()))
-    for crate, count in sorted(proofs.items(), key=lambda it: -it[1]):
+    for crate, count in sorted(proofs.items(), key=lambda pair: -pair[1]):
         if count:
             print('       %6d %s' % (count, crate))
+    for words, instead, found in strays(below):
+        report('times %s, for %s' % (', '.join(words), instead), found, is_told)
     return 0
 
 

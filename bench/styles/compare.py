@@ -19,7 +19,7 @@ import warnings
 
 HERE = os.path.dirname(os.path.abspath(__file__))
 ROOT = os.path.normpath(f'{HERE}/../..')
-PACKAGE = f'{ROOT}/embed/python'
+PROJECT = f'{ROOT}/embed/python'
 LABELS = {'page': 'p.', 'chapter': 'chap.'}
 FAILED = 'citeproc-py fails: '
 QUOTES = {'DoubleQuote': '“”', 'SingleQuote': '‘’'}
@@ -119,7 +119,7 @@ def by_gamhilon(style, entries, citations):
 
 def use_model():
     """Has the model answer the driven call, as the tests of the package do."""
-    sys.path.insert(0, f'{PACKAGE}/tests')
+    sys.path.insert(0, f'{PROJECT}/tests')
     from gamhilon import _library
     from stand_ins import ModelOfTheDriver
     _library._library = _library.Library(ModelOfTheDriver())
@@ -205,7 +205,7 @@ def undocumented(lines, citations):
 
 def main(words):
     warnings.simplefilter('ignore')
-    sys.path.insert(0, PACKAGE)
+    sys.path.insert(0, f'{PROJECT}/src')
     if '--model' in words:
         use_model()
     entries, all_styles, all_citations = read('references.json'), read('styles.json'), read('citations.json')
