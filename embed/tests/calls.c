@@ -1,6 +1,6 @@
-/* calls FORM ROOM FILE..: answers each document in a buffer of ROOM bytes, and where that is too small in one that fits, and
- * holds each call to what gamhilon.h says of the buffer and of the length. Writes of each a line "STATUS LENGTH", and the
- * answer. FORM is text, json, fault, drive or drive_fault. */
+/* calls FORM LENGTH FILE..: answers each document in a buffer of LENGTH bytes, and where that is too small in one that
+ * fits, and holds each call to what gamhilon.h says of the buffer and of the length. Writes of each a line "STATUS
+ * LENGTH", and the answer. FORM is text, json, fault, drive or drive_fault. */
 #include "gamhilon.h"
 
 #include <stdio.h>

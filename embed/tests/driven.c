@@ -6,10 +6,10 @@
 #include <stdio.h>
 #include <string.h>
 
-enum { ROOM = 1 << 20, MOST_CALLS = 9 };
+enum { BUFFER_LENGTH = 1 << 20, MOST_CALLS = 9 };
 
-static char document[ROOM], written[ROOM], handed_in[2 * ROOM + 32];
-static uint8_t buffer[ROOM];
+static char document[BUFFER_LENGTH], written[BUFFER_LENGTH], handed_in[2 * BUFFER_LENGTH + 32];
+static uint8_t buffer[BUFFER_LENGTH];
 
 /* What stands behind the JSON object that begins here. */
 static const char *behind(const char *object) {
@@ -37,14 +37,14 @@ static void write_all(const char *task) {
 int main(int argc, char **argv) {
     FILE *file = argc == 2 ? fopen(argv[1], "rb") : NULL;
     if (file == NULL) return 2;
-    document[fread(document, 1, ROOM - 1, file)] = 0;
+    document[fread(document, 1, BUFFER_LENGTH - 1, file)] = 0;
     fclose(file);
     *strrchr(document, '}') = 0;
     for (int call = 0; call < MOST_CALLS; call++) {
         size_t length, n = (size_t)sprintf(handed_in, written[0] ? "%s,\"written\":[%s]}" : "%s}", document, written);
-        uint32_t status = gamhilon_drive((const uint8_t *)handed_in, n, buffer, ROOM - 1, &length);
+        uint32_t status = gamhilon_drive((const uint8_t *)handed_in, n, buffer, BUFFER_LENGTH - 1, &length);
         if (status == GAMHILON_DOCUMENT_REFUSED)
-            gamhilon_find_driven_fault((const uint8_t *)handed_in, n, buffer, ROOM - 1, &length);
+            gamhilon_find_driven_fault((const uint8_t *)handed_in, n, buffer, BUFFER_LENGTH - 1, &length);
         printf("%u %.*s\n", (unsigned)status, (int)length, (const char *)buffer);
         if (status != GAMHILON_OK || memcmp(buffer, "{\"missing\":[", 12) != 0) return 0;
         buffer[length] = 0;

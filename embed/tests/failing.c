@@ -42,22 +42,22 @@ void __wrap_free(void *p) {
     __real_free(p);
 }
 
-enum { ROOM = 1 << 22 };
+enum { BUFFER_LENGTH = 1 << 22 };
 
-static uint8_t document[ROOM], buffer[ROOM], answer[ROOM];
+static uint8_t document[BUFFER_LENGTH], buffer[BUFFER_LENGTH], answer[BUFFER_LENGTH];
 static size_t n;
 static gamhilon_ring_place ring;
 
 static uint32_t called(int form, uint8_t *into, size_t *length) {
     ring.macro_place = 77;
     *length = 0;
-    if (form == 0) return gamhilon_render_text(document, n, into, ROOM, length);
-    if (form == 1) return gamhilon_render_json(document, n, into, ROOM, length);
-    if (form == 2) return gamhilon_find_fault(document, n, into, ROOM, length);
+    if (form == 0) return gamhilon_render_text(document, n, into, BUFFER_LENGTH, length);
+    if (form == 1) return gamhilon_render_json(document, n, into, BUFFER_LENGTH, length);
+    if (form == 2) return gamhilon_find_fault(document, n, into, BUFFER_LENGTH, length);
     if (form == 3) return gamhilon_find_ring(document, n, &ring);
     if (form == 4) return gamhilon_check_limits(document, n, 100, 100000);
-    if (form == 5) return gamhilon_drive(document, n, into, ROOM, length);
-    return gamhilon_find_driven_fault(document, n, into, ROOM, length);
+    if (form == 5) return gamhilon_drive(document, n, into, BUFFER_LENGTH, length);
+    return gamhilon_find_driven_fault(document, n, into, BUFFER_LENGTH, length);
 }
 
 /* Whether a call of which some allocation was refused is right: refused itself, or the answer all the same. */

@@ -6,9 +6,9 @@
 #include <stdio.h>
 #include <stdlib.h>
 
-enum { ROOM = 1 << 22 };
+enum { BUFFER_LENGTH = 1 << 22 };
 
-static uint8_t document[ROOM];
+static uint8_t document[BUFFER_LENGTH];
 static size_t n, depth, elements;
 static uint32_t status;
 

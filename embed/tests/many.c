@@ -7,7 +7,7 @@
 #include <stdlib.h>
 #include <string.h>
 
-enum { THREADS = 4, AROUND = 16, ROOM = 1 << 22 };
+enum { THREADS = 4, AROUND = 16, BUFFER_LENGTH = 1 << 22 };
 
 typedef uint32_t call(const uint8_t *, size_t, uint8_t *, size_t, size_t *);
 
@@ -49,19 +49,19 @@ int main(int argc, char **argv) {
     pthread_t threads[THREADS];
     int firsts[THREADS];
     size_t wrong = 0;
-    uint8_t *buffer = malloc(ROOM);
+    uint8_t *buffer = malloc(BUFFER_LENGTH);
     times = atoi(argv[1]);
     count = argc - 2;
     works = calloc((size_t)count, sizeof *works);
     for (int i = 0; i < count; i++) {
         FILE *file = fopen(argv[i + 2], "rb");
-        size_t n = fread(buffer, 1, ROOM, file);
+        size_t n = fread(buffer, 1, BUFFER_LENGTH, file);
         fclose(file);
         works[i].document = malloc(n > 0 ? n : 1);
         works[i].n = n;
         memcpy(works[i].document, buffer, n);
         for (int form = 0; form < 3; form++)
-            works[i].statuses[form] = calls[form](works[i].document, n, buffer, ROOM, &works[i].lengths[form]);
+            works[i].statuses[form] = calls[form](works[i].document, n, buffer, BUFFER_LENGTH, &works[i].lengths[form]);
         works[i].limited = gamhilon_check_limits(works[i].document, n, 100, 100000);
     }
     for (int i = 0; i < THREADS; i++) {

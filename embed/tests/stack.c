@@ -7,22 +7,22 @@
 #include <stdlib.h>
 #include <string.h>
 
-enum { STACK = 2 << 20, ROOM = 1 << 22 };
+enum { STACK = 2 << 20, BUFFER_LENGTH = 1 << 22 };
 
-static uint8_t document[ROOM], buffer[ROOM], *stack;
+static uint8_t document[BUFFER_LENGTH], buffer[BUFFER_LENGTH], *stack;
 static size_t n;
 static int form;
 
 static void *worker(void *unused) {
     size_t length;
     gamhilon_ring_place ring;
-    if (form == 0) gamhilon_render_text(document, n, buffer, ROOM, &length);
-    else if (form == 1) gamhilon_render_json(document, n, buffer, ROOM, &length);
-    else if (form == 2) gamhilon_find_fault(document, n, buffer, ROOM, &length);
+    if (form == 0) gamhilon_render_text(document, n, buffer, BUFFER_LENGTH, &length);
+    else if (form == 1) gamhilon_render_json(document, n, buffer, BUFFER_LENGTH, &length);
+    else if (form == 2) gamhilon_find_fault(document, n, buffer, BUFFER_LENGTH, &length);
     else if (form == 3) gamhilon_find_ring(document, n, &ring);
     else if (form == 4) gamhilon_check_limits(document, n, 100, 100000);
-    else if (form == 5) gamhilon_drive(document, n, buffer, ROOM, &length);
-    else gamhilon_find_driven_fault(document, n, buffer, ROOM, &length);
+    else if (form == 5) gamhilon_drive(document, n, buffer, BUFFER_LENGTH, &length);
+    else gamhilon_find_driven_fault(document, n, buffer, BUFFER_LENGTH, &length);
     return unused;
 }
 

@@ -7,7 +7,7 @@
 #include <stdlib.h>
 #include <string.h>
 
-enum { THREADS = 8, TIMES = 20, ROOM = 1 << 21 };
+enum { THREADS = 8, TIMES = 20, BUFFER_LENGTH = 1 << 21 };
 
 typedef uint32_t call(const uint8_t *, size_t, uint8_t *, size_t, size_t *);
 
@@ -22,12 +22,12 @@ static work *works;
 static int count;
 
 static void *worker(void *first) {
-    uint8_t *buffer = malloc(ROOM);
+    uint8_t *buffer = malloc(BUFFER_LENGTH);
     size_t length, wrong = 0;
     for (int t = 0; t < TIMES * count; t++) {
         const work *it = &works[(t + *(int *)first) % count];
         for (int form = 0; form < 2; form++) {
-            uint32_t status = calls[form](it->document, it->n, buffer, ROOM, &length);
+            uint32_t status = calls[form](it->document, it->n, buffer, BUFFER_LENGTH, &length);
             wrong += status != it->statuses[form] || length != it->lengths[form] || memcmp(buffer, it->answers[form], length) != 0;
         }
     }
@@ -43,12 +43,12 @@ int main(int argc, char **argv) {
     works = calloc((size_t)count, sizeof *works);
     for (int i = 0; i < count; i++) {
         FILE *file = fopen(argv[i + 1], "rb");
-        works[i].document = malloc(ROOM);
-        works[i].n = fread(works[i].document, 1, ROOM, file);
+        works[i].document = malloc(BUFFER_LENGTH);
+        works[i].n = fread(works[i].document, 1, BUFFER_LENGTH, file);
         fclose(file);
         for (int form = 0; form < 2; form++) {
-            works[i].answers[form] = malloc(ROOM);
-            works[i].statuses[form] = calls[form](works[i].document, works[i].n, works[i].answers[form], ROOM, &works[i].lengths[form]);
+            works[i].answers[form] = malloc(BUFFER_LENGTH);
+            works[i].statuses[form] = calls[form](works[i].document, works[i].n, works[i].answers[form], BUFFER_LENGTH, &works[i].lengths[form]);
         }
     }
     for (int i = 0; i < THREADS; i++) {

@@ -12,7 +12,7 @@ import subprocess
 import sys
 
 ROOT = os.path.dirname(os.path.dirname(os.path.dirname(os.path.abspath(__file__))))
-PAGES = ['README.md', 'CONTRIBUTING.md', 'CHANGELOG.md', 'embed/README.md', *sorted(
+PAGES = ['README.md', 'CONTRIBUTING.md', 'CHANGELOG.md', 'embed/README.md', 'embed/python/README.md', *sorted(
     os.path.relpath(it, ROOT) for it in glob.glob(ROOT + '/docs/*.md'))]
 CODE = ('.rt', '.antt', '.edit', '.py', '.c', '.h', '.rs', '.json', '.toml', '.txt', '.pl', '.lua', '.csl')
 # What stands for something else in a path.
@@ -56,7 +56,7 @@ def is_path(span):
 
 def is_there(span, page):
     """Whether a path is there, from the root or from the page's folder."""
-    folders = ('', 'docs/', f'{os.path.dirname(page)}/', 'tests/model/', 'embed/', 'embed/python/', 'crates/', 'crates/*/')
+    folders = ('', 'docs/', f'{os.path.dirname(page)}/', 'tests/model/', 'embed/', 'embed/python/', 'embed/python/src/', 'crates/', 'crates/*/')
     return any(glob.glob(f'{ROOT}/{it}{span}') for it in folders) or any(it in span for it in MADE)
 
 

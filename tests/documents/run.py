@@ -518,7 +518,7 @@ def memory_runs_out(program):
         got = ended(['sh', '-c', 'ulimit -v %d; exec "$0"' % (limit * 1024), program], given)
         statuses.add(got[0])
         try:
-            # (1 where what is read has no room)
+            # (1 where there is no memory for what is read)
             hold(got, got[0] if got[0] in (1, 5) else 0, b'' if got[0] else text)
         except Failed as error:
             raise Failed('at %d MiB: %s' % (limit, error))
@@ -597,7 +597,7 @@ SWEPT_PASSES = {
 }
 # Those that are answered from a table.
 SWEPT_TABLES = ['disambiguation/suffix_by_entry', 'bibliography/author_substitution']
-# The calls of a writing context that take memory; each is made in a context of its own, whose text fills its room.
+# The calls of a writing context that take memory; each is made in a context of its own, whose text fills its spare memory.
 HEIGHTS = ['ensure_space', 'push_str', 'push_chunked', 'push_link', 'push_transparent', 'push_quotes', 'pop_quotes', 'write_str']
 HEIGHTS += ['push_format', 'pop_format', 'push_elem', 'commit_elem', 'discard_elem', 'push_delimiter', 'push_name_options']
 HEIGHTS += ['apply_prefix', 'has_content_since', 'apply_suffix', 'flush']

@@ -31,9 +31,9 @@ def copied(to, edit):
             file.write(text)
 
 
-def said_by(room, crate, *words):
+def said_by(copy, crate, *words):
     """What `rt try` of a crate says."""
-    ran = subprocess.run(['rt', 'try', *words], cwd='%s/crates/%s' % (room, crate), text=True, errors='replace',
+    ran = subprocess.run(['rt', 'try', *words], cwd='%s/crates/%s' % (copy, crate), text=True, errors='replace',
                          stdin=subprocess.DEVNULL, stdout=subprocess.PIPE, stderr=subprocess.STDOUT)
     return ran.stdout
 
@@ -48,11 +48,11 @@ def put_case(folder, way, document):
     return name
 
 
-def is_noticed_by_documents(room, program, way, documents):
+def is_noticed_by_documents(copy, program, way, documents):
     """Whether none of the documents printed what it must, though each run ended by itself."""
     with tempfile.TemporaryDirectory(prefix='cases-') as folder:
         names = [put_case(folder, way, it) for it in documents]
-        said = said_by(room, program, '--cases', folder)
+        said = said_by(copy, program, '--cases', folder)
     told = {name: words.split() for name, words in CASE.findall(said)}
     if sorted(told) != sorted(names):
         print(said)
@@ -61,9 +61,9 @@ def is_noticed_by_documents(room, program, way, documents):
     return all('run=ended' in told.get(name, []) and 'output=expected' not in told[name] for name in names)
 
 
-def is_noticed_by_test(room, crate, test):
+def is_noticed_by_test(copy, crate, test):
     """Whether the test of the crate fails."""
-    said = said_by(room, crate, '--test')
+    said = said_by(copy, crate, '--test')
     ended = dict(TEST.findall(said)).get(test)
     print('%s: test %s: %s' % (crate, test, ended or said))
     return ended == 'FAILED'
@@ -73,8 +73,8 @@ def is_noticed(key, path):
     """Whether each test that an edit names notices it."""
     edit = edit_of(path)
     print('== ' + key, flush=True)
-    with tempfile.TemporaryDirectory(prefix='proved-') as room:
-        copied(room, edit)
-        noticed = [is_noticed_by_documents(room, program, words[0], words[1:]) if len(words) > 1 else is_noticed_by_test(room, program, *words)
+    with tempfile.TemporaryDirectory(prefix='proved-') as copy:
+        copied(copy, edit)
+        noticed = [is_noticed_by_documents(copy, program, words[0], words[1:]) if len(words) > 1 else is_noticed_by_test(copy, program, *words)
                    for program, *words in edit.shown]
     return all(noticed)

@@ -87,10 +87,10 @@ def copy_with_edits(to, wanted):
     os.mkdir(to + '/.git')
 
 
-def refused_by_prover(room, wanted):
+def refused_by_prover(copy, wanted):
     """Those of the edits that the prover refuses, telling what comes."""
-    copy_with_edits(room, wanted)
-    ran = subprocess.Popen(['rt', 'ci', *sorted({crate_of(it) for it in wanted})], cwd=room, text=True, errors='replace',
+    copy_with_edits(copy, wanted)
+    ran = subprocess.Popen(['rt', 'ci', *sorted({crate_of(it) for it in wanted})], cwd=copy, text=True, errors='replace',
                            stdin=subprocess.DEVNULL, stdout=subprocess.PIPE, stderr=subprocess.STDOUT)
     refused = set()
     for line in ran.stdout:
@@ -110,8 +110,8 @@ def tried(wanted):
     sums = {key: tree.sum_of(key, path) for key, path in wanted.items()}
     refused = set()
     if by_prover:
-        with tempfile.TemporaryDirectory(prefix='edits-') as room:
-            refused |= refused_by_prover(room, by_prover)
+        with tempfile.TemporaryDirectory(prefix='edits-') as copy:
+            refused |= refused_by_prover(copy, by_prover)
     refused |= {key for key, path in by_tests.items() if proved.is_noticed(key, path)}
     left = set(wanted) - refused
     for key in sorted(left):

@@ -1,33 +1,41 @@
 -- Equal data comes of equal values.
-use Rattle.std.proofs.Common.{◌≡◌, ◌<◌, ℕ, pos, negsuc, true, List, [], ◌∷◌, Option, Some, None, map, option_map, refl, ap, sym, ◌∙◌, true≢false}
+use Rattle.std.proofs.Common.{◌≡◌, ◌<◌, ℕ, pos, negsuc, true, List, [], ◌∷◌, Option, Some, None, map, option_map, false, if◌then◌else◌, refl, ap, sym, subst, ◌∙◌, true≢false}
 use Rattle.std.proofs.Math.Bridge.{le_prop}
-use Rattle.std.specs.Prelude.{codes, nat_eq, slice_index, unsigned_abs}
+use Rattle.std.specs.Prelude.{codes, nat_eq, slice_index, unsigned_abs, bytes_eq}
+use Rattle.std.proofs.lemmas.Slice.Eq.{bytes_eq-Decides}
 use Rattle.std.specs.Cmp.{unsigned_Decides}
 use Rattle.std.specs.declared.num.NonZeroI16.{NonZeroI16}
 use mathlib.Core.HLevel.{is_prop→PathP}
 use Rattle.serde_json.specs.Data.{Data, Members, member, no_members, string}
 use Rattle.serde_json.specs.Find.{of_integer}
 use Rattle.serde_json.specs.View.{items_of}
-use Rattle.csl_base.proofs.Compare.{child_view-inj, kids_of-inj}
-use Rattle.csl_base.specs.Child.{Child, text, elem, markup, link, transparent, Kids, no_kids, kid, kids_of}
-use Rattle.csl_base.specs.ChildView.{child_view}
-use Rattle.csl_base.specs.declared.elem.ElemChild.{ElemChild}
-use Rattle.csl_base.specs.declared.elem.ElemMeta.{ElemMeta}
-use Rattle.csl_base.specs.declared.elem.ElemMeta.TheVariants as meta
-use Rattle.csl_base.specs.declared.formatting.Display.{Display}
-use Rattle.csl_base.specs.declared.formatting.Display.TheVariants as shown
-use Rattle.csl_base.specs.declared.formatting.FontStyle.TheVariants as style
-use Rattle.csl_base.specs.declared.formatting.FontWeight.TheVariants as weight
-use Rattle.csl_base.specs.declared.formatting.Formatting.{Formatting}
-use Rattle.csl_base.specs.declared.style.SecondFieldAlign.{SecondFieldAlign}
-use Rattle.csl_base.specs.declared.style.SecondFieldAlign.TheVariants as align
-use Rattle.csl_base.specs.declared.taxonomy.NameVariable.TheVariants as variable
+use Rattle.csl_trees.proofs.Compare.{child_view-inj, kids_of-inj}
+use Rattle.csl_trees.specs.Child.{Child, text, elem, markup, link, transparent, Kids, no_kids, kid, kids_of}
+use Rattle.csl_trees.specs.ChildView.{child_view}
+use Rattle.csl_trees.specs.declared.elem.ElemChild.{ElemChild}
+use Rattle.csl_trees.specs.declared.elem.ElemMeta.{ElemMeta}
+use Rattle.csl_trees.specs.declared.elem.ElemMeta.TheVariants as meta
+use Rattle.csl_values.specs.declared.formatting.Display.{Display}
+use Rattle.csl_values.specs.declared.formatting.Display.TheVariants as shown
+use Rattle.csl_values.specs.declared.formatting.FontStyle.TheVariants as style
+use Rattle.csl_values.specs.declared.formatting.FontVariant.{FontVariant}
+use Rattle.csl_values.specs.declared.formatting.FontVariant.TheVariants as variant
+use Rattle.csl_values.specs.declared.formatting.FontWeight.TheVariants as weight
+use Rattle.csl_values.specs.declared.formatting.TextDecoration.{TextDecoration}
+use Rattle.csl_values.specs.declared.formatting.TextDecoration.TheVariants as decoration
+use Rattle.csl_values.specs.declared.formatting.VerticalAlign.{VerticalAlign}
+use Rattle.csl_values.specs.declared.formatting.VerticalAlign.TheVariants as height
+use Rattle.csl_values.specs.declared.formatting.Formatted.{Formatted}
+use Rattle.csl_values.specs.declared.formatting.Formatting.{Formatting}
+use Rattle.csl_style_values.specs.declared.style.SecondFieldAlign.{SecondFieldAlign}
+use Rattle.csl_style_values.specs.declared.style.SecondFieldAlign.TheVariants as align
+use Rattle.csl_values.specs.declared.taxonomy.NameVariable.TheVariants as names
 use Rattle.csl_base.proofs.Seen.{spacings_equal}
 use Rattle.csl_assembly.specs.declared.rendered.RenderedBibliography.{RenderedBibliography}
 use Rattle.answer_json.specs.AnswerData.{align_name, item_data, bibliography_data, citation_data, answer_data}
 use Rattle.answer_json.specs.Members.{member_if}
 use Rattle.answer_json.specs.MetaData.{variable_name, person_data, names_data, meta_data}
-use Rattle.answer_json.specs.TreeData.{style_name, weight_name, display_name, child_data, kids_data, children_data}
+use Rattle.answer_json.specs.TreeData.{style_name, weight_name, variant_name, decoration_name, vertical_name, with_formatting, display_name, child_data, kids_data, children_data}
 
 -- values of equal data are equal
 abbrev Tells : {A D : Type 0} → (A → D) → Type 0
@@ -76,9 +84,9 @@ aligns_tell align.Margin align.Margin p = refl
 aligns_tell _ _ p = absurd (true≢false (sym (first-same _ _ p)))
 
 variables_tell : Tells variable_name
-variables_tell variable.Author variable.Author p = refl
-variables_tell variable.Editor variable.Editor p = refl
-variables_tell variable.Translator variable.Translator p = refl
+variables_tell names.Author names.Author p = refl
+variables_tell names.Editor names.Editor p = refl
+variables_tell names.Translator names.Translator p = refl
 variables_tell _ _ p = absurd (true≢false (sym (first-same _ _ p)))
 
 integers_tell : Tells of_integer
@@ -125,11 +133,129 @@ metas_tell meta.CitationLabel meta.CitationLabel p = refl
 metas_tell (meta.Entry m) (meta.Entry n) p = let same : m ≡ n = cc in ap meta.Entry same
 metas_tell _ _ p = cc
 
-formattings_tell : (f g : Formatting) → style_name f.font_style ≡ style_name g.font_style → weight_name f.font_weight ≡ weight_name g.font_weight → f ≡ g
-formattings_tell f g p q =
-    let x = styles_tell f.font_style g.font_style p in
-    let y = weights_tell f.font_weight g.font_weight q in
-    λ i. record { font_style = x i; font_weight = y i }
+variants_tell : Tells variant_name
+variants_tell a b p = sym (back a) ∙ ap named p ∙ back b
+  where
+    named : Option (List ℕ) → FontVariant
+    named None = variant.Normal
+    named (Some s) = variant.SmallCaps
+
+    back : (a : FontVariant) → named (variant_name a) ≡ a
+    back variant.Normal = refl
+    back variant.SmallCaps = refl
+
+decorations_tell : Tells decoration_name
+decorations_tell a b p = sym (back a) ∙ ap named p ∙ back b
+  where
+    named : Option (List ℕ) → TextDecoration
+    named None = decoration.None
+    named (Some s) = decoration.Underline
+
+    back : (a : TextDecoration) → named (decoration_name a) ≡ a
+    back decoration.None = refl
+    back decoration.Underline = refl
+
+verticals_tell : Tells vertical_name
+verticals_tell a b p = sym (back a) ∙ ap named p ∙ back b
+  where
+    named : Option (List ℕ) → VerticalAlign
+    named None = height.None
+    named (Some s) = if bytes_eq s (codes "baseline") then height.Baseline else (if bytes_eq s (codes "sup") then height.Superscript else height.Subscript)
+
+    back : (a : VerticalAlign) → named (vertical_name a) ≡ a
+    back height.None = refl
+    back height.Baseline = refl
+    back height.Superscript = refl
+    back height.Subscript = refl
+
+strings_tell : Tells string
+strings_tell a b p = cc
+
+-- the first of these members has this key
+abbrev Begins : List ℕ → Members → Type 0
+Begins k no_members = ⊥
+Begins k (member l d ms) = k ≡ l
+
+differ : (a b : List ℕ) → bytes_eq a b ≡ false → a ≡ b → ⊥
+differ a b other p = true≢false (sym ((bytes_eq-Decides a b).1 p) ∙ other)
+
+later-begins : (k l : List ℕ) → (k ≡ l → ⊥) → (d : Option Data) (ms : Members) → (Begins k ms → ⊥) → Begins k (member_if l d ms) → ⊥
+later-begins k l apart None ms free p = free p
+later-begins k l apart (Some d) ms free p = apart p
+
+-- a member that may be absent, before members that don't begin with its key
+one_tells : (k : List ℕ) (x y : Option Data) (ms ns : Members) → (Begins k ms → ⊥) → (Begins k ns → ⊥) → member_if k x ms ≡ member_if k y ns → (x ≡ y) × (ms ≡ ns)
+one_tells k None None ms ns free free' p = (refl, p)
+one_tells k (Some d) (Some e) ms ns free free' p =
+    let same : d ≡ e = cc in
+    let rest : ms ≡ ns = cc in
+    (ap Some same, rest)
+one_tells k None (Some e) ms ns free free' p = absurd (free (subst (Begins k) (sym p) refl))
+one_tells k (Some d) None ms ns free free' p = absurd (free' (subst (Begins k) p refl))
+
+-- these members don't begin with a member of a formatting that may be absent
+abbrev Free : Members → Type 0
+Free ms = (Begins (codes "font_variant") ms → ⊥) × (Begins (codes "text_decoration") ms → ⊥) × (Begins (codes "vertical_align") ms → ⊥)
+
+abbrev rest_of : Formatting → Members → Members
+rest_of f ms = member_if (codes "font_variant") (option_map string (variant_name f.font_variant))
+    (member_if (codes "text_decoration") (option_map string (decoration_name f.text_decoration))
+    (member_if (codes "vertical_align") (option_map string (vertical_name f.vertical_align)) ms))
+
+rests_tell : (f g : Formatting) (ms ns : Members) → Free ms → Free ns → rest_of f ms ≡ rest_of g ns
+    → (f.font_variant ≡ g.font_variant) × (f.text_decoration ≡ g.text_decoration) × (f.vertical_align ≡ g.vertical_align) × (ms ≡ ns)
+rests_tell f g ms ns free free' p =
+    let third : Formatting → Members → Members = λ h os. member_if (codes "vertical_align") (option_map string (vertical_name h.vertical_align)) os in
+    let second : Formatting → Members → Members = λ h os. member_if (codes "text_decoration") (option_map string (decoration_name h.text_decoration)) (third h os) in
+    let after_third : (h : Formatting) (os : Members) → (Begins (codes "text_decoration") os → ⊥) → Begins (codes "text_decoration") (third h os) → ⊥ =
+    λ h os free. later-begins _ _ (differ _ _ refl) (option_map string (vertical_name h.vertical_align)) os free in
+    let after_second : (h : Formatting) (os : Members) → (Begins (codes "font_variant") os → ⊥) → Begins (codes "font_variant") (second h os) → ⊥ =
+    λ h os free. later-begins _ _ (differ _ _ refl) (option_map string (decoration_name h.text_decoration)) (third h os)
+    (later-begins _ _ (differ _ _ refl) (option_map string (vertical_name h.vertical_align)) os free) in
+    let one = one_tells (codes "font_variant") (option_map string (variant_name f.font_variant)) (option_map string (variant_name g.font_variant))
+    (second f ms) (second g ns) (after_second f ms free.0) (after_second g ns free'.0) p in
+    let two = one_tells (codes "text_decoration") (option_map string (decoration_name f.text_decoration)) (option_map string (decoration_name g.text_decoration))
+    (third f ms) (third g ns) (after_third f ms free.1) (after_third g ns free'.1) one.1 in
+    let three = one_tells (codes "vertical_align") (option_map string (vertical_name f.vertical_align)) (option_map string (vertical_name g.vertical_align))
+    ms ns free.2 free'.2 two.1 in (
+      variants_tell _ _ (options_tell string strings_tell _ _ one.0),
+      decorations_tell _ _ (options_tell string strings_tell _ _ two.0),
+      verticals_tell _ _ (options_tell string strings_tell _ _ three.0),
+      three.1,
+    )
+
+formattings_tell : (f g : Formatting) (ms ns : Members) → Free ms → Free ns → with_formatting f ms ≡ with_formatting g ns → (f ≡ g) × (ms ≡ ns)
+formattings_tell f g ms ns free free' p =
+    let styles : style_name f.font_style ≡ style_name g.font_style = cc in
+    let weights : weight_name f.font_weight ≡ weight_name g.font_weight = cc in
+    let rest : rest_of f ms ≡ rest_of g ns = cc in
+    let x = styles_tell f.font_style g.font_style styles in
+    let y = weights_tell f.font_weight g.font_weight weights in
+    let z = rests_tell f g ms ns free free' rest in
+    (λ i. record { font_style = x i; font_variant = z.0 i; font_weight = y i; text_decoration = z.1 i; vertical_align = z.2 i }, z.3)
+
+free-none : Free no_members
+free-none = (λ p. p, λ p. p, λ p. p)
+
+free-text : (s : List ℕ) (ms : Members) → Free (member (codes "text") (string s) ms)
+free-text s ms = (differ _ _ refl, differ _ _ refl, differ _ _ refl)
+
+texts_tell : (s t : List ℕ) (ms ns : Members) → member (codes "text") (string s) ms ≡ member (codes "text") (string t) ns → (s ≡ t) × (ms ≡ ns)
+texts_tell s t ms ns p =
+    let first : s ≡ t = cc in
+    let rest : ms ≡ ns = cc in
+    (first, rest)
+
+-- two texts, each before members
+formatted_tell : (f g : Formatted) (ms ns : Members)
+    → with_formatting f.formatting (member (codes "text") (string f.text) ms) ≡ with_formatting g.formatting (member (codes "text") (string g.text) ns) → (f ≡ g) × (ms ≡ ns)
+formatted_tell f g ms ns p =
+    let same = formattings_tell f.formatting g.formatting _ _ (free-text f.text ms) (free-text g.text ns) p in
+    let rest = texts_tell f.text g.text ms ns same.1 in
+    (λ i. record { text = rest.0 i; formatting = same.0 i }, rest.1)
+
+urls_tell : (s t : List ℕ) → member (codes "url") (string s) no_members ≡ member (codes "url") (string t) no_members → s ≡ t
+urls_tell s t p = cc
 
 no-member : (k : List ℕ) (d : Data) (ms : Members) → no_members ≡ member k d ms → ⊥
 no-member k d ms p = cc
@@ -175,28 +301,32 @@ elements_tell d e m n ks ls p =
 mutual
   children_tell : (c d : Child) → child_data c ≡ child_data d → c ≡ d
   children_tell (text f) (text g) p =
-      let texts : f.text ≡ g.text = cc in
-      let styles : style_name f.formatting.font_style ≡ style_name g.formatting.font_style = cc in
-      let weights : weight_name f.formatting.font_weight ≡ weight_name g.formatting.font_weight = cc in
-      let formatting = formattings_tell f.formatting g.formatting styles weights in
-      λ i. text (record { text = texts i; formatting = formatting i })
+      let members : with_formatting f.formatting (member (codes "text") (string f.text) no_members)
+      ≡ with_formatting g.formatting (member (codes "text") (string g.text) no_members) = cc in
+      ap text (formatted_tell f g no_members no_members members).0
+  children_tell (text f) (link g t) p =
+      let members : with_formatting f.formatting (member (codes "text") (string f.text) no_members)
+      ≡ with_formatting g.formatting (member (codes "text") (string g.text) (member (codes "url") (string t) no_members)) = cc in
+      absurd (no-member _ _ _ (formatted_tell f g no_members (member (codes "url") (string t) no_members) members).1)
+  children_tell (link f s) (text g) p =
+      let members : with_formatting f.formatting (member (codes "text") (string f.text) (member (codes "url") (string s) no_members))
+      ≡ with_formatting g.formatting (member (codes "text") (string g.text) no_members) = cc in
+      absurd (no-member _ _ _ (sym (formatted_tell f g (member (codes "url") (string s) no_members) no_members members).1))
   children_tell (elem ks d m) (elem ls e n) p =
       let same = elements_tell d e m n ks ls p in
       let inside = kids_tell ks ls same.0 in
       λ i. elem (inside i) (same.1 i) (same.2 i)
   children_tell (markup s) (markup t) p = let same : s ≡ t = cc in ap markup same
   children_tell (link f s) (link g t) p =
-      let texts : f.text ≡ g.text = cc in
-      let urls : s ≡ t = cc in
-      let styles : style_name f.formatting.font_style ≡ style_name g.formatting.font_style = cc in
-      let weights : weight_name f.formatting.font_weight ≡ weight_name g.formatting.font_weight = cc in
-      let formatting = formattings_tell f.formatting g.formatting styles weights in
-      λ i. link (record { text = texts i; formatting = formatting i }) (urls i)
+      let members : with_formatting f.formatting (member (codes "text") (string f.text) (member (codes "url") (string s) no_members))
+      ≡ with_formatting g.formatting (member (codes "text") (string g.text) (member (codes "url") (string t) no_members)) = cc in
+      let same = formatted_tell f g (member (codes "url") (string s) no_members) (member (codes "url") (string t) no_members) members in
+      let urls = urls_tell s t same.1 in
+      λ i. link (same.0 i) (urls i)
   children_tell (transparent m f) (transparent n g) p =
       let places : m ≡ n = cc in
-      let styles : style_name f.font_style ≡ style_name g.font_style = cc in
-      let weights : weight_name f.font_weight ≡ weight_name g.font_weight = cc in
-      let formatting = formattings_tell f g styles weights in
+      let members : with_formatting f no_members ≡ with_formatting g no_members = cc in
+      let formatting = (formattings_tell f g no_members no_members free-none free-none members).0 in
       λ i. transparent (places i) (formatting i)
   children_tell _ _ p = cc
 

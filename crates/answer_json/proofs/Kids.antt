@@ -2,9 +2,9 @@
 use Rattle.std.proofs.Common.{◌≡◌, List, [], ◌∷◌, map, refl, ap}
 use Rattle.serde_json.specs.Data.{item}
 use Rattle.serde_json.specs.View.{items_of}
-use Rattle.csl_base.specs.Child.{kids_of}
-use Rattle.csl_base.specs.ChildView.{child_view}
-use Rattle.csl_base.specs.declared.elem.ElemChild.{ElemChild}
+use Rattle.csl_trees.specs.Child.{kids_of}
+use Rattle.csl_trees.specs.ChildView.{child_view}
+use Rattle.csl_trees.specs.declared.elem.ElemChild.{ElemChild}
 use Rattle.answer_json.specs.TreeData.{child_data, kids_data}
 
 pub kids_items : (cs : List ElemChild) → items_of (map (λ c. child_data (child_view c)) cs) ≡ kids_data (kids_of (map child_view cs))

@@ -3,9 +3,9 @@ use Rattle.std.specs.Prelude.{ℕ, List, map, codes, option_map}
 use Rattle.serde_json.specs.Data.{Data, boolean, string, number, unsigned, array, object, no_members, member}
 use Rattle.serde_json.specs.Find.{of_integer}
 use Rattle.serde_json.specs.View.{items_of}
-use Rattle.csl_base.specs.ChildView.{child_view}
-use Rattle.csl_base.specs.declared.style.SecondFieldAlign.{SecondFieldAlign}
-use Rattle.csl_base.specs.declared.style.SecondFieldAlign.TheVariants as align
+use Rattle.csl_trees.specs.ChildView.{child_view}
+use Rattle.csl_style_values.specs.declared.style.SecondFieldAlign.{SecondFieldAlign}
+use Rattle.csl_style_values.specs.declared.style.SecondFieldAlign.TheVariants as align
 use Rattle.csl_assembly.specs.declared.rendered.BibliographyItem.{BibliographyItem}
 use Rattle.csl_assembly.specs.declared.rendered.Rendered.{Rendered}
 use Rattle.csl_assembly.specs.declared.rendered.RenderedBibliography.{RenderedBibliography}

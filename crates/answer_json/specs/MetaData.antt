@@ -2,11 +2,11 @@
 use Rattle.std.specs.Prelude.{ℕ, List, map, codes, Option, None, Some}
 use Rattle.serde_json.specs.Data.{Data, string, number, unsigned, array, object, Items, no_items, item, no_members, member}
 use Rattle.serde_json.specs.View.{items_of}
-use Rattle.csl_base.specs.declared.entry.Person.{Person}
-use Rattle.csl_base.specs.declared.taxonomy.NameVariable.{NameVariable}
-use Rattle.csl_base.specs.declared.taxonomy.NameVariable.TheVariants as variable
-use Rattle.csl_base.specs.declared.elem.ElemMeta.{ElemMeta}
-use Rattle.csl_base.specs.declared.elem.ElemMeta.TheVariants as meta
+use Rattle.csl_values.specs.declared.entry.Person.{Person}
+use Rattle.csl_values.specs.declared.taxonomy.NameVariable.{NameVariable}
+use Rattle.csl_values.specs.declared.taxonomy.NameVariable.TheVariants as variable
+use Rattle.csl_trees.specs.declared.elem.ElemMeta.{ElemMeta}
+use Rattle.csl_trees.specs.declared.elem.ElemMeta.TheVariants as meta
 
 abbrev pub variable_name : NameVariable → List ℕ
 variable_name variable.Author = codes "author"

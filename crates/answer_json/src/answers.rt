@@ -3,7 +3,7 @@ ghost use Rattle.std.specs.Prelude.{◌≡◌, ◌∷◌, ◌++◌, map, codes, 
 ghost use Rattle.serde_json.specs.Data.{array, string, boolean, number, unsigned};
 ghost use Rattle.serde_json.specs.View.{items_of};
 ghost use Rattle.serde_json.specs.Written.{compact_text};
-ghost use Rattle.csl_base.specs.ChildView.{child_view};
+ghost use Rattle.csl_trees.specs.ChildView.{child_view};
 ghost use Rattle.answer_json.specs.TreeData.{child_data};
 ghost use Rattle.answer_json.specs.AnswerData.{align_name, item_data, bibliography_data, citation_data, answer_data};
 ghost use Rattle.answer_json.specs.Pieces.{member_text, later_member};

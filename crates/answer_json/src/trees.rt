@@ -2,24 +2,27 @@
 ghost use Rattle.std.specs.Prelude.{◌≡◌, ◌∷◌, ◌++◌, codes, OnOk, option_map, string_bytes};
 ghost use Rattle.serde_json.specs.Data.{string};
 ghost use Rattle.serde_json.specs.Written.{compact_text};
-ghost use Rattle.csl_base.specs.Child as tree;
-ghost use Rattle.csl_base.specs.ChildView.{child_view};
+ghost use Rattle.csl_trees.specs.Child as tree;
+ghost use Rattle.csl_trees.specs.ChildView.{child_view};
 ghost use Rattle.answer_json.specs.MetaData.{meta_data};
-ghost use Rattle.answer_json.specs.Pieces.{member_text, later_member, formatting_text};
-ghost use Rattle.answer_json.specs.TreeData.{style_name, weight_name, display_name, element_data, child_data, children_data};
+ghost use Rattle.answer_json.specs.Pieces.{member_text, later_member, later_name, font_text, formatting_text};
+ghost use Rattle.answer_json.specs.TreeData.{variant_name, decoration_name, vertical_name, display_name, element_data, child_data, children_data};
 
 use crate::metas::write_meta;
 use crate::numbers::{write_comma, write_count};
 use crate::strings::write_string;
 use csl_base::elem::{Elem, ElemChild, ElemChildren, ElemMeta};
-use csl_base::formatting::{Display, FontStyle, FontWeight, Formatted, Formatting};
+use csl_base::formatting::{
+    Display, FontStyle, FontVariant, FontWeight, Formatted, Formatting, TextDecoration,
+    VerticalAlign,
+};
 use std::alloc::AllocError;
 
-/// The members of a formatting.
-fn formatting_members(format: Formatting) -> &'static str
-    ensures { result.now ≡ formatting_text format }
+/// The two members that each formatting has.
+fn font_members(slant: FontStyle, weight: FontWeight) -> &'static str
+    ensures { result.now ≡ font_text slant weight }
 {
-    match (format.font_style, format.font_weight) {
+    match (slant, weight) {
         (FontStyle::Normal, FontWeight::Normal) => {
             "\"font_style\":\"normal\",\"font_weight\":\"normal\""
         }
@@ -33,6 +36,49 @@ fn formatting_members(format: Formatting) -> &'static str
             "\"font_style\":\"italic\",\"font_weight\":\"bold\""
         }
     }
+}
+
+#[tactic(auto, unfolding(json::specs::Print::escape_byte))]
+fn variant_member(variant: FontVariant) -> &'static str
+    ensures { result.now ≡ later_name (codes "font_variant") (variant_name variant) }
+{
+    match variant {
+        FontVariant::Normal => "",
+        FontVariant::SmallCaps => ",\"font_variant\":\"small-caps\"",
+    }
+}
+
+#[tactic(auto, unfolding(json::specs::Print::escape_byte))]
+fn decoration_member(decoration: TextDecoration) -> &'static str
+    ensures { result.now ≡ later_name (codes "text_decoration") (decoration_name decoration) }
+{
+    match decoration {
+        TextDecoration::None => "",
+        TextDecoration::Underline => ",\"text_decoration\":\"underline\"",
+    }
+}
+
+#[tactic(auto, unfolding(json::specs::Print::escape_byte))]
+fn vertical_member(align: VerticalAlign) -> &'static str
+    ensures { result.now ≡ later_name (codes "vertical_align") (vertical_name align) }
+{
+    match align {
+        VerticalAlign::None => "",
+        VerticalAlign::Baseline => ",\"vertical_align\":\"baseline\"",
+        VerticalAlign::Superscript => ",\"vertical_align\":\"sup\"",
+        VerticalAlign::Subscript => ",\"vertical_align\":\"sub\"",
+    }
+}
+
+/// Appends the members of a formatting; of those that are usual only slant and weight are told.
+#[tactic(auto, unfolding(crate::specs::Pieces::formatting_text))]
+fn write_formatting(out: &mut String, format: Formatting) -> Result<(), AllocError>
+    ensures { OnOk result (string_bytes out.new ≡ string_bytes out.old ++ formatting_text format) }
+{
+    out.push_str(font_members(format.font_style, format.font_weight))?;
+    out.push_str(variant_member(format.font_variant))?;
+    out.push_str(decoration_member(format.text_decoration))?;
+    out.push_str(vertical_member(format.vertical_align))
 }
 
 #[tactic(auto, unfolding(json::specs::Print::escape_byte))]
@@ -77,7 +123,7 @@ fn write_text(out: &mut String, text: &Formatted) -> Result<(), AllocError>
         ≡ string_bytes out.old ++ compact_text (child_data (tree.text text.now))) }
 {
     out.push('{')?;
-    out.push_str(formatting_members(text.formatting))?;
+    write_formatting(out, text.formatting)?;
     out.push_str(",\"text\":")?;
     write_string(out, text.text.as_str())?;
     out.push('}')
@@ -97,7 +143,7 @@ fn write_link(out: &mut String, text: &Formatted, url: &str) -> Result<(), Alloc
         ≡ string_bytes out.old ++ compact_text (child_data (tree.link text.now url.now))) }
 {
     out.push('{')?;
-    out.push_str(formatting_members(text.formatting))?;
+    write_formatting(out, text.formatting)?;
     out.push_str(",\"text\":")?;
     write_string(out, text.text.as_str())?;
     out.push_str(",\"url\":")?;
@@ -112,7 +158,7 @@ fn write_cite(out: &mut String, cite: usize, format: Formatting) -> Result<(), A
     out.push_str("{\"cite\":")?;
     write_count(out, cite)?;
     out.push(',')?;
-    out.push_str(formatting_members(format))?;
+    write_formatting(out, format)?;
     out.push('}')
 }
 

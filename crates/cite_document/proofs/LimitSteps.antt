@@ -4,9 +4,9 @@ use Rattle.std.specs.Prelude.{⊤, option_map}
 use Rattle.std.specs.List.{All, Any}
 use Rattle.std.proofs.lemmas.List.{at_drop_more, drop_all}
 use Rattle.std.proofs.lemmas.List.Elements.{All-cons}
-use Rattle.csl_base.specs.Ring.{HasNoRing, IsFirstRing}
-use Rattle.csl_base.specs.Style.{StyleValue}
-use Rattle.csl_base.specs.StyleView.{style_view}
+use Rattle.csl_style_values.specs.Ring.{HasNoRing, IsFirstRing}
+use Rattle.csl_style_values.specs.Style.{StyleValue}
+use Rattle.csl_style_values.specs.StyleView.{style_view}
 use Rattle.csl_limits.specs.Limited.{Exceeds, IsWithinLimits}
 use Rattle.csl_limits.specs.declared.limits.Excess.{Excess}
 use Rattle.csl_limits.specs.declared.limits.Limits.{Limits}

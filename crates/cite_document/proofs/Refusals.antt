@@ -2,8 +2,8 @@
 use Rattle.csl_writing.specs.LayoutWriting.{layout_writing}
 use Rattle.std.proofs.Common.{◌≡◌, ℕ, ◌+◌, ◌<◌, ◌^◌, Bool, List, length, Some, refl, ap, sym, ◌∙◌, subst}
 use Rattle.std.specs.declared.convert.Infallible.{Infallible}
-use Rattle.csl_base.specs.PlainEntry.{plain_answers}
-use Rattle.csl_base.specs.declared.entry.PlainEntry.{PlainEntry}
+use Rattle.csl_values.specs.PlainEntry.{plain_answers}
+use Rattle.csl_values.specs.declared.entry.PlainEntry.{PlainEntry}
 use Rattle.csl_driver.specs.Answer.{rendered}
 use Rattle.csl_entries.specs.Entries.{distinct}
 use Rattle.csl_passes.specs.Request.{Wanted, cited}

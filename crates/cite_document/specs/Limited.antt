@@ -2,8 +2,8 @@
 use Rattle.std.specs.Prelude.{◌≡◌, ℕ, List, map, Option, Some, None, Result, Ok, Err, option_map, ⊤}
 use Rattle.std.specs.List.{All, Any}
 use Rattle.serde_json.specs.Read.{read}
-use Rattle.csl_base.specs.Ring.{HasNoRing}
-use Rattle.csl_base.specs.Style.{StyleValue}
+use Rattle.csl_style_values.specs.Ring.{HasNoRing}
+use Rattle.csl_style_values.specs.Style.{StyleValue}
 use Rattle.csl_limits.specs.Limited.{Exceeds, IsWithinLimits}
 use Rattle.csl_limits.specs.declared.limits.Excess.TheVariants as excess
 use Rattle.csl_limits.specs.declared.limits.Limits.{Limits}

@@ -1,9 +1,9 @@
 -- The texts that an answer is printed as.
 use Rattle.std.specs.Prelude.{ℕ, List, [], ◌∷◌, ◌++◌, Option, Some, None}
 use Rattle.std.specs.List.{flat_map}
-use Rattle.csl_base.specs.ChildView.{child_view}
-use Rattle.csl_base.specs.Tree.{plain, child_plain}
-use Rattle.csl_base.specs.declared.elem.ElemChild.{ElemChild}
+use Rattle.csl_trees.specs.ChildView.{child_view}
+use Rattle.csl_trees.specs.Tree.{plain, child_plain}
+use Rattle.csl_trees.specs.declared.elem.ElemChild.{ElemChild}
 use Rattle.csl_assembly.specs.declared.rendered.BibliographyItem.{BibliographyItem}
 use Rattle.csl_assembly.specs.declared.rendered.Rendered.{Rendered}
 use Rattle.csl_assembly.specs.declared.rendered.RenderedBibliography.{RenderedBibliography}

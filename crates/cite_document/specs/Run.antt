@@ -2,9 +2,9 @@
 use Rattle.std.specs.Prelude.{◌≡◌, ℕ, ◌+◌, ◌<◌, ◌^◌, Bool, List, length, map, Option, Some, None, Result, Ok, Err, String, string_bytes}
 use Rattle.std.specs.declared.alloc.Global.{Global}
 use Rattle.std.specs.declared.convert.Infallible.{Infallible}
-use Rattle.csl_base.specs.PlainEntry.{plain_answers}
-use Rattle.csl_base.specs.declared.entry.PlainEntry.{PlainEntry}
-use Rattle.csl_base.specs.contracts.entry.PlainEntryPartialEq.TheImpl as plain_entry_eq
+use Rattle.csl_values.specs.PlainEntry.{plain_answers}
+use Rattle.csl_values.specs.declared.entry.PlainEntry.{PlainEntry}
+use Rattle.csl_values.specs.contracts.entry.PlainEntryPartialEq.TheImpl as plain_entry_eq
 use Rattle.std.specs.contracts.prelude.InfalliblePartialEq.TheImpl as infallible_eq
 use Rattle.csl_driver.specs.Answer.{Asked, rendered}
 use Rattle.csl_entries.specs.Entries.{distinct}

@@ -1,6 +1,6 @@
 //! The driver of a document, and what it is asked.
 ghost use Rattle.std.specs.Prelude.{◌≡◌, ◌++◌, map, option_map, OnOk, IfOk, IfErr};
-ghost use Rattle.csl_base.specs.StyleView.{locale_view};
+ghost use Rattle.csl_style_values.specs.StyleView.{locale_view};
 ghost use Rattle.csl_driver.specs.DriverView.{driver_view};
 ghost use Rattle.csl_passes.specs.RequestView.{entries_view, order_view, wanted_view};
 ghost use Rattle.csl_styles.specs.TablesView.{locales_of};

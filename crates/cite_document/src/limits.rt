@@ -1,6 +1,6 @@
 //! Limits that a host sets to the documents of others.
 ghost use Rattle.std.specs.Prelude.{[], ◌∷◌, ◌≡◌, map};
-ghost use Rattle.csl_base.specs.StyleView.{style_view};
+ghost use Rattle.csl_style_values.specs.StyleView.{style_view};
 ghost use Rattle.document_styles.specs.NamedStyleView.{named_styles_view};
 ghost use Rattle.document_words.specs.Reads.{Reads};
 ghost use Rattle.cite_document.specs.Limited.{ChecksEach, ChecksStyles, limit_status, named_styles_in, styles_in};

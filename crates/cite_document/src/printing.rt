@@ -1,8 +1,8 @@
 //! Printing an answer as text.
 ghost use Rattle.std.specs.Prelude.{◌≡◌, ◌++◌, OnOk, IfOk, string_bytes};
 ghost use Rattle.std.specs.List.{flat_map};
-ghost use Rattle.csl_base.specs.ChildView.{child_view};
-ghost use Rattle.csl_base.specs.Tree.{child_plain};
+ghost use Rattle.csl_trees.specs.ChildView.{child_view};
+ghost use Rattle.csl_trees.specs.Tree.{child_plain};
 ghost use Rattle.cite_document.specs.Print.{citation_line, first_text, item_line, bibliography_lines, print};
 
 use csl_base::elem::{BufWriteFormat, ElemChild};

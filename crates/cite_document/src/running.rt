@@ -2,8 +2,8 @@
 ghost use Rattle.std.specs.Prelude.{◌≡◌, ℕ, None, Some, map, OnOk, IfErr, IsErrOf};
 ghost use Rattle.std.specs.Io.KnownBytes.{Appends, Keeps};
 ghost use Rattle.serde_json.specs.View.{view};
-ghost use Rattle.csl_base.specs.PlainEntry.{plain_answers};
-ghost use Rattle.csl_base.specs.StyleView.{locale_view};
+ghost use Rattle.csl_values.specs.PlainEntry.{plain_answers};
+ghost use Rattle.csl_style_values.specs.StyleView.{locale_view};
 ghost use Rattle.csl_writing.specs.LayoutWriting.{layout_writing};
 ghost use Rattle.csl_driver.specs.Answer.{rendered};
 ghost use Rattle.csl_driver.specs.AskedView.{asked_of};

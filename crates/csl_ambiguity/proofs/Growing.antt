@@ -5,7 +5,7 @@ use Rattle.std.proofs.Math.ListN.{length-map, set}
 use Rattle.std.proofs.lemmas.List.{map-append}
 use Rattle.std.proofs.lemmas.Slice.Eq.{bytes_eq-Decides}
 use Rattle.std.proofs.lemmas.List.Elements.{filter-append}
-use Rattle.csl_base.specs.Tree.{plain}
+use Rattle.csl_trees.specs.Tree.{plain}
 use Rattle.csl_lookup.specs.States.{may_get_suffix}
 use Rattle.csl_passes.specs.Renders.{ItemRender, Place}
 use Rattle.csl_ambiguity.specs.Ambiguity.{class_of, classes, seconds, without_suffix}

@@ -1,8 +1,8 @@
 -- The cites of a document, and those at the places of a group, each with its place and its style.
 use Rattle.std.specs.Prelude.{ℕ, List, [], ◌∷◌, Option, None, Some, map, option_map}
 use Rattle.std.specs.List.{enumerate_from, flat_map}
-use Rattle.csl_base.specs.Style.{StyleValue}
-use Rattle.csl_base.specs.Tree.{plain}
+use Rattle.csl_style_values.specs.Style.{StyleValue}
+use Rattle.csl_trees.specs.Tree.{plain}
 use Rattle.csl_lookup.specs.declared.state.DisambiguateState.{DisambiguateState}
 use Rattle.csl_passes.specs.Places.{cite_at}
 use Rattle.csl_passes.specs.Renders.{ItemRender, CiteRender, Place}

@@ -1,13 +1,13 @@
 -- Suffix marks: the year suffixes by which the entries of an ambiguous group are disambiguated.
 use Rattle.std.specs.Prelude.{Bool, ◌&&◌, ◌||◌, List, [], ◌∷◌, map, is_some, if◌then◌else◌}
 use Rattle.std.specs.List.{flat_map, list_any}
-use Rattle.csl_base.specs.Answers.{Answers}
-use Rattle.csl_base.specs.Child.{Child}
-use Rattle.csl_base.specs.Metas.{has_meta}
-use Rattle.csl_base.specs.Tree.{find_elem}
-use Rattle.csl_base.specs.declared.elem.ElemMeta.{ElemMeta}
-use Rattle.csl_base.specs.declared.elem.ElemMeta.TheVariants as meta
-use Rattle.csl_base.specs.declared.taxonomy.DateVariable.TheVariants.{Issued, Accessed, AvailableDate, EventDate, Submitted, OriginalDate}
+use Rattle.csl_values.specs.Answers.{Answers}
+use Rattle.csl_trees.specs.Child.{Child}
+use Rattle.csl_trees.specs.Metas.{has_meta}
+use Rattle.csl_trees.specs.Tree.{find_elem}
+use Rattle.csl_trees.specs.declared.elem.ElemMeta.{ElemMeta}
+use Rattle.csl_trees.specs.declared.elem.ElemMeta.TheVariants as meta
+use Rattle.csl_values.specs.declared.taxonomy.DateVariable.TheVariants.{Issued, Accessed, AvailableDate, EventDate, Submitted, OriginalDate}
 use Rattle.csl_lookup.specs.declared.state.DisambiguateState.{DisambiguateState}
 use Rattle.csl_lookup.specs.declared.state.DisambiguateState.TheVariants.{YearSuffix}
 use Rattle.csl_entries.specs.Entries.{distinct, place}

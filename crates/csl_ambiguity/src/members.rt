@@ -1,6 +1,6 @@
 //! The cites at places.
 ghost use Rattle.std.specs.Prelude.{◌≡◌, Some, option_map};
-ghost use Rattle.csl_base.specs.StyleView.{style_view};
+ghost use Rattle.csl_style_values.specs.StyleView.{style_view};
 ghost use Rattle.csl_ambiguity.specs.Members.{member_at};
 ghost use Rattle.csl_passes.specs.Places.{IsPlace};
 ghost use Rattle.csl_passes.specs.RendersView.{item_view, renders_view};

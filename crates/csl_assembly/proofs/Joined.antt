@@ -2,7 +2,7 @@
 use Rattle.std.proofs.Common.{◌≡◌, Bool, true, false, cond, List, [], ◌∷◌, ◌++◌, refl, ap, sym, ◌∙◌, append-nil, append_assoc}
 use Rattle.std.specs.List.{flat_map}
 use Rattle.std.proofs.lemmas.Grind.{flat_map-append}
-use Rattle.csl_base.specs.declared.formatting.Formatting.{Formatting}
+use Rattle.csl_values.specs.declared.formatting.Formatting.{Formatting}
 use Rattle.csl_assembly.specs.Assembly.{Shown, behind_delimiter, joined_cites}
 
 -- there is no cite yet

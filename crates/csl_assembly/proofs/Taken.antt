@@ -1,9 +1,9 @@
 -- A child that was taken out of a tree.
 use Rattle.std.proofs.Common.{◌≡◌, Option, Some, None, refl, ap, sym, ◌∙◌}
 use Rattle.std.specs.Prelude.{option_map}
-use Rattle.csl_base.specs.Child.{Child}
-use Rattle.csl_base.specs.ChildView.{child_view}
-use Rattle.csl_base.specs.declared.elem.ElemChild.{ElemChild}
+use Rattle.csl_trees.specs.Child.{Child}
+use Rattle.csl_trees.specs.ChildView.{child_view}
+use Rattle.csl_trees.specs.declared.elem.ElemChild.{ElemChild}
 use Rattle.csl_assembly.specs.ChildOf.{child_of, child_of-view}
 
 stored : (r : Option ElemChild) → option_map child_of (option_map child_view r) ≡ r

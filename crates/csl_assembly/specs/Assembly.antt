@@ -1,13 +1,13 @@
 -- How a citation is put together from the trees of its cites.
 use Rattle.std.specs.Prelude.{ℕ, Bool, false, List, [], ◌∷◌, ◌++◌, Option, Some, None, if◌then◌else◌, nat_eq}
 use Rattle.std.specs.List.{flat_map, ends_with}
-use Rattle.csl_base.specs.Child.{Child, text}
-use Rattle.csl_base.specs.Formatting.{normal, applied}
-use Rattle.csl_base.specs.Style.{LayoutValue}
-use Rattle.csl_base.specs.Tree.{last_text}
-use Rattle.csl_base.specs.Simplify.{simplified}
-use Rattle.csl_base.specs.declared.formatting.Formatted.{Formatted}
-use Rattle.csl_base.specs.declared.formatting.Formatting.{Formatting}
+use Rattle.csl_trees.specs.Child.{Child, text}
+use Rattle.csl_values.specs.Formatting.{normal, applied}
+use Rattle.csl_style_values.specs.Style.{LayoutValue}
+use Rattle.csl_trees.specs.Tree.{last_text}
+use Rattle.csl_trees.specs.Simplify.{simplified}
+use Rattle.csl_values.specs.declared.formatting.Formatted.{Formatted}
+use Rattle.csl_values.specs.declared.formatting.Formatting.{Formatting}
 
 -- the tree of a cite that is shown, and the delimiter that stands before it where it isn't the first
 pub record Shown : Type 0 where

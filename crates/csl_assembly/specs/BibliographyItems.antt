@@ -1,9 +1,9 @@
 -- The items of a bibliography, from the first cites of its entries.
 use Rattle.std.specs.Prelude.{Bool, List, [], map, None, if◌then◌else◌, is_some, option_map, unwrap_or}
 use Rattle.std.specs.List.{filter_map, find, remove, position_or_len}
-use Rattle.csl_base.specs.Metas.{child_has_any_meta}
-use Rattle.csl_base.specs.Simplify.{simplified}
-use Rattle.csl_base.specs.Style.{BibliographyValue}
+use Rattle.csl_trees.specs.Metas.{child_has_any_meta}
+use Rattle.csl_trees.specs.Simplify.{simplified}
+use Rattle.csl_style_values.specs.Style.{BibliographyValue}
 use Rattle.csl_lookup.specs.Lookup.{Source}
 use Rattle.csl_lookup.specs.Properties.{Properties}
 use Rattle.csl_passes.specs.Places.{cite_at}

@@ -1,10 +1,10 @@
 -- A child as a tree stores it.
 use Rattle.std.specs.Prelude.{◌≡◌, refl}
 use Rattle.std.proofs.Common.{ap}
-use Rattle.csl_base.specs.Child.{Child, text, elem, markup, link, transparent, list_of, list_of-kids_of}
-use Rattle.csl_base.specs.ChildView.{child_view}
-use Rattle.csl_base.specs.declared.elem.ElemChild.{ElemChild}
-use Rattle.csl_base.specs.declared.elem.ElemChild.TheVariants as v
+use Rattle.csl_trees.specs.Child.{Child, text, elem, markup, link, transparent, list_of, list_of-kids_of}
+use Rattle.csl_trees.specs.ChildView.{child_view}
+use Rattle.csl_trees.specs.declared.elem.ElemChild.{ElemChild}
+use Rattle.csl_trees.specs.declared.elem.ElemChild.TheVariants as v
 
 abbrev pub child_of : Child → ElemChild
 child_of (text f) = v.Text f

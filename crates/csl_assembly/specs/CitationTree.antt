@@ -1,9 +1,9 @@
 -- The citation of a request, from its cites as they stand in the end.
 use Rattle.std.specs.Prelude.{ℕ, not, List, [], ◌∷◌, map, filter, Option, Some, None}
 use Rattle.std.specs.Option.{option_or}
-use Rattle.csl_base.specs.Child.{Child, elem, kids_of}
-use Rattle.csl_base.specs.Style.{LayoutValue}
-use Rattle.csl_base.specs.declared.elem.ElemMeta.TheVariants.{Entry}
+use Rattle.csl_trees.specs.Child.{Child, elem, kids_of}
+use Rattle.csl_style_values.specs.Style.{LayoutValue}
+use Rattle.csl_trees.specs.declared.elem.ElemMeta.TheVariants.{Entry}
 use Rattle.csl_lookup.specs.Lookup.{Source}
 use Rattle.csl_passes.specs.Renders.{ItemRender, CiteRender}
 use Rattle.csl_passes.specs.Request.{source_of}

@@ -1,6 +1,6 @@
 -- The tree of a cite once nothing of it changes any more.
 use Rattle.std.specs.Prelude.{Bool, true, false, List, Option, Some, if◌then◌else◌}
-use Rattle.csl_base.specs.Child.{Child}
+use Rattle.csl_trees.specs.Child.{Child}
 use Rattle.csl_lookup.specs.Lookup.{Source}
 use Rattle.csl_lookup.specs.Properties.{Properties}
 use Rattle.csl_lookup.specs.declared.purpose.CitePurpose.{CitePurpose}

@@ -1,8 +1,8 @@
 //! How a citation is put together from the trees of its cites.
 ghost use Rattle.std.specs.Prelude.{◌≡◌, ◌++◌, Some, IfOk, OnOk, if◌then◌else◌, [], map, option_map};
-ghost use Rattle.csl_base.specs.ElementView.{text_view};
-ghost use Rattle.csl_base.specs.StyleView.{layout_view};
-ghost use Rattle.csl_base.specs.Tree.{last_text};
+ghost use Rattle.csl_style_values.specs.ElementView.{text_view};
+ghost use Rattle.csl_style_values.specs.StyleView.{layout_view};
+ghost use Rattle.csl_trees.specs.Tree.{last_text};
 ghost use Rattle.csl_assembly.specs.Assembly.{assembled, behind_delimiter, enclosed_cites, joined_cites, layout_formatting, text_child, text_ends_with, with_layout_suffix};
 ghost use Rattle.csl_assembly.specs.ShownView.{shown_view, shown_views};
 

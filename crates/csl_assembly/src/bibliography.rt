@@ -1,7 +1,7 @@
 //! The bibliography of an answer.
 ghost use Rattle.std.specs.Prelude.{◌≡◌, ◌∷◌, [], IfOk, OnOk, map, option_map, string_bytes};
-ghost use Rattle.csl_base.specs.Metas.{child_has_any_meta};
-ghost use Rattle.csl_base.specs.StyleView.{bibliography_view};
+ghost use Rattle.csl_trees.specs.Metas.{child_has_any_meta};
+ghost use Rattle.csl_style_values.specs.StyleView.{bibliography_view};
 ghost use Rattle.csl_lookup.specs.PropertiesView.{properties_view};
 ghost use Rattle.csl_passes.specs.Places.{cite_at};
 ghost use Rattle.csl_passes.specs.RendersView.{item_view, renders_view};

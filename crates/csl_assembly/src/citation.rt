@@ -1,6 +1,6 @@
 //! The citation of a request, from its cites as they stand in the end.
 ghost use Rattle.std.specs.Prelude.{◌≡◌, ◌∷◌, [], IfOk, OnOk, map, option_map};
-ghost use Rattle.csl_base.specs.StyleView.{layout_view};
+ghost use Rattle.csl_style_values.specs.StyleView.{layout_view};
 ghost use Rattle.csl_passes.specs.Request.{source_of};
 ghost use Rattle.csl_passes.specs.RequestView.{request_view};
 ghost use Rattle.csl_passes.specs.Renders.{CiteRender};

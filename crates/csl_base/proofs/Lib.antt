@@ -1,26 +1,3 @@
 -- The proofs of this crate.
-pub mod Trees
-pub mod Accepted
-pub mod Compare
-pub mod Joining
-pub mod Simplifying
-pub mod SimplifyLaws
-pub mod LastTextSteps
-pub mod FirstNamesSteps
-pub mod Views
-pub mod Weight
-pub mod Nested
-pub mod FirstPlace
-pub mod LastTextLaws
-pub mod FirstNamesLaws
-pub mod Lent
-pub mod Reached
-pub mod Rows
-pub mod FirstPlaces
-pub mod NamedPlaces
-pub mod Rings
-pub mod Tops
-pub mod Orders
-pub mod GivenNames
 pub mod Seen
 pub mod ToldElements

@@ -10,13 +10,13 @@ use Rattle.std.proofs.Math.Bridge.{le_prop}
 use mathlib.Core.HLevel.{is_prop→PathP}
 use Rattle.std.proofs.Common.{ap, sym, true≢false}
 use Rattle.std.proofs.lemmas.Slice.Eq.{bytes_eq-Decides}
-use Rattle.csl_base.specs.Element.{Element, elements_of}
-use Rattle.csl_base.specs.ElementView.{text_view, element_view, elements_view}
-use Rattle.csl_base.specs.Finds.{both, and-true, decides, finds, options_find}
-use Rattle.csl_base.specs.StyleView.{code_view}
+use Rattle.csl_style_values.specs.Element.{Element, elements_of}
+use Rattle.csl_style_values.specs.ElementView.{text_view, element_view, elements_view}
+use Rattle.csl_values.specs.Finds.{both, and-true, decides, finds, options_find}
+use Rattle.csl_style_values.specs.StyleView.{code_view}
 use Rattle.csl_base.specs.Tells.{TellsEqual, TellsSeen}
-use Rattle.csl_base.specs.contracts.locale.LocaleCodePartialEq.TheImpl as code_eq
-use Rattle.csl_base.specs.declared.element.LayoutRenderingElement.{LayoutRenderingElement}
+use Rattle.csl_style_values.specs.contracts.locale.LocaleCodePartialEq.TheImpl as code_eq
+use Rattle.csl_style_values.specs.declared.element.LayoutRenderingElement.{LayoutRenderingElement}
 
 -- where values are told by what is seen of them, so are values that may be missing
 pub some_seen : {A V : Type 0} {view : A → V} {test : A → A → Bool} → TellsSeen view test → TellsSeen (option_map view) (option_eq test)

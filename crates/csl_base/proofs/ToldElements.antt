@@ -9,31 +9,31 @@ use denote.Hole.Carrier.{out}
 use denote.Hole.Compared.{Rel, Agree, Local, compared, compared_is}
 use denote.Param.Weighed.{most}
 use Rattle.csl_base.proofs.Seen.{list_told, option_told, same_strings, texts_told}
-use Rattle.csl_base.proofs.Views.{branch_is}
-use Rattle.csl_base.specs.Element.{Look, Element, text_element, number_element, date_element, names_element, group_element, choose_element, element, otherwise, branch, Branch}
-use Rattle.csl_base.specs.ElementView.{text_view, affixes_view, options_view, look, target_view, element_step, branch_step, element_view, elements_view, branch_view, branches_view}
-use Rattle.csl_base.specs.EqualEntries.{name_variables_find, date_variables_find, number_variables_find}
-use Rattle.csl_base.specs.Finds.{both, and-true, decides}
-use Rattle.csl_base.specs.PlainEntry.{same_name_variable, same_date_variable, same_number_variable}
+use Rattle.csl_style_values.proofs.Views.{branch_is}
+use Rattle.csl_style_values.specs.Element.{Look, Element, text_element, number_element, date_element, names_element, group_element, choose_element, element, otherwise, branch, Branch}
+use Rattle.csl_style_values.specs.ElementView.{text_view, affixes_view, options_view, look, target_view, element_step, branch_step, element_view, elements_view, branch_view, branches_view}
+use Rattle.csl_values.specs.EqualEntries.{name_variables_find, date_variables_find, number_variables_find}
+use Rattle.csl_values.specs.Finds.{both, and-true, decides}
+use Rattle.csl_values.specs.PlainEntry.{same_name_variable, same_date_variable, same_number_variable}
 use Rattle.csl_base.specs.Tells.{TellsEqual, TellsSeen}
-use Rattle.csl_base.specs.contracts.element.AffixesPartialEq.TheImpl as affixes_eq
-use Rattle.csl_base.specs.contracts.element.ChooseMatchPartialEq.TheImpl as match_eq
-use Rattle.csl_base.specs.contracts.element.ConditionPartialEq.TheImpl as condition_eq
-use Rattle.csl_base.specs.contracts.element.InheritableNameOptionsPartialEq.TheImpl as options_eq
-use Rattle.csl_base.specs.contracts.element.LayoutRenderingElementPartialEq.TheImpl as element_eq
-use Rattle.csl_base.specs.contracts.element.TextTargetPartialEq.TheImpl as target_eq
-use Rattle.csl_base.specs.contracts.formatting.DisplayPartialEq.TheImpl as display_eq
-use Rattle.csl_base.specs.contracts.formatting.StyleFormattingPartialEq.TheImpl as formatting_eq
-use Rattle.csl_base.specs.declared.element.Affixes.{Affixes}
-use Rattle.csl_base.specs.declared.element.ChooseBranch.{ChooseBranch}
-use Rattle.csl_base.specs.declared.element.LayoutRenderingElement.{LayoutRenderingElement, fold_out-LayoutRenderingElement, map-LayoutRenderingElement, out-LayoutRenderingElement, size-LayoutRenderingElement as depth, size_is-LayoutRenderingElement}
-use Rattle.csl_base.specs.declared.element.LayoutRenderingElement.TheBlock.{the_members, the_family, the_depth, member-LayoutRenderingElement as of_elements, member-ChooseBranch as of_branches, weighs-LayoutRenderingElement}
-use Rattle.csl_base.specs.declared.element.LayoutRenderingElement.TheOpen.{LayoutRenderingElement-F}
-use Rattle.csl_base.specs.declared.element.LayoutRenderingElement.TheOpen as o
-use Rattle.csl_base.specs.declared.element.LayoutRenderingElement.TheVariants as v
-use Rattle.csl_base.specs.declared.element.LayoutRenderingElement.TheViews.{size-ChooseBranch as branch_depth, size_is-ChooseBranch}
-use Rattle.csl_base.specs.declared.formatting.Display.{Display}
-use Rattle.csl_base.specs.declared.formatting.StyleFormatting.{StyleFormatting}
+use Rattle.csl_style_values.specs.contracts.element.AffixesPartialEq.TheImpl as affixes_eq
+use Rattle.csl_style_values.specs.contracts.element.ChooseMatchPartialEq.TheImpl as match_eq
+use Rattle.csl_style_values.specs.contracts.element.ConditionPartialEq.TheImpl as condition_eq
+use Rattle.csl_style_values.specs.contracts.element.InheritableNameOptionsPartialEq.TheImpl as options_eq
+use Rattle.csl_style_values.specs.contracts.element.LayoutRenderingElementPartialEq.TheImpl as element_eq
+use Rattle.csl_style_values.specs.contracts.element.TextTargetPartialEq.TheImpl as target_eq
+use Rattle.csl_values.specs.contracts.formatting.DisplayPartialEq.TheImpl as display_eq
+use Rattle.csl_values.specs.contracts.formatting.StyleFormattingPartialEq.TheImpl as formatting_eq
+use Rattle.csl_style_values.specs.declared.element.Affixes.{Affixes}
+use Rattle.csl_style_values.specs.declared.element.ChooseBranch.{ChooseBranch}
+use Rattle.csl_style_values.specs.declared.element.LayoutRenderingElement.{LayoutRenderingElement, fold_out-LayoutRenderingElement, map-LayoutRenderingElement, out-LayoutRenderingElement, size-LayoutRenderingElement as depth, size_is-LayoutRenderingElement}
+use Rattle.csl_style_values.specs.declared.element.LayoutRenderingElement.TheBlock.{the_members, the_family, the_depth, member-LayoutRenderingElement as of_elements, member-ChooseBranch as of_branches, weighs-LayoutRenderingElement}
+use Rattle.csl_style_values.specs.declared.element.LayoutRenderingElement.TheOpen.{LayoutRenderingElement-F}
+use Rattle.csl_style_values.specs.declared.element.LayoutRenderingElement.TheOpen as o
+use Rattle.csl_style_values.specs.declared.element.LayoutRenderingElement.TheVariants as v
+use Rattle.csl_style_values.specs.declared.element.LayoutRenderingElement.TheViews.{size-ChooseBranch as branch_depth, size_is-ChooseBranch}
+use Rattle.csl_values.specs.declared.formatting.Display.{Display}
+use Rattle.csl_values.specs.declared.formatting.StyleFormatting.{StyleFormatting}
 
 -- a test of two elements, and one of two branches
 abbrev Tests : Type 0

@@ -1,25 +1,28 @@
 //! Laws of the values that a style, its locales and an entry are made of.
 ghost use Rattle.std.specs.Prelude.{◌≡◌};
 ghost use Rattle.std.specs.Bool.{Decides};
-ghost use Rattle.csl_base.specs.ElementView.{affixes_view, branch_view, element_view, macro_view, options_view, target_view};
-ghost use Rattle.csl_base.specs.StyleView.{bibliography_view, citation_view, code_view, layout_view, locale_view, style_view, term_view};
+ghost use Rattle.csl_style_values.specs.ElementView.{affixes_view, branch_view, element_view, macro_view, options_view, target_view};
+ghost use Rattle.csl_style_values.specs.StyleView.{bibliography_view, citation_view, code_view, layout_view, locale_view, style_view, term_view};
 ghost use Rattle.csl_base.specs.Tells.{TellsEqual, TellsSeen};
-ghost use Rattle.csl_base.specs.declared.style.StyleSettings.{StyleSettings};
+ghost use Rattle.csl_style_values.specs.declared.style.StyleSettings.{StyleSettings};
 
-use crate::element::{
+use csl_style_values::element::{
     Affixes, ChooseBranch, ChooseMatch, Condition, CslMacro, InheritableNameOptions,
     LayoutRenderingElement, NameAnd, NameForm, TestPosition, TextTarget,
 };
-use crate::entry::{Chunk, ChunkKind, ChunkedString, Date, Person, PlainEntry};
-use crate::formatting::{Display, FontStyle, FontWeight, Formatted, Formatting, StyleFormatting};
-use crate::locale::{Locale, LocaleCode, LocalizedTerm};
-use crate::names::{DisambiguatedNameForm, NameDisambiguationProperties};
-use crate::style::{
+use csl_style_values::locale::{Locale, LocaleCode, LocalizedTerm};
+use csl_style_values::style::{
     Bibliography, Citation, CitationFormat, Collapse, DisambiguationRule, IndependentStyle, Layout,
     SecondFieldAlign, StyleCategory, StyleClass, StyleInfo, StyleSettings,
     SubsequentAuthorSubstituteRule,
 };
-use crate::taxonomy::{
+use csl_values::entry::{Chunk, ChunkKind, ChunkedString, Date, Person, PlainEntry};
+use csl_values::formatting::{
+    Display, FontStyle, FontVariant, FontWeight, Formatted, Formatting, StyleFormatting,
+    TextDecoration, VerticalAlign,
+};
+use csl_values::names::{DisambiguatedNameForm, NameDisambiguationProperties};
+use csl_values::taxonomy::{
     DateVariable, Locator, NameVariable, NumberVariable, OtherTerm, StandardVariable, Term,
     TermForm, Variable,
 };
@@ -40,7 +43,10 @@ pub fn taxonomy_equality_decides()
 /// A law: `==` of formattings is true exactly of equal values.
 pub fn formatting_equality_decides()
     ensures slant { TellsEqual ⟦<FontStyle as PartialEq>⟧.eq }
+    ensures capitals { TellsEqual ⟦<FontVariant as PartialEq>⟧.eq }
     ensures weight { TellsEqual ⟦<FontWeight as PartialEq>⟧.eq }
+    ensures line { TellsEqual ⟦<TextDecoration as PartialEq>⟧.eq }
+    ensures height { TellsEqual ⟦<VerticalAlign as PartialEq>⟧.eq }
     ensures display { TellsEqual ⟦<Display as PartialEq>⟧.eq }
     ensures asked { TellsEqual ⟦<StyleFormatting as PartialEq>⟧.eq }
     ensures formatting { TellsEqual ⟦<Formatting as PartialEq>⟧.eq }

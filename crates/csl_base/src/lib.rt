@@ -4,26 +4,9 @@
 //! its children. No capacity and no address shows.
 #![tactic(auto)]
 
-pub mod calls;
-pub mod elem;
-pub mod element;
-pub mod entry;
-pub mod equality;
-pub mod find;
-pub mod first_names;
-pub mod formatting;
-mod graph;
-pub mod initials;
-pub mod last_text;
 pub mod laws;
-pub mod locale;
-pub mod names;
-mod order;
-pub mod print;
-pub mod ring;
-pub mod seq;
-pub mod simplify;
-pub mod stack;
-pub mod style;
-pub mod taxonomy;
-pub mod text;
+
+pub use csl_lists::{seq, stack, text};
+pub use csl_style_values::{calls, element, locale, ring, style};
+pub use csl_trees::{elem, equality, find, first_names, last_text, print, simplify};
+pub use csl_values::{entry, formatting, initials, names, taxonomy};

@@ -7,12 +7,12 @@ use Rattle.std.specs.Option.{option_and_then, option_eq, option_map_or}
 use Rattle.std.proofs.Math.Seq.{drop-cons}
 use Rattle.std.proofs.Math.ListN.{length-map}
 use Rattle.std.proofs.lemmas.Bool.{and_parts}
-use Rattle.csl_base.specs.Style.{CitationValue}
-use Rattle.csl_base.specs.declared.style.Collapse.{Collapse}
-use Rattle.csl_base.specs.declared.style.Collapse.TheVariants.{CitationNumber, Year, YearSuffix, YearSuffixRanged}
-use Rattle.csl_base.specs.Metas.{has_meta}
-use Rattle.csl_base.specs.Tree.{find_elem}
-use Rattle.csl_base.specs.declared.elem.ElemMeta.TheVariants as meta
+use Rattle.csl_style_values.specs.Style.{CitationValue}
+use Rattle.csl_style_values.specs.declared.style.Collapse.{Collapse}
+use Rattle.csl_style_values.specs.declared.style.Collapse.TheVariants.{CitationNumber, Year, YearSuffix, YearSuffixRanged}
+use Rattle.csl_trees.specs.Metas.{has_meta}
+use Rattle.csl_trees.specs.Tree.{find_elem}
+use Rattle.csl_trees.specs.declared.elem.ElemMeta.TheVariants as meta
 use Rattle.csl_passes.specs.Renders.{ItemRender}
 use Rattle.csl_collapse.specs.Collapsed.{collapsed_cites}
 use Rattle.csl_collapse.specs.NumberLaws.{AreDrawnTogether, AreNextShown, CanBeReadBack, IsInnerToOneRun, WasHid, between, is_hidden, numbers_of, override_at}

@@ -5,7 +5,7 @@ use Rattle.std.specs.List.{list_all, list_any}
 use Rattle.std.specs.Option.{option_eq}
 use Rattle.std.specs.Cmp.{unsigned_Decides}
 use Rattle.std.proofs.lemmas.Bool.{and_parts, and_from}
-use Rattle.csl_base.specs.Style.{CitationValue}
+use Rattle.csl_style_values.specs.Style.{CitationValue}
 use Rattle.csl_passes.specs.Renders.{ItemRender}
 use Rattle.csl_collapse.specs.YearStretches.{year_collapsed, group_at, shares, is_stretch, is_later_in_stretch, follows_stretch}
 use Rattle.csl_collapse.specs.Steps.{is_same, year_step}

@@ -1,8 +1,8 @@
 -- The cites of a request after collapsing.
 use Rattle.std.specs.Prelude.{ℕ, true, false, Option, None, Some, List, if◌then◌else◌}
-use Rattle.csl_base.specs.Style.{CitationValue}
-use Rattle.csl_base.specs.declared.style.Collapse.{Collapse}
-use Rattle.csl_base.specs.declared.style.Collapse.TheVariants.{CitationNumber, Year, YearSuffix, YearSuffixRanged}
+use Rattle.csl_style_values.specs.Style.{CitationValue}
+use Rattle.csl_style_values.specs.declared.style.Collapse.{Collapse}
+use Rattle.csl_style_values.specs.declared.style.Collapse.TheVariants.{CitationNumber, Year, YearSuffix, YearSuffixRanged}
 use Rattle.csl_passes.specs.Renders.{ItemRender, CiteRender}
 use Rattle.csl_collapse.specs.NumberRuns.{number_collapsed}
 use Rattle.csl_collapse.specs.Stretches.{after_collapse}

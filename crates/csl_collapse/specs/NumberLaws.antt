@@ -2,8 +2,8 @@
 use Rattle.std.specs.Prelude.{◌≡◌, ℕ, ◌+◌, ◌-◌, ◌<◌, Bool, true, false, List, Option, Some, length, map, slice_get, slice_index, slice_range}
 use Rattle.std.specs.List.{range_with_len}
 use Rattle.std.specs.Option.{option_and_then, option_map_or}
-use Rattle.csl_base.specs.declared.style.Collapse.{Collapse}
-use Rattle.csl_base.specs.declared.style.Collapse.TheVariants.{CitationNumber}
+use Rattle.csl_style_values.specs.declared.style.Collapse.{Collapse}
+use Rattle.csl_style_values.specs.declared.style.Collapse.TheVariants.{CitationNumber}
 use Rattle.csl_passes.specs.Renders.{ItemRender}
 use Rattle.csl_collapse.specs.NumberRuns.{en_dash, is_run, shown_number}
 

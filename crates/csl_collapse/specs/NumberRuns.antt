@@ -2,9 +2,9 @@
 use Rattle.std.specs.Prelude.{ℕ, ◌+◌, ◌-◌, Bool, not, ◌&&◌, ◌||◌, List, Option, None, Some, is_some, if◌then◌else◌, length, map, nat_eq, nat_le, nat_lt, encode_utf8, option_map, slice_index_or}
 use Rattle.std.specs.List.{list_all, list_any}
 use Rattle.std.specs.Option.{option_eq}
-use Rattle.csl_base.specs.Metas.{has_meta}
-use Rattle.csl_base.specs.Tree.{find_elem}
-use Rattle.csl_base.specs.declared.elem.ElemMeta.TheVariants.{CitationNumber}
+use Rattle.csl_trees.specs.Metas.{has_meta}
+use Rattle.csl_trees.specs.Tree.{find_elem}
+use Rattle.csl_trees.specs.declared.elem.ElemMeta.TheVariants.{CitationNumber}
 use Rattle.csl_passes.specs.Renders.{ItemRender}
 use Rattle.csl_collapse.specs.Stretches.{places, is_maximal}
 

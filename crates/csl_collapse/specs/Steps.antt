@@ -1,6 +1,6 @@
 -- For the code: neighbouring cites.
 use Rattle.std.specs.Prelude.{ℕ, ◌+◌, Bool, false, not, ◌&&◌, ◌||◌, List, Option, None, Some, is_some, if◌then◌else◌, nat_eq}
-use Rattle.csl_base.specs.Style.{CitationValue}
+use Rattle.csl_style_values.specs.Style.{CitationValue}
 use Rattle.csl_passes.specs.Renders.{ItemRender}
 use Rattle.csl_collapse.specs.NumberRuns.{en_dash, number_at, shown_number}
 use Rattle.csl_collapse.specs.Stretches.{after_collapse}

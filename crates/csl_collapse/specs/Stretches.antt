@@ -2,7 +2,7 @@
 use Rattle.std.specs.Prelude.{ℕ, ◌+◌, ◌-◌, Bool, not, ◌&&◌, List, Option, nat_lt}
 use Rattle.std.specs.List.{range_with_len}
 use Rattle.std.specs.Option.{option_or}
-use Rattle.csl_base.specs.Style.{CitationValue}
+use Rattle.csl_style_values.specs.Style.{CitationValue}
 
 -- the places from a on that are before b
 abbrev pub places : ℕ → ℕ → List ℕ

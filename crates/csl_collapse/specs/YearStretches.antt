@@ -2,7 +2,7 @@
 use Rattle.std.specs.Prelude.{ℕ, ◌+◌, ◌-◌, Bool, false, ◌&&◌, List, Option, None, Some, is_some, if◌then◌else◌, length, map, nat_eq, nat_le, nat_lt, slice_index_or}
 use Rattle.std.specs.List.{list_all, list_any}
 use Rattle.std.specs.Option.{option_eq, option_map_or, option_or}
-use Rattle.csl_base.specs.Style.{CitationValue}
+use Rattle.csl_style_values.specs.Style.{CitationValue}
 use Rattle.csl_lookup.specs.States.{year_suffix}
 use Rattle.csl_lookup.specs.declared.state.CollapseVerdict.TheVariants as verdict
 use Rattle.csl_passes.specs.Renders.{ItemRender}

@@ -1,6 +1,6 @@
 //! Collapsing, by what a style asks for (CSL 1.0.2, cite collapsing).
 ghost use Rattle.std.specs.Prelude.{◌≡◌, option_map};
-ghost use Rattle.csl_base.specs.StyleView.{citation_view};
+ghost use Rattle.csl_style_values.specs.StyleView.{citation_view};
 ghost use Rattle.csl_passes.specs.RendersView.{render_view};
 ghost use Rattle.csl_collapse.specs.Collapsed.{collapsed, drawn_together};
 ghost use Rattle.csl_collapse.specs.NumberLaws.{CanBeReadBack};

@@ -1,6 +1,6 @@
 //! Years of cites of one group.
 ghost use Rattle.std.specs.Prelude.{◌≡◌};
-ghost use Rattle.csl_base.specs.StyleView.{citation_view};
+ghost use Rattle.csl_style_values.specs.StyleView.{citation_view};
 ghost use Rattle.csl_passes.specs.RendersView.{item_view, items_view};
 ghost use Rattle.csl_collapse.specs.Steps.{is_same, year_step};
 ghost use Rattle.csl_collapse.specs.YearStretches.{has_later_suffix, year_collapsed};

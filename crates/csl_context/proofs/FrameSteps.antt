@@ -2,7 +2,7 @@
 use Rattle.std.proofs.Common.{◌≡◌, ℕ, ◌+◌, ◌-◌, ◌<◌, Bool, false, List, [], ◌∷◌, length, Some, slice_set, refl, sym, ap, ◌∙◌, arith}
 use Rattle.std.specs.Prelude.{◌||◌, drop}
 use Rattle.std.specs.List.{list_any}
-use Rattle.csl_base.specs.Tree.{child_has_content, has_content}
+use Rattle.csl_trees.specs.Tree.{child_has_content, has_content}
 use Rattle.std.specs.Option.{option_map_or}
 use Rattle.std.specs.List.{slice_get}
 use Rattle.std.proofs.lemmas.Option.{get_or_from_slice_get}
@@ -11,10 +11,10 @@ use Rattle.std.proofs.Common.{map, zero, suc}
 use Rattle.std.specs.Prelude.{Result, Ok, Err, IfOk, OnOk}
 use Rattle.std.specs.Option.{option_and_then}
 use Rattle.std.specs.declared.alloc.AllocError.{AllocError}
-use Rattle.csl_base.specs.Child.{Child, kids_of}
-use Rattle.csl_base.specs.ChildView.{child_view}
-use Rattle.csl_base.specs.LastTextStep.{last_child, put_last}
-use Rattle.csl_base.specs.declared.elem.ElemChild.{ElemChild}
+use Rattle.csl_trees.specs.Child.{Child, kids_of}
+use Rattle.csl_trees.specs.ChildView.{child_view}
+use Rattle.csl_trees.specs.LastTextStep.{last_child, put_last}
+use Rattle.csl_trees.specs.declared.elem.ElemChild.{ElemChild}
 use Rattle.csl_context.specs.OpenFrames.{sole_text, on_sole_text, kids_sole_text, kids_on_sole_text, end_sole_text, on_end_sole_text, on_last_child, child_shows, shows_behind}
 
 -- a tree that has not one child alone has no sole text

@@ -5,17 +5,17 @@ use Rattle.std.specs.Option.{option_map_or, option_and_then, unwrap_or}
 use Rattle.std.proofs.lemmas.Bool.{cases_lt, false≢true}
 use Rattle.std.specs.Prelude.{is_none, ◌&&◌, Result, Ok, Err, OnOk, IfOk}
 use Rattle.std.proofs.lemmas.List.{take_all, drop_all, take_at, drop_at, length-take-le, length-drop, take-append-le, drop-append-le}
-use Rattle.csl_base.specs.Child.{Child, text, elem, markup, link, transparent, kids_of}
-use Rattle.csl_base.specs.Tree.{last_text, child_last_text}
-use Rattle.csl_base.specs.LastText.{put_last_text}
-use Rattle.csl_base.specs.LastTextStep.{last_child, put_last}
-use Rattle.csl_base.specs.Simplify.{join_last}
-use Rattle.csl_base.specs.Stack.{topmost}
-use Rattle.csl_base.specs.declared.formatting.Formatted.{Formatted}
-use Rattle.csl_base.specs.declared.formatting.Formatting.{Formatting}
-use Rattle.csl_base.specs.declared.formatting.Display.{Display}
-use Rattle.csl_base.specs.declared.elem.ElemMeta.{ElemMeta}
-use Rattle.csl_base.proofs.Nested.{one_before}
+use Rattle.csl_trees.specs.Child.{Child, text, elem, markup, link, transparent, kids_of}
+use Rattle.csl_trees.specs.Tree.{last_text, child_last_text}
+use Rattle.csl_trees.specs.LastText.{put_last_text}
+use Rattle.csl_trees.specs.LastTextStep.{last_child, put_last}
+use Rattle.csl_trees.specs.Simplify.{join_last}
+use Rattle.csl_lists.specs.Stack.{topmost}
+use Rattle.csl_values.specs.declared.formatting.Formatted.{Formatted}
+use Rattle.csl_values.specs.declared.formatting.Formatting.{Formatting}
+use Rattle.csl_values.specs.declared.formatting.Display.{Display}
+use Rattle.csl_trees.specs.declared.elem.ElemMeta.{ElemMeta}
+use Rattle.csl_trees.proofs.Nested.{one_before}
 use Rattle.csl_context.specs.Cuts.{cut}
 use Rattle.csl_context.specs.OpenFrames.{Frames, on_last_text, end_sole_text, is_filled, filled, on_filled, top, on_top, below, closed, committed, on_last_child, takes, extended}
 use Rattle.csl_context.proofs.CutSteps.{pieces, cut_pieces, cut_two, cut_joined, cut_below, cut_changed, last_of, last_set, before_last, ChangesEnd, end-length, end-take, end-drop}

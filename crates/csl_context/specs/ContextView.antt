@@ -1,6 +1,6 @@
 -- What a context knows of its cite, which writing leaves as it is.
 use Rattle.std.specs.Prelude.{◌≡◌, Option, option_map}
-use Rattle.csl_base.specs.declared.taxonomy.Locator.{Locator}
+use Rattle.csl_values.specs.declared.taxonomy.Locator.{Locator}
 use Rattle.csl_context.specs.declared.context.Context.{Context}
 use Rattle.csl_lookup.specs.Lookup.{Lookup}
 use Rattle.csl_lookup.specs.SourceView.{lookup_view}

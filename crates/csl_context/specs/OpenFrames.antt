@@ -1,17 +1,17 @@
 -- The frames of a writing context: trees that are still open, the outermost first.
 use Rattle.std.specs.Prelude.{ℕ, ◌-◌, Bool, false, not, ◌||◌, List, [], ◌∷◌, ◌++◌, length, take, slice_get, slice_set, Option, None, Some}
 use Rattle.std.specs.Option.{option_and_then, option_map_or}
-use Rattle.csl_base.specs.Child.{Child, text, elem, markup, link, transparent, Kids, no_kids, kid, kids_of}
+use Rattle.csl_trees.specs.Child.{Child, text, elem, markup, link, transparent, Kids, no_kids, kid, kids_of}
 use Rattle.std.specs.Str.{chars}
-use Rattle.csl_base.specs.Tree.{last_text, no_children, child_has_content, has_content}
-use Rattle.csl_base.specs.LastText.{put_last_text}
-use Rattle.csl_base.specs.LastTextStep.{last_child, put_last}
-use Rattle.csl_base.specs.Stack.{topmost, put_topmost}
-use Rattle.csl_base.specs.Simplify.{same_formatting}
-use Rattle.csl_base.specs.declared.formatting.Formatting.{Formatting}
-use Rattle.csl_base.specs.declared.formatting.Formatted.{Formatted}
-use Rattle.csl_base.specs.declared.formatting.Display.{Display}
-use Rattle.csl_base.specs.declared.elem.ElemMeta.{ElemMeta}
+use Rattle.csl_trees.specs.Tree.{last_text, no_children, child_has_content, has_content}
+use Rattle.csl_trees.specs.LastText.{put_last_text}
+use Rattle.csl_trees.specs.LastTextStep.{last_child, put_last}
+use Rattle.csl_lists.specs.Stack.{topmost, put_topmost}
+use Rattle.csl_trees.specs.Simplify.{same_formatting}
+use Rattle.csl_values.specs.declared.formatting.Formatting.{Formatting}
+use Rattle.csl_values.specs.declared.formatting.Formatted.{Formatted}
+use Rattle.csl_values.specs.declared.formatting.Display.{Display}
+use Rattle.csl_trees.specs.declared.elem.ElemMeta.{ElemMeta}
 use Rattle.csl_context.specs.Steps.{visible_from}
 
 abbrev pub Frames : Type 0

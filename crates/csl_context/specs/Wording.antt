@@ -1,12 +1,12 @@
 -- What is written with the terms of a style's locales.
 use Rattle.std.specs.Prelude.{ℕ, false, ◌==◌, ◌∷◌, [], ◌++◌, if◌then◌else◌, List, Option, None, Some}
 use Rattle.std.specs.Option.{option_map_or}
-use Rattle.csl_base.specs.Child.{markup, link, transparent}
-use Rattle.csl_base.specs.declared.taxonomy.Term.{Term}
-use Rattle.csl_base.specs.declared.taxonomy.OtherTerm.{OtherTerm}
-use Rattle.csl_base.specs.declared.taxonomy.TermForm.{TermForm}
-use Rattle.csl_base.specs.declared.entry.Chunk.{Chunk}
-use Rattle.csl_base.specs.declared.entry.ChunkKind.{ChunkKind}
+use Rattle.csl_trees.specs.Child.{markup, link, transparent}
+use Rattle.csl_values.specs.declared.taxonomy.Term.{Term}
+use Rattle.csl_values.specs.declared.taxonomy.OtherTerm.{OtherTerm}
+use Rattle.csl_values.specs.declared.taxonomy.TermForm.{TermForm}
+use Rattle.csl_values.specs.declared.entry.Chunk.{Chunk}
+use Rattle.csl_values.specs.declared.entry.ChunkKind.{ChunkKind}
 use Rattle.csl_lookup.specs.Lookup.{Lookup, term_of, punctuation_in_quotes}
 use Rattle.csl_context.specs.Steps.{ClosingQuotes}
 use Rattle.csl_context.specs.WritingState.{State, after_push_str, verbatim, saved, with_child, formatting, has_content_since, ends_so, closed_elem, discarded, pulling, deeper, less_deep}

@@ -3,19 +3,19 @@
 use Rattle.std.specs.Prelude.{ℕ, ◌-◌, ◌+◌, ◌^◌, Bool, true, false, ◌==◌, ◌&&◌, not, nat_lt, min, if◌then◌else◌, List, [], ◌∷◌, ◌++◌, length, take, drop, map, slice_get, Option, None, Some, option_map, unwrap_or, is_some, string_bytes}
 use Rattle.std.specs.Option.{option_map_or, option_and_then}
 use Rattle.std.specs.Str.{trim_end}
-use Rattle.csl_base.specs.Child.{Child, text}
+use Rattle.csl_trees.specs.Child.{Child, text}
 use Rattle.std.specs.List.{ends_with}
 use Rattle.std.specs.Prelude.{nat_eq}
-use Rattle.csl_base.specs.Tree.{last_text}
-use Rattle.csl_base.specs.declared.formatting.Formatted.{Formatted}
-use Rattle.csl_base.specs.Simplify.{join_last}
-use Rattle.csl_base.specs.Formatting.{normal, applied}
-use Rattle.csl_base.specs.Element.{NameOptions}
-use Rattle.csl_base.specs.ElementView.{options_view}
-use Rattle.csl_base.specs.declared.formatting.Formatting.{Formatting}
-use Rattle.csl_base.specs.declared.formatting.StyleFormatting.{StyleFormatting}
-use Rattle.csl_base.specs.declared.formatting.Display.{Display}
-use Rattle.csl_base.specs.declared.elem.ElemMeta.{ElemMeta}
+use Rattle.csl_trees.specs.Tree.{last_text}
+use Rattle.csl_values.specs.declared.formatting.Formatted.{Formatted}
+use Rattle.csl_trees.specs.Simplify.{join_last}
+use Rattle.csl_values.specs.Formatting.{normal, nothing_asked, applied}
+use Rattle.csl_style_values.specs.Element.{NameOptions}
+use Rattle.csl_style_values.specs.ElementView.{options_view}
+use Rattle.csl_values.specs.declared.formatting.Formatting.{Formatting}
+use Rattle.csl_values.specs.declared.formatting.StyleFormatting.{StyleFormatting}
+use Rattle.csl_values.specs.declared.formatting.Display.{Display}
+use Rattle.csl_trees.specs.declared.elem.ElemMeta.{ElemMeta}
 use Rattle.csl_context.specs.declared.writing.WritingContext.{WritingContext}
 use Rattle.csl_context.specs.Steps.{ClosingQuotes, opens_tight, opens_with_mark, has_letter, without_ending, without_periods, spaced, term_text, ends_quoted, pulled}
 use Rattle.csl_context.specs.OpenFrames.{Frames, on_last_text, end_sole_text, on_end_sole_text, filled, on_filled, top, on_top, below, committed, shows_behind}
@@ -162,7 +162,8 @@ with_space a = if is_saved a then record a { frames = on_top (on_last_text space
 -- Formats and frames.
 
 abbrev pub asks_nothing : StyleFormatting → Bool
-asks_nothing f = not (is_some f.font_style) && not (is_some f.font_weight)
+asks_nothing f = not (is_some f.font_style) && (not (is_some f.font_variant)
+    && (not (is_some f.font_weight) && (not (is_some f.text_decoration) && not (is_some f.vertical_align))))
 
 -- a format that asks for nothing changes nothing
 unfoldable pub formatted : StyleFormatting → State → State
@@ -186,9 +187,6 @@ closed_elem height d m a = let b = saved a in
 
 unfoldable pub discarded : ℕ → State → State
 discarded height a = let b = saved a in cut_formats height (record b { frames = below b.frames })
-
-abbrev pub nothing_asked : StyleFormatting
-nothing_asked = record { font_style = None; font_weight = None }
 
 -- a frame that begins with a prefix, as it stands
 unfoldable pub prefixed : Option (List ℕ) → State → State

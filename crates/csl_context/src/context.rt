@@ -1,6 +1,6 @@
 //! The context in which a cite is written.
 ghost use Rattle.std.specs.Prelude.{◌≡◌, ◌+◌, IsOk, OnOk, OnErr, IfOk, length, min, string_bytes, option_map};
-ghost use Rattle.csl_base.specs.ElementView.{affixes_view, options_view};
+ghost use Rattle.csl_style_values.specs.ElementView.{affixes_view, options_view};
 ghost use Rattle.csl_lookup.specs.Lookup.{term_of};
 ghost use Rattle.csl_lookup.specs.SourceView.{lookup_view};
 ghost use Rattle.csl_context.specs.WritingState.{state, heights, begun, with_space, stripping, not_stripping};

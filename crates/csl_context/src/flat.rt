@@ -1,10 +1,10 @@
 //! Open frames whose children lie one behind the other.
 ghost use Rattle.std.specs.Prelude.{◌≡◌, ◌+◌, ◌-◌, ◌<◌, ◌≤◌, [], ◌∷◌, ◌++◌, length, take, drop, map, IfOk, OnOk, OnErr, Some, None, is_none, ◌&&◌, slice_get, option_map, false};
 ghost use Rattle.std.specs.Option.{option_map_or, option_and_then};
-ghost use Rattle.csl_base.specs.Child.{text, elem, kids_of};
-ghost use Rattle.csl_base.specs.ChildView.{child_view};
-ghost use Rattle.csl_base.specs.Simplify.{join_last};
-ghost use Rattle.csl_base.specs.Tree.{last_text};
+ghost use Rattle.csl_trees.specs.Child.{text, elem, kids_of};
+ghost use Rattle.csl_trees.specs.ChildView.{child_view};
+ghost use Rattle.csl_trees.specs.Simplify.{join_last};
+ghost use Rattle.csl_trees.specs.Tree.{last_text};
 ghost use Rattle.csl_context.specs.Cuts.{cut};
 ghost use Rattle.csl_context.specs.Edits.{edited};
 ghost use Rattle.csl_context.specs.OpenFrames.{on_last_text, end_sole_text, on_end_sole_text, filled, on_filled, top, on_top, below, committed, shows_behind};
@@ -38,7 +38,7 @@ impl Model for FlatFrames {
     ghost use Rattle.std.specs.Prelude.{List, ◌≡◌, ◌≤◌, ◌<◌, ◌+◌, ◌^◌, length, vec_len};
     ghost use Rattle.std.specs.List.{sum};
     ghost use Rattle.std.specs.Coded.{coded_list};
-    ghost use Rattle.csl_base.specs.Child.{Child, coded_child};
+    ghost use Rattle.csl_trees.specs.Child.{Child, coded_child};
     ghost use Rattle.csl_context.specs.Cuts.{cut};
 
     ghost Value = { List (List Child) };

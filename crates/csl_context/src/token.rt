@@ -1,5 +1,6 @@
 //! What tells how high a stack was before something was put on it.
 ghost use Rattle.std.specs.Prelude.{◌<◌};
+ghost use Rattle.csl_base.specs.Tells.{TellsEqual};
 
 /// Where a frame was opened: how many frames and how many formats there were before.
 #[derive(Clone, Copy)]
@@ -33,3 +34,8 @@ pub struct Heights {
     pub delimiters: usize,
     pub name_options: usize,
 }
+
+/// A law: `==` of heights is true exactly of equal values.
+pub fn heights_equality_decides()
+    ensures { TellsEqual ⟦<Heights as PartialEq>⟧.eq }
+{}

@@ -2,10 +2,10 @@
 ghost use Rattle.std.specs.Prelude.{◌≡◌, ◌++◌, ◌≤◌, ◌∷◌, [], string_bytes, length, take, drop, map, IfOk, OnOk, OnErr, false};
 ghost use Rattle.std.specs.Option.{option_map_or};
 ghost use Rattle.std.specs.Str.{IsCharBoundary};
-ghost use Rattle.csl_base.specs.Child.{elem, kids_of};
-ghost use Rattle.csl_base.specs.ChildView.{child_view};
-ghost use Rattle.csl_base.specs.LastTextStep.{last_child};
-ghost use Rattle.csl_base.specs.Tree.{child_has_content};
+ghost use Rattle.csl_trees.specs.Child.{elem, kids_of};
+ghost use Rattle.csl_trees.specs.ChildView.{child_view};
+ghost use Rattle.csl_trees.specs.LastTextStep.{last_child};
+ghost use Rattle.csl_trees.specs.Tree.{child_has_content};
 ghost use Rattle.std.specs.List.{list_any};
 ghost use Rattle.csl_context.specs.Steps.{ends_quoted, pulled, spaced};
 ghost use Rattle.csl_context.specs.Quotes.{quotes_view};

@@ -1,14 +1,15 @@
 //! The writing context: texts that are written one after another into trees that are still open.
 ghost use Rattle.std.specs.Prelude.{◌≡◌, ◌+◌, ◌<◌, ◌≤◌, OnOk, OnErr, IfOk, length, min, slice_get, Some, false, option_map};
 ghost use Rattle.std.specs.Str.{IsCharBoundary};
-ghost use Rattle.csl_base.specs.ChildView.{child_view};
-ghost use Rattle.csl_base.specs.ElementView.{affixes_view, options_view};
+ghost use Rattle.csl_trees.specs.ChildView.{child_view};
+ghost use Rattle.csl_style_values.specs.ElementView.{affixes_view, options_view};
 ghost use Rattle.csl_context.specs.Edits.{edited};
 ghost use Rattle.csl_context.specs.Quotes.{quotes_view};
 ghost use Rattle.std.specs.Bool.{OnTrue};
 ghost use Rattle.std.specs.Option.{option_map_or};
 ghost use Rattle.csl_context.specs.Steps.{ends_quoted, pulled, term_text};
-ghost use Rattle.csl_context.specs.WritingState.{state, heights, begun, is_saved, saved, on_text_before, trimmed_for, unrepeated_for, appended, quoted_text, on_quoted_text, may_pull, after_pull, left_by_pull, written, with_child, formatting, after_push_str, verbatim, with_space, asks_nothing, nothing_asked, formatted, cut_formats, unformatted, opened, closed_elem, discarded, prefixed, has_content_since, ends_so, pulling, deeper, less_deep, delimited, undelimited, with_options, without_options, flushed};
+ghost use Rattle.csl_values.specs.Formatting.{nothing_asked};
+ghost use Rattle.csl_context.specs.WritingState.{state, heights, begun, is_saved, saved, on_text_before, trimmed_for, unrepeated_for, appended, quoted_text, on_quoted_text, may_pull, after_pull, left_by_pull, written, with_child, formatting, after_push_str, verbatim, with_space, asks_nothing, formatted, cut_formats, unformatted, opened, closed_elem, discarded, prefixed, has_content_since, ends_so, pulling, deeper, less_deep, delimited, undelimited, with_options, without_options, flushed};
 
 pub(crate) mod rendering;
 
@@ -620,5 +621,9 @@ impl<'a> WritingContext<'a> {
 fn asks_nothing(format: StyleFormatting) -> bool
     ensures { result ≡ asks_nothing format }
 {
-    format.font_style.is_none() && format.font_weight.is_none()
+    format.font_style.is_none()
+        && format.font_variant.is_none()
+        && format.font_weight.is_none()
+        && format.text_decoration.is_none()
+        && format.vertical_align.is_none()
 }

@@ -7,7 +7,7 @@ use Rattle.std.proofs.lemmas.Bool.{lt-ltb, ltb-false, ltb-true}
 use Rattle.std.proofs.lemmas.List.Elements.{All-append, All-cons, All-contains, All-nil, Contains-append_left, Contains-push}
 use Rattle.csl_ambiguity.proofs.Contained.{some-in}
 use Rattle.indexmap.specs.IndexSet.{insert_key}
-use Rattle.csl_base.specs.Answers.{Answers}
+use Rattle.csl_values.specs.Answers.{Answers}
 use Rattle.csl_base.specs.Tells.{TellsEqual}
 use Rattle.csl_table.specs.Keys.{stage, task_key}
 use Rattle.csl_table.specs.Table.{IsMissingOf, is_earlier, is_later, kept_beside, key_eq, note_once}

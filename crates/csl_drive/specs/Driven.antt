@@ -1,6 +1,6 @@
 -- What comes of a table: the answer where it has all that is asked for, else what it lacks of that.
 use Rattle.std.specs.Prelude.{◌≡◌, ◌≤◌, Bool, List, [], Option, All, Contains, IsSome}
-use Rattle.csl_base.specs.Answers.{Answers}
+use Rattle.csl_values.specs.Answers.{Answers}
 use Rattle.csl_driver.specs.Answer.{Asked}
 use Rattle.csl_driver.specs.Finished.{CanBeAnswered}
 use Rattle.csl_driver.specs.Promised.{IsAnswer}

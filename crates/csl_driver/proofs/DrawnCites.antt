@@ -3,9 +3,9 @@ use Rattle.std.proofs.Common.{◌≡◌, ℕ, zero, suc, ◌+◌, ◌||◌, ◌&
 use Rattle.std.specs.Prelude.{if◌then◌else◌}
 use Rattle.std.specs.List.{enumerate_from}
 use Rattle.std.proofs.lemmas.Bool.{or_left}
-use Rattle.csl_base.specs.Style.{CitationValue}
-use Rattle.csl_base.specs.declared.style.Collapse.{Collapse}
-use Rattle.csl_base.specs.declared.style.Collapse.TheVariants.{CitationNumber, Year, YearSuffix, YearSuffixRanged}
+use Rattle.csl_style_values.specs.Style.{CitationValue}
+use Rattle.csl_style_values.specs.declared.style.Collapse.{Collapse}
+use Rattle.csl_style_values.specs.declared.style.Collapse.TheVariants.{CitationNumber, Year, YearSuffix, YearSuffixRanged}
 use Rattle.csl_collapse.specs.Collapsed.{collapsed, collapsed_by, collapsed_cites, drawn_together}
 use Rattle.csl_collapse.specs.NumberLaws.{CanBeReadBack, is_hidden}
 use Rattle.csl_collapse.specs.NumberRuns.{is_inner, shown_number}

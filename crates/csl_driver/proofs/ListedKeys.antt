@@ -9,8 +9,8 @@ use Rattle.std.proofs.lemmas.List.Elements.{All-head, All-tail}
 use Rattle.std.proofs.lemmas.List.Sorted.{length_permutation}
 use Rattle.csl_assembly.specs.BibliographyItems.{bibliography_of, with_first_field, written_item}
 use Rattle.csl_assembly.specs.declared.rendered.RenderedBibliography.{RenderedBibliography}
-use Rattle.csl_base.specs.Style.{BibliographyValue}
-use Rattle.csl_base.specs.declared.style.SubsequentAuthorSubstituteRule.{SubsequentAuthorSubstituteRule}
+use Rattle.csl_style_values.specs.Style.{BibliographyValue}
+use Rattle.csl_style_values.specs.declared.style.SubsequentAuthorSubstituteRule.{SubsequentAuthorSubstituteRule}
 use Rattle.csl_driver.specs.Answer.{Asked, entries_listed}
 use Rattle.csl_driver.specs.ListedOnce.{EqualHaveEqualKeys, ListsEachOnce, key_of, keys_of}
 use Rattle.csl_driver.proofs.EachOnce.{permuted}

@@ -9,8 +9,8 @@ use Rattle.std.proofs.lemmas.List.FromFn.{length-range_with_len}
 use Rattle.std.proofs.lemmas.List.Sorted.{length_permutation}
 use Rattle.std.proofs.lemmas.List.Sums.{sum_by-cons}
 use Rattle.csl_writers.specs.Writing.{Writing}
-use Rattle.csl_base.specs.Style.{CitationValue}
-use Rattle.csl_base.specs.declared.style.Collapse.{Collapse}
+use Rattle.csl_style_values.specs.Style.{CitationValue}
+use Rattle.csl_style_values.specs.declared.style.Collapse.{Collapse}
 use Rattle.csl_collapse.specs.Collapsed.{collapsed, collapsed_cites, drawn_together}
 use Rattle.csl_driver.specs.Answer.{Asked, entries_listed, final_number, in_final_order, in_the_end, rendered_first}
 use Rattle.csl_driver.proofs.FirstPlaced.{first-cited}

@@ -10,7 +10,7 @@ use Rattle.csl_driver.specs.Answer.{Asked, entries_listed, rendered_first}
 use Rattle.csl_driver.specs.AreCitesOf.{AreCitesOf}
 use Rattle.csl_driver.proofs.FirstPlaced.{first-cited, first-placed, first-places, first-requests}
 use Rattle.csl_driver.proofs.Listings.{table-within}
-use Rattle.csl_base.specs.Ring.{HasNoRing}
+use Rattle.csl_style_values.specs.Ring.{HasNoRing}
 use Rattle.csl_entries.specs.Entries.{distinct, is_in, number}
 use Rattle.csl_entries.specs.PlacedItems.{IsPlaced}
 use Rattle.csl_entries.specs.Table.{Table, table_of}

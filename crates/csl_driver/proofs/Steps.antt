@@ -1,6 +1,6 @@
 -- The steps of an answer, as a writer is asked for them.
 use Rattle.std.proofs.Common.{◌≡◌, ℕ, Bool, List, ◌++◌, Option, subst, ◌∙◌}
-use Rattle.csl_base.specs.Answers.{Answers}
+use Rattle.csl_values.specs.Answers.{Answers}
 use Rattle.csl_lookup.specs.declared.state.DisambiguateState.{DisambiguateState}
 use Rattle.csl_passes.specs.Renders.{CiteRender}
 use Rattle.csl_round_laws.specs.declared.mode.RoundMode.{RoundMode}

@@ -5,7 +5,7 @@ use Rattle.std.specs.List.Sorted.{IsPermutation}
 use Rattle.csl_assembly.specs.CitationTree.{shown}
 use Rattle.csl_assembly.specs.declared.rendered.Rendered.{Rendered}
 use Rattle.csl_assembly.specs.declared.rendered.RenderedCitation.{RenderedCitation}
-use Rattle.csl_base.specs.declared.style.Collapse.TheVariants.{CitationNumber}
+use Rattle.csl_style_values.specs.declared.style.Collapse.TheVariants.{CitationNumber}
 use Rattle.csl_writers.specs.Writing.{Writing}
 use Rattle.csl_collapse.specs.NumberLaws.{CanBeReadBack, is_hidden}
 use Rattle.csl_driver.specs.Answer.{Asked, citations_of, order_in_use, rendered_first}

@@ -1,5 +1,5 @@
 -- For the code: what a draft answers, and where its entries stand.
-use Rattle.csl_base.specs.declared.entry.EntryLike as entry_like
+use Rattle.csl_values.specs.declared.entry.EntryLike as entry_like
 use Rattle.csl_driver.specs.Answer.{Asked}
 use Rattle.csl_driver.specs.AskedView.{asked_view}
 use Rattle.csl_driver.specs.declared.draft.Draft.{Draft}

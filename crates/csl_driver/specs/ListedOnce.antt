@@ -3,7 +3,7 @@ use Rattle.std.specs.Prelude.{◌≡◌, ℕ, Bool, true, IfSome, List, Option, 
 use Rattle.std.specs.List.Sorted.{IsPermutation}
 use Rattle.csl_assembly.specs.BibliographyItems.{bibliography_of}
 use Rattle.csl_assembly.specs.declared.rendered.RenderedBibliography.{RenderedBibliography}
-use Rattle.csl_base.specs.Answers.{Answers}
+use Rattle.csl_values.specs.Answers.{Answers}
 use Rattle.csl_driver.specs.Answer.{Asked, entries_listed}
 use Rattle.csl_entries.specs.Entries.{is_in}
 use Rattle.csl_entries.specs.Laws.{NoTwoEqual}

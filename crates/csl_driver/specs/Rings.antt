@@ -1,7 +1,7 @@
 -- Why the driver refuses: a style whose macros call each other in a ring, or numbers that grow too large.
 use Rattle.std.specs.Prelude.{◌≡◌, ℕ, ◌+◌, ◌≤◌, ◌^◌, Bool, List, length, take, slice_get, Some, All}
-use Rattle.csl_base.specs.Ring.{HasNoRing, IsFirstRing}
-use Rattle.csl_base.specs.Style.{StyleValue}
+use Rattle.csl_style_values.specs.Ring.{HasNoRing, IsFirstRing}
+use Rattle.csl_style_values.specs.Style.{StyleValue}
 use Rattle.csl_entries.specs.Entries.{distinct}
 use Rattle.csl_passes.specs.Request.{Request, cited}
 use Rattle.csl_driver.specs.declared.error.DriverError.{DriverError}

@@ -1,8 +1,8 @@
 -- A citation that stands for itself.
 use Rattle.std.specs.Prelude.{ℕ, true, not, List, map, filter, Option, None, Some, unwrap_or, codes}
-use Rattle.csl_base.specs.Style.{LayoutValue}
-use Rattle.csl_base.specs.Child.{Child}
-use Rattle.csl_base.specs.Tree.{has_content}
+use Rattle.csl_style_values.specs.Style.{LayoutValue}
+use Rattle.csl_trees.specs.Child.{Child}
+use Rattle.csl_trees.specs.Tree.{has_content}
 use Rattle.csl_lookup.specs.Lookup.{Source}
 use Rattle.csl_lookup.specs.NoProperties.{nothing_certain, speculated}
 use Rattle.csl_lookup.specs.Properties.{LocatorValue, Properties}

@@ -1,6 +1,6 @@
 //! The cited entries, their order and their numbers.
 ghost use Rattle.std.specs.Prelude.{◌≡◌, ◌+◌, ◌<◌, ◌^◌, IfErr, IfOk, length, ℕ};
-ghost use Rattle.csl_base.specs.StyleView.{style_view};
+ghost use Rattle.csl_style_values.specs.StyleView.{style_view};
 ghost use Rattle.csl_entries.specs.ListingView.{listing_view};
 ghost use Rattle.csl_entries.specs.TableView.{table_view};
 ghost use Rattle.csl_passes.specs.RequestView.{order_view, requests_view, wanted_view};

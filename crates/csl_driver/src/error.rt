@@ -1,4 +1,6 @@
 //! Why the driver refuses.
+ghost use Rattle.csl_base.specs.Tells.{TellsEqual};
+
 use csl_passes::request::CitationRequest;
 use std::alloc::AllocError;
 
@@ -22,6 +24,12 @@ pub enum RingPlace {
     /// With the request for a bibliography.
     Bibliography,
 }
+
+/// A law: `==` of refusals, and of where a style with a ring was handed in, is true exactly of equal values.
+pub fn error_equality_decides()
+    ensures place { TellsEqual ⟦<RingPlace as PartialEq>⟧.eq }
+    ensures error { TellsEqual ⟦<DriverError as PartialEq>⟧.eq }
+{}
 
 /// Why no answer is given with a writer of the caller's own.
 #[derive(Drop)]

@@ -17,8 +17,8 @@ pub use csl_entries::laws::{bibliography_holds_each_once, numbers_have_no_gaps};
 pub use csl_grouping::laws::{final_order_laws, grouped_in_final_order};
 pub use csl_name_marks::laws::name_marks_go_on;
 pub use csl_passes::laws::{
-    item_equality_decides, items_copy_equal, properties_equality_decides, request_equality_decides,
-    wanted_equality_decides,
+    first_equality_decides, item_equality_decides, items_copy_equal, properties_equality_decides,
+    request_equality_decides, wanted_equality_decides,
 };
 pub use csl_round_laws::laws::runs_are_lawful;
 

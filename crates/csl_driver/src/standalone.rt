@@ -1,7 +1,7 @@
 //! A citation that stands for itself.
 ghost use Rattle.std.specs.Prelude.{◌≡◌, IfOk, OnOk, IfErr, map};
-ghost use Rattle.csl_base.specs.Ring.{HasNoRing};
-ghost use Rattle.csl_base.specs.StyleView.{layout_view};
+ghost use Rattle.csl_style_values.specs.Ring.{HasNoRing};
+ghost use Rattle.csl_style_values.specs.StyleView.{layout_view};
 ghost use Rattle.csl_passes.specs.Request.{source_of};
 ghost use Rattle.csl_passes.specs.RequestView.{cite_view, request_view};
 ghost use Rattle.csl_driver.specs.Rings.{RefusesAlone};

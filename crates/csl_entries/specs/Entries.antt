@@ -1,7 +1,7 @@
 -- Lists of entries up to their own equality, and the order and the numbers that they get.
 use Rattle.std.specs.Prelude.{ℕ, ◌+◌, Bool, not, List, [], ◌∷◌, ◌++◌, filter, fold, if◌then◌else◌, is_some, Option, Some, None}
 use Rattle.std.specs.List.{list_any, position_or_len}
-use Rattle.csl_base.specs.Style.{StyleValue}
+use Rattle.csl_style_values.specs.Style.{StyleValue}
 
 -- the order that a bibliography of this style goes by, if it goes by one
 abbrev pub used_order : {E : Type 0} → StyleValue → Option (List E) → Option (List E)

@@ -5,7 +5,7 @@ use Rattle.std.specs.List.{range_with_len}
 use Rattle.std.specs.Option.{option_or}
 use Rattle.std.proofs.lemmas.List.Sorted.{IsPermutation-refl}
 use Rattle.std.proofs.lemmas.Result.{on_ok_weaker}
-use Rattle.csl_base.specs.Style.{CitationValue}
+use Rattle.csl_style_values.specs.Style.{CitationValue}
 use Rattle.csl_passes.specs.Renders.{CiteRender, ItemRender}
 use Rattle.csl_grouping.specs.Blocks.{final_order, group_delimiter, grouped, grouped_cites, is_grouped}
 use Rattle.csl_grouping.specs.FinalOrder.{HasFinalOrder}

@@ -2,7 +2,7 @@
 use Rattle.std.specs.Prelude.{ℕ, Bool, List, [], ◌∷◌, ◌&&◌, ◌||◌, Option, None, Some, filter, if◌then◌else◌, is_some, map}
 use Rattle.std.specs.List.{enumerate_from, flat_map}
 use Rattle.std.specs.Option.{option_or}
-use Rattle.csl_base.specs.Style.{CitationValue}
+use Rattle.csl_style_values.specs.Style.{CitationValue}
 use Rattle.csl_entries.specs.Entries.{distinct, place}
 use Rattle.csl_passes.specs.Renders.{ItemRender, CiteRender}
 use Rattle.csl_grouping.specs.BlockKeys.{BlockKey, is_named, key_of, same_key}

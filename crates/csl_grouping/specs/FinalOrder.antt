@@ -2,7 +2,7 @@
 use Rattle.std.specs.Prelude.{◌≡◌, ℕ, Bool, true, false, List, Some, length, map, slice_get}
 use Rattle.std.specs.List.{range_with_len}
 use Rattle.std.specs.List.Sorted.{IsPermutation}
-use Rattle.csl_base.specs.declared.elem.Elem.{Elem}
+use Rattle.csl_trees.specs.declared.elem.Elem.{Elem}
 use Rattle.csl_passes.specs.Renders.{ItemRender}
 use Rattle.csl_grouping.specs.Laws.{StandsTogether, bare, places_with}
 

@@ -2,9 +2,9 @@
 use Rattle.std.specs.Prelude.{◌≡◌, ℕ, List, ◌++◌, None, Some, filter, map, slice_get}
 use Rattle.std.specs.List.{enumerate_from}
 use Rattle.std.specs.Option.{option_eq}
-use Rattle.csl_base.specs.EqualTrees.{same_elem}
-use Rattle.csl_base.specs.Tree.{find_elem, has_names}
-use Rattle.csl_base.specs.declared.elem.Elem.{Elem}
+use Rattle.csl_trees.specs.EqualTrees.{same_elem}
+use Rattle.csl_trees.specs.Tree.{find_elem, has_names}
+use Rattle.csl_trees.specs.declared.elem.Elem.{Elem}
 use Rattle.csl_passes.specs.Renders.{ItemRender}
 use Rattle.csl_grouping.specs.Blocks.{final_order, with_block}
 

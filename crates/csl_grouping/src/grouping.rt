@@ -1,6 +1,6 @@
 //! Grouping (CSL 1.0.2, cite grouping).
 ghost use Rattle.std.specs.Prelude.{◌≡◌, ◌≤◌, None, Some, if◌then◌else◌, length, map, option_map, IfOk, OnErr, OnOk};
-ghost use Rattle.csl_base.specs.StyleView.{citation_view};
+ghost use Rattle.csl_style_values.specs.StyleView.{citation_view};
 ghost use Rattle.csl_passes.specs.RendersView.{item_view, items_view, render_view};
 ghost use Rattle.csl_grouping.specs.Blocks.{group_delimiter, grouped, grouped_cites, is_grouped};
 ghost use Rattle.csl_grouping.specs.FinalOrder.{HasFinalOrder};

@@ -2,7 +2,7 @@
 ghost use Rattle.std.specs.Prelude.{ℕ, List, Option, length};
 ghost use Rattle.std.specs.List.{range_with_len};
 ghost use Rattle.std.specs.List.Sorted.{IsPermutation};
-ghost use Rattle.csl_base.specs.declared.elem.Elem.{Elem};
+ghost use Rattle.csl_trees.specs.declared.elem.Elem.{Elem};
 ghost use Rattle.csl_passes.specs.Renders.{CiteRender, ItemRender};
 ghost use Rattle.csl_grouping.specs.Blocks.{final_order, grouped, grouped_cites, is_grouped};
 ghost use Rattle.csl_grouping.specs.FinalOrder.{HasFinalOrder};

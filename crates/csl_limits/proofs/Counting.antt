@@ -1,14 +1,14 @@
 -- Elements are counted from left to right.
 use Rattle.std.proofs.Common.{◌≡◌, refl, sym, subst, drop, length, get_or, ◌≤◌, ℕ, zero, suc, ◌+◌, ◌-◌, ◌<◌, List, [], ◌∷◌, ◌++◌, ◌&&◌, arith, rules, inr}
 use Rattle.std.specs.Prelude.{Result, Ok, Err, IfErr, Some, ⊤}
-use Rattle.csl_base.specs.Style.{BibliographyValue, StyleValue}
+use Rattle.csl_style_values.specs.Style.{BibliographyValue, StyleValue}
 use Rattle.std.proofs.lemmas.List.Folds.{list_all-append}
 use Rattle.std.proofs.lemmas.List.Sums.{sum_by-append}
-use Rattle.csl_base.specs.Element.{Element, Macro}
-use Rattle.csl_base.specs.ElementView.{branches_view, element_view, elements_view}
-use Rattle.csl_base.specs.declared.element.ChooseBranch.{ChooseBranch}
-use Rattle.csl_base.specs.declared.element.LayoutRenderingElement.{LayoutRenderingElement}
-use Rattle.csl_base.proofs.Views.{branches_rest, elements_rest}
+use Rattle.csl_style_values.specs.Element.{Element, Macro}
+use Rattle.csl_style_values.specs.ElementView.{branches_view, element_view, elements_view}
+use Rattle.csl_style_values.specs.declared.element.ChooseBranch.{ChooseBranch}
+use Rattle.csl_style_values.specs.declared.element.LayoutRenderingElement.{LayoutRenderingElement}
+use Rattle.csl_style_values.proofs.Views.{branches_rest, elements_rest}
 use Rattle.csl_limits.specs.declared.limits.Excess.{Excess}
 use Rattle.csl_limits.specs.declared.limits.Excess.TheVariants as excess
 use Rattle.csl_limits.specs.declared.limits.Limits.{Limits}

@@ -1,8 +1,8 @@
 -- Styles within limits, and beyond them.
 use Rattle.std.specs.Prelude.{◌≡◌, ℕ, ◌+◌, ◌<◌, ◌≤◌, ◌⊎◌, List, true, false, Some, Result, Ok, Err, ⊤}
 use Rattle.std.specs.Option.{ForSome}
-use Rattle.csl_base.specs.Element.{Element, Macro}
-use Rattle.csl_base.specs.Style.{BibliographyValue, StyleValue}
+use Rattle.csl_style_values.specs.Element.{Element, Macro}
+use Rattle.csl_style_values.specs.Style.{BibliographyValue, StyleValue}
 use Rattle.csl_limits.specs.declared.limits.Excess.{Excess}
 use Rattle.csl_limits.specs.declared.limits.Excess.TheVariants as excess
 use Rattle.csl_limits.specs.declared.limits.Limits.{Limits}

@@ -2,8 +2,8 @@
 use Rattle.std.specs.Prelude.{ℕ, zero, suc, ◌+◌, List, [], ◌∷◌, ◌++◌, Bool, true, false}
 use Rattle.std.specs.List.{list_all, sum_by}
 use Rattle.std.specs.Option.{option_map_or}
-use Rattle.csl_base.specs.Element.{Target, macro_target, Element, text_element, group_element, choose_element, Elements, no_elements, element, Branches, otherwise, branch, Macro}
-use Rattle.csl_base.specs.Ring.{body_of}
+use Rattle.csl_style_values.specs.Element.{Target, macro_target, Element, text_element, group_element, choose_element, Elements, no_elements, element, Branches, otherwise, branch, Macro}
+use Rattle.csl_style_values.specs.Ring.{body_of}
 
 abbrev pub items : Elements → List Element
 items no_elements = []

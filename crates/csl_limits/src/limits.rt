@@ -1,6 +1,7 @@
 //! How deep the elements of a layout may nest, and how many there may be, with macros written out.
 ghost use Rattle.std.specs.Prelude.{[], ◌∷◌, IfErr, OnOk};
-ghost use Rattle.csl_base.specs.ElementView.{branches_view, element_view, elements_view, target_view};
+ghost use Rattle.csl_base.specs.Tells.{TellsEqual};
+ghost use Rattle.csl_style_values.specs.ElementView.{branches_view, element_view, elements_view, target_view};
 ghost use Rattle.csl_styles.specs.PreparedView.{prepared_view};
 ghost use Rattle.csl_limits.specs.Limited.{ChecksLayout, Counted, Exceeds, IsWithinLimits};
 ghost use Rattle.csl_limits.specs.Nesting.{branch_items, called, children_of, items};
@@ -29,6 +30,12 @@ pub enum Excess {
     /// It has too many elements.
     Elements,
 }
+
+/// A law: `==` of limits, and of which one is exceeded, is true exactly of equal values.
+pub fn limits_equality_decides()
+    ensures limits { TellsEqual ⟦<Limits as PartialEq>⟧.eq }
+    ensures excess { TellsEqual ⟦<Excess as PartialEq>⟧.eq }
+{}
 
 impl Limits {
     /// Whether each layout of the style is within the limits. It looks at no more elements than they allow,

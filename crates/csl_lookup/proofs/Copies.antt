@@ -5,8 +5,8 @@ use Rattle.std.specs.Borrow.{RattleType}
 use Rattle.std.specs.contracts.prelude.OptionClone.TheImpl as option_clone
 use denote.Signature.{static_lft}
 use mir.Syntax.{Dict}
-use Rattle.csl_base.specs.declared.names.NameDisambiguationProperties.{NameDisambiguationProperties}
-use Rattle.csl_base.specs.contracts.names.NameDisambiguationPropertiesClone.TheImpl as names_clone
+use Rattle.csl_values.specs.declared.names.NameDisambiguationProperties.{NameDisambiguationProperties}
+use Rattle.csl_values.specs.contracts.names.NameDisambiguationPropertiesClone.TheImpl as names_clone
 use Rattle.csl_lookup.specs.declared.locator.LocatorPayload.{LocatorPayload}
 use Rattle.csl_lookup.specs.declared.locator.LocatorPayload.TheVariants as payload
 use Rattle.csl_lookup.specs.declared.locator.SpecificLocator.{SpecificLocator}

@@ -3,10 +3,10 @@ use Rattle.std.specs.Prelude.{◌≡◌, true, refl}
 use Rattle.std.specs.Cmp.{booleans_Decides, unsigned_Decides}
 use Rattle.std.proofs.Common.{ap, sym, true≢false}
 use denote.Enum.Bare.{same_true, true_same}
-use Rattle.csl_base.specs.Finds.{Finds, both, and-true, finds, lists_find, options_find}
-use Rattle.csl_base.specs.contracts.names.DisambiguatedNameForm as form
-use Rattle.csl_base.specs.contracts.names.DisambiguatedNameFormPartialEq.TheImpl as form_eq
-use Rattle.csl_base.specs.contracts.names.NameDisambiguationPropertiesPartialEq.TheImpl as names_eq
+use Rattle.csl_values.specs.Finds.{Finds, both, and-true, finds, lists_find, options_find}
+use Rattle.csl_values.specs.contracts.names.DisambiguatedNameForm as form
+use Rattle.csl_values.specs.contracts.names.DisambiguatedNameFormPartialEq.TheImpl as form_eq
+use Rattle.csl_values.specs.contracts.names.NameDisambiguationPropertiesPartialEq.TheImpl as names_eq
 use Rattle.csl_lookup.specs.declared.state.DisambiguateState.{DisambiguateState}
 use Rattle.csl_lookup.specs.contracts.properties.CertainCitePropertiesPartialEq.TheImpl as certain_eq
 use Rattle.csl_lookup.specs.contracts.state.IbidState as ibid

@@ -3,9 +3,9 @@ use Rattle.std.proofs.Common.{◌≡◌, ℕ, inl, inr, List, [], ◌∷◌, ◌
 use Rattle.std.specs.Option.{option_or}
 use Rattle.std.specs.Fn.{Shared}
 use Rattle.std.specs.Borrow.{Bor}
-use Rattle.csl_base.specs.Style.{LocaleValue}
-use Rattle.csl_base.specs.StyleView.{locale_view}
-use Rattle.csl_base.specs.declared.locale.Locale.{Locale}
+use Rattle.csl_style_values.specs.Style.{LocaleValue}
+use Rattle.csl_style_values.specs.StyleView.{locale_view}
+use Rattle.csl_style_values.specs.declared.locale.Locale.{Locale}
 use Rattle.csl_lookup.specs.Lookup.{first_answer}
 use Rattle.csl_styles.specs.Terms.{locale_of}
 use Rattle.csl_lookup.specs.FirstAnswer.{Gives, FirstAnswer}

@@ -3,8 +3,8 @@ use Rattle.std.proofs.Common.{◌≡◌, ◌⊎◌, inl, inr, ℕ, zero, suc, �
 use Rattle.std.specs.Prelude.{sum_by}
 use Rattle.std.specs.Ordering.{is_lt}
 use Rattle.std.proofs.lemmas.List.Sums.{sum_by-cons}
-use Rattle.csl_base.specs.Ordered.{extent}
-use Rattle.csl_base.specs.declared.names.DisambiguatedNameForm.{DisambiguatedNameForm}
+use Rattle.csl_values.specs.Ordered.{extent}
+use Rattle.csl_values.specs.declared.names.DisambiguatedNameForm.{DisambiguatedNameForm}
 use Rattle.csl_lookup.specs.GoingOn.{GoesFarther, GoesOn, GoesOnTo, GreaterIsOne, NoFormFalls}
 use Rattle.csl_lookup.specs.States.{kind_of, state_cmp}
 use Rattle.csl_lookup.specs.declared.state.DisambiguateState.{DisambiguateState}

@@ -4,7 +4,7 @@ use Rattle.std.specs.Ordering.{ordering_reverse, is_gt, is_lt, ord_max}
 use Rattle.std.specs.declared.cmp.Ordering.{Ordering}
 use Rattle.std.specs.declared.cmp.Ordering.TheVariants.{Less, Equal, Greater}
 use Rattle.std.proofs.lemmas.Cmp.{upto}
-use Rattle.csl_base.specs.Ordered.{IsValueOrder}
+use Rattle.csl_values.specs.Ordered.{IsValueOrder}
 
 module _ {K : Type 0} {cmp : K → K → Ordering} (order : IsValueOrder cmp) where
   -- a comes before b, or is b

@@ -5,8 +5,8 @@ use Rattle.std.specs.declared.cmp.Ordering.{Ordering}
 use Rattle.std.specs.declared.cmp.Ordering.TheVariants.{Less, Equal, Greater}
 use Rattle.std.proofs.lemmas.Cmp.{on_total, then_total, nat_cmp_total, ranked, tied_itself}
 use Rattle.std.specs.Cmp.{IsTotalOrder}
-use Rattle.csl_base.specs.declared.names.NameDisambiguationProperties.{NameDisambiguationProperties}
-use Rattle.csl_base.specs.Ordered.{IsValueOrder, properties_cmp}
+use Rattle.csl_values.specs.declared.names.NameDisambiguationProperties.{NameDisambiguationProperties}
+use Rattle.csl_values.specs.Ordered.{IsValueOrder, properties_cmp}
 use Rattle.csl_lookup.specs.declared.state.DisambiguateState.{DisambiguateState}
 use Rattle.csl_lookup.specs.States.{kind_of, forms_of, suffix_rank, state_cmp}
 

@@ -2,9 +2,9 @@
 use Rattle.std.specs.Prelude.{◌≡◌, ◌⊎◌, List, [], ◌∷◌, Option, None, IsSome}
 use Rattle.std.specs.Fn.{Shared, FnReturnsAt}
 use Rattle.std.specs.Borrow.{Bor}
-use Rattle.csl_base.specs.declared.locale.Locale.{Locale}
-use Rattle.csl_base.specs.Style.{LocaleValue}
-use Rattle.csl_base.specs.StyleView.{locale_view}
+use Rattle.csl_style_values.specs.declared.locale.Locale.{Locale}
+use Rattle.csl_style_values.specs.Style.{LocaleValue}
+use Rattle.csl_style_values.specs.StyleView.{locale_view}
 
 module _ {R : Type 0} where
   -- f may answer r of a locale that stands for l

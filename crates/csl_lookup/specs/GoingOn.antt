@@ -1,8 +1,8 @@
 -- How the state of an entry advances from one round to the next.
 use Rattle.std.specs.Prelude.{◌≡◌, ◌⊎◌, ℕ, ◌+◌, ◌*◌, ◌<◌, ◌≤◌, List, length, sum_by}
 use Rattle.std.specs.List.{AllZip}
-use Rattle.csl_base.specs.declared.names.DisambiguatedNameForm.{DisambiguatedNameForm}
-use Rattle.csl_base.specs.Ordered.{extent}
+use Rattle.csl_values.specs.declared.names.DisambiguatedNameForm.{DisambiguatedNameForm}
+use Rattle.csl_values.specs.Ordered.{extent}
 use Rattle.csl_lookup.specs.States.{forms_of, greater, kind_of}
 use Rattle.csl_lookup.specs.declared.state.DisambiguateState.{DisambiguateState}
 

@@ -2,12 +2,12 @@
 use Rattle.std.specs.Prelude.{ℕ, List, [], ◌∷◌, ◌++◌, Bool, false, ◌==◌, Option, None, Some, option_and_then, option_to_list, unwrap_or, bytes_eq, codes, if◌then◌else◌}
 use Rattle.std.specs.List.{before_first}
 use Rattle.std.specs.Option.{option_or}
-use Rattle.csl_base.specs.declared.taxonomy.Locator.{Locator}
-use Rattle.csl_base.specs.declared.taxonomy.NumberVariable.{NumberVariable}
-use Rattle.csl_base.specs.declared.taxonomy.Term.{Term}
-use Rattle.csl_base.specs.declared.taxonomy.TermForm.{TermForm}
-use Rattle.csl_base.specs.Found.{first_value}
-use Rattle.csl_base.specs.Style.{TermValue, LocaleValue, StyleValue}
+use Rattle.csl_values.specs.declared.taxonomy.Locator.{Locator}
+use Rattle.csl_values.specs.declared.taxonomy.NumberVariable.{NumberVariable}
+use Rattle.csl_values.specs.declared.taxonomy.Term.{Term}
+use Rattle.csl_values.specs.declared.taxonomy.TermForm.{TermForm}
+use Rattle.csl_values.specs.Found.{first_value}
+use Rattle.csl_style_values.specs.Style.{TermValue, LocaleValue, StyleValue}
 use Rattle.csl_styles.specs.Terms.{locale_of, term_in}
 use Prim.Native.Char.{code}
 

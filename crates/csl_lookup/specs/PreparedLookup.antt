@@ -1,6 +1,6 @@
 -- A prepared style and prepared files as what is looked up in.
 use Rattle.std.specs.Prelude.{ℕ, List, map}
-use Rattle.csl_base.specs.StyleView.{locale_view}
+use Rattle.csl_style_values.specs.StyleView.{locale_view}
 use Rattle.csl_styles.specs.PreparedView.{prepared_view}
 use Rattle.csl_styles.specs.TablesView.{locales_of}
 use Rattle.csl_styles.specs.declared.prepared.PreparedSource.{PreparedSource}

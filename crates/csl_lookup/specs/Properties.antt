@@ -1,6 +1,6 @@
 -- The properties of a cite as plain data: no capacity and no address is seen.
 use Rattle.std.specs.Prelude.{ℕ, List, Option}
-use Rattle.csl_base.specs.declared.taxonomy.Locator.{Locator}
+use Rattle.csl_values.specs.declared.taxonomy.Locator.{Locator}
 use Rattle.csl_lookup.specs.declared.properties.CertainCiteProperties.{CertainCiteProperties}
 use Rattle.csl_lookup.specs.declared.state.DisambiguateState.{DisambiguateState}
 use Rattle.csl_lookup.specs.declared.state.IbidState.{IbidState}

@@ -1,6 +1,6 @@
 -- The plain data that a style with its locales stands for.
 use Rattle.std.specs.Prelude.{map, option_map}
-use Rattle.csl_base.specs.StyleView.{code_view, locale_view, style_view}
+use Rattle.csl_style_values.specs.StyleView.{code_view, locale_view, style_view}
 use Rattle.csl_lookup.specs.declared.lookup.StyleLocales.{StyleLocales}
 use Rattle.csl_lookup.specs.Lookup.{Lookup, Source, lookup}
 

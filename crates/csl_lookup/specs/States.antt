@@ -2,8 +2,8 @@
 use Rattle.std.specs.Prelude.{ℕ, [], Bool, true, false, Option, Some, None, unwrap_or}
 use Rattle.std.specs.Ordering.{nat_cmp, on, then_cmp, ord_max}
 use Rattle.std.specs.declared.cmp.Ordering.{Ordering}
-use Rattle.csl_base.specs.declared.names.NameDisambiguationProperties.{NameDisambiguationProperties}
-use Rattle.csl_base.specs.Ordered.{properties_cmp}
+use Rattle.csl_values.specs.declared.names.NameDisambiguationProperties.{NameDisambiguationProperties}
+use Rattle.csl_values.specs.Ordered.{properties_cmp}
 use Rattle.csl_lookup.specs.declared.state.IdentifierUsage.{IdentifierUsage}
 use Rattle.csl_lookup.specs.declared.state.DisambiguateState.{DisambiguateState}
 

@@ -1,9 +1,9 @@
 //! Look-up of terms in the locales of a style (CSL 1.0.2, locale fallback).
 ghost use Rattle.std.specs.Prelude.{◌≡◌, [], ◌∷◌, IfOk, None, bytes_eq, map, option_map, option_to_list};
-ghost use Rattle.csl_base.specs.ElementView.{elements_view};
-ghost use Rattle.csl_base.specs.Found.{first_value};
-ghost use Rattle.csl_base.specs.Ring.{body_of, IsFirstRing, HasNoRing};
-ghost use Rattle.csl_base.specs.StyleView.{code_view, locale_view, style_view, term_view};
+ghost use Rattle.csl_style_values.specs.ElementView.{elements_view};
+ghost use Rattle.csl_values.specs.Found.{first_value};
+ghost use Rattle.csl_style_values.specs.Ring.{body_of, IsFirstRing, HasNoRing};
+ghost use Rattle.csl_style_values.specs.StyleView.{code_view, locale_view, style_view, term_view};
 ghost use Rattle.csl_lookup.specs.Lookup as found;
 ghost use Rattle.csl_lookup.specs.FirstAnswer.{Gives, FirstAnswer};
 ghost use Rattle.csl_styles.specs.MadeOf.{IsOf, IsOf-prop};

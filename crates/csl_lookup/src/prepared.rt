@@ -1,6 +1,6 @@
 //! Look-up of terms by tables.
 ghost use Rattle.std.specs.Prelude.{◌≡◌, bytes_eq, option_map};
-ghost use Rattle.csl_base.specs.StyleView.{term_view};
+ghost use Rattle.csl_style_values.specs.StyleView.{term_view};
 ghost use Rattle.csl_lookup.specs.Lookup as found;
 ghost use Rattle.csl_lookup.specs.PreparedLookup.{prepared_lookup};
 ghost use Rattle.csl_styles.specs.Terms.{term_in};

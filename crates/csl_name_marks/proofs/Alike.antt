@@ -3,10 +3,10 @@ use Rattle.std.proofs.Common.{◌≡◌, ℕ, zero, suc, ◌+◌, Bool, true, fa
 use Rattle.std.specs.Prelude.{option_map, slice_get, ◌==◌}
 use Rattle.std.specs.Option.{option_eq}
 use Rattle.std.proofs.lemmas.Bool.{eqb-true}
-use Rattle.csl_base.specs.EqualEntries.{persons_find}
-use Rattle.csl_base.specs.Finds.{lists_find}
-use Rattle.csl_base.specs.declared.entry.Person.{Person}
-use Rattle.csl_base.specs.declared.style.DisambiguationRule.{DisambiguationRule}
+use Rattle.csl_values.specs.EqualEntries.{persons_find}
+use Rattle.csl_values.specs.Finds.{lists_find}
+use Rattle.csl_values.specs.declared.entry.Person.{Person}
+use Rattle.csl_style_values.specs.declared.style.DisambiguationRule.{DisambiguationRule}
 use Rattle.csl_name_marks.specs.Classes.{kept_at}
 use Rattle.csl_name_marks.specs.Cut.{cut_by_rule, kept}
 use Rattle.csl_name_marks.specs.Persons.{same_person}

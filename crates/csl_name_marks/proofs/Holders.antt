@@ -11,9 +11,9 @@ use Rattle.std.proofs.lemmas.Grind.{flat_map-append}
 use Rattle.std.proofs.lemmas.List.{take_more}
 use Rattle.std.proofs.lemmas.List.Folds.{list_any-append, list_any_at}
 use Rattle.std.proofs.lemmas.Option.{get_or_from_slice_get}
-use Rattle.csl_base.specs.EqualEntries.{persons_find}
-use Rattle.csl_base.specs.Finds.{Finds, and-true, both, options_find, texts_find}
-use Rattle.csl_base.specs.declared.entry.Person.{Person}
+use Rattle.csl_values.specs.EqualEntries.{persons_find}
+use Rattle.csl_values.specs.Finds.{Finds, and-true, both, options_find, texts_find}
+use Rattle.csl_values.specs.declared.entry.Person.{Person}
 use Rattle.csl_passes.specs.Renders.{Place}
 use Rattle.csl_name_marks.specs.ByName.{AreByName, Grows, IsTold, holders, is_other, is_other_held, is_other_named, names_of, same_name, shown_by_all, shown_by}
 use Rattle.csl_name_marks.specs.Persons.{same_person}

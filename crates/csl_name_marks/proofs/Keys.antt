@@ -3,8 +3,8 @@ use Rattle.std.proofs.Common.{◌≡◌, ℕ, ◌+◌, ◌<◌, Bool, true, ◌&
 use Rattle.std.specs.Prelude.{All, option_map, slice_get, nat_eq}
 use Rattle.std.specs.List.{zip}
 use Rattle.std.specs.Option.{option_eq}
-use Rattle.csl_base.specs.EqualEntries.{persons_find}
-use Rattle.csl_base.specs.Finds.{Finds, both, and-true, options_find}
+use Rattle.csl_values.specs.EqualEntries.{persons_find}
+use Rattle.csl_values.specs.Finds.{Finds, both, and-true, options_find}
 use Rattle.std.specs.Cmp.{nat_eq_equiv}
 use Rattle.std.proofs.lemmas.Bool.{eqb-true}
 use Rattle.std.proofs.Math.ListN.{length-map}
@@ -12,7 +12,7 @@ use Rattle.std.proofs.lemmas.List.{map-append, take_more}
 use Rattle.std.proofs.lemmas.List.Elements.{All-map}
 use Rattle.std.proofs.lemmas.Option.{slice_get-get_or, slice_get-map}
 use Rattle.std.proofs.lemmas.Slice.Zip.{length-zip}
-use Rattle.csl_base.specs.declared.style.DisambiguationRule.{DisambiguationRule}
+use Rattle.csl_style_values.specs.declared.style.DisambiguationRule.{DisambiguationRule}
 use Rattle.csl_name_marks.specs.Classes.{AreClasses, alike_by, kept_at}
 use Rattle.csl_name_marks.specs.Persons.{same_person}
 use Rattle.csl_name_marks.specs.contracts.classes.ClassKeyPartialEq.TheImpl as key_eq

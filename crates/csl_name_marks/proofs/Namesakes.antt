@@ -5,8 +5,8 @@ use Rattle.std.specs.HashMap.{HashMap}
 use Rattle.std.specs.List.{flat_map, list_any}
 use Rattle.std.specs.declared.alloc.Global.{Global}
 use Rattle.std.proofs.lemmas.List.Folds.{list_any-append}
-use Rattle.csl_base.specs.declared.entry.Person.{Person}
-use Rattle.csl_base.specs.declared.names.DisambiguatedNameForm.{DisambiguatedNameForm}
+use Rattle.csl_values.specs.declared.entry.Person.{Person}
+use Rattle.csl_values.specs.declared.names.DisambiguatedNameForm.{DisambiguatedNameForm}
 use Rattle.csl_passes.specs.Renders.{Place}
 use Rattle.csl_name_marks.specs.ByName.{AreByName, by_family, by_initials, fuller_by, holders, is_other_held, is_other_named, names_of, same_name, shown_by_all, shown_by}
 use Rattle.csl_name_marks.specs.Persons.{same_person}

@@ -7,7 +7,7 @@ use Rattle.std.specs.Cmp.{nat_eq_equiv}
 use Rattle.std.proofs.lemmas.Bool.{eqb-true}
 use Rattle.std.proofs.lemmas.List.{map-append}
 use Rattle.std.proofs.lemmas.List.Folds.{list_any-append}
-use Rattle.csl_base.specs.Finds.{Finds}
+use Rattle.csl_values.specs.Finds.{Finds}
 
 module _ {K : Type 0} (E : K → K → Bool) where
   -- the number of a key among distinct keys, and whether it is one of them

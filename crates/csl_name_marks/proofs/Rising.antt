@@ -3,11 +3,11 @@ use Rattle.std.proofs.Common.{◌≡◌, ℕ, zero, suc, ◌≤◌, Bool, true, 
 use Rattle.std.specs.Prelude.{All, Contains, fold, if◌then◌else◌, unwrap_or, slice_get, slice_set}
 use Rattle.std.specs.List.{cons_option, filter_map, flat_map, list_any}
 use Rattle.std.proofs.lemmas.List.Elements.{All-cons, All-contains_itself, All-nil}
-use Rattle.csl_base.specs.Forms.{Forms, add_name, form_written}
-use Rattle.csl_base.specs.Ordered.{extent}
-use Rattle.csl_base.specs.declared.entry.Person.{Person}
-use Rattle.csl_base.specs.declared.names.DisambiguatedNameForm.{DisambiguatedNameForm}
-use Rattle.csl_base.specs.declared.names.NameDisambiguationProperties.{NameDisambiguationProperties}
+use Rattle.csl_values.specs.Forms.{Forms, add_name, form_written}
+use Rattle.csl_values.specs.Ordered.{extent}
+use Rattle.csl_values.specs.declared.entry.Person.{Person}
+use Rattle.csl_values.specs.declared.names.DisambiguatedNameForm.{DisambiguatedNameForm}
+use Rattle.csl_values.specs.declared.names.NameDisambiguationProperties.{NameDisambiguationProperties}
 use Rattle.csl_lookup.specs.GoingOn.{GoesOn, GoesOnTo, NoFormFalls}
 use Rattle.csl_lookup.specs.States.{may_get_names}
 use Rattle.csl_lookup.specs.declared.state.DisambiguateState.{DisambiguateState}

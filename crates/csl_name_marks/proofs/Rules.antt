@@ -6,9 +6,9 @@ use Rattle.std.specs.Option.{option_or}
 use Rattle.std.proofs.lemmas.List.{take_more}
 use Rattle.std.proofs.lemmas.List.Folds.{list_any-append}
 use denote.Enum.Bare.{same_true}
-use Rattle.csl_base.specs.contracts.style.DisambiguationRule as rule_type
-use Rattle.csl_base.specs.declared.style.DisambiguationRule.{DisambiguationRule}
-use Rattle.csl_base.specs.declared.style.DisambiguationRule.TheVariants.{AllNames, AllNamesWithInitials, ByCite, PrimaryName, PrimaryNameWithInitials}
+use Rattle.csl_style_values.specs.contracts.style.DisambiguationRule as rule_type
+use Rattle.csl_style_values.specs.declared.style.DisambiguationRule.{DisambiguationRule}
+use Rattle.csl_style_values.specs.declared.style.DisambiguationRule.TheVariants.{AllNames, AllNamesWithInitials, ByCite, PrimaryName, PrimaryNameWithInitials}
 use Rattle.csl_name_marks.specs.Classes.{first_step, is_alone, same_rule, step_by}
 use Rattle.csl_name_marks.specs.Steps.{step}
 use Rattle.csl_name_marks.specs.declared.named_cite.NamedCite.{NamedCite}

@@ -3,12 +3,12 @@ use Rattle.std.proofs.Common.{◌≡◌, ℕ, ◌+◌, ◌<◌, List, [], ◌∷
 use Rattle.std.specs.List.{flat_map}
 use Rattle.std.proofs.lemmas.Grind.{flat_map-append}
 use Rattle.std.proofs.lemmas.List.{append-nil, map-append, take_more}
-use Rattle.csl_base.specs.Child.{Child}
-use Rattle.csl_base.specs.ChildView.{child_view}
-use Rattle.csl_base.specs.Elements.{child_elements, elements}
-use Rattle.csl_base.specs.declared.elem.Elem.{Elem}
-use Rattle.csl_base.specs.declared.elem.ElemChild.{ElemChild}
-use Rattle.csl_base.specs.declared.entry.Person.{Person}
+use Rattle.csl_trees.specs.Child.{Child}
+use Rattle.csl_trees.specs.ChildView.{child_view}
+use Rattle.csl_trees.specs.Elements.{child_elements, elements}
+use Rattle.csl_trees.specs.declared.elem.Elem.{Elem}
+use Rattle.csl_trees.specs.declared.elem.ElemChild.{ElemChild}
+use Rattle.csl_values.specs.declared.entry.Person.{Person}
 use Rattle.csl_name_marks.specs.Persons.{named_by, persons}
 
 elements-append : (xs ys : List Child) → elements (xs ++ ys) ≡ elements xs ++ elements ys

@@ -6,7 +6,7 @@ use Rattle.std.proofs.Math.ListN.{length-map}
 use Rattle.std.proofs.lemmas.List.Folds.{find-append}
 use Rattle.std.proofs.lemmas.Slice.Zip.{length-zip}
 use Rattle.std.proofs.lemmas.Bool.{or_parts}
-use Rattle.csl_base.specs.declared.style.DisambiguationRule.{DisambiguationRule}
+use Rattle.csl_style_values.specs.declared.style.DisambiguationRule.{DisambiguationRule}
 use Rattle.csl_name_marks.specs.Classes.{first_step, is_alone, same_rule, step_after, waits_for_step}
 use Rattle.csl_name_marks.specs.declared.named_cite.NamedCite.{NamedCite}
 use Rattle.csl_name_marks.proofs.Telling.{range-more}

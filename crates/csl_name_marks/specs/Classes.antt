@@ -2,9 +2,9 @@
 use Rattle.std.specs.Prelude.{◌≡◌, ◌<◌, ℕ, Bool, not, ◌&&◌, ◌==◌, All, List, Option, None, Some, find, if◌then◌else◌, length, nat_eq, option_map, slice_get, take, zip}
 use Rattle.std.specs.List.{IsDistinct, list_all, list_any, range_with_len}
 use Rattle.std.specs.Option.{is_none, option_eq}
-use Rattle.csl_base.specs.contracts.style.DisambiguationRulePartialEq.TheImpl as rule_eq
-use Rattle.csl_base.specs.declared.entry.Person.{Person}
-use Rattle.csl_base.specs.declared.style.DisambiguationRule.{DisambiguationRule}
+use Rattle.csl_style_values.specs.contracts.style.DisambiguationRulePartialEq.TheImpl as rule_eq
+use Rattle.csl_values.specs.declared.entry.Person.{Person}
+use Rattle.csl_style_values.specs.declared.style.DisambiguationRule.{DisambiguationRule}
 use Rattle.csl_name_marks.specs.Cut.{cut_by_rule, kept}
 use Rattle.csl_name_marks.specs.Steps.{others, same_persons, same_place, step}
 use Rattle.csl_name_marks.specs.declared.named_cite.NamedCite.{NamedCite}

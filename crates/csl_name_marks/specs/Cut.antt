@@ -1,8 +1,8 @@
 -- How much of each person a rule keeps when cites are disambiguated by their names.
 use Rattle.std.specs.Prelude.{Bool, true, false, List, [], ◌∷◌, Option, None, Some, map, if◌then◌else◌}
-use Rattle.csl_base.specs.Initials.{given_initials}
-use Rattle.csl_base.specs.declared.entry.Person.{Person}
-use Rattle.csl_base.specs.declared.style.DisambiguationRule.{DisambiguationRule}
+use Rattle.csl_values.specs.Initials.{given_initials}
+use Rattle.csl_values.specs.declared.entry.Person.{Person}
+use Rattle.csl_style_values.specs.declared.style.DisambiguationRule.{DisambiguationRule}
 
 -- the family name alone
 abbrev pub without_given : Person → Person

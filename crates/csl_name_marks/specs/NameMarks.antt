@@ -1,8 +1,8 @@
 -- The marks that tell the cites of an ambiguous group apart by their names.
 use Rattle.std.specs.Prelude.{ℕ, Bool, true, false, ◌&&◌, List, [], ◌∷◌, Option, Some, fold, if◌then◌else◌, option_map}
 use Rattle.std.specs.List.{filter_map}
-use Rattle.csl_base.specs.Forms.{Forms, add_name}
-use Rattle.csl_base.specs.declared.style.DisambiguationRule.{DisambiguationRule}
+use Rattle.csl_values.specs.Forms.{Forms, add_name}
+use Rattle.csl_style_values.specs.declared.style.DisambiguationRule.{DisambiguationRule}
 use Rattle.csl_lookup.specs.declared.state.DisambiguateState.{DisambiguateState}
 use Rattle.csl_passes.specs.Renders.{CiteRender, Place}
 use Rattle.csl_name_marks.specs.NamedCites.{first_adds_names, greatest_step, named_cites}

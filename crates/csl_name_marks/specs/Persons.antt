@@ -1,11 +1,11 @@
 -- The persons that a tree shows.
 use Rattle.std.specs.Prelude.{Bool, List, [], Option, Some}
 use Rattle.std.specs.List.{flat_map}
-use Rattle.csl_base.specs.Child.{Child}
-use Rattle.csl_base.specs.Elements.{elements}
-use Rattle.csl_base.specs.contracts.entry.PersonPartialEq.TheImpl as person_eq
-use Rattle.csl_base.specs.declared.elem.ElemMeta.{ElemMeta}
-use Rattle.csl_base.specs.declared.entry.Person.{Person}
+use Rattle.csl_trees.specs.Child.{Child}
+use Rattle.csl_trees.specs.Elements.{elements}
+use Rattle.csl_values.specs.contracts.entry.PersonPartialEq.TheImpl as person_eq
+use Rattle.csl_trees.specs.declared.elem.ElemMeta.{ElemMeta}
+use Rattle.csl_values.specs.declared.entry.Person.{Person}
 
 -- those that an element was rendered for, variable after variable
 abbrev pub named_by : Option ElemMeta → List Person

@@ -1,10 +1,10 @@
 -- How far a given name is written to tell a person apart from persons of other cites.
 use Rattle.std.specs.Prelude.{ℕ, zero, suc, Bool, not, ◌&&◌, List, [], ◌∷◌, Option, None, Some, bytes_eq, filter, if◌then◌else◌, option_map, slice_get, slice_set, unwrap_or}
 use Rattle.std.specs.List.{flat_map, list_any}
-use Rattle.csl_base.specs.Forms.{Forms}
-use Rattle.csl_base.specs.Initials.{given_initials}
-use Rattle.csl_base.specs.declared.entry.Person.{Person}
-use Rattle.csl_base.specs.declared.names.DisambiguatedNameForm.{DisambiguatedNameForm}
+use Rattle.csl_values.specs.Forms.{Forms}
+use Rattle.csl_values.specs.Initials.{given_initials}
+use Rattle.csl_values.specs.declared.entry.Person.{Person}
+use Rattle.csl_values.specs.declared.names.DisambiguatedNameForm.{DisambiguatedNameForm}
 use Rattle.csl_name_marks.specs.Persons.{same_person}
 use Rattle.csl_name_marks.specs.Steps.{others}
 use Rattle.csl_name_marks.specs.declared.named_cite.NamedCite.{NamedCite}

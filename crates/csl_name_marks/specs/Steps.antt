@@ -3,7 +3,7 @@ use Rattle.std.specs.Prelude.{ℕ, Bool, not, ◌&&◌, ◌==◌, List, Option, 
 use Rattle.std.specs.List.{list_all, list_any, range_with_len}
 use Rattle.std.specs.Option.{option_eq}
 use Rattle.std.specs.Cmp.Lexicographic.{pointwise}
-use Rattle.csl_base.specs.declared.entry.Person.{Person}
+use Rattle.csl_values.specs.declared.entry.Person.{Person}
 use Rattle.csl_passes.specs.Renders.{Place}
 use Rattle.csl_name_marks.specs.Cut.{cut_by_rule}
 use Rattle.csl_name_marks.specs.Persons.{same_person}

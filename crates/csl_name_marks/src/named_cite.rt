@@ -1,6 +1,6 @@
 //! The members of an ambiguous group, as name marks see them.
 ghost use Rattle.std.specs.Prelude.{◌≡◌, IfOk};
-ghost use Rattle.csl_base.specs.StyleView.{citation_view};
+ghost use Rattle.csl_style_values.specs.StyleView.{citation_view};
 ghost use Rattle.csl_name_marks.specs.NamedCites.{rule_of, start};
 
 use csl_base::entry::Person;

@@ -1,8 +1,8 @@
 //! The persons that a tree shows.
 ghost use Rattle.std.specs.Prelude.{◌≡◌, ◌++◌, IfOk, OnOk};
 ghost use Rattle.std.specs.List.{flat_map};
-ghost use Rattle.csl_base.specs.ChildView.{child_view};
-ghost use Rattle.csl_base.specs.Elements.{child_elements};
+ghost use Rattle.csl_trees.specs.ChildView.{child_view};
+ghost use Rattle.csl_trees.specs.Elements.{child_elements};
 ghost use Rattle.csl_name_marks.specs.Persons.{named_by, persons};
 
 use csl_base::elem::{Elem, ElemChild, ElemChildren, ElemMeta};

@@ -1,10 +1,10 @@
 -- Copies of the code of a locale, where there may be one, are seen as it is.
 use Rattle.std.proofs.Common.{◌≡◌, refl, ap, Option, Some, None, option_map, rules}
 use Rattle.std.specs.contracts.prelude.OptionClone.TheImpl as option_clone
-use Rattle.csl_base.specs.StyleView.{code_view}
-use Rattle.csl_base.specs.declared.locale.LocaleCode.{LocaleCode}
-use Rattle.csl_base.specs.contracts.locale.LocaleCode.{the_row}
-use Rattle.csl_base.specs.contracts.locale.LocaleCodeClone.TheImpl as code_clone
+use Rattle.csl_style_values.specs.StyleView.{code_view}
+use Rattle.csl_style_values.specs.declared.locale.LocaleCode.{LocaleCode}
+use Rattle.csl_style_values.specs.contracts.locale.LocaleCode.{the_row}
+use Rattle.csl_style_values.specs.contracts.locale.LocaleCodeClone.TheImpl as code_clone
 use mir.Syntax.{Dict}
 
 code_copied : (a b : LocaleCode) → (code_clone.ghosts).is_clone a b → code_view b ≡ code_view a

@@ -4,7 +4,7 @@ use Rattle.std.specs.Bool.{Decides}
 use Rattle.std.specs.Cmp.Lexicographic.{pointwise}
 use Rattle.std.specs.List.{AllZip}
 use Rattle.std.specs.Option.{option_eq}
-use Rattle.csl_base.specs.Finds.{both, and-true}
+use Rattle.csl_values.specs.Finds.{both, and-true}
 use Rattle.csl_lookup.specs.PropertiesView.{locator_view}
 use Rattle.csl_lookup.specs.declared.locator.SpecificLocator.{SpecificLocator}
 use Rattle.csl_passes.specs.Positions.{same_locators}

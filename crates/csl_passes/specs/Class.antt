@@ -1,7 +1,7 @@
 -- Where a style's cites stand.
 use Rattle.std.specs.Prelude.{Bool, true, false}
-use Rattle.csl_base.specs.declared.style.StyleClass.{StyleClass}
-use Rattle.csl_base.specs.declared.style.StyleClass.TheVariants.{InText, Note}
+use Rattle.csl_style_values.specs.declared.style.StyleClass.{StyleClass}
+use Rattle.csl_style_values.specs.declared.style.StyleClass.TheVariants.{InText, Note}
 
 abbrev pub is_note : StyleClass → Bool
 is_note InText = false

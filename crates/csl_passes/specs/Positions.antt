@@ -1,7 +1,7 @@
 -- The position of a cite against the one before it.
 use Rattle.std.specs.Prelude.{Bool, true, false, not, ◌&&◌, Option, Some, None, if◌then◌else◌, nat_eq, is_some}
 use Rattle.std.specs.Cmp.Lexicographic.{pointwise}
-use Rattle.csl_base.specs.contracts.taxonomy.LocatorPartialEq.TheImpl as locator_eq
+use Rattle.csl_values.specs.contracts.taxonomy.LocatorPartialEq.TheImpl as locator_eq
 use Rattle.csl_lookup.specs.Properties.{LocatorValue, Payload, own_payload, text_payload}
 use Rattle.csl_lookup.specs.declared.state.IbidState.{IbidState}
 use Rattle.csl_passes.specs.Request.{RequestedCite}

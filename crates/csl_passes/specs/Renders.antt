@@ -1,7 +1,7 @@
 -- The renders of cites as plain data: no capacity and no address is seen.
 use Rattle.std.specs.Prelude.{ℕ, Bool, List, Option}
-use Rattle.csl_base.specs.Child.{Child}
-use Rattle.csl_base.specs.declared.names.NameDisambiguationProperties.{NameDisambiguationProperties}
+use Rattle.csl_trees.specs.Child.{Child}
+use Rattle.csl_values.specs.declared.names.NameDisambiguationProperties.{NameDisambiguationProperties}
 use Rattle.csl_lookup.specs.Properties.{LocatorValue, Properties}
 use Rattle.csl_lookup.specs.declared.purpose.CitePurpose.{CitePurpose}
 use Rattle.csl_lookup.specs.declared.state.CollapseVerdict.{CollapseVerdict}

@@ -1,7 +1,7 @@
 -- The plain data that renders of cites stand for.
 use Rattle.std.specs.Prelude.{List, map, option_map}
 use Rattle.std.specs.Borrow.{Bor}
-use Rattle.csl_base.specs.StyleView.{code_view}
+use Rattle.csl_style_values.specs.StyleView.{code_view}
 use Rattle.csl_lookup.specs.PropertiesView.{locator_view, properties_view}
 use Rattle.csl_passes.specs.Renders.{ItemRender, CiteRender}
 use Rattle.csl_passes.specs.RequestView.{request_view}

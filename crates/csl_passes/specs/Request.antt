@@ -1,7 +1,7 @@
 -- Requests as plain data: no capacity and no address is seen.
 use Rattle.std.specs.Prelude.{ℕ, ◌+◌, Bool, List, [], ◌∷◌, Option, map}
 use Rattle.std.specs.List.{flat_map}
-use Rattle.csl_base.specs.Style.{StyleValue, LocaleValue}
+use Rattle.csl_style_values.specs.Style.{StyleValue, LocaleValue}
 use Rattle.csl_lookup.specs.Lookup.{Source}
 use Rattle.csl_lookup.specs.Properties.{LocatorValue}
 use Rattle.csl_lookup.specs.declared.purpose.CitePurpose.{CitePurpose}

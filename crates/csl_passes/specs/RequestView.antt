@@ -1,7 +1,7 @@
 -- The plain data that requests stand for.
 use Rattle.std.specs.Prelude.{List, Option, Some, None, map, option_map}
 use Rattle.std.specs.Borrow.{Bor}
-use Rattle.csl_base.specs.StyleView.{code_view, locale_view, style_view}
+use Rattle.csl_style_values.specs.StyleView.{code_view, locale_view, style_view}
 use Rattle.csl_lookup.specs.PropertiesView.{locator_view}
 use Rattle.csl_passes.specs.declared.item.CitationItem.{CitationItem}
 use Rattle.csl_passes.specs.declared.request.BibliographyRequest.{BibliographyRequest}

@@ -4,7 +4,7 @@ use Rattle.std.specs.Prelude.{◌≡◌, Bool, IsTrue, map, option_map}
 use Rattle.std.specs.Cmp.Lexicographic.{pointwise}
 use Rattle.std.specs.List.{AllZip}
 use Rattle.std.specs.Option.{option_eq}
-use Rattle.csl_base.specs.StyleView.{code_view, locale_view, style_view}
+use Rattle.csl_style_values.specs.StyleView.{code_view, locale_view, style_view}
 use Rattle.csl_passes.specs.Positions.{same_locators}
 use Rattle.csl_passes.specs.Request.{RequestedCite}
 use Rattle.csl_passes.specs.RequestView.{cites_view, order_view}

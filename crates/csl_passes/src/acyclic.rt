@@ -1,6 +1,6 @@
 //! Requests whose styles have no ring of macros, so that their cites can be rendered.
 ghost use Rattle.std.specs.Prelude.{◌≡◌, ◌<◌, ⊤, All, Some, length, slice_get};
-ghost use Rattle.csl_base.specs.Ring.{HasNoRing};
+ghost use Rattle.csl_style_values.specs.Ring.{HasNoRing};
 ghost use Rattle.csl_lookup.specs.SourceView.{source_view};
 ghost use Rattle.csl_passes.specs.Request.{source_of, wanted_source};
 ghost use Rattle.csl_passes.specs.RequestView.{request_view, requests_view, wanted_view};

@@ -1,6 +1,6 @@
 //! A cite as it is asked for.
 ghost use Rattle.std.specs.Prelude.{◌≡◌, false, None, Some, option_map};
-ghost use Rattle.csl_base.specs.StyleView.{code_view};
+ghost use Rattle.csl_style_values.specs.StyleView.{code_view};
 ghost use Rattle.csl_lookup.specs.PropertiesView.{locator_view};
 ghost use Rattle.csl_passes.specs.RequestView.{cite_view};
 

@@ -10,6 +10,7 @@ ghost use Rattle.csl_passes.specs.declared.item.CitationItem.{CitationItem};
 ghost use Rattle.csl_passes.specs.declared.request.BibliographyRequest.{BibliographyRequest};
 ghost use Rattle.csl_passes.specs.declared.request.CitationRequest.{CitationRequest};
 
+use crate::first::FirstProperties;
 use crate::item::CitationItem;
 use crate::request::{BibliographyRequest, CitationRequest};
 use csl_base::laws::{locale_equality_decides, style_equality_decides};
@@ -51,6 +52,13 @@ pub fn wanted_equality_decides<'a, T: PartialEq + 'a>()
 {
     locale_equality_decides();
     style_equality_decides();
+}
+
+/// A law: `==` of what is known of a cite when it is rendered first is true exactly of equal values.
+pub fn first_equality_decides()
+    ensures { TellsEqual ⟦<FirstProperties as PartialEq>⟧.eq }
+{
+    state_equality_decides();
 }
 
 /// A law: `==` of the properties of a cite is true exactly where the plain data is equal, if that of

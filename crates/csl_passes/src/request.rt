@@ -1,6 +1,6 @@
 //! What a caller asks for: citations, and a bibliography.
 ghost use Rattle.std.specs.Prelude.{◌≡◌, None, if◌then◌else◌, map, option_map};
-ghost use Rattle.csl_base.specs.StyleView.{code_view, locale_view, style_view};
+ghost use Rattle.csl_style_values.specs.StyleView.{code_view, locale_view, style_view};
 ghost use Rattle.csl_lookup.specs.SourceView.{source_view};
 ghost use Rattle.csl_passes.specs.Class.{is_note};
 ghost use Rattle.csl_styles.specs.MadeOf.{IsOf, IsOf-prop};

@@ -3,9 +3,9 @@ use Rattle.std.proofs.Common.{◌≡◌, ◌++◌, None, Bool, true, false, cond
 use Rattle.std.specs.Prelude.{bytes_eq}
 use Rattle.std.proofs.lemmas.Cmp.{nat_list_eq_equiv}
 use Rattle.std.proofs.lemmas.Bool.{or_left}
-use Rattle.csl_base.specs.Element.{Name, Look, Target, value_target, standard_target, macro_target, term_target, Element, text_element, number_element, date_element, names_element, group_element, choose_element, Elements, no_elements, element, Branches, otherwise, branch}
-use Rattle.csl_base.specs.Calls.{Names, target_calls, calls, calls_of_all, calls_of_branches}
-use Rattle.csl_base.specs.Ring.{has_name}
+use Rattle.csl_style_values.specs.Element.{Name, Look, Target, value_target, standard_target, macro_target, term_target, Element, text_element, number_element, date_element, names_element, group_element, choose_element, Elements, no_elements, element, Branches, otherwise, branch}
+use Rattle.csl_style_values.specs.Calls.{Names, target_calls, calls, calls_of_all, calls_of_branches}
+use Rattle.csl_style_values.specs.Ring.{has_name}
 use Rattle.csl_styles.proofs.NameLists.{has_name-left, has_name-right}
 use Rattle.csl_picking.specs.Env.{Env}
 use Rattle.csl_picking.specs.Conditions.{passes, tested}

@@ -1,8 +1,8 @@
 -- The forms of names are as many as the names.
 use Rattle.std.proofs.Common.{◌≡◌, ◌-◌, ◌≤◌, ℕ, length, replicate, take, drop, min, Bool, true, false, cond, arith, length-append, length-drop, is_none, refl}
 use Rattle.std.proofs.lemmas.List.{length-replicate, length-take}
-use Rattle.csl_base.specs.declared.names.DisambiguatedNameForm.{DisambiguatedNameForm}
-use Rattle.csl_base.specs.Forms.{Forms}
+use Rattle.csl_values.specs.declared.names.DisambiguatedNameForm.{DisambiguatedNameForm}
+use Rattle.csl_values.specs.Forms.{Forms}
 use Rattle.csl_picking.specs.declared.notes.Notes.{Notes}
 use Rattle.csl_lookup.specs.declared.state.DisambiguateState.{DisambiguateState}
 use Rattle.csl_lookup.specs.declared.state.DisambiguateState.TheVariants as state

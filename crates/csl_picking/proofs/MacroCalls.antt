@@ -1,7 +1,7 @@
 -- The call of a macro, over plain data.
 use Rattle.std.proofs.Common.{◌≡◌, ℕ, zero, suc, ◌-◌, ◌<◌, List, Some, ap, ◌∙◌, arith}
-use Rattle.csl_base.specs.Element.{Name, Elements, Macro}
-use Rattle.csl_base.specs.Ring.{body_of}
+use Rattle.csl_style_values.specs.Element.{Name, Elements, Macro}
+use Rattle.csl_style_values.specs.Ring.{body_of}
 use Rattle.csl_picking.specs.declared.notes.Notes.{Notes}
 use Rattle.csl_picking.specs.Env.{Env}
 use Rattle.csl_picking.specs.Pieces.{NodeValue}

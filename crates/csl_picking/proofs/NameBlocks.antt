@@ -3,8 +3,8 @@ use Rattle.std.proofs.Common.{◌≡◌, ℕ, List, [], ◌∷◌, ◌++◌, app
 use Rattle.std.specs.List.{flat_map}
 use Rattle.std.proofs.lemmas.List.{append-nil, take_at}
 use Rattle.csl_picking.specs.Pieces.{NodeValue, Part, tokens, Token, opening, closing, node_of}
-use Rattle.csl_base.specs.declared.taxonomy.NameVariable.{NameVariable}
-use Rattle.csl_base.specs.Element.{NameOptions, Look}
+use Rattle.csl_values.specs.declared.taxonomy.NameVariable.{NameVariable}
+use Rattle.csl_style_values.specs.Element.{NameOptions, Look}
 use Rattle.csl_picking.specs.declared.notes.Called.{Called}
 use Rattle.csl_picking.specs.declared.notes.Notes.{Notes}
 use Rattle.csl_picking.specs.Notes.{called_by_both}

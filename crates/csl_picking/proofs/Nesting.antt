@@ -1,7 +1,7 @@
 -- A layout is picked with each call of a macro meaning that macro's children.
 use Rattle.std.proofs.Common.{◌≡◌, ℕ, zero, suc, List, length, Option, Some, None, sym, ap, ◌∙◌, refl}
-use Rattle.csl_base.specs.Element.{Name, Elements, Macro}
-use Rattle.csl_base.specs.Ring.{body_of, body_calls, Calls, HasNoRing}
+use Rattle.csl_style_values.specs.Element.{Name, Elements, Macro}
+use Rattle.csl_style_values.specs.Ring.{body_of, body_calls, Calls, HasNoRing}
 use Rattle.csl_picking.specs.declared.notes.Notes.{Notes}
 use Rattle.csl_picking.specs.Env.{Env}
 use Rattle.csl_picking.specs.Pieces.{NodeValue}

@@ -1,16 +1,16 @@
 -- Forms of names that were noted are noted still, whatever is picked.
 use Rattle.std.proofs.Common.{◌≡◌, ℕ, zero, suc, List, [], ◌∷◌, Bool, true, false, cond, Option, Some, None, refl, ap, ◌∙◌}
-use Rattle.csl_base.specs.declared.names.NameDisambiguationProperties.{NameDisambiguationProperties}
-use Rattle.csl_base.specs.declared.taxonomy.Variable.{Variable}
-use Rattle.csl_base.specs.declared.taxonomy.NameVariable.{NameVariable}
-use Rattle.csl_base.specs.declared.taxonomy.DateVariable.{DateVariable}
-use Rattle.csl_base.specs.declared.elem.ElemMeta.TheVariants as meta
-use Rattle.csl_base.specs.declared.taxonomy.StandardVariable.TheVariants as standard
-use Rattle.csl_base.specs.declared.taxonomy.NumberVariable.TheVariants as number
-use Rattle.csl_base.specs.Answers.{Answers}
-use Rattle.csl_base.specs.Forms.{Forms}
-use Rattle.csl_base.specs.Element.{Name, Look, NameOptions, Target, value_target, standard_target, macro_target, term_target, Element, text_element, number_element, date_element, names_element, group_element, choose_element, Elements, no_elements, element, Branches, otherwise, branch, Macro}
-use Rattle.csl_base.specs.Ring.{body_of}
+use Rattle.csl_values.specs.declared.names.NameDisambiguationProperties.{NameDisambiguationProperties}
+use Rattle.csl_values.specs.declared.taxonomy.Variable.{Variable}
+use Rattle.csl_values.specs.declared.taxonomy.NameVariable.{NameVariable}
+use Rattle.csl_values.specs.declared.taxonomy.DateVariable.{DateVariable}
+use Rattle.csl_trees.specs.declared.elem.ElemMeta.TheVariants as meta
+use Rattle.csl_values.specs.declared.taxonomy.StandardVariable.TheVariants as standard
+use Rattle.csl_values.specs.declared.taxonomy.NumberVariable.TheVariants as number
+use Rattle.csl_values.specs.Answers.{Answers}
+use Rattle.csl_values.specs.Forms.{Forms}
+use Rattle.csl_style_values.specs.Element.{Name, Look, NameOptions, Target, value_target, standard_target, macro_target, term_target, Element, text_element, number_element, date_element, names_element, group_element, choose_element, Elements, no_elements, element, Branches, otherwise, branch, Macro}
+use Rattle.csl_style_values.specs.Ring.{body_of}
 use Rattle.csl_picking.specs.declared.notes.Form.{Form}
 use Rattle.csl_picking.specs.declared.notes.Notes.{Notes}
 use Rattle.csl_picking.specs.Env.{Env}

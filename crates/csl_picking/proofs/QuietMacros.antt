@@ -2,9 +2,9 @@
 use Rattle.std.proofs.Common.{◌≡◌, ℕ, List, [], ◌∷◌, length, nat_le, Bool, true, false, cond, ◌&&◌, ◌||◌, Option, Some, None, is_some, IfSome, refl, sym, ap, ◌∙◌, subst, rules}
 use Rattle.std.specs.Prelude.{nat_eq, bytes_eq}
 use Rattle.std.specs.Cmp.{unsigned_Decides, booleans_Decides}
-use Rattle.csl_base.specs.Finds.{both, texts_find}
-use Rattle.csl_base.specs.declared.names.NameDisambiguationProperties.{NameDisambiguationProperties}
-use Rattle.csl_base.specs.Element.{Name}
+use Rattle.csl_values.specs.Finds.{both, texts_find}
+use Rattle.csl_values.specs.declared.names.NameDisambiguationProperties.{NameDisambiguationProperties}
+use Rattle.csl_style_values.specs.Element.{Name}
 use Rattle.csl_picking.specs.declared.held.Opened.{Opened}
 use Rattle.csl_picking.specs.declared.notes.Called.{Called}
 use Rattle.csl_picking.specs.declared.notes.Notes.{Notes}

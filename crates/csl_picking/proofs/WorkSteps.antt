@@ -1,13 +1,13 @@
 -- Steps that are added to a picking's list, over plain data.
 use Rattle.std.proofs.Common.{◌≡◌, ℕ, zero, suc, ◌+◌, ◌-◌, ◌*◌, ◌<◌, List, [], ◌∷◌, ◌++◌, length, Bool, true, false, cond, Some, None, Bor, refl, sym, ap, ◌∙◌, subst, arith}
 use Rattle.std.proofs.lemmas.List.{map-append, append-nil}
-use Rattle.csl_base.specs.declared.element.LayoutRenderingElement.{LayoutRenderingElement}
-use Rattle.csl_base.specs.declared.element.Condition.{Condition}
-use Rattle.csl_base.specs.declared.element.ChooseMatch.{ChooseMatch}
-use Rattle.csl_base.specs.Element.{Name, value_target, standard_target, macro_target, term_target, Element, text_element, number_element, date_element, names_element, group_element, choose_element, Elements, element, Branches, branch, Macro}
-use Rattle.csl_base.specs.ElementView.{elements_view}
-use Rattle.csl_base.specs.Ring.{body_of}
-use Rattle.csl_base.specs.Weight.{weight_with, weight_all_with}
+use Rattle.csl_style_values.specs.declared.element.LayoutRenderingElement.{LayoutRenderingElement}
+use Rattle.csl_style_values.specs.declared.element.Condition.{Condition}
+use Rattle.csl_style_values.specs.declared.element.ChooseMatch.{ChooseMatch}
+use Rattle.csl_style_values.specs.Element.{Name, value_target, standard_target, macro_target, term_target, Element, text_element, number_element, date_element, names_element, group_element, choose_element, Elements, element, Branches, branch, Macro}
+use Rattle.csl_style_values.specs.ElementView.{elements_view}
+use Rattle.csl_style_values.specs.Ring.{body_of}
+use Rattle.csl_style_values.specs.Weight.{weight_with, weight_all_with}
 use Rattle.csl_picking.specs.declared.held.Opened.{Opened}
 use Rattle.csl_picking.specs.declared.notes.Called.{Called}
 use Rattle.csl_picking.specs.declared.notes.Notes.{Notes}

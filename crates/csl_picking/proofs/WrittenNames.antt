@@ -1,8 +1,8 @@
 -- The names that are written of what is left of a block, and what they give.
 use Rattle.std.proofs.Common.{ℕ, zero, suc, List, option_map}
 use Rattle.std.specs.List.{filter_map, zip, enumerate_from}
-use Rattle.csl_base.specs.declared.entry.Person.{Person}
-use Rattle.csl_base.specs.Forms.{Forms}
+use Rattle.csl_values.specs.declared.entry.Person.{Person}
+use Rattle.csl_values.specs.Forms.{Forms}
 use Rattle.csl_picking.specs.NameText.{name_leaf}
 use Rattle.csl_picking.specs.Pieces.{LeafValue, Part}
 use Rattle.csl_picking.specs.Names.{joined_parts, joined_behind}

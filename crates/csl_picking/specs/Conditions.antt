@@ -1,13 +1,13 @@
 -- The tests of a choice's branches (CSL 1.0.2, choose).
 use Rattle.std.specs.Prelude.{List, [], ◌∷◌, Bool, true, false, not, ◌||◌, is_some}
 use Rattle.std.specs.List.{list_any, list_all}
-use Rattle.csl_base.specs.declared.taxonomy.Variable.{Variable}
-use Rattle.csl_base.specs.declared.taxonomy.StandardVariable.TheVariants as standard
-use Rattle.csl_base.specs.declared.taxonomy.NumberVariable.TheVariants as number
-use Rattle.csl_base.specs.declared.element.Condition.{Condition}
-use Rattle.csl_base.specs.declared.element.TestPosition.{TestPosition}
-use Rattle.csl_base.specs.declared.element.ChooseMatch.{ChooseMatch}
-use Rattle.csl_base.specs.declared.entry.Person.{Person}
+use Rattle.csl_values.specs.declared.taxonomy.Variable.{Variable}
+use Rattle.csl_values.specs.declared.taxonomy.StandardVariable.TheVariants as standard
+use Rattle.csl_values.specs.declared.taxonomy.NumberVariable.TheVariants as number
+use Rattle.csl_style_values.specs.declared.element.Condition.{Condition}
+use Rattle.csl_style_values.specs.declared.element.TestPosition.{TestPosition}
+use Rattle.csl_style_values.specs.declared.element.ChooseMatch.{ChooseMatch}
+use Rattle.csl_values.specs.declared.entry.Person.{Person}
 use Rattle.csl_picking.specs.declared.notes.Notes.{Notes}
 use Rattle.csl_lookup.specs.declared.state.DisambiguateState.{DisambiguateState}
 use Rattle.csl_lookup.specs.declared.state.DisambiguateState.TheVariants as state

@@ -1,10 +1,10 @@
 -- What a picking only reads.
 use Rattle.std.specs.Prelude.{ℕ, List, Bool, Option, option_map}
-use Rattle.csl_base.specs.declared.taxonomy.Term.{Term}
-use Rattle.csl_base.specs.declared.taxonomy.TermForm.{TermForm}
-use Rattle.csl_base.specs.declared.taxonomy.Locator.{Locator}
-use Rattle.csl_base.specs.Answers.{Answers}
-use Rattle.csl_base.specs.Element.{NameOptions}
+use Rattle.csl_values.specs.declared.taxonomy.Term.{Term}
+use Rattle.csl_values.specs.declared.taxonomy.TermForm.{TermForm}
+use Rattle.csl_values.specs.declared.taxonomy.Locator.{Locator}
+use Rattle.csl_values.specs.Answers.{Answers}
+use Rattle.csl_style_values.specs.Element.{NameOptions}
 use Rattle.csl_picking.specs.declared.notes.Form.{Form}
 use Rattle.csl_lookup.specs.declared.state.DisambiguateState.{DisambiguateState}
 use Rattle.csl_lookup.specs.declared.state.IbidState.{IbidState}

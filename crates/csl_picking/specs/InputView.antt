@@ -1,10 +1,10 @@
 -- The plain data that a picking reads.
 use Rattle.std.specs.Prelude.{ℕ, List, Bool, Option, option_map}
-use Rattle.csl_base.specs.declared.taxonomy.Term.{Term}
-use Rattle.csl_base.specs.declared.taxonomy.TermForm.{TermForm}
-use Rattle.csl_base.specs.Answers.{Answers}
-use Rattle.csl_base.specs.Element.{Macro}
-use Rattle.csl_base.specs.ElementView.{options_view, macros_view}
+use Rattle.csl_values.specs.declared.taxonomy.Term.{Term}
+use Rattle.csl_values.specs.declared.taxonomy.TermForm.{TermForm}
+use Rattle.csl_values.specs.Answers.{Answers}
+use Rattle.csl_style_values.specs.Element.{Macro}
+use Rattle.csl_style_values.specs.ElementView.{options_view, macros_view}
 use Rattle.csl_picking.specs.declared.input.LocatorFacts.{LocatorFacts}
 use Rattle.csl_picking.specs.declared.input.CiteFacts.{CiteFacts}
 use Rattle.csl_picking.specs.declared.input.Setting.{Setting}

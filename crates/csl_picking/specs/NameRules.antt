@@ -1,11 +1,11 @@
 -- The name options that hold in the end, and the forms that they give the names of one variable
 -- (CSL 1.0.2, name, et-al abbreviation).
 use Rattle.std.specs.Prelude.{ℕ, ◌-◌, min, max, List, [], ◌++◌, take, drop, length, replicate, Bool, false, nat_le, Option, Some, None, unwrap_or, codes, if◌then◌else◌}
-use Rattle.csl_base.specs.declared.element.NameAnd.{NameAnd}
-use Rattle.csl_base.specs.declared.element.NameForm.{NameForm}
-use Rattle.csl_base.specs.declared.names.DisambiguatedNameForm.{DisambiguatedNameForm}
-use Rattle.csl_base.specs.Element.{NameOptions}
-use Rattle.csl_base.specs.Forms.{Forms}
+use Rattle.csl_style_values.specs.declared.element.NameAnd.{NameAnd}
+use Rattle.csl_style_values.specs.declared.element.NameForm.{NameForm}
+use Rattle.csl_values.specs.declared.names.DisambiguatedNameForm.{DisambiguatedNameForm}
+use Rattle.csl_style_values.specs.Element.{NameOptions}
+use Rattle.csl_values.specs.Forms.{Forms}
 use Rattle.csl_lookup.specs.declared.state.DisambiguateState.{DisambiguateState}
 use Rattle.csl_lookup.specs.declared.state.DisambiguateState.TheVariants as state
 

@@ -1,19 +1,19 @@
 -- What a names element gives (CSL 1.0.2, names).
 use Rattle.std.specs.Prelude.{ℕ, ◌==◌, List, [], ◌∷◌, ◌++◌, map, filter, find, length, Bool, true, false, not, ◌&&◌, Option, Some, None, option_map, option_to_list, is_none, codes, if◌then◌else◌}
 use Rattle.std.specs.List.{list_any, filter_map, flat_map, zip, enumerate_from}
-use Rattle.csl_base.specs.declared.taxonomy.NameVariable.{NameVariable}
-use Rattle.csl_base.specs.declared.taxonomy.Variable.{Variable}
-use Rattle.csl_base.specs.declared.taxonomy.OtherTerm.{OtherTerm}
-use Rattle.csl_base.specs.declared.taxonomy.Term.{Term}
-use Rattle.csl_base.specs.declared.taxonomy.TermForm.{TermForm}
-use Rattle.csl_base.specs.declared.element.NameAnd.{NameAnd}
-use Rattle.csl_base.specs.declared.entry.Person.{Person}
-use Rattle.csl_base.specs.declared.elem.ElemMeta.TheVariants as meta
-use Rattle.csl_base.specs.declared.names.DisambiguatedNameForm.{DisambiguatedNameForm}
-use Rattle.csl_base.specs.Answers.{Answers}
-use Rattle.csl_base.specs.Element.{NameOptions, Look}
-use Rattle.csl_base.specs.Forms.{Forms}
-use Rattle.csl_base.specs.PlainLook.{no_look}
+use Rattle.csl_values.specs.declared.taxonomy.NameVariable.{NameVariable}
+use Rattle.csl_values.specs.declared.taxonomy.Variable.{Variable}
+use Rattle.csl_values.specs.declared.taxonomy.OtherTerm.{OtherTerm}
+use Rattle.csl_values.specs.declared.taxonomy.Term.{Term}
+use Rattle.csl_values.specs.declared.taxonomy.TermForm.{TermForm}
+use Rattle.csl_style_values.specs.declared.element.NameAnd.{NameAnd}
+use Rattle.csl_values.specs.declared.entry.Person.{Person}
+use Rattle.csl_trees.specs.declared.elem.ElemMeta.TheVariants as meta
+use Rattle.csl_values.specs.declared.names.DisambiguatedNameForm.{DisambiguatedNameForm}
+use Rattle.csl_values.specs.Answers.{Answers}
+use Rattle.csl_style_values.specs.Element.{NameOptions, Look}
+use Rattle.csl_values.specs.Forms.{Forms}
+use Rattle.csl_style_values.specs.PlainLook.{no_look}
 use Rattle.csl_picking.specs.declared.notes.Form.{Form}
 use Rattle.csl_picking.specs.declared.notes.Notes.{Notes}
 use Rattle.csl_lookup.specs.declared.state.DisambiguateState.{DisambiguateState}

@@ -1,6 +1,6 @@
 -- The plain data that a written name and variables of names stand for.
 use Rattle.std.specs.Prelude.{ℕ, List}
-use Rattle.csl_base.specs.declared.taxonomy.NameVariable.{NameVariable}
+use Rattle.csl_values.specs.declared.taxonomy.NameVariable.{NameVariable}
 use Rattle.csl_picking.specs.declared.name_blocks.NameVariables.{NameVariables}
 use Rattle.csl_picking.specs.declared.name_blocks.NameVariables.TheVariants as variables
 use Rattle.csl_picking.specs.declared.pieces.Leaf.{Leaf}

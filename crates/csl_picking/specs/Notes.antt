@@ -1,6 +1,6 @@
 -- What goes along a picking.
 use Rattle.std.specs.Prelude.{Bool, true, false, None}
-use Rattle.csl_base.specs.declared.taxonomy.NameVariable.{NameVariable}
+use Rattle.csl_values.specs.declared.taxonomy.NameVariable.{NameVariable}
 use Rattle.csl_picking.specs.declared.notes.Called.{Called}
 use Rattle.csl_picking.specs.declared.notes.Notes.{Notes}
 use Rattle.csl_picking.specs.declared.notes.Suppressed.{Suppressed}

@@ -1,6 +1,6 @@
 -- Name options that go before others (CSL 1.0.2, inheritable name options).
 use Rattle.std.specs.Option.{option_or}
-use Rattle.csl_base.specs.Element.{NameOptions}
+use Rattle.csl_style_values.specs.Element.{NameOptions}
 
 -- each option of the second where it has it, else that of the first
 abbrev pub applied_options : NameOptions → NameOptions → NameOptions

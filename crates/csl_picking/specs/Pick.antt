@@ -1,9 +1,9 @@
 -- What a layout picks: one definition a kind of element, from left to right.
 use Rattle.std.specs.Prelude.{◌≡◌, ℕ, zero, suc, List, length, Bool, false, Option, Some, None}
 use Rattle.std.specs.Bool.{if◌then◌else◌}
-use Rattle.csl_base.specs.declared.taxonomy.Variable.{Variable}
-use Rattle.csl_base.specs.Element.{Name, Look, Target, value_target, standard_target, macro_target, term_target, Element, text_element, number_element, date_element, names_element, group_element, choose_element, Elements, no_elements, element, Branches, otherwise, branch, Macro}
-use Rattle.csl_base.specs.Ring.{body_of, HasNoRing}
+use Rattle.csl_values.specs.declared.taxonomy.Variable.{Variable}
+use Rattle.csl_style_values.specs.Element.{Name, Look, Target, value_target, standard_target, macro_target, term_target, Element, text_element, number_element, date_element, names_element, group_element, choose_element, Elements, no_elements, element, Branches, otherwise, branch, Macro}
+use Rattle.csl_style_values.specs.Ring.{body_of, HasNoRing}
 use Rattle.csl_picking.specs.declared.notes.Notes.{Notes}
 use Rattle.csl_picking.specs.Env.{Env}
 use Rattle.csl_picking.specs.Pieces.{NodeValue, plain_node}

@@ -1,9 +1,9 @@
 -- What a layout picks: leaves, and nodes with parts inside. A part is written as an opening, what
 -- stands inside, and a closing.
 use Rattle.std.specs.Prelude.{ℕ, List, [], ◌∷◌, ◌++◌, Bool, Option, Some, None}
-use Rattle.csl_base.specs.declared.entry.ChunkedString.{ChunkedString}
-use Rattle.csl_base.specs.declared.elem.ElemMeta.{ElemMeta}
-use Rattle.csl_base.specs.Element.{Look}
+use Rattle.csl_values.specs.declared.entry.ChunkedString.{ChunkedString}
+use Rattle.csl_trees.specs.declared.elem.ElemMeta.{ElemMeta}
+use Rattle.csl_style_values.specs.Element.{Look}
 
 pub data LeafValue : Type 0 where
   text_leaf : List ℕ → LeafValue

@@ -1,9 +1,9 @@
 -- The plain data that pieces stand for.
 use Rattle.std.specs.Prelude.{List, map, false, option_map}
 use Rattle.std.specs.Option.{option_map_or}
-use Rattle.csl_base.specs.Element.{Look}
-use Rattle.csl_base.specs.ElementView.{affixes_view, look}
-use Rattle.csl_base.specs.PlainLook.{no_affix}
+use Rattle.csl_style_values.specs.Element.{Look}
+use Rattle.csl_style_values.specs.ElementView.{affixes_view, look}
+use Rattle.csl_style_values.specs.PlainLook.{no_affix}
 use Rattle.csl_lookup.specs.Years.{year_text}
 use Rattle.csl_picking.specs.declared.pieces.Leaf.{Leaf}
 use Rattle.csl_picking.specs.declared.pieces.Leaf.TheVariants as leaves

@@ -1,8 +1,8 @@
 -- For the code: macros that are known to give nothing.
 use Rattle.std.specs.Prelude.{◌≡◌, ℕ, nat_eq, ◌&&◌, [], Option, Some, is_some, bytes_eq}
 use Rattle.std.specs.HashMap.{get_by}
-use Rattle.csl_base.specs.declared.names.NameDisambiguationProperties.{NameDisambiguationProperties}
-use Rattle.csl_base.specs.Element.{Name}
+use Rattle.csl_values.specs.declared.names.NameDisambiguationProperties.{NameDisambiguationProperties}
+use Rattle.csl_style_values.specs.Element.{Name}
 use Rattle.csl_picking.specs.declared.notes.Called.{Called}
 use Rattle.csl_picking.specs.declared.notes.Notes.{Notes}
 use Rattle.csl_picking.specs.declared.held.Opened.{Opened}

@@ -2,23 +2,23 @@
 use Rattle.std.specs.Prelude.{ℕ, ℤ, ◌+◌, List, [], Bool, true, false, Option, Some, None, option_map, option_and_then, unwrap_or, is_some, codes}
 use Rattle.std.specs.Bool.{if◌then◌else◌}
 use Rattle.std.specs.List.{list_any}
-use Rattle.csl_base.specs.declared.taxonomy.Variable.{Variable}
-use Rattle.csl_base.specs.declared.taxonomy.DateVariable.{DateVariable}
-use Rattle.csl_base.specs.declared.taxonomy.StandardVariable.TheVariants as standard
-use Rattle.csl_base.specs.declared.taxonomy.NumberVariable.TheVariants as number
-use Rattle.csl_base.specs.declared.taxonomy.Term.{Term}
-use Rattle.csl_base.specs.declared.taxonomy.Term.TheVariants as term
-use Rattle.csl_base.specs.declared.taxonomy.OtherTerm.{OtherTerm}
-use Rattle.csl_base.specs.declared.taxonomy.TermForm.{TermForm}
-use Rattle.csl_base.specs.declared.entry.Chunk.{Chunk}
-use Rattle.csl_base.specs.declared.entry.ChunkKind.{ChunkKind}
-use Rattle.csl_base.specs.declared.entry.ChunkedString.{ChunkedString}
-use Rattle.csl_base.specs.declared.entry.Date.{Date}
-use Rattle.csl_base.specs.declared.elem.ElemMeta.{ElemMeta}
-use Rattle.csl_base.specs.declared.elem.ElemMeta.TheVariants as meta
-use Rattle.csl_base.specs.contracts.taxonomy.VariablePartialEq.TheImpl as variable_eq
-use Rattle.csl_base.specs.Content.{text_has_content}
-use Rattle.csl_base.specs.Element.{Look}
+use Rattle.csl_values.specs.declared.taxonomy.Variable.{Variable}
+use Rattle.csl_values.specs.declared.taxonomy.DateVariable.{DateVariable}
+use Rattle.csl_values.specs.declared.taxonomy.StandardVariable.TheVariants as standard
+use Rattle.csl_values.specs.declared.taxonomy.NumberVariable.TheVariants as number
+use Rattle.csl_values.specs.declared.taxonomy.Term.{Term}
+use Rattle.csl_values.specs.declared.taxonomy.Term.TheVariants as term
+use Rattle.csl_values.specs.declared.taxonomy.OtherTerm.{OtherTerm}
+use Rattle.csl_values.specs.declared.taxonomy.TermForm.{TermForm}
+use Rattle.csl_values.specs.declared.entry.Chunk.{Chunk}
+use Rattle.csl_values.specs.declared.entry.ChunkKind.{ChunkKind}
+use Rattle.csl_values.specs.declared.entry.ChunkedString.{ChunkedString}
+use Rattle.csl_values.specs.declared.entry.Date.{Date}
+use Rattle.csl_trees.specs.declared.elem.ElemMeta.{ElemMeta}
+use Rattle.csl_trees.specs.declared.elem.ElemMeta.TheVariants as meta
+use Rattle.csl_values.specs.contracts.taxonomy.VariablePartialEq.TheImpl as variable_eq
+use Rattle.csl_lists.specs.Content.{text_has_content}
+use Rattle.csl_style_values.specs.Element.{Look}
 use Rattle.csl_picking.specs.declared.notes.Form.{Form}
 use Rattle.csl_picking.specs.declared.notes.Notes.{Notes}
 use Rattle.csl_lookup.specs.declared.state.IdentifierUsage.{IdentifierUsage}

@@ -1,9 +1,9 @@
 -- For the code: how a walk through a layout goes on, step by step.
 use Rattle.std.specs.Prelude.{◌≡◌, ℕ, ◌+◌, ◌*◌, ◌<◌, List}
-use Rattle.csl_base.specs.Answers.{Answers}
-use Rattle.csl_base.specs.declared.element.LayoutRenderingElement.{LayoutRenderingElement}
-use Rattle.csl_base.specs.ElementView.{element_view}
-use Rattle.csl_base.specs.Element.{Target, Element, text_element, Macro}
+use Rattle.csl_values.specs.Answers.{Answers}
+use Rattle.csl_style_values.specs.declared.element.LayoutRenderingElement.{LayoutRenderingElement}
+use Rattle.csl_style_values.specs.ElementView.{element_view}
+use Rattle.csl_style_values.specs.Element.{Target, Element, text_element, Macro}
 use Rattle.csl_picking.specs.declared.input.Input.{Input}
 use Rattle.csl_picking.specs.declared.picking.Step.{Step}
 use Rattle.csl_picking.specs.declared.pieces.Shape.{Shape}

@@ -1,10 +1,10 @@
 -- For the code: what a picking has still to do, as a list of steps of which the last comes next.
 use Rattle.std.specs.Prelude.{ℕ, zero, suc, ◌+◌, ◌*◌, List, [], ◌∷◌, map, false, Option, Some, None, ⊤}
-use Rattle.csl_base.specs.Element.{Name, Element, number_element, date_element, names_element, group_element, choose_element, Elements, Macro}
-use Rattle.csl_base.specs.ElementView.{elements_view}
-use Rattle.csl_base.specs.declared.taxonomy.Variable.{Variable}
-use Rattle.csl_base.specs.Ring.{body_of}
-use Rattle.csl_base.specs.Weight.{weight_with, weight_all_with}
+use Rattle.csl_style_values.specs.Element.{Name, Element, number_element, date_element, names_element, group_element, choose_element, Elements, Macro}
+use Rattle.csl_style_values.specs.ElementView.{elements_view}
+use Rattle.csl_values.specs.declared.taxonomy.Variable.{Variable}
+use Rattle.csl_style_values.specs.Ring.{body_of}
+use Rattle.csl_style_values.specs.Weight.{weight_with, weight_all_with}
 use Rattle.csl_picking.specs.declared.held.Opened.{Opened}
 use Rattle.csl_picking.specs.declared.quiet.Seen.{Seen}
 use Rattle.csl_picking.specs.declared.picking.Step.{Step}

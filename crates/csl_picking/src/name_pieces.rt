@@ -1,8 +1,8 @@
 //! The names of one variable, and what stands between and behind them (CSL 1.0.2, name, et-al).
 ghost use Rattle.std.specs.Prelude.{◌≡◌, ◌+◌, ◌<◌, ◌^◌, [], ◌∷◌, ◌++◌, IfOk, OnOk, false, Some, None, ◌||◌, map, length, codes, option_map, option_to_list};
 ghost use Rattle.std.specs.List.{list_any};
-ghost use Rattle.csl_base.specs.declared.taxonomy.OtherTerm.{OtherTerm};
-ghost use Rattle.csl_base.specs.declared.elem.ElemMeta.TheVariants as meta;
+ghost use Rattle.csl_values.specs.declared.taxonomy.OtherTerm.{OtherTerm};
+ghost use Rattle.csl_trees.specs.declared.elem.ElemMeta.TheVariants as meta;
 ghost use Rattle.csl_picking.specs.Names.{written_names, name_part, and_words, last_joint, is_count, joined_parts, last_words, et_al_parts, block_parts};
 ghost use Rattle.csl_picking.specs.BlockRun.{before_parts, preceded, name_behind, waiting_parts};
 ghost use Rattle.csl_picking.specs.NamesView.{name_view};
@@ -90,10 +90,7 @@ fn push_name<'a>(
 {
     pieces.push(Piece::Open(Node {
         affixes: None,
-        formatting: StyleFormatting {
-            font_style: None,
-            font_weight: None,
-        },
+        formatting: StyleFormatting::default(),
         display: None,
         quotes: false,
         strip_periods: false,

@@ -2,7 +2,7 @@
 //! abbreviation).
 ghost use Rattle.std.specs.Prelude.{◌≡◌, IfOk, option_map, unwrap_or};
 ghost use Rattle.std.specs.Option.{option_or};
-ghost use Rattle.csl_base.specs.ElementView.{text_view, options_view};
+ghost use Rattle.csl_style_values.specs.ElementView.{text_view, options_view};
 ghost use Rattle.csl_picking.specs.Options.{applied_options};
 ghost use Rattle.csl_picking.specs.NameRules.{base_form, rules_of, written_count, forms_by, forms_in};
 ghost use Rattle.csl_picking.specs.NameRulesView.{rules_view};

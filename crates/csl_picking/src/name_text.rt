@@ -2,7 +2,7 @@
 ghost use Rattle.std.specs.Prelude.{◌≡◌, ◌++◌, OnOk, IfOk, Some, option_map, encode_utf8};
 ghost use Rattle.std.specs.List.{flat_map};
 ghost use Rattle.std.specs.Str.{chars};
-ghost use Rattle.csl_base.specs.Initials.{initials};
+ghost use Rattle.csl_values.specs.Initials.{initials};
 ghost use Rattle.csl_picking.specs.NameText.{whole_name, ended_initials, name_leaf};
 ghost use Rattle.csl_picking.specs.PiecesView.{leaf_view};
 ghost use Rattle.csl_picking.specs.Variables.{text_leaves};

@@ -1,7 +1,7 @@
 //! Names elements (CSL 1.0.2, names).
 ghost use Rattle.std.specs.Prelude.{◌≡◌, [], ◌∷◌, ◌++◌, IfOk, OnOk, false, Some, None, ◌||◌, unwrap_or, take, map, option_map, if◌then◌else◌};
-ghost use Rattle.csl_base.specs.declared.elem.ElemMeta.TheVariants as meta;
-ghost use Rattle.csl_base.specs.ElementView.{options_view};
+ghost use Rattle.csl_trees.specs.declared.elem.ElemMeta.TheVariants as meta;
+ghost use Rattle.csl_style_values.specs.ElementView.{options_view};
 ghost use Rattle.csl_picking.specs.Names.{stand_in, blocks, author_variable, plain_block, first_block, first_forms, with_forms, noted_stand_in, blocks_parts, block_persons, names_node, noted_forms, pick_names};
 ghost use Rattle.csl_picking.specs.BlockRun.{preceded, blocks_after};
 ghost use Rattle.csl_picking.specs.NameRulesView.{rules_view};

@@ -1,8 +1,8 @@
 //! Picking: what a layout writes, from left to right, apart from writing it.
 ghost use Rattle.std.specs.Prelude.{◌≡◌, ℕ, ◌*◌, ◌<◌, OnOk, false};
-ghost use Rattle.csl_base.specs.ElementView.{element_view, elements_view, branches_view, target_view, text_view, look};
-ghost use Rattle.csl_base.specs.Element.{Name, macro_target};
-ghost use Rattle.csl_base.specs.Weight.{weight_all_with, weight_branches_with};
+ghost use Rattle.csl_style_values.specs.ElementView.{element_view, elements_view, branches_view, target_view, text_view, look};
+ghost use Rattle.csl_style_values.specs.Element.{Name, macro_target};
+ghost use Rattle.csl_style_values.specs.Weight.{weight_all_with, weight_branches_with};
 ghost use Rattle.csl_picking.specs.Picked.{added};
 ghost use Rattle.csl_picking.specs.PiecesView.{node_view, shape_look};
 ghost use Rattle.csl_picking.specs.Pick.{Call, group_node, pick_all_with, pick_first_with, pick_layout, MacrosUnfold};

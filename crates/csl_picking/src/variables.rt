@@ -1,7 +1,7 @@
 //! Texts, numbers and dates (CSL 1.0.2, text, number, date).
 ghost use Rattle.std.specs.Prelude.{◌≡◌, OnOk, option_map};
 ghost use Rattle.std.specs.List.{list_any};
-ghost use Rattle.csl_base.specs.Content.{text_has_content};
+ghost use Rattle.csl_lists.specs.Content.{text_has_content};
 ghost use Rattle.csl_picking.specs.Pieces.{leaves_of};
 ghost use Rattle.csl_picking.specs.Variables.{is_plain, is_kept, writes, chunk_has_content, text_leaves, chunked_leaves, locator_leaf, variable_leaf, suffix_behind, variable_meta, dated, noted_use, noted_behind, meant, pick_variable, pick_words, words_for, year_leaf, writes_year, writes_suffix_alone, date_leaves, pick_date};
 ghost use Rattle.csl_picking.specs.Suffix.{implicit_suffix};

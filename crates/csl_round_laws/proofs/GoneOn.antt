@@ -10,7 +10,7 @@ use Rattle.csl_ambiguity.specs.MarkLaws.{ChooseMarksGoOn, GroupsHaveNoSuffix, Ha
 use Rattle.csl_ambiguity.specs.Members.{Member, entry_of, member_at, members, state_of}
 use Rattle.csl_ambiguity.specs.SuffixMarks.{shows_dates}
 use Rattle.csl_writers.specs.Writing.{Writing}
-use Rattle.csl_base.specs.Ordered.{IsValueOrder}
+use Rattle.csl_values.specs.Ordered.{IsValueOrder}
 use Rattle.csl_lookup.specs.GoingOn.{GoesOn, GoesOnTo}
 use Rattle.csl_lookup.specs.States.{greater, state_cmp}
 use Rattle.csl_lookup.specs.ValueLaws.{IsNeverBelow}

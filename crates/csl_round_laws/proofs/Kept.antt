@@ -9,9 +9,9 @@ use Rattle.csl_ambiguity.specs.ChooseMarks.{asks, chosen, may_be_chosen}
 use Rattle.csl_ambiguity.specs.Members.{Member, entry_of, member_at, members, one_or_none}
 use Rattle.csl_ambiguity.specs.SuffixMarks.{adds_suffix, first_cites, shows_dates, suffix_among}
 use Rattle.csl_writers.specs.Writing.{Writing}
-use Rattle.csl_base.specs.Ring.{HasNoRing}
+use Rattle.csl_style_values.specs.Ring.{HasNoRing}
 use Rattle.csl_entries.specs.Entries.{distinct, place}
-use Rattle.csl_base.specs.declared.names.NameDisambiguationProperties.{NameDisambiguationProperties}
+use Rattle.csl_values.specs.declared.names.NameDisambiguationProperties.{NameDisambiguationProperties}
 use Rattle.csl_lookup.specs.declared.state.DisambiguateState.{DisambiguateState}
 use Rattle.csl_lookup.specs.declared.state.DisambiguateState.TheVariants.{Choose}
 use Rattle.csl_name_marks.specs.NamedCites.{first_adds_names, greatest_step, named_cite, named_cite_at, named_cites}

@@ -5,7 +5,7 @@ use Rattle.std.proofs.lemmas.List.Elements.{All-map, All-nil}
 use Rattle.std.proofs.lemmas.Option.{same_Some}
 use Rattle.csl_ambiguity.specs.ChooseMarks.{chosen, may_be_chosen}
 use Rattle.csl_ambiguity.specs.Members.{members}
-use Rattle.csl_base.specs.declared.names.NameDisambiguationProperties.{NameDisambiguationProperties}
+use Rattle.csl_values.specs.declared.names.NameDisambiguationProperties.{NameDisambiguationProperties}
 use Rattle.csl_lookup.specs.States.{kind_of}
 use Rattle.csl_lookup.specs.declared.state.DisambiguateState.TheVariants.{Choose, NameDisambiguation}
 use Rattle.csl_name_marks.specs.NamedCites.{first_adds_names, greatest_step, named_cites}

@@ -7,10 +7,10 @@ use Rattle.std.proofs.lemmas.List.{length-set}
 use Rattle.std.proofs.lemmas.List.Elements.{All-nil}
 use Rattle.std.proofs.lemmas.Option.{same_Some}
 use Rattle.csl_ambiguity.specs.Members.{Member, member_at, state_of}
-use Rattle.csl_base.specs.Forms.{Forms, add_name, form_written}
-use Rattle.csl_base.specs.declared.entry.Person.{Person}
-use Rattle.csl_base.specs.declared.names.DisambiguatedNameForm.{DisambiguatedNameForm}
-use Rattle.csl_base.specs.declared.names.NameDisambiguationProperties.{NameDisambiguationProperties}
+use Rattle.csl_values.specs.Forms.{Forms, add_name, form_written}
+use Rattle.csl_values.specs.declared.entry.Person.{Person}
+use Rattle.csl_values.specs.declared.names.DisambiguatedNameForm.{DisambiguatedNameForm}
+use Rattle.csl_values.specs.declared.names.NameDisambiguationProperties.{NameDisambiguationProperties}
 use Rattle.csl_lookup.specs.declared.state.DisambiguateState.{DisambiguateState}
 use Rattle.csl_name_marks.specs.NamedCites.{first_adds_names, greatest_step, named_cite, named_cite_at, named_cites, start}
 use Rattle.csl_name_marks.specs.NameMarks.{after_step, is_by_cite, mark, marks_after, name_marks}

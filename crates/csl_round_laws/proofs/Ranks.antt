@@ -2,7 +2,7 @@
 use Rattle.std.proofs.Common.{◌≡◌, ◌⊎◌, inl, inr, ℕ, ◌+◌, ◌*◌, ◌<◌, ◌≤◌, true, false, length, ap, sym, ◌∙◌, arith}
 use Rattle.std.specs.Ordering.{is_lt}
 use Rattle.std.proofs.lemmas.Bool.{false≢true}
-use Rattle.csl_base.proofs.Orders.{properties_in_order}
+use Rattle.csl_values.proofs.Orders.{properties_in_order}
 use Rattle.csl_lookup.specs.GoingOn.{GoesOnTo, rank}
 use Rattle.csl_lookup.specs.States.{forms_of}
 use Rattle.csl_lookup.specs.declared.state.DisambiguateState.{DisambiguateState}

@@ -7,7 +7,7 @@ use Rattle.csl_ambiguity.specs.Ambiguity.{ambiguous_groups}
 use Rattle.csl_ambiguity.specs.ChooseMarks.{choose_marks}
 use Rattle.csl_ambiguity.specs.Members.{entry_of, member_at, members, state_of}
 use Rattle.csl_ambiguity.specs.SuffixMarks.{shows_dates, year_suffix_marks}
-use Rattle.csl_base.specs.Answers.{Answers}
+use Rattle.csl_values.specs.Answers.{Answers}
 use Rattle.csl_lookup.specs.States.{greater, state_cmp}
 use Rattle.csl_lookup.specs.declared.state.DisambiguateState.{DisambiguateState}
 use Rattle.csl_name_marks.specs.NameMarks.{name_marks}

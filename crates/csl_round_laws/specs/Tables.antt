@@ -1,7 +1,7 @@
 -- The rounds in which cites that read alike are disambiguated: the tables of states from the first on.
 use Rattle.std.specs.Prelude.{ℕ, zero, suc, ◌+◌, ◌-◌, ◌*◌, Bool, List, [], ◌∷◌, length, map, slice_index_or, take, Option, Some, None, if◌then◌else◌}
 use Rattle.std.specs.List.{flat_map}
-use Rattle.csl_base.specs.declared.names.NameDisambiguationProperties.{NameDisambiguationProperties}
+use Rattle.csl_values.specs.declared.names.NameDisambiguationProperties.{NameDisambiguationProperties}
 use Rattle.csl_entries.specs.Entries.{distinct}
 use Rattle.csl_name_marks.specs.NamedCites.{greatest}
 use Rattle.csl_passes.specs.Renders.{CiteRender}

@@ -1,4 +1,5 @@
 //! In how many rounds cites are disambiguated.
+ghost use Rattle.csl_base.specs.Tells.{TellsEqual};
 
 /// In how many rounds cites that read alike are disambiguated, and which marks count in them.
 #[derive(Clone, Copy, PartialEq, Eq)]
@@ -9,3 +10,8 @@ pub enum RoundMode {
     /// the next round where an entry of it was marked in this one.
     Full,
 }
+
+/// A law: `==` of modes is true exactly of equal values.
+pub fn mode_equality_decides()
+    ensures { TellsEqual ⟦<RoundMode as PartialEq>⟧.eq }
+{}

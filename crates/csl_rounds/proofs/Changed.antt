@@ -4,7 +4,7 @@ use Rattle.std.specs.List.{enumerate_from, flat_map}
 use Rattle.std.proofs.Math.ListN.{get_or-map, length-map, set}
 use Rattle.std.proofs.lemmas.List.{get_or_default, take_all}
 use Rattle.std.proofs.lemmas.List.FromFn.{get_or-enumerate_from, length-enumerate_from}
-use Rattle.csl_base.specs.Answers.{Answers}
+use Rattle.csl_values.specs.Answers.{Answers}
 use Rattle.csl_passes.specs.ByPlaces.{by_places}
 use Rattle.csl_passes.proofs.Halves.{as_before, half, step, whole}
 use Rattle.csl_writers.specs.Desk.{Desk, after}

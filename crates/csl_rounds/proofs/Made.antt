@@ -4,7 +4,7 @@ use Rattle.std.specs.Prelude.{zip}
 use Rattle.std.specs.List.{flat_map}
 use Rattle.std.proofs.lemmas.List.{map-append, take_all, take_more}
 use Rattle.std.proofs.lemmas.Slice.Zip.{length-zip, get_or-zip}
-use Rattle.csl_base.specs.Answers.{Answers}
+use Rattle.csl_values.specs.Answers.{Answers}
 use Rattle.csl_writers.specs.Desk.{Desk, after}
 use Rattle.csl_writers.specs.Tasks.{TaskValue}
 use Rattle.csl_writers.specs.Writing.{Writing, writing_of}

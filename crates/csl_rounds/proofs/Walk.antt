@@ -4,7 +4,7 @@ use Rattle.std.specs.Prelude.{fold}
 use Rattle.csl_ambiguity.specs.Ambiguity.{ambiguous_groups}
 use Rattle.csl_passes.specs.Renders.{CiteRender, Place}
 use Rattle.csl_ambiguity.specs.SuffixMarks.{shows_dates}
-use Rattle.csl_base.specs.Answers.{Answers}
+use Rattle.csl_values.specs.Answers.{Answers}
 use Rattle.csl_name_marks.specs.NameMarks.{name_marks}
 use Rattle.csl_rounds.specs.Gathered.{with_counting, with_group}
 use Rattle.csl_round_laws.specs.RoundMarks.{Mark, MarkedGroups, all_ways, by_choice, by_full, by_suffix, by_three, counting, has_any, marked_groups, marks_of, or_others, round_marks, waits}

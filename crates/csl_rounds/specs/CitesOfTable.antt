@@ -1,6 +1,6 @@
 -- For the code: the cites of all requests, beside the table of the entries that they cite.
 use Rattle.std.specs.Prelude.{◌≡◌, ℕ, ◌<◌, All, Bool, List, length, map}
-use Rattle.csl_base.specs.Ring.{HasNoRing}
+use Rattle.csl_style_values.specs.Ring.{HasNoRing}
 use Rattle.csl_entries.specs.Entries.{place}
 use Rattle.csl_entries.specs.Table.{Table}
 use Rattle.csl_passes.specs.Places.{AreDistinct, IsPlace}

@@ -2,7 +2,7 @@
 use Rattle.std.proofs.Common.{◌≡◌, ℕ, suc, ◌<◌, ◌≤◌, List, [], ◌∷◌, length, map, drop, get_or, cond, Bool, true, false, Option, Some, None, option_map, option_and_then, find, drop-cons, refl, sym, ap, ◌∙◌, arith}
 use Rattle.std.specs.Prelude.{slice_get}
 use Rattle.std.proofs.lemmas.List.{drop_all}
-use Rattle.csl_base.specs.Found.{first_at}
+use Rattle.csl_values.specs.Found.{first_at}
 
 abbrev or_zero : Option ℕ → ℕ
 or_zero None = 0

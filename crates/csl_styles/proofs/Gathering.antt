@@ -1,9 +1,9 @@
 -- Names of macros, as they are gathered.
 use Rattle.std.proofs.Common.{◌≡◌, ℕ, zero, suc, ◌+◌, ◌-◌, ◌<◌, ◌≤◌, List, [], ◌∷◌, ◌++◌, length, get_or, append_assoc, length-append, Bool, true, false, is_some, inl, inr, sym, ap, ◌∙◌, refl, subst, arith}
 use Rattle.std.proofs.lemmas.List.{append-nil}
-use Rattle.csl_base.specs.Element.{Name, Macro}
-use Rattle.csl_base.specs.Calls.{Names}
-use Rattle.csl_base.specs.Ring.{has_name, body_of}
+use Rattle.csl_style_values.specs.Element.{Name, Macro}
+use Rattle.csl_style_values.specs.Calls.{Names}
+use Rattle.csl_style_values.specs.Ring.{has_name, body_of}
 use Rattle.csl_styles.specs.Gathered.{with_new_name, gather_new, gather_each}
 use Rattle.csl_styles.proofs.NameLists.{has_name-left, has_name-right, has_name-either, has_name-one, has_name-same, left, left-lt}
 

@@ -6,9 +6,9 @@ use Rattle.std.specs.List.{list_any}
 use Rattle.std.specs.Cmp.Lexicographic.{same_text}
 use Rattle.std.proofs.lemmas.Cmp.{nat_list_eq_equiv}
 use Rattle.std.proofs.lemmas.Bool.{or_left, or_right, or_cases}
-use Rattle.csl_base.specs.Element.{Name, Macro}
-use Rattle.csl_base.specs.Calls.{Names}
-use Rattle.csl_base.specs.Ring.{has_name, body_of}
+use Rattle.csl_style_values.specs.Element.{Name, Macro}
+use Rattle.csl_style_values.specs.Calls.{Names}
+use Rattle.csl_style_values.specs.Ring.{has_name, body_of}
 use Rattle.csl_styles.specs.Gathered.{with_new_name}
 
 pub has_name-left : (a : Name) (xs ys : Names) → has_name a xs ≡ true → has_name a (xs ++ ys) ≡ true

@@ -1,8 +1,8 @@
 -- The children of the first macro of a name, by its place.
 use Rattle.std.proofs.Common.{◌≡◌, ℕ, suc, List, [], ◌∷◌, cond, Bool, true, false, Option, Some, None, option_map, refl, ◌∙◌}
 use Rattle.std.specs.Prelude.{bytes_eq, slice_get}
-use Rattle.csl_base.specs.Element.{Name, Elements, Macro}
-use Rattle.csl_base.specs.Ring.{body_of, place_of_macro}
+use Rattle.csl_style_values.specs.Element.{Name, Elements, Macro}
+use Rattle.csl_style_values.specs.Ring.{body_of, place_of_macro}
 
 abbrev pub body_at : List Macro → Option ℕ → Option Elements
 body_at ms None = None

@@ -5,9 +5,9 @@ use Rattle.std.specs.Prelude.{bytes_eq}
 use Rattle.std.specs.Cmp.Lexicographic.{same_text}
 use Rattle.std.proofs.lemmas.Cmp.{nat_list_eq_equiv}
 use Rattle.std.proofs.lemmas.Bool.{false≢true, or_left, or_right}
-use Rattle.csl_base.specs.Element.{Name, Elements, Macro}
-use Rattle.csl_base.specs.Calls.{Names}
-use Rattle.csl_base.specs.Ring.{has_name, body_of, Calls, IsWalk, HasNoRing}
+use Rattle.csl_style_values.specs.Element.{Name, Elements, Macro}
+use Rattle.csl_style_values.specs.Calls.{Names}
+use Rattle.csl_style_values.specs.Ring.{has_name, body_of, Calls, IsWalk, HasNoRing}
 use Rattle.csl_styles.proofs.NameLists.{left, left-lt, left-empty}
 
 -- a walk, and one call more

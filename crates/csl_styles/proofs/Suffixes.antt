@@ -7,9 +7,9 @@ use Rattle.std.specs.Cmp.Lexicographic.{same_text}
 use Rattle.std.proofs.lemmas.Cmp.{nat_list_eq_equiv}
 use Rattle.std.proofs.lemmas.List.{take_all, take_more, take-append-le}
 use Rattle.std.proofs.lemmas.Bool.{or_left, or_right, or_cases}
-use Rattle.csl_base.specs.Element.{Name, Target, value_target, standard_target, macro_target, term_target, Element, text_element, number_element, date_element, names_element, group_element, choose_element, Elements, no_elements, element, Branches, otherwise, branch, Macro}
-use Rattle.csl_base.specs.Calls.{Names, target_calls, calls, calls_of_all, calls_of_branches}
-use Rattle.csl_base.specs.Ring.{has_name, body_of, body_calls, macro_calls, Calls, HasNoRing}
+use Rattle.csl_style_values.specs.Element.{Name, Target, value_target, standard_target, macro_target, term_target, Element, text_element, number_element, date_element, names_element, group_element, choose_element, Elements, no_elements, element, Branches, otherwise, branch, Macro}
+use Rattle.csl_style_values.specs.Calls.{Names, target_calls, calls, calls_of_all, calls_of_branches}
+use Rattle.csl_style_values.specs.Ring.{has_name, body_of, body_calls, macro_calls, Calls, HasNoRing}
 use Rattle.csl_styles.specs.Gathered.{gather_each}
 use Rattle.csl_styles.specs.SuffixText.{suffix_in_target, suffix_in, suffix_in_all, suffix_in_branches, no_call, suffix_in_body, suffix_in_macro, suffix_stands, suffix_called, SuffixesUnfold}
 use Rattle.csl_styles.proofs.NameLists.{has_name-either, has_name-same}

@@ -2,16 +2,16 @@
 use Rattle.std.proofs.Common.{◌≡◌, ℕ, ◌+◌, ◌<◌, Bool, true, ◌&&◌, List, [], ◌∷◌, ◌++◌, map, length, take, get_or, sym, ap, ◌∙◌, arith}
 use Rattle.std.proofs.lemmas.List.{map-append, take_more, length-map, length-take-le}
 use Rattle.std.specs.Cmp.{IsEquivalence}
-use Rattle.csl_base.specs.declared.taxonomy.Term.{Term}
-use Rattle.csl_base.specs.declared.taxonomy.TermForm.{TermForm}
-use Rattle.csl_base.specs.contracts.taxonomy.TermPartialEq.TheImpl as term_eq
-use Rattle.csl_base.specs.contracts.taxonomy.TermFormPartialEq.TheImpl as form_eq
-use Rattle.csl_base.specs.contracts.taxonomy.TermEq.TheImpl.Laws as names
-use Rattle.csl_base.specs.contracts.taxonomy.TermFormEq.TheImpl.Laws as forms
-use Rattle.csl_base.specs.Finds.{both}
-use Rattle.csl_base.specs.declared.locale.LocalizedTerm.{LocalizedTerm}
-use Rattle.csl_base.specs.Style.{TermValue}
-use Rattle.csl_base.specs.StyleView.{term_view}
+use Rattle.csl_values.specs.declared.taxonomy.Term.{Term}
+use Rattle.csl_values.specs.declared.taxonomy.TermForm.{TermForm}
+use Rattle.csl_values.specs.contracts.taxonomy.TermPartialEq.TheImpl as term_eq
+use Rattle.csl_values.specs.contracts.taxonomy.TermFormPartialEq.TheImpl as form_eq
+use Rattle.csl_values.specs.contracts.taxonomy.TermEq.TheImpl.Laws as names
+use Rattle.csl_values.specs.contracts.taxonomy.TermFormEq.TheImpl.Laws as forms
+use Rattle.csl_values.specs.Finds.{both}
+use Rattle.csl_style_values.specs.declared.locale.LocalizedTerm.{LocalizedTerm}
+use Rattle.csl_style_values.specs.Style.{TermValue}
+use Rattle.csl_style_values.specs.StyleView.{term_view}
 use Rattle.csl_styles.specs.Terms.{is_term}
 
 name_laws : IsEquivalence (term_eq.ghosts).eq

@@ -1,8 +1,8 @@
 -- For the code: names of macros, gathered without repetition.
 use Rattle.std.specs.Prelude.{List, [], ◌∷◌, ◌++◌, Bool, true, false, is_some}
-use Rattle.csl_base.specs.Element.{Name, Macro}
-use Rattle.csl_base.specs.Calls.{Names}
-use Rattle.csl_base.specs.Ring.{has_name, body_of}
+use Rattle.csl_style_values.specs.Element.{Name, Macro}
+use Rattle.csl_style_values.specs.Calls.{Names}
+use Rattle.csl_style_values.specs.Ring.{has_name, body_of}
 
 -- with one more name, where it has a macro and isn't there yet
 abbrev pub with_new_name : Bool → Bool → Name → Names → Names

@@ -2,10 +2,10 @@
 use Rattle.std.specs.Prelude.{◌≡◌, List, Option}
 use Rattle.std.specs.Coded.{Coded-set, coded_list}
 use Rattle.std.specs.Option.{ForSome}
-use Rattle.csl_base.specs.contracts.locale.Locale as locale_
-use Rattle.csl_base.specs.contracts.style.IndependentStyle as style_
-use Rattle.csl_base.specs.declared.locale.Locale.{Locale}
-use Rattle.csl_base.specs.declared.style.IndependentStyle.{IndependentStyle}
+use Rattle.csl_style_values.specs.contracts.locale.Locale as locale_
+use Rattle.csl_style_values.specs.contracts.style.IndependentStyle as style_
+use Rattle.csl_style_values.specs.declared.locale.Locale.{Locale}
+use Rattle.csl_style_values.specs.declared.style.IndependentStyle.{IndependentStyle}
 use Rattle.csl_styles.specs.declared.prepared.PreparedSource.{PreparedSource}
 use Rattle.csl_styles.specs.PreparedView.{made_of}
 use Rattle.csl_styles.specs.TablesView.{locales_of}

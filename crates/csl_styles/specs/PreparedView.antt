@@ -1,7 +1,7 @@
 -- What a prepared style stands for: the style that it was made of.
-use Rattle.csl_base.specs.declared.style.IndependentStyle.{IndependentStyle}
-use Rattle.csl_base.specs.Style.{StyleValue}
-use Rattle.csl_base.specs.StyleView.{style_view}
+use Rattle.csl_style_values.specs.declared.style.IndependentStyle.{IndependentStyle}
+use Rattle.csl_style_values.specs.Style.{StyleValue}
+use Rattle.csl_style_values.specs.StyleView.{style_view}
 use Rattle.csl_styles.specs.declared.prepared.PreparedStyle.{PreparedStyle}
 
 abbrev pub made_of : PreparedStyle → IndependentStyle

@@ -1,10 +1,10 @@
 -- Whether a year-suffix text stands in the layouts of a style.
 use Rattle.std.specs.Prelude.{◌≡◌, ℕ, zero, suc, List, length, Bool, true, false, ◌||◌, Option, Some, None}
 use Rattle.std.specs.Option.{option_map_or}
-use Rattle.csl_base.specs.declared.taxonomy.StandardVariable.TheVariants as standard
-use Rattle.csl_base.specs.Element.{Name, Target, standard_target, macro_target, Element, text_element, number_element, date_element, names_element, group_element, choose_element, Elements, no_elements, element, Branches, otherwise, branch, Macro}
-use Rattle.csl_base.specs.Ring.{body_of, HasNoRing}
-use Rattle.csl_base.specs.Style.{StyleValue, BibliographyValue}
+use Rattle.csl_values.specs.declared.taxonomy.StandardVariable.TheVariants as standard
+use Rattle.csl_style_values.specs.Element.{Name, Target, standard_target, macro_target, Element, text_element, number_element, date_element, names_element, group_element, choose_element, Elements, no_elements, element, Branches, otherwise, branch, Macro}
+use Rattle.csl_style_values.specs.Ring.{body_of, HasNoRing}
+use Rattle.csl_style_values.specs.Style.{StyleValue, BibliographyValue}
 
 -- the year suffix is meant, where `call` says it of the macros that are called
 abbrev pub suffix_in_target : (Name → Bool) → Target → Bool

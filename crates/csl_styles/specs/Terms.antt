@@ -1,12 +1,12 @@
 -- Locales by language, and terms of a locale by name and form.
 use Rattle.std.specs.Prelude.{ℕ, List, Bool, ◌&&◌, Option, find, bytes_eq}
 use Rattle.std.specs.Option.{option_eq}
-use Rattle.csl_base.specs.declared.taxonomy.Term.{Term}
-use Rattle.csl_base.specs.declared.taxonomy.TermForm.{TermForm}
-use Rattle.csl_base.specs.contracts.taxonomy.TermPartialEq.TheImpl as term_eq
-use Rattle.csl_base.specs.contracts.taxonomy.TermFormPartialEq.TheImpl as form_eq
-use Rattle.csl_base.specs.Found.{first_at}
-use Rattle.csl_base.specs.Style.{TermValue, LocaleValue}
+use Rattle.csl_values.specs.declared.taxonomy.Term.{Term}
+use Rattle.csl_values.specs.declared.taxonomy.TermForm.{TermForm}
+use Rattle.csl_values.specs.contracts.taxonomy.TermPartialEq.TheImpl as term_eq
+use Rattle.csl_values.specs.contracts.taxonomy.TermFormPartialEq.TheImpl as form_eq
+use Rattle.csl_values.specs.Found.{first_at}
+use Rattle.csl_style_values.specs.Style.{TermValue, LocaleValue}
 
 -- the first locale of a language, where none is the language of a locale that names none
 abbrev pub locale_of : Option (List ℕ) → List LocaleValue → Option LocaleValue

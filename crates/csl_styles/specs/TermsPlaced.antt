@@ -1,10 +1,10 @@
 -- Places that a map keeps by name and form.
 use Rattle.std.specs.Prelude.{ℕ, Option, ◌&&◌}
 use Rattle.std.specs.HashMap.{HashMap, get_by}
-use Rattle.csl_base.specs.declared.taxonomy.Term.{Term}
-use Rattle.csl_base.specs.declared.taxonomy.TermForm.{TermForm}
-use Rattle.csl_base.specs.contracts.taxonomy.TermPartialEq.TheImpl as term_eq
-use Rattle.csl_base.specs.contracts.taxonomy.TermFormPartialEq.TheImpl as form_eq
+use Rattle.csl_values.specs.declared.taxonomy.Term.{Term}
+use Rattle.csl_values.specs.declared.taxonomy.TermForm.{TermForm}
+use Rattle.csl_values.specs.contracts.taxonomy.TermPartialEq.TheImpl as term_eq
+use Rattle.csl_values.specs.contracts.taxonomy.TermFormPartialEq.TheImpl as form_eq
 
 -- the place that the map keeps for a name and a form
 abbrev pub term_placed : {S : Type 0} → HashMap (Term × TermForm) ℕ S → Term × TermForm → Option ℕ

@@ -1,7 +1,7 @@
 //! Locales by their language.
 ghost use Rattle.std.specs.Prelude.{◌≡◌, map, option_map, bytes_eq};
 ghost use Rattle.std.specs.Option.{option_eq};
-ghost use Rattle.csl_base.specs.StyleView.{locale_view};
+ghost use Rattle.csl_style_values.specs.StyleView.{locale_view};
 ghost use Rattle.csl_styles.specs.Terms.{locale_of};
 
 use csl_base::locale::Locale;

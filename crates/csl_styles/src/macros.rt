@@ -1,9 +1,9 @@
 //! The macros of a style, by name.
 ghost use Rattle.std.specs.Prelude.{◌≡◌, IfOk};
-ghost use Rattle.csl_base.specs.Element.{Name};
-ghost use Rattle.csl_base.specs.NamedPlaces.{place_named};
-ghost use Rattle.csl_base.specs.Ring.{place_of_macro};
-ghost use Rattle.csl_base.specs.StyleView.{style_view};
+ghost use Rattle.csl_style_values.specs.Element.{Name};
+ghost use Rattle.csl_style_values.specs.NamedPlaces.{place_named};
+ghost use Rattle.csl_style_values.specs.Ring.{place_of_macro};
+ghost use Rattle.csl_style_values.specs.StyleView.{style_view};
 
 use csl_base::element::LayoutRenderingElement;
 use csl_base::ring::first_places;
@@ -21,8 +21,8 @@ pub(crate) struct MacroTable<'a> {
 
 impl<'a> MacroTable<'a> {
     ghost use Rattle.std.specs.Prelude.{option_map};
-    ghost use Rattle.csl_base.specs.ElementView.{elements_view};
-    ghost use Rattle.csl_base.specs.Ring.{body_of};
+    ghost use Rattle.csl_style_values.specs.ElementView.{elements_view};
+    ghost use Rattle.csl_style_values.specs.Ring.{body_of};
     ghost use Rattle.csl_styles.specs.MacrosOf.{macros_of};
 
     pub(crate) fn new(

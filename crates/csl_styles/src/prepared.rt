@@ -1,9 +1,9 @@
 //! Prepared styles.
 ghost use Rattle.std.specs.Prelude.{◌≡◌};
 ghost use Rattle.std.specs.Coded.{Coded-set, coded_list};
-ghost use Rattle.csl_base.specs.Ring.{body_of, HasNoRing};
-ghost use Rattle.csl_base.specs.StyleView.{style_view};
-ghost use Rattle.csl_base.specs.contracts.locale.Locale as locale_;
+ghost use Rattle.csl_style_values.specs.Ring.{body_of, HasNoRing};
+ghost use Rattle.csl_style_values.specs.StyleView.{style_view};
+ghost use Rattle.csl_style_values.specs.contracts.locale.Locale as locale_;
 ghost use Rattle.csl_styles.specs.MacrosOf.{macros_of};
 ghost use Rattle.csl_styles.specs.SuffixText.{explicit_suffix};
 ghost use Rattle.csl_styles.specs.TablesView.{locales_of};
@@ -40,9 +40,9 @@ pub struct PreparedSource<'a> {
 
 impl<'a> PreparedStyle<'a> {
     ghost use Rattle.std.specs.Prelude.{◌≡◌, Some, IfOk, MatchResult, option_map, option_and_then};
-    ghost use Rattle.csl_base.specs.ElementView.{elements_view, macros_view};
-    ghost use Rattle.csl_base.specs.Ring.{IsFirstRing};
-    ghost use Rattle.csl_base.specs.StyleView.{term_view};
+    ghost use Rattle.csl_style_values.specs.ElementView.{elements_view, macros_view};
+    ghost use Rattle.csl_style_values.specs.Ring.{IsFirstRing};
+    ghost use Rattle.csl_style_values.specs.StyleView.{term_view};
     ghost use Rattle.csl_styles.specs.PreparedView.{made_of, prepared_view};
     ghost use Rattle.csl_styles.specs.Terms.{locale_of, term_in};
 

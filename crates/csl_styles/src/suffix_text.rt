@@ -1,9 +1,9 @@
 //! Whether a year-suffix text stands in the layouts of a style.
 ghost use Rattle.std.specs.Prelude.{◌≡◌, OnOk, IfOk, map, false};
-ghost use Rattle.csl_base.specs.ElementView.{element_view, elements_view, branches_view};
-ghost use Rattle.csl_base.specs.StyleView.{style_view};
-ghost use Rattle.csl_base.specs.Calls.{calls_of_all};
-ghost use Rattle.csl_base.specs.Ring.{body_of, macro_calls, HasNoRing};
+ghost use Rattle.csl_style_values.specs.ElementView.{element_view, elements_view, branches_view};
+ghost use Rattle.csl_style_values.specs.StyleView.{style_view};
+ghost use Rattle.csl_style_values.specs.Calls.{calls_of_all};
+ghost use Rattle.csl_style_values.specs.Ring.{body_of, macro_calls, HasNoRing};
 ghost use Rattle.csl_styles.specs.Gathered.{gather_new, gather_each};
 ghost use Rattle.csl_styles.specs.MacrosOf.{macros_of};
 ghost use Rattle.csl_styles.specs.SuffixText.{no_call, suffix_in_body, suffix_in, suffix_in_all, suffix_in_branches, suffix_stands, explicit_suffix, SuffixesUnfold};

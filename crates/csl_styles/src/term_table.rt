@@ -1,8 +1,8 @@
 //! The terms of a locale, by name and form.
 ghost use Rattle.std.specs.Prelude.{◌≡◌, IfOk, option_map};
-ghost use Rattle.csl_base.specs.StyleView.{locale_view, term_view};
-ghost use Rattle.csl_base.specs.declared.taxonomy.Term.{Term};
-ghost use Rattle.csl_base.specs.declared.taxonomy.TermForm.{TermForm};
+ghost use Rattle.csl_style_values.specs.StyleView.{locale_view, term_view};
+ghost use Rattle.csl_values.specs.declared.taxonomy.Term.{Term};
+ghost use Rattle.csl_values.specs.declared.taxonomy.TermForm.{TermForm};
 ghost use Rattle.csl_styles.specs.Terms.{place_of_term, term_in};
 ghost use Rattle.csl_styles.specs.TermsPlaced.{term_placed};
 

@@ -1,7 +1,7 @@
 //! The terms of a list of locales.
 ghost use Rattle.std.specs.Prelude.{◌≡◌, map};
 ghost use Rattle.std.specs.Coded.{Coded-set, coded_list};
-ghost use Rattle.csl_base.specs.contracts.locale.Locale as locale_;
+ghost use Rattle.csl_style_values.specs.contracts.locale.Locale as locale_;
 
 use crate::locales::is_language;
 use crate::term_table::TermTable;
@@ -19,7 +19,7 @@ pub struct TermTables<'a> {
 
 impl<'a> TermTables<'a> {
     ghost use Rattle.std.specs.Prelude.{IfOk, option_map, option_and_then};
-    ghost use Rattle.csl_base.specs.StyleView.{locale_view, term_view};
+    ghost use Rattle.csl_style_values.specs.StyleView.{locale_view, term_view};
     ghost use Rattle.csl_styles.specs.Terms.{locale_of, term_in};
     ghost use Rattle.csl_styles.specs.TablesView.{locales_of};
 

@@ -1,11 +1,11 @@
 -- The names that a child is or holds.
 use Rattle.std.proofs.Common.{◌≡◌, true, List, [], ◌∷◌, ◌++◌, map, Bor, sym, ap, ◌∙◌}
 use Rattle.std.proofs.lemmas.List.{map-append}
-use Rattle.csl_base.specs.ChildView.{child_view}
-use Rattle.csl_base.specs.declared.elem.Elem.{Elem}
-use Rattle.csl_base.specs.declared.elem.ElemChild.{ElemChild}
-use Rattle.csl_base.specs.declared.elem.ElemChild.TheVariants as v
-use Rattle.csl_base.proofs.Trees.{elem_back}
+use Rattle.csl_trees.specs.ChildView.{child_view}
+use Rattle.csl_trees.specs.declared.elem.Elem.{Elem}
+use Rattle.csl_trees.specs.declared.elem.ElemChild.{ElemChild}
+use Rattle.csl_trees.specs.declared.elem.ElemChild.TheVariants as v
+use Rattle.csl_trees.proofs.Trees.{elem_back}
 use Rattle.csl_substitution.specs.Names.{is_name, child_names}
 
 -- a name is the one that a child is

@@ -3,8 +3,8 @@ use Rattle.std.proofs.Common.{◌≡◌, List, [], ◌∷◌, Option, None, Some
 use Rattle.std.specs.List.{All}
 use Rattle.std.specs.Option.{option_or, option_and_then}
 use Rattle.std.proofs.lemmas.List.Elements.{All-nil, All-cons}
-use Rattle.csl_base.specs.declared.elem.Elem.{Elem}
-use Rattle.csl_base.specs.declared.style.SubsequentAuthorSubstituteRule.{SubsequentAuthorSubstituteRule}
+use Rattle.csl_trees.specs.declared.elem.Elem.{Elem}
+use Rattle.csl_style_values.specs.declared.style.SubsequentAuthorSubstituteRule.{SubsequentAuthorSubstituteRule}
 use Rattle.csl_substitution.specs.Names.{names_element}
 use Rattle.csl_substitution.specs.Substitution.{Item, stayed, base}
 use Rattle.csl_substitution.specs.Laws.{IsLatestKept, BaseIsLatest}

@@ -1,9 +1,9 @@
 -- Names taken out: inside each child, and then among the children.
 use Rattle.std.proofs.Common.{◌≡◌, ℕ, suc, ◌<◌, Bool, true, false, not, cond, List, [], ◌∷◌, map, length, get_or, refl, ap, ap₂, ◌∙◌, arith}
 use Rattle.std.specs.List.{filter}
-use Rattle.csl_base.specs.Child.{Child, text, elem, markup, link, transparent}
-use Rattle.csl_base.specs.ChildView.{child_view}
-use Rattle.csl_base.specs.declared.elem.ElemChild.{ElemChild}
+use Rattle.csl_trees.specs.Child.{Child, text, elem, markup, link, transparent}
+use Rattle.csl_trees.specs.ChildView.{child_view}
+use Rattle.csl_trees.specs.declared.elem.ElemChild.{ElemChild}
 use Rattle.csl_substitution.specs.Rewriting.{child_is_name, child_without_names, without_names}
 
 -- children that were changed one by one

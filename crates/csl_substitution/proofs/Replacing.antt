@@ -5,12 +5,12 @@ use Rattle.std.specs.List.{position_or_len}
 use Rattle.std.proofs.Math.ListN.{set}
 use Rattle.std.proofs.lemmas.Bool.{cases_Bool}
 use Rattle.std.proofs.lemmas.List.{same_lists, take-append-drop, length-drop}
-use Rattle.csl_base.specs.Child.{Child, text, elem, markup, link, transparent, Kids, no_kids, kid, kids_of, list_of, list_of-kids_of}
-use Rattle.csl_base.specs.ChildView.{child_view}
-use Rattle.csl_base.specs.Tree.{elem_of, find_elem, child_find, kids_find}
-use Rattle.csl_base.specs.declared.elem.ElemChild.{ElemChild}
-use Rattle.csl_base.specs.declared.formatting.Formatted.{Formatted}
-use Rattle.csl_base.proofs.FirstNamesLaws.{neither}
+use Rattle.csl_trees.specs.Child.{Child, text, elem, markup, link, transparent, Kids, no_kids, kid, kids_of, list_of, list_of-kids_of}
+use Rattle.csl_trees.specs.ChildView.{child_view}
+use Rattle.csl_trees.specs.Tree.{elem_of, find_elem, child_find, kids_find}
+use Rattle.csl_trees.specs.declared.elem.ElemChild.{ElemChild}
+use Rattle.csl_values.specs.declared.formatting.Formatted.{Formatted}
+use Rattle.csl_trees.proofs.FirstNamesLaws.{neither}
 use Rattle.csl_substitution.specs.Names.{is_name}
 use Rattle.csl_substitution.specs.Rewriting.{holds_name, name_replaced, kids_name_replaced, first_name_replaced, up_to_names}
 

@@ -2,11 +2,11 @@
 use Rattle.std.proofs.Common.{◌≡◌, ℕ, ◌+◌, ◌⊎◌, Bool, true, false, cond, List, [], ◌∷◌, map, take, reverse, Option, None, Some, Result, OnOk, refl, sym, subst, inl, inr}
 use Rattle.std.specs.List.{AllZip, enumerate_from}
 use Rattle.std.proofs.lemmas.Result.{on_ok_weaker}
-use Rattle.csl_base.specs.Child.{Child}
-use Rattle.csl_base.specs.FirstNames.{put_names}
-use Rattle.csl_base.specs.declared.elem.Elem.{Elem}
-use Rattle.csl_base.specs.declared.formatting.Formatted.{Formatted}
-use Rattle.csl_base.specs.declared.style.SubsequentAuthorSubstituteRule.{SubsequentAuthorSubstituteRule}
+use Rattle.csl_trees.specs.Child.{Child}
+use Rattle.csl_trees.specs.FirstNames.{put_names}
+use Rattle.csl_trees.specs.declared.elem.Elem.{Elem}
+use Rattle.csl_values.specs.declared.formatting.Formatted.{Formatted}
+use Rattle.csl_style_values.specs.declared.style.SubsequentAuthorSubstituteRule.{SubsequentAuthorSubstituteRule}
 use Rattle.csl_substitution.specs.Names.{names_element}
 use Rattle.csl_substitution.specs.Substitution.{Item, is_replaced, base, names_after, tree_after, item_after, substitute_text, substituted}
 use Rattle.csl_substitution.specs.Laws.{IsSameButNames, KeepsAllButNames, FirstStays, OnlyNamesChange}

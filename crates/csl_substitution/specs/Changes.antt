@@ -2,11 +2,11 @@
 use Rattle.std.specs.Prelude.{List, ◌∷◌, Option, None, Some, if◌then◌else◌}
 use Rattle.std.specs.List.{scan}
 use Rattle.std.specs.Option.{option_and_then, option_or}
-use Rattle.csl_base.specs.Child.{Child}
-use Rattle.csl_base.specs.FirstNames.{put_names}
-use Rattle.csl_base.specs.declared.elem.Elem.{Elem}
-use Rattle.csl_base.specs.declared.formatting.Formatted.{Formatted}
-use Rattle.csl_base.specs.declared.style.SubsequentAuthorSubstituteRule.{SubsequentAuthorSubstituteRule}
+use Rattle.csl_trees.specs.Child.{Child}
+use Rattle.csl_trees.specs.FirstNames.{put_names}
+use Rattle.csl_trees.specs.declared.elem.Elem.{Elem}
+use Rattle.csl_values.specs.declared.formatting.Formatted.{Formatted}
+use Rattle.csl_style_values.specs.declared.style.SubsequentAuthorSubstituteRule.{SubsequentAuthorSubstituteRule}
 use Rattle.csl_substitution.specs.Names.{names_element}
 use Rattle.csl_substitution.specs.Rewriting.{elem_changed}
 use Rattle.csl_substitution.specs.Rules.{rule_for, change_by}

@@ -1,10 +1,10 @@
 -- What substitution leaves as it was, and which item is compared with.
 use Rattle.std.specs.Prelude.{◌≡◌, ℕ, ◌⊎◌, List, ◌∷◌, ◌++◌, Option, None, Some, MatchOption, slice_get}
 use Rattle.std.specs.List.{All, AllZip}
-use Rattle.csl_base.specs.Child.{Child}
-use Rattle.csl_base.specs.FirstNames.{put_names}
-use Rattle.csl_base.specs.declared.elem.Elem.{Elem}
-use Rattle.csl_base.specs.declared.style.SubsequentAuthorSubstituteRule.{SubsequentAuthorSubstituteRule}
+use Rattle.csl_trees.specs.Child.{Child}
+use Rattle.csl_trees.specs.FirstNames.{put_names}
+use Rattle.csl_trees.specs.declared.elem.Elem.{Elem}
+use Rattle.csl_style_values.specs.declared.style.SubsequentAuthorSubstituteRule.{SubsequentAuthorSubstituteRule}
 use Rattle.csl_substitution.specs.Names.{names_element}
 use Rattle.csl_substitution.specs.Substitution.{Item, stayed, base, substituted}
 

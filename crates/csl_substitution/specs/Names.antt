@@ -1,10 +1,10 @@
 -- The names of an item: the Name elements in its first names element.
 use Rattle.std.specs.Prelude.{Bool, true, false, cond, List, [], ◌∷◌, ◌++◌, Option, None, Some}
-use Rattle.csl_base.specs.Child.{Child, text, elem, markup, link, transparent, Kids, no_kids, kid, kids_of}
-use Rattle.csl_base.specs.Tree.{elem_of, find_elem, has_names}
-use Rattle.csl_base.specs.declared.elem.Elem.{Elem}
-use Rattle.csl_base.specs.declared.elem.ElemMeta.{ElemMeta}
-use Rattle.csl_base.specs.declared.elem.ElemMeta.TheVariants as meta
+use Rattle.csl_trees.specs.Child.{Child, text, elem, markup, link, transparent, Kids, no_kids, kid, kids_of}
+use Rattle.csl_trees.specs.Tree.{elem_of, find_elem, has_names}
+use Rattle.csl_trees.specs.declared.elem.Elem.{Elem}
+use Rattle.csl_trees.specs.declared.elem.ElemMeta.{ElemMeta}
+use Rattle.csl_trees.specs.declared.elem.ElemMeta.TheVariants as meta
 
 abbrev pub is_name_meta : ElemMeta → Bool
 is_name_meta (meta.Name v i) = true

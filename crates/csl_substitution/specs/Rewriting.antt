@@ -1,10 +1,10 @@
 -- What is written into the children of a names element.
 use Rattle.std.specs.Prelude.{ℕ, zero, suc, ◌+◌, Bool, false, cond, List, [], ◌∷◌, ◌++◌, is_some, map, take, drop}
 use Rattle.std.specs.List.{position_or_len}
-use Rattle.csl_base.specs.Child.{Child, text, elem, markup, link, transparent, Kids, no_kids, kid, kids_of, list_of}
-use Rattle.csl_base.specs.Tree.{elem_of, child_find}
-use Rattle.csl_base.specs.declared.elem.Elem.{Elem}
-use Rattle.csl_base.specs.declared.formatting.Formatted.{Formatted}
+use Rattle.csl_trees.specs.Child.{Child, text, elem, markup, link, transparent, Kids, no_kids, kid, kids_of, list_of}
+use Rattle.csl_trees.specs.Tree.{elem_of, child_find}
+use Rattle.csl_trees.specs.declared.elem.Elem.{Elem}
+use Rattle.csl_values.specs.declared.formatting.Formatted.{Formatted}
 use Rattle.csl_substitution.specs.Names.{is_name}
 use Rattle.csl_substitution.specs.declared.changes.Change.{Change}
 use Rattle.csl_substitution.specs.declared.changes.Change.TheVariants.{SubstituteAlone, WithoutNames, EachNameReplaced, FirstNamesReplaced}

@@ -3,10 +3,10 @@
 use Rattle.std.specs.Prelude.{ℕ, Bool, true, false, ◌&&◌, ◌||◌, not, nat_lt, List, [], ◌∷◌, if◌then◌else◌}
 use Rattle.std.specs.List.{common_prefix_len}
 use Rattle.std.specs.Cmp.Lexicographic.{pointwise}
-use Rattle.csl_base.specs.EqualTrees.{same_elem}
-use Rattle.csl_base.specs.declared.elem.Elem.{Elem}
-use Rattle.csl_base.specs.declared.style.SubsequentAuthorSubstituteRule.{SubsequentAuthorSubstituteRule}
-use Rattle.csl_base.specs.declared.style.SubsequentAuthorSubstituteRule.TheVariants.{CompleteAll, CompleteEach, PartialEach, PartialFirst}
+use Rattle.csl_trees.specs.EqualTrees.{same_elem}
+use Rattle.csl_trees.specs.declared.elem.Elem.{Elem}
+use Rattle.csl_style_values.specs.declared.style.SubsequentAuthorSubstituteRule.{SubsequentAuthorSubstituteRule}
+use Rattle.csl_style_values.specs.declared.style.SubsequentAuthorSubstituteRule.TheVariants.{CompleteAll, CompleteEach, PartialEach, PartialFirst}
 use Rattle.csl_substitution.specs.Names.{names_within}
 use Rattle.csl_substitution.specs.declared.changes.Change.{Change}
 use Rattle.csl_substitution.specs.declared.changes.Change.TheVariants.{SubstituteAlone, WithoutNames, EachNameReplaced, FirstNamesReplaced}

@@ -1,7 +1,7 @@
 //! When the names of an item are substituted, and by what.
 ghost use Rattle.std.specs.Prelude.{◌≡◌, Some, map, option_map};
 ghost use Rattle.std.specs.List.{common_prefix_len};
-ghost use Rattle.csl_base.specs.EqualTrees.{same_elem};
+ghost use Rattle.csl_trees.specs.EqualTrees.{same_elem};
 ghost use Rattle.csl_substitution.specs.Changes.{change_of};
 ghost use Rattle.csl_substitution.specs.Names.{names_within};
 ghost use Rattle.csl_substitution.specs.Rules.{names_in_common, none_of, same_names};

@@ -1,6 +1,6 @@
 //! The names of an item.
 ghost use Rattle.std.specs.Prelude.{◌≡◌, ◌++◌, map, OnOk, IfOk};
-ghost use Rattle.csl_base.specs.ChildView.{child_view};
+ghost use Rattle.csl_trees.specs.ChildView.{child_view};
 ghost use Rattle.csl_substitution.specs.Names.{is_name, child_names, names_in, names_within};
 
 use csl_base::elem::{Elem, ElemChild, ElemChildren, ElemMeta};

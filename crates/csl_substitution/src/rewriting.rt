@@ -1,8 +1,8 @@
 //! What is written into a names element.
 ghost use Rattle.std.specs.Prelude.{◌≡◌, ◌∷◌, [], map, filter, not, is_some, OnOk, IfOk};
-ghost use Rattle.csl_base.specs.Child.{text};
-ghost use Rattle.csl_base.specs.ChildView.{child_view};
-ghost use Rattle.csl_base.specs.Tree.{find_elem};
+ghost use Rattle.csl_trees.specs.Child.{text};
+ghost use Rattle.csl_trees.specs.ChildView.{child_view};
+ghost use Rattle.csl_trees.specs.Tree.{find_elem};
 ghost use Rattle.csl_substitution.specs.Names.{is_name};
 ghost use Rattle.csl_substitution.specs.Rewriting.{child_is_name, child_without_names, without_names, holds_name, name_replaced, first_name_replaced, up_to_names, changed, elem_changed};
 ghost use Rattle.csl_substitution.specs.Changes.{tree_changed};

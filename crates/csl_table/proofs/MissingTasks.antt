@@ -5,7 +5,7 @@ use Rattle.std.specs.Bool.{if◌then◌else◌}
 use Rattle.std.specs.List.{list_any}
 use Rattle.std.proofs.lemmas.List.Elements.{All-append, All-cons, All-nil, Contains-append_right}
 use Rattle.indexmap.specs.IndexSet.{insert_key}
-use Rattle.csl_base.specs.Answers.{Answers}
+use Rattle.csl_values.specs.Answers.{Answers}
 use Rattle.csl_table.specs.Keys.{task_key}
 use Rattle.csl_table.specs.Table.{IsMissingOf, is_earlier, is_later, kept_beside, key_eq, note_once}
 use Rattle.csl_table.specs.declared.key.TaskKey.{TaskKey}

@@ -1,7 +1,8 @@
 -- Styles of a host, which have a name in place of layouts.
 use Rattle.std.specs.Prelude.{ℕ, List, [], None, false}
-use Rattle.csl_base.specs.Element.{Elements, element, no_elements, text_element, value_target}
-use Rattle.csl_base.specs.Style.{StyleValue}
+use Rattle.csl_style_values.specs.Element.{Elements, element, no_elements, text_element, value_target}
+use Rattle.csl_style_values.specs.Style.{StyleValue}
+use Rattle.csl_values.specs.Formatting.{nothing_asked}
 
 -- the text with which elements begin
 abbrev pub leading_text : Elements → List ℕ
@@ -15,6 +16,6 @@ host_style_name style = leading_text style.citation.layout.elements
 abbrev pub one_text : List ℕ → Elements
 one_text name = element (text_element (value_target name) false false (record {
   affixes = record { prefix = None; suffix = None };
-  formatting = record { font_style = None; font_weight = None };
+  formatting = nothing_asked;
   display = None;
 })) no_elements

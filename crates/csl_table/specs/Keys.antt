@@ -1,7 +1,7 @@
 -- What identifies a task in a table.
 use Rattle.std.specs.Prelude.{ℕ, List, [], None, option_map}
-use Rattle.csl_base.specs.Answers.{Answers}
-use Rattle.csl_base.specs.declared.taxonomy.Locator.{Locator}
+use Rattle.csl_values.specs.Answers.{Answers}
+use Rattle.csl_values.specs.declared.taxonomy.Locator.{Locator}
 use Rattle.csl_lookup.specs.Lookup.{Source, locale_in_use}
 use Rattle.csl_lookup.specs.Properties.{LocatorValue, Payload, Properties, own_payload, text_payload}
 use Rattle.csl_lookup.specs.declared.state.DisambiguateState.{DisambiguateState}

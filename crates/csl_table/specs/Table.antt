@@ -3,7 +3,7 @@ use Rattle.std.specs.Prelude.{◌≡◌, ◌||◌, Bool, false, List, [], ◌∷
 use Rattle.std.specs.Bool.{if◌then◌else◌}
 use Rattle.std.specs.HashMap.{HashMap, get}
 use Rattle.indexmap.specs.IndexSet.{insert_key}
-use Rattle.csl_base.specs.Answers.{Answers}
+use Rattle.csl_values.specs.Answers.{Answers}
 use Rattle.csl_lookup.specs.declared.state.IdentifierUsage.{IdentifierUsage}
 use Rattle.csl_table.specs.Keys.{cite_key, date_key, item_key, stage, task_key}
 use Rattle.csl_table.specs.contracts.key.TaskKeyPartialEq.TheImpl as key_equality

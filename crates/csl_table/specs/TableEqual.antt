@@ -1,7 +1,7 @@
 -- A table answers alike for entries that answer alike.
 use Rattle.std.specs.Prelude.{◌≡◌, List, Option, Some, None}
 use Rattle.std.proofs.Common.{ap}
-use Rattle.csl_base.specs.Answers.{Answers}
+use Rattle.csl_values.specs.Answers.{Answers}
 use Rattle.csl_table.specs.Keys.{key_of_part, standing_of}
 use Rattle.csl_table.specs.Table.{table_state, written_as}
 use Rattle.csl_table.specs.declared.key.TaskKey.{TaskKey}

@@ -1,7 +1,7 @@
 //! Styles of a host, which have a name in place of layouts.
 ghost use Rattle.std.specs.Prelude.{◌≡◌, IfOk};
-ghost use Rattle.csl_base.specs.ElementView.{elements_view};
-ghost use Rattle.csl_base.specs.StyleView.{style_view};
+ghost use Rattle.csl_style_values.specs.ElementView.{elements_view};
+ghost use Rattle.csl_style_values.specs.StyleView.{style_view};
 ghost use Rattle.csl_table.specs.HostStyle.{one_text, host_style_name};
 
 use csl_base::element::{Affixes, LayoutRenderingElement, TextTarget};
@@ -27,10 +27,7 @@ pub fn named(alloc: Global, name: &str) -> Result<Vec<LayoutRenderingElement>, A
             prefix: None,
             suffix: None,
         },
-        formatting: StyleFormatting {
-            font_style: None,
-            font_weight: None,
-        },
+        formatting: StyleFormatting::default(),
         display: None,
     })?;
     Ok(elements)

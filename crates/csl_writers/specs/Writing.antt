@@ -1,7 +1,7 @@
 -- What is written of the entries of a document.
 use Rattle.std.specs.Prelude.{◌≡◌, List, [], ◌∷◌, Option}
-use Rattle.csl_base.specs.Answers.{Answers}
-use Rattle.csl_base.specs.Child.{Child}
+use Rattle.csl_values.specs.Answers.{Answers}
+use Rattle.csl_trees.specs.Child.{Child}
 use Rattle.csl_writers.specs.Tasks.{CiteTaskValue, DateTaskValue, ItemTaskValue, TaskValue}
 use Rattle.csl_writers.specs.declared.cite.Cite.{Cite}
 

@@ -1,6 +1,6 @@
 //! What a writer is asked to write.
 ghost use Rattle.std.specs.Prelude.{◌≡◌, ⊤};
-ghost use Rattle.csl_base.specs.Ring.{HasNoRing};
+ghost use Rattle.csl_style_values.specs.Ring.{HasNoRing};
 ghost use Rattle.csl_lookup.specs.SourceView.{source_view};
 
 use csl_lookup::lookup::StyleLocales;

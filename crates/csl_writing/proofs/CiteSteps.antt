@@ -1,8 +1,8 @@
 -- A cite from what is written and noted of it.
 use Rattle.std.proofs.Common.{◌≡◌, Bool, ◌&&◌, List, [], Option, Some, ap, sym, ◌∙◌}
 use Rattle.std.specs.Prelude.{is_some, unwrap_or}
-use Rattle.csl_base.specs.Answers.{Answers}
-use Rattle.csl_base.specs.Child.{Child}
+use Rattle.csl_values.specs.Answers.{Answers}
+use Rattle.csl_trees.specs.Child.{Child}
 use Rattle.csl_picking.specs.declared.notes.Notes.{Notes}
 use Rattle.csl_lookup.specs.declared.purpose.CitePurpose.{CitePurpose}
 use Rattle.csl_lookup.specs.declared.state.CollapseVerdict.{CollapseVerdict}

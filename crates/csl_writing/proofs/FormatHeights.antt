@@ -4,9 +4,9 @@ use Rattle.std.proofs.lemmas.Bool.{ltb-false}
 use Rattle.std.proofs.lemmas.List.{length-take-le, length-set}
 use Rattle.std.specs.Prelude.{slice_set, nat_lt}
 use Rattle.std.specs.Option.{option_map_or}
-use Rattle.csl_base.specs.Child.{Child}
-use Rattle.csl_base.specs.declared.formatting.Formatting.{Formatting}
-use Rattle.csl_base.specs.declared.formatting.StyleFormatting.{StyleFormatting}
+use Rattle.csl_trees.specs.Child.{Child}
+use Rattle.csl_values.specs.declared.formatting.Formatting.{Formatting}
+use Rattle.csl_values.specs.declared.formatting.StyleFormatting.{StyleFormatting}
 use Rattle.csl_context.specs.OpenFrames.{Frames, on_top, top}
 use Rattle.csl_context.specs.WritingState.{State, is_saved, saved, formatted, unformatted, cut_formats, asks_nothing}
 

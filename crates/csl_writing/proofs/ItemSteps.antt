@@ -3,9 +3,9 @@ use Rattle.std.proofs.Common.{◌≡◌, ℕ, ◌≤◌, true, List, length, Opt
 use Rattle.std.proofs.lemmas.List.{length-take-le}
 use Rattle.std.specs.Prelude.{take}
 use Rattle.std.specs.Str.{trim_end}
-use Rattle.csl_base.specs.Child.{Child}
-use Rattle.csl_base.specs.Element.{NameOptions}
-use Rattle.csl_base.specs.Style.{BibliographyValue}
+use Rattle.csl_trees.specs.Child.{Child}
+use Rattle.csl_style_values.specs.Element.{NameOptions}
+use Rattle.csl_style_values.specs.Style.{BibliographyValue}
 use Rattle.csl_picking.specs.declared.notes.Form.{Form}
 use Rattle.csl_picking.specs.declared.notes.Notes.{Notes}
 use Rattle.csl_writing.specs.declared.section.Section as declared

@@ -4,8 +4,8 @@ use Rattle.std.proofs.Math.Dec.{eqb-suc-zero}
 use Rattle.std.proofs.lemmas.List.{length-map}
 use Rattle.std.specs.Prelude.{Result, IfOk}
 use Rattle.std.specs.declared.alloc.AllocError.{AllocError}
-use Rattle.csl_base.specs.Element.{Elements, Macro}
-use Rattle.csl_base.specs.declared.formatting.StyleFormatting.{StyleFormatting}
+use Rattle.csl_style_values.specs.Element.{Elements, Macro}
+use Rattle.csl_values.specs.declared.formatting.StyleFormatting.{StyleFormatting}
 use Rattle.csl_picking.specs.declared.notes.Form.{Form}
 use Rattle.csl_picking.specs.declared.notes.Notes.{Notes}
 use Rattle.csl_picking.specs.declared.pieces.Piece.{Piece}

@@ -1,9 +1,9 @@
 -- What is written of a cite by what it is written for, and of an item of the bibliography.
 use Rattle.std.specs.Prelude.{◌∷◌, List, [], Bool, true, false, Option, None, Some, length, option_map, is_some, if◌then◌else◌}
-use Rattle.csl_base.specs.Answers.{Answers}
-use Rattle.csl_base.specs.Child.{Child}
-use Rattle.csl_base.specs.Element.{Affix}
-use Rattle.csl_base.specs.Style.{StyleValue, LayoutValue, BibliographyValue}
+use Rattle.csl_values.specs.Answers.{Answers}
+use Rattle.csl_trees.specs.Child.{Child}
+use Rattle.csl_style_values.specs.Element.{Affix}
+use Rattle.csl_style_values.specs.Style.{StyleValue, LayoutValue, BibliographyValue}
 use Rattle.csl_writers.specs.declared.cite.Cite.{Cite}
 use Rattle.csl_picking.specs.declared.notes.Form.{Form}
 use Rattle.csl_lookup.specs.declared.purpose.CitePurpose.{CitePurpose}

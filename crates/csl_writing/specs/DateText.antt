@@ -1,11 +1,11 @@
 -- The date text: the year of an entry alone.
 use Rattle.std.specs.Prelude.{◌∷◌, [], List, ℕ, Option, None, Some, false, codes}
-use Rattle.csl_base.specs.Answers.{Answers}
-use Rattle.csl_base.specs.Child.{Child, text}
-use Rattle.csl_base.specs.Formatting.{normal}
-use Rattle.csl_base.specs.declared.entry.Date.{Date}
-use Rattle.csl_base.specs.declared.taxonomy.DateVariable.{DateVariable}
-use Rattle.csl_base.specs.declared.taxonomy.OtherTerm.{OtherTerm}
+use Rattle.csl_values.specs.Answers.{Answers}
+use Rattle.csl_trees.specs.Child.{Child, text}
+use Rattle.csl_values.specs.Formatting.{normal}
+use Rattle.csl_values.specs.declared.entry.Date.{Date}
+use Rattle.csl_values.specs.declared.taxonomy.DateVariable.{DateVariable}
+use Rattle.csl_values.specs.declared.taxonomy.OtherTerm.{OtherTerm}
 use Rattle.csl_lookup.specs.Lookup.{Source, lookup, term_of, first_answer}
 use Rattle.csl_picking.specs.Variables.{words_for}
 use Rattle.csl_lookup.specs.Years.{year_text}

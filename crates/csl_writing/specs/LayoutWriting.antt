@@ -1,8 +1,8 @@
 -- What the layouts of styles write.
 use Rattle.std.specs.Prelude.{◌≡◌, List, [], Option}
 use Rattle.std.proofs.Common.{ap}
-use Rattle.csl_base.specs.Answers.{Answers}
-use Rattle.csl_base.specs.Child.{Child}
+use Rattle.csl_values.specs.Answers.{Answers}
+use Rattle.csl_trees.specs.Child.{Child}
 use Rattle.csl_writers.specs.Tasks.{CiteTaskValue, DateTaskValue, ItemTaskValue}
 use Rattle.csl_writers.specs.Writing.{AreWrittenEqually, Writing, WriterState}
 use Rattle.csl_writers.specs.declared.cite.Cite.{Cite}

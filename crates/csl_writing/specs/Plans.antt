@@ -4,11 +4,11 @@ use Rattle.std.specs.Str.{chars}
 use Rattle.std.specs.Bool.{if◌then◌else◌}
 use Rattle.std.specs.List.{list_any}
 use Rattle.std.specs.Char.{is_whitespace}
-use Rattle.csl_base.specs.Style.{StyleValue, LayoutValue}
-use Rattle.csl_base.specs.declared.formatting.StyleFormatting.{StyleFormatting}
-use Rattle.csl_base.specs.declared.style.StyleCategory.{StyleCategory}
-use Rattle.csl_base.specs.declared.style.StyleCategory.TheVariants as categories
-use Rattle.csl_base.specs.declared.style.CitationFormat.{CitationFormat}
+use Rattle.csl_style_values.specs.Style.{StyleValue, LayoutValue}
+use Rattle.csl_values.specs.declared.formatting.StyleFormatting.{StyleFormatting}
+use Rattle.csl_style_values.specs.declared.style.StyleCategory.{StyleCategory}
+use Rattle.csl_style_values.specs.declared.style.StyleCategory.TheVariants as categories
+use Rattle.csl_style_values.specs.declared.style.CitationFormat.{CitationFormat}
 use Rattle.csl_picking.specs.declared.notes.Form.{Form}
 use Rattle.csl_picking.specs.declared.notes.Notes.{Notes}
 use Rattle.csl_lookup.specs.declared.purpose.CitePurpose.{CitePurpose}

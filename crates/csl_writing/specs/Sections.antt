@@ -1,12 +1,12 @@
 -- What of a layout is written for a cite.
 use Rattle.std.specs.Prelude.{◌∷◌, List, [], Bool, true, false, Option, None, Some}
 use Rattle.std.specs.Bool.{if◌then◌else◌}
-use Rattle.csl_base.specs.Element.{Macro, names_element, Elements, no_elements, element}
-use Rattle.csl_base.specs.PlainLook.{no_look, no_options, no_formatting}
-use Rattle.csl_base.specs.Style.{BibliographyValue}
-use Rattle.csl_base.specs.declared.formatting.StyleFormatting.{StyleFormatting}
-use Rattle.csl_base.specs.declared.taxonomy.NameVariable.{NameVariable}
-use Rattle.csl_base.specs.declared.taxonomy.Variable.{Variable}
+use Rattle.csl_style_values.specs.Element.{Macro, names_element, Elements, no_elements, element}
+use Rattle.csl_style_values.specs.PlainLook.{no_look, no_options, no_formatting}
+use Rattle.csl_style_values.specs.Style.{BibliographyValue}
+use Rattle.csl_values.specs.declared.formatting.StyleFormatting.{StyleFormatting}
+use Rattle.csl_values.specs.declared.taxonomy.NameVariable.{NameVariable}
+use Rattle.csl_values.specs.declared.taxonomy.Variable.{Variable}
 use Rattle.csl_picking.specs.declared.notes.Form.{Form}
 use Rattle.csl_picking.specs.declared.notes.Notes.{Notes}
 use Rattle.csl_lookup.specs.declared.state.CollapseVerdict.{CollapseVerdict}

@@ -1,7 +1,7 @@
 -- What steps of writing make of what is written, and what is written of a plan.
 use Rattle.std.specs.Prelude.{◌≡◌, ◌∷◌, List, [], length, unwrap_or}
-use Rattle.csl_base.specs.Child.{Child}
-use Rattle.csl_base.specs.declared.formatting.StyleFormatting.{StyleFormatting}
+use Rattle.csl_trees.specs.Child.{Child}
+use Rattle.csl_values.specs.declared.formatting.StyleFormatting.{StyleFormatting}
 use Rattle.csl_picking.specs.declared.notes.Notes.{Notes}
 use Rattle.csl_lookup.specs.Lookup.{Source, Lookup, lookup}
 use Rattle.csl_picking.specs.Pieces.{Part}

@@ -1,7 +1,7 @@
 -- What is rendered: a cite of an entry, in a style with its locales.
 use Rattle.std.specs.Prelude.{ℕ, List, Bool, Option, None, Some, option_map, is_some, ◌&&◌}
-use Rattle.csl_base.specs.Answers.{Answers}
-use Rattle.csl_base.specs.Element.{NameOptions}
+use Rattle.csl_values.specs.Answers.{Answers}
+use Rattle.csl_style_values.specs.Element.{NameOptions}
 use Rattle.csl_picking.specs.declared.notes.Form.{Form}
 use Rattle.csl_lookup.specs.declared.state.IbidState.{IbidState}
 use Rattle.csl_lookup.specs.Lookup.{Source, lookup}

@@ -1,5 +1,5 @@
 -- The plain data that what is rendered stands for.
-use Rattle.csl_base.specs.Answers.{Answers}
+use Rattle.csl_values.specs.Answers.{Answers}
 use Rattle.csl_writing.specs.declared.subject.Subject as declared
 use Rattle.csl_picking.specs.InputView.{cite_facts}
 use Rattle.csl_lookup.specs.SourceView.{source_view}

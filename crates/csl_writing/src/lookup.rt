@@ -1,7 +1,7 @@
 //! A style with its locales: what a cite is written in.
 ghost use Rattle.std.specs.Prelude.{◌≡◌, map, option_map, IfOk};
-ghost use Rattle.csl_base.specs.ElementView.{options_view};
-ghost use Rattle.csl_base.specs.StyleView.{code_view, locale_view, style_view};
+ghost use Rattle.csl_style_values.specs.ElementView.{options_view};
+ghost use Rattle.csl_style_values.specs.StyleView.{code_view, locale_view, style_view};
 ghost use Rattle.csl_lookup.specs.FirstAnswer.{Gives, FirstAnswer};
 ghost use Rattle.csl_lookup.specs.Lookup as found;
 ghost use Rattle.csl_lookup.specs.SourceView.{source_view};

@@ -1,7 +1,7 @@
 //! A cite by what it is written for.
 ghost use Rattle.std.specs.Prelude.{◌≡◌, IfOk, OnOk, OnErr, length};
-ghost use Rattle.csl_base.specs.ElementView.{text_view};
-ghost use Rattle.csl_base.specs.StyleView.{layout_view, style_view};
+ghost use Rattle.csl_style_values.specs.ElementView.{text_view};
+ghost use Rattle.csl_style_values.specs.StyleView.{layout_view, style_view};
 ghost use Rattle.csl_picking.specs.Notes.{first_notes};
 ghost use Rattle.csl_writing.specs.Plans as plans;
 ghost use Rattle.csl_writing.specs.SectionView.{IsSection};

@@ -1,7 +1,7 @@
 //! Rendering of cites and of items of the bibliography.
 ghost use Rattle.std.specs.Prelude.{◌≡◌, ◌&&◌, IfOk, is_some};
-ghost use Rattle.csl_base.specs.Ring.{HasNoRing};
-ghost use Rattle.csl_base.specs.StyleView.{bibliography_view, style_view};
+ghost use Rattle.csl_style_values.specs.Ring.{HasNoRing};
+ghost use Rattle.csl_style_values.specs.StyleView.{bibliography_view, style_view};
 ghost use Rattle.csl_writing.specs.CiteText as rendered;
 ghost use Rattle.csl_writers.specs.Counted.{counted};
 ghost use Rattle.csl_lookup.specs.PropertiesView.{properties_view};

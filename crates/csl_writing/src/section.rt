@@ -1,7 +1,7 @@
 //! What of a layout is written for a cite.
 ghost use Rattle.std.specs.Prelude.{◌≡◌, IfOk};
-ghost use Rattle.csl_base.specs.ElementView.{elements_view};
-ghost use Rattle.csl_base.specs.StyleView.{bibliography_view};
+ghost use Rattle.csl_style_values.specs.ElementView.{elements_view};
+ghost use Rattle.csl_style_values.specs.StyleView.{bibliography_view};
 ghost use Rattle.csl_picking.specs.Conditions.{is_repeated};
 ghost use Rattle.csl_picking.specs.InputView.{env_of, macros_in};
 ghost use Rattle.csl_picking.specs.Notes.{first_notes};
@@ -319,10 +319,7 @@ pub(crate) fn names_alone(alloc: Global) -> Result<Vec<LayoutRenderingElement>, 
             prefix: None,
             suffix: None,
         },
-        formatting: StyleFormatting {
-            font_style: None,
-            font_weight: None,
-        },
+        formatting: StyleFormatting::default(),
         display: None,
     })?;
     Ok(elements)
@@ -333,10 +330,7 @@ fn no_section<'a>(alloc: Global, notes: Notes) -> Section<'a>
     ensures { IsSection result (sections.no_section notes) }
 {
     Section {
-        formatting: StyleFormatting {
-            font_style: None,
-            font_weight: None,
-        },
+        formatting: StyleFormatting::default(),
         picking: Picking {
             pieces: Vec::new(alloc),
             called: Called::None,

@@ -1,7 +1,7 @@
 //! What is rendered: a cite of an entry, in a style with its locales.
 ghost use Rattle.std.specs.Prelude.{◌≡◌, IfOk};
-ghost use Rattle.csl_base.specs.ElementView.{options_view};
-ghost use Rattle.csl_base.specs.StyleView.{style_view};
+ghost use Rattle.csl_style_values.specs.ElementView.{options_view};
+ghost use Rattle.csl_style_values.specs.StyleView.{style_view};
 ghost use Rattle.csl_picking.specs.InputView as input;
 ghost use Rattle.csl_lookup.specs.PropertiesView.{locator_view, properties_view};
 ghost use Rattle.csl_lookup.specs.SourceView.{source_view};

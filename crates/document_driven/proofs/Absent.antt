@@ -7,7 +7,7 @@ use Rattle.serde_json.specs.Data.{Data, object, no_members}
 use Rattle.serde_json.specs.View.{view, members_view}
 use Rattle.serde_json.specs.declared.value.Value.{Value}
 use Rattle.serde_json.specs.declared.value.Value.TheVariants.{Object}
-use Rattle.csl_base.specs.Style.{CitationValue}
+use Rattle.csl_style_values.specs.Style.{CitationValue}
 use Rattle.document_words.specs.Reads.{Faults, Reads}
 use Rattle.document_words.specs.declared.error.ReadError.{ReadError}
 use Rattle.document_words.specs.declared.error.ReadError.TheVariants as errors

@@ -1,8 +1,8 @@
 -- What comes of what a driver was asked is what comes of the document.
 use Rattle.std.proofs.Common.{◌≡◌, Option, subst}
 use Rattle.std.specs.declared.convert.Infallible.{Infallible}
-use Rattle.csl_base.specs.PlainEntry.{plain_answers}
-use Rattle.csl_base.specs.declared.entry.PlainEntry.{PlainEntry}
+use Rattle.csl_values.specs.PlainEntry.{plain_answers}
+use Rattle.csl_values.specs.declared.entry.PlainEntry.{PlainEntry}
 use Rattle.csl_driver.specs.Answer.{Asked}
 use Rattle.csl_driver.specs.Driver.{Driver}
 use Rattle.csl_drive.specs.Driven.{IsDriven}

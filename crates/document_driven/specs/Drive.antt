@@ -4,8 +4,8 @@ use Rattle.std.specs.declared.alloc.Global.{Global}
 use Rattle.serde_json.specs.Data.{array}
 use Rattle.serde_json.specs.View.{items_of}
 use Rattle.serde_json.specs.Written.{compact_text}
-use Rattle.csl_base.specs.PlainEntry.{plain_answers}
-use Rattle.csl_base.specs.declared.entry.PlainEntry.{PlainEntry}
+use Rattle.csl_values.specs.PlainEntry.{plain_answers}
+use Rattle.csl_values.specs.declared.entry.PlainEntry.{PlainEntry}
 use Rattle.csl_assembly.specs.declared.rendered.Rendered.{Rendered}
 use Rattle.answer_json.specs.AnswerData.{answer_data}
 use Rattle.csl_table.specs.declared.key.TaskKey.{TaskKey}

@@ -2,13 +2,13 @@
 use Rattle.std.specs.Prelude.{ℕ, pos, List, [], ◌∷◌, Option, Some, None, codes}
 use Rattle.serde_json.specs.Data.{Data, no_members, member, Members, object}
 use Rattle.serde_json.specs.Find.{as_object, as_str}
-use Rattle.csl_base.specs.Element.{Elements, no_elements}
-use Rattle.csl_base.specs.PlainLook.{no_options, no_formatting}
-use Rattle.csl_base.specs.Style.{LayoutValue, CitationValue, BibliographyValue, StyleValue}
-use Rattle.csl_base.specs.declared.formatting.StyleFormatting.{StyleFormatting}
-use Rattle.csl_base.specs.declared.style.DisambiguationRule.{DisambiguationRule}
-use Rattle.csl_base.specs.declared.style.StyleClass.{StyleClass}
-use Rattle.csl_base.specs.declared.style.SubsequentAuthorSubstituteRule.{SubsequentAuthorSubstituteRule}
+use Rattle.csl_style_values.specs.Element.{Elements, no_elements}
+use Rattle.csl_style_values.specs.PlainLook.{no_options, no_formatting}
+use Rattle.csl_style_values.specs.Style.{LayoutValue, CitationValue, BibliographyValue, StyleValue}
+use Rattle.csl_values.specs.declared.formatting.StyleFormatting.{StyleFormatting}
+use Rattle.csl_style_values.specs.declared.style.DisambiguationRule.{DisambiguationRule}
+use Rattle.csl_style_values.specs.declared.style.StyleClass.{StyleClass}
+use Rattle.csl_style_values.specs.declared.style.SubsequentAuthorSubstituteRule.{SubsequentAuthorSubstituteRule}
 use Rattle.csl_table.specs.HostStyle.{one_text}
 use Rattle.document_words.specs.Names.{one_of}
 use Rattle.document_words.specs.Tables.{given_name_rules, collapses, second_field_aligns, substitute_rules, classes}

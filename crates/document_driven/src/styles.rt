@@ -4,9 +4,9 @@ ghost use Rattle.std.specs.Prelude.{◌≡◌, IfOk, codes, option_and_then, opt
 ghost use Rattle.serde_json.specs.Data.{object as object_of};
 ghost use Rattle.serde_json.specs.Find.{as_object};
 ghost use Rattle.serde_json.specs.View.{view, members_view};
-ghost use Rattle.csl_base.specs.ElementView.{options_view};
-ghost use Rattle.csl_base.specs.PlainLook.{no_formatting, no_options};
-ghost use Rattle.csl_base.specs.StyleView.{layout_view, citation_view, bibliography_view, style_view};
+ghost use Rattle.csl_style_values.specs.ElementView.{options_view};
+ghost use Rattle.csl_style_values.specs.PlainLook.{no_formatting, no_options};
+ghost use Rattle.csl_style_values.specs.StyleView.{layout_view, citation_view, bibliography_view, style_view};
 ghost use Rattle.csl_table.specs.HostStyle.{one_text};
 ghost use Rattle.document_words.specs.Reads.{Faults, Reads};
 ghost use Rattle.document_words.specs.Words.{member_form, object_with, optional, where_present};
@@ -111,10 +111,7 @@ fn line_spacing_or_single(alloc: Global, value: &Value, key: &str) -> Result<Non
 fn plain() -> StyleFormatting
     ensures { result ≡ no_formatting }
 {
-    StyleFormatting {
-        font_style: None,
-        font_weight: None,
-    }
+    StyleFormatting::default()
 }
 
 /// The layout of a style of this name, with the affixes of the object.

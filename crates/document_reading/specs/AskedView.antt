@@ -1,9 +1,9 @@
 -- The plain data that the requests of a document stand for, which hold their own texts.
 use Rattle.std.specs.Prelude.{List, None, map, option_map, string_bytes, if◌then◌else◌}
 use Rattle.std.specs.declared.convert.Infallible.{Infallible}
-use Rattle.csl_base.specs.StyleView.{code_view, style_view}
-use Rattle.csl_base.specs.Style.{LocaleValue}
-use Rattle.csl_base.specs.declared.entry.PlainEntry.{PlainEntry}
+use Rattle.csl_style_values.specs.StyleView.{code_view, style_view}
+use Rattle.csl_style_values.specs.Style.{LocaleValue}
+use Rattle.csl_values.specs.declared.entry.PlainEntry.{PlainEntry}
 use Rattle.csl_passes.specs.Class.{is_note}
 use Rattle.csl_passes.specs.Request.{RequestedCite, Request}
 use Rattle.csl_lookup.specs.Properties.{text_payload, LocatorValue}

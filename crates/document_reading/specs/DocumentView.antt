@@ -1,6 +1,6 @@
 -- The plain data that what a document asks for stands for.
 use Rattle.std.specs.Prelude.{map}
-use Rattle.csl_base.specs.StyleView.{locale_view}
+use Rattle.csl_style_values.specs.StyleView.{locale_view}
 use Rattle.document_reading.specs.AskedView.{asked_requests_view}
 use Rattle.document_reading.specs.Form.{Document}
 use Rattle.document_reading.specs.WantedView.{asked_bibliography_view}

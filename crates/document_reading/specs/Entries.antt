@@ -3,11 +3,11 @@ use Rattle.std.specs.Prelude.{ℕ, pos, negsuc, List, [], ◌∷◌, ◌++◌, O
 use Rattle.std.specs.Cmp.Lexicographic.{pointwise}
 use Rattle.serde_json.specs.Data.{Data, Items, no_items, item}
 use Rattle.serde_json.specs.Find.{as_array, as_str}
-use Rattle.csl_base.specs.declared.entry.ChunkKind.{ChunkKind}
-use Rattle.csl_base.specs.declared.entry.ChunkedString.{ChunkedString}
-use Rattle.csl_base.specs.declared.entry.Date.{Date}
-use Rattle.csl_base.specs.declared.entry.Person.{Person}
-use Rattle.csl_base.specs.declared.entry.PlainEntry.{PlainEntry}
+use Rattle.csl_values.specs.declared.entry.ChunkKind.{ChunkKind}
+use Rattle.csl_values.specs.declared.entry.ChunkedString.{ChunkedString}
+use Rattle.csl_values.specs.declared.entry.Date.{Date}
+use Rattle.csl_values.specs.declared.entry.Person.{Person}
+use Rattle.csl_values.specs.declared.entry.PlainEntry.{PlainEntry}
 use Rattle.document_words.specs.Words.{◌>>=◌, object_with, required, where_present, list_form, whole_between}
 use Rattle.document_words.specs.Tables.{NameTable, name_variables, date_variables, standard_variables, number_variables}
 

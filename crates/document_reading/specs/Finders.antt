@@ -3,9 +3,9 @@ use Rattle.std.specs.Prelude.{ℕ, List, Option, option_map}
 use Rattle.std.specs.Borrow.{Bor}
 use Rattle.std.specs.HashMap.{HashMap, get_by}
 use Rattle.std.specs.Str.{bytes_eq}
-use Rattle.csl_base.specs.declared.entry.PlainEntry.{PlainEntry}
-use Rattle.csl_base.specs.Style.{StyleValue}
-use Rattle.csl_base.specs.StyleView.{style_view}
+use Rattle.csl_values.specs.declared.entry.PlainEntry.{PlainEntry}
+use Rattle.csl_style_values.specs.Style.{StyleValue}
+use Rattle.csl_style_values.specs.StyleView.{style_view}
 use Rattle.document_reading.specs.declared.found.FoundStyle.{FoundStyle}
 
 module _ {S : Type 0} where

@@ -4,8 +4,8 @@ use Rattle.std.specs.Str.{is_utf8}
 use Rattle.std.specs.declared.convert.Infallible.{Infallible}
 use Rattle.serde_json.specs.Data.{Data}
 use Rattle.serde_json.specs.Read.{read}
-use Rattle.csl_base.specs.declared.entry.PlainEntry.{PlainEntry}
-use Rattle.csl_base.specs.Style.{LocaleValue, StyleValue}
+use Rattle.csl_values.specs.declared.entry.PlainEntry.{PlainEntry}
+use Rattle.csl_style_values.specs.Style.{LocaleValue, StyleValue}
 use Rattle.csl_passes.specs.Request.{Request}
 use Rattle.csl_round_laws.specs.declared.mode.RoundMode.{RoundMode}
 use Rattle.document_words.specs.Names.{one_of}

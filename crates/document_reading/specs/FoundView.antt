@@ -1,6 +1,6 @@
 -- The plain data that the styles of a document stand for, prepared or not.
 use Rattle.std.specs.Prelude.{List, map}
-use Rattle.csl_base.specs.StyleView.{style_view}
+use Rattle.csl_style_values.specs.StyleView.{style_view}
 use Rattle.document_styles.specs.Styles.{NamedStyle}
 use Rattle.document_reading.specs.declared.found.FoundStyle.{FoundStyle}
 

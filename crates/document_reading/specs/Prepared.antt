@@ -2,8 +2,8 @@
 use Rattle.std.specs.Prelude.{◌≡◌, Option}
 use Rattle.std.specs.Coded.{Coded-set}
 use Rattle.std.specs.Option.{ForSome}
-use Rattle.csl_base.specs.contracts.style.IndependentStyle as style_
-use Rattle.csl_base.specs.declared.style.IndependentStyle.{IndependentStyle}
+use Rattle.csl_style_values.specs.contracts.style.IndependentStyle as style_
+use Rattle.csl_style_values.specs.declared.style.IndependentStyle.{IndependentStyle}
 use Rattle.csl_styles.specs.declared.prepared.PreparedStyle.{PreparedStyle}
 use Rattle.csl_styles.specs.PreparedView.{made_of}
 

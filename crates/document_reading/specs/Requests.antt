@@ -3,8 +3,8 @@ use Rattle.std.specs.Prelude.{ℕ, List, [], ◌∷◌, Option, Some, None, opti
 use Rattle.std.specs.declared.convert.Infallible.{Infallible}
 use Rattle.serde_json.specs.Data.{Data, Items, no_items, item}
 use Rattle.serde_json.specs.Find.{as_array, as_str}
-use Rattle.csl_base.specs.declared.entry.PlainEntry.{PlainEntry}
-use Rattle.csl_base.specs.Style.{LocaleValue, StyleValue}
+use Rattle.csl_values.specs.declared.entry.PlainEntry.{PlainEntry}
+use Rattle.csl_style_values.specs.Style.{LocaleValue, StyleValue}
 use Rattle.csl_passes.specs.Class.{is_note}
 use Rattle.csl_lookup.specs.Properties.{text_payload, LocatorValue}
 use Rattle.csl_passes.specs.Request.{RequestedCite, Request}

@@ -1,8 +1,8 @@
 -- The plain data that a request for a bibliography stands for.
 use Rattle.std.specs.Prelude.{ℕ, List, Option, option_map}
-use Rattle.csl_base.specs.declared.entry.PlainEntry.{PlainEntry}
-use Rattle.csl_base.specs.Style.{StyleValue}
-use Rattle.csl_base.specs.StyleView.{code_view, style_view}
+use Rattle.csl_values.specs.declared.entry.PlainEntry.{PlainEntry}
+use Rattle.csl_style_values.specs.Style.{StyleValue}
+use Rattle.csl_style_values.specs.StyleView.{code_view, style_view}
 use Rattle.csl_passes.specs.RequestView.{entries_view}
 use Rattle.document_reading.specs.declared.requests.Wanted.{Wanted}
 

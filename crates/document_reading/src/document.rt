@@ -2,7 +2,7 @@
 ghost use Rattle.std.specs.Prelude.{◌≡◌, IfOk, codes, map};
 ghost use Rattle.serde_json.specs.Read.{read};
 ghost use Rattle.serde_json.specs.View.{view};
-ghost use Rattle.csl_base.specs.StyleView.{locale_view};
+ghost use Rattle.csl_style_values.specs.StyleView.{locale_view};
 ghost use Rattle.document_reading.specs.Finders.{entry_in, style_in};
 ghost use Rattle.document_reading.specs.FoundView.{found_views};
 ghost use Rattle.document_styles.specs.Styles.{style_named};

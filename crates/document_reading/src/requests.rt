@@ -3,7 +3,7 @@ ghost use Rattle.std.specs.Prelude.{◌≡◌, Some, codes, map, option_map, str
 ghost use Rattle.serde_json.specs.Data.{Data, array};
 ghost use Rattle.serde_json.specs.Find.{as_str, at};
 ghost use Rattle.serde_json.specs.View.{view, items_view};
-ghost use Rattle.csl_base.specs.StyleView.{code_view, locale_view, style_view};
+ghost use Rattle.csl_style_values.specs.StyleView.{code_view, locale_view, style_view};
 ghost use Rattle.csl_lookup.specs.PropertiesView.{locator_view};
 ghost use Rattle.csl_passes.specs.RequestView.{cite_view, cites_view, entries_view, request_view};
 ghost use Rattle.csl_styles.specs.TablesView.{locales_of};

@@ -9,7 +9,7 @@ use Rattle.serde_json.specs.Data.{Data, null, boolean, number, string, array, ob
 use Rattle.serde_json.specs.Find.{get, get_member, as_array, as_str}
 use Rattle.serde_json.specs.View.{view, items_view}
 use Rattle.serde_json.specs.declared.value.Value.{Value}
-use Rattle.csl_base.specs.Element.{Element, choose_element, branches_of, elements_of}
+use Rattle.csl_style_values.specs.Element.{Element, choose_element, branches_of, elements_of}
 use Rattle.document_words.specs.Words.{has_only, object_with, required, optional, or_default, all_items, items_of_key, optional_items}
 use Rattle.document_styles.specs.Elements.{group_keys, branch_keys, choose_keys, text_form, number_form, date_form, names_form, group_form, branch_form, choose_form, kind_form, element_over, element_within, element_form, ElementsNest}
 

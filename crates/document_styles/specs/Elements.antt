@@ -3,34 +3,43 @@ use Rattle.std.specs.Prelude.{◌≡◌, ℕ, zero, suc, Bool, List, [], ◌∷�
 use Rattle.std.specs.Cmp.Lexicographic.{pointwise}
 use Rattle.serde_json.specs.Data.{Data, depth}
 use Rattle.serde_json.specs.Find.{get, as_str}
-use Rattle.csl_base.specs.declared.element.ChooseMatch.{ChooseMatch}
-use Rattle.csl_base.specs.declared.element.Condition.{Condition}
-use Rattle.csl_base.specs.declared.formatting.FontStyle.{FontStyle}
-use Rattle.csl_base.specs.declared.formatting.FontWeight.{FontWeight}
-use Rattle.csl_base.specs.declared.formatting.StyleFormatting.{StyleFormatting}
-use Rattle.csl_base.specs.declared.taxonomy.TermForm.{TermForm}
-use Rattle.csl_base.specs.declared.taxonomy.Variable.{Variable}
-use Rattle.csl_base.specs.Element.{Look, Target, value_target, standard_target, macro_target, term_target, Element, text_element, number_element, date_element, names_element, group_element, choose_element, Branch, elements_of, branches_of}
+use Rattle.csl_style_values.specs.declared.element.ChooseMatch.{ChooseMatch}
+use Rattle.csl_style_values.specs.declared.element.Condition.{Condition}
+use Rattle.csl_values.specs.declared.formatting.FontStyle.{FontStyle}
+use Rattle.csl_values.specs.declared.formatting.FontWeight.{FontWeight}
+use Rattle.csl_values.specs.declared.formatting.StyleFormatting.{StyleFormatting}
+use Rattle.csl_values.specs.declared.taxonomy.TermForm.{TermForm}
+use Rattle.csl_values.specs.declared.taxonomy.Variable.{Variable}
+use Rattle.csl_style_values.specs.Element.{Look, Target, value_target, standard_target, macro_target, term_target, Element, text_element, number_element, date_element, names_element, group_element, choose_element, Branch, elements_of, branches_of}
 use Rattle.document_words.specs.Words.{◌>>=◌, object_with, required, optional, where_present, flag, items_of_key, optional_items, name_form}
 use Rattle.document_words.specs.Names.{value_named, one_of, variable_named, term_named}
 use Rattle.document_styles.specs.Options.{options_at}
-use Rattle.document_words.specs.Tables.{displays, standard_variables, term_forms, number_variables, date_variables, name_variables, positions, matches}
+use Rattle.document_words.specs.Tables.{displays, font_variants, text_decorations, vertical_aligns, standard_variables, term_forms, number_variables, date_variables, name_variables, positions, matches}
 
 -- ---- what elements have in common
 
--- the formatting that `italic` and `bold` ask for; where one is false, it stays as around
-abbrev pub formatting_of : Bool → Bool → StyleFormatting
-formatting_of italic bold = record {
-  font_style = if italic then Some FontStyle.Italic else None;
-  font_weight = if bold then Some FontWeight.Bold else None;
-}
+-- what `italic` and `bold` ask for; where one is false, letters stay as around
+abbrev pub slant_of : Bool → Option FontStyle
+slant_of italic = if italic then Some FontStyle.Italic else None
+
+abbrev pub weight_of : Bool → Option FontWeight
+weight_of bold = if bold then Some FontWeight.Bold else None
 
 -- the formatting of an object
 unfoldable pub formatting_form : Data → Option StyleFormatting
 formatting_form o = do
   italic ← flag (codes "italic") o
   bold ← flag (codes "bold") o
-  Some (formatting_of italic bold)
+  variant ← where_present (one_of font_variants) (codes "font_variant") o
+  decoration ← where_present (one_of text_decorations) (codes "text_decoration") o
+  align ← where_present (one_of vertical_aligns) (codes "vertical_align") o
+  Some (record {
+    font_style = slant_of italic;
+    font_variant = variant;
+    font_weight = weight_of bold;
+    text_decoration = decoration;
+    vertical_align = align;
+  })
 
 -- what every element but a choice has
 unfoldable pub look_form : Data → Option Look
@@ -47,7 +56,8 @@ look_form o = do
 
 -- the keys of an element's kind and look
 abbrev pub look_keys : List (List ℕ)
-look_keys = codes "kind" ∷ codes "prefix" ∷ codes "suffix" ∷ codes "italic" ∷ codes "bold" ∷ codes "display"
+look_keys = codes "kind" ∷ codes "prefix" ∷ codes "suffix" ∷ codes "italic" ∷ codes "bold"
+    ∷ codes "font_variant" ∷ codes "text_decoration" ∷ codes "vertical_align" ∷ codes "display"
     ∷ []
 
 -- ---- elements with no elements inside

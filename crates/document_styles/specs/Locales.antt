@@ -2,8 +2,8 @@
 use Rattle.std.specs.Prelude.{[], ◌∷◌, Option, Some, codes}
 use Rattle.serde_json.specs.Data.{Data}
 use Rattle.serde_json.specs.Find.{as_bool, as_str}
-use Rattle.csl_base.specs.declared.taxonomy.TermForm.{TermForm}
-use Rattle.csl_base.specs.Style.{TermValue, LocaleValue}
+use Rattle.csl_values.specs.declared.taxonomy.TermForm.{TermForm}
+use Rattle.csl_style_values.specs.Style.{TermValue, LocaleValue}
 use Rattle.document_words.specs.Words.{◌>>=◌, object_with, required, optional, where_present, optional_items, name_form}
 use Rattle.document_words.specs.Names.{one_of, term_named}
 use Rattle.document_words.specs.Tables.{term_forms}

@@ -1,6 +1,6 @@
 -- The plain data that named styles stand for.
 use Rattle.std.specs.Prelude.{List, map, string_bytes}
-use Rattle.csl_base.specs.StyleView.{style_view}
+use Rattle.csl_style_values.specs.StyleView.{style_view}
 use Rattle.document_styles.specs.Styles as form
 use Rattle.document_styles.specs.declared.styles.NamedStyle.{NamedStyle}
 

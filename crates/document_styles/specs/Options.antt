@@ -2,8 +2,8 @@
 use Rattle.std.specs.Prelude.{[], ◌∷◌, Option, Some, None, codes}
 use Rattle.serde_json.specs.Data.{Data}
 use Rattle.serde_json.specs.Find.{as_str}
-use Rattle.csl_base.specs.Element.{NameOptions}
-use Rattle.csl_base.specs.PlainLook.{no_options}
+use Rattle.csl_style_values.specs.Element.{NameOptions}
+use Rattle.csl_style_values.specs.PlainLook.{no_options}
 use Rattle.document_words.specs.Words.{◌>>=◌, object_with, optional, where_present, whole}
 use Rattle.document_words.specs.Names.{one_of}
 use Rattle.document_words.specs.Tables.{name_ands, name_forms}

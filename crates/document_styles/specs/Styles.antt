@@ -5,11 +5,11 @@ use Rattle.std.proofs.Math.Nat.{le_refl, zero-lt-suc}
 use Rattle.std.specs.Cmp.Lexicographic.{pointwise}
 use Rattle.serde_json.specs.Data.{Data}
 use Rattle.serde_json.specs.Find.{as_object, as_str}
-use Rattle.csl_base.specs.declared.style.DisambiguationRule.{DisambiguationRule}
-use Rattle.csl_base.specs.declared.style.StyleClass.{StyleClass}
-use Rattle.csl_base.specs.declared.style.SubsequentAuthorSubstituteRule.{SubsequentAuthorSubstituteRule}
-use Rattle.csl_base.specs.Element.{Macro, elements_of}
-use Rattle.csl_base.specs.Style.{LayoutValue, CitationValue, BibliographyValue, StyleValue}
+use Rattle.csl_style_values.specs.declared.style.DisambiguationRule.{DisambiguationRule}
+use Rattle.csl_style_values.specs.declared.style.StyleClass.{StyleClass}
+use Rattle.csl_style_values.specs.declared.style.SubsequentAuthorSubstituteRule.{SubsequentAuthorSubstituteRule}
+use Rattle.csl_style_values.specs.Element.{Macro, elements_of}
+use Rattle.csl_style_values.specs.Style.{LayoutValue, CitationValue, BibliographyValue, StyleValue}
 use Rattle.document_words.specs.Words.{◌>>=◌, object_with, required, optional, where_present, flag, items_of_key, optional_items, all_members, whole, whole_between}
 use Rattle.document_words.specs.Names.{one_of}
 use Rattle.document_styles.specs.Options.{options_at}
@@ -58,6 +58,7 @@ layout_form o = do
 abbrev pub citation_keys : List (List ℕ)
 citation_keys =
     codes "elements" ∷ codes "prefix" ∷ codes "suffix" ∷ codes "delimiter" ∷ codes "italic" ∷ codes "bold"
+    ∷ codes "font_variant" ∷ codes "text_decoration" ∷ codes "vertical_align"
     ∷ codes "add_givenname" ∷ codes "givenname_rule" ∷ codes "add_names" ∷ codes "add_year_suffix"
     ∷ codes "cite_group_delimiter" ∷ codes "year_suffix_delimiter" ∷ codes "after_collapse_delimiter"
     ∷ codes "collapse"
@@ -96,6 +97,7 @@ citation_form d = do
 abbrev pub bibliography_keys : List (List ℕ)
 bibliography_keys =
     codes "elements" ∷ codes "prefix" ∷ codes "suffix" ∷ codes "italic" ∷ codes "bold"
+    ∷ codes "font_variant" ∷ codes "text_decoration" ∷ codes "vertical_align"
     ∷ codes "hanging_indent" ∷ codes "second_field_align"
     ∷ codes "line_spacing" ∷ codes "entry_spacing" ∷ codes "substitute" ∷ codes "substitute_rule"
     ∷ codes "options" ∷ []

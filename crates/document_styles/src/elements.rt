@@ -2,11 +2,11 @@
 ghost use Rattle.std.specs.Prelude.{◌≡◌, codes, map, option_map, None};
 ghost use Rattle.serde_json.specs.Data.{array};
 ghost use Rattle.serde_json.specs.View.{view, items_view};
-ghost use Rattle.csl_base.specs.Element.{elements_of};
-ghost use Rattle.csl_base.specs.ElementView.{look, target_view, element_view, branch_view};
+ghost use Rattle.csl_style_values.specs.Element.{elements_of};
+ghost use Rattle.csl_style_values.specs.ElementView.{look, target_view, element_view, branch_view};
 ghost use Rattle.document_words.specs.Words.{all_items, items_of_key, required, name_form};
 ghost use Rattle.document_words.specs.Names.{variable_named};
-ghost use Rattle.document_styles.specs.Elements.{formatting_of, formatting_form, look_form, target_form, text_form, number_form, date_form, names_form, variable_form, condition_named, condition_form, group_form, branch_form, choose_form, element_form, element_over, ElementsNest};
+ghost use Rattle.document_styles.specs.Elements.{slant_of, weight_of, formatting_form, look_form, target_form, text_form, number_form, date_form, names_form, variable_form, condition_named, condition_form, group_form, branch_form, choose_form, element_form, element_over, ElementsNest};
 ghost use Rattle.document_words.specs.Reads.{Faults, IsErrorOf, Reads};
 
 use crate::options::options_at;
@@ -20,8 +20,8 @@ use document_words::fault::Wanted;
 use document_words::names::{named, term_of, variable_of};
 use document_words::refusals::{lacking, unlike};
 use document_words::tables::{
-    DATE_VARIABLES, DISPLAYS, MATCHES, NAME_VARIABLES, NUMBER_VARIABLES, POSITIONS,
-    STANDARD_VARIABLES, TERM_FORMS,
+    DATE_VARIABLES, DISPLAYS, FONT_VARIANTS, MATCHES, NAME_VARIABLES, NUMBER_VARIABLES, POSITIONS,
+    STANDARD_VARIABLES, TERM_FORMS, TEXT_DECORATIONS, VERTICAL_ALIGNS,
 };
 use document_words::words::{
     flag, name_at, name_or, names_at, object_with, one_of, optional_list, optional_name,
@@ -40,20 +40,8 @@ pub struct Look {
     display: Option<Display>,
 }
 
-fn formatting_of(italic: bool, bold: bool) -> StyleFormatting
-    ensures { result ≡ formatting_of italic bold }
-{
-    StyleFormatting {
-        font_style: if italic {
-            Some(FontStyle::Italic)
-        } else {
-            None
-        },
-        font_weight: if bold { Some(FontWeight::Bold) } else { None },
-    }
-}
-
-/// The formatting that an object's `italic` and `bold` ask for.
+/// The formatting that an object asks for: by `italic`, `bold`, `font_variant`, `text_decoration`
+/// and `vertical_align`.
 #[tactic(auto, unfolding(crate::specs::Elements::formatting_form))]
 pub fn formatting_in(alloc: Global, object: &Value) -> Result<StyleFormatting, ReadError>
     ensures read { Reads (λ f. f) result (formatting_form (view object.now)) }
@@ -61,7 +49,16 @@ pub fn formatting_in(alloc: Global, object: &Value) -> Result<StyleFormatting, R
 {
     let italic = flag(alloc, object, "italic")?;
     let bold = flag(alloc, object, "bold")?;
-    Ok(formatting_of(italic, bold))
+    let font_variant = optional_name(alloc, FONT_VARIANTS, object, "font_variant")?;
+    let text_decoration = optional_name(alloc, TEXT_DECORATIONS, object, "text_decoration")?;
+    let vertical_align = optional_name(alloc, VERTICAL_ALIGNS, object, "vertical_align")?;
+    Ok(StyleFormatting {
+        font_style: italic.then_some(FontStyle::Italic),
+        font_variant,
+        font_weight: bold.then_some(FontWeight::Bold),
+        text_decoration,
+        vertical_align,
+    })
 }
 
 #[tactic(auto, unfolding(crate::specs::Elements::look_form))]
@@ -128,6 +125,9 @@ fn text_element_of(alloc: Global, value: &Value) -> Result<LayoutRenderingElemen
             "suffix",
             "italic",
             "bold",
+            "font_variant",
+            "text_decoration",
+            "vertical_align",
             "display",
             "value",
             "variable",
@@ -162,7 +162,16 @@ fn number_of(alloc: Global, value: &Value) -> Result<LayoutRenderingElement, Rea
     let object = object_with(
         alloc,
         &[
-            "kind", "prefix", "suffix", "italic", "bold", "display", "variable",
+            "kind",
+            "prefix",
+            "suffix",
+            "italic",
+            "bold",
+            "font_variant",
+            "text_decoration",
+            "vertical_align",
+            "display",
+            "variable",
         ],
         value,
     )?;
@@ -184,7 +193,16 @@ fn date_of(alloc: Global, value: &Value) -> Result<LayoutRenderingElement, ReadE
     let object = object_with(
         alloc,
         &[
-            "kind", "prefix", "suffix", "italic", "bold", "display", "variable",
+            "kind",
+            "prefix",
+            "suffix",
+            "italic",
+            "bold",
+            "font_variant",
+            "text_decoration",
+            "vertical_align",
+            "display",
+            "variable",
         ],
         value,
     )?;
@@ -211,6 +229,9 @@ fn names_of(alloc: Global, value: &Value) -> Result<LayoutRenderingElement, Read
             "suffix",
             "italic",
             "bold",
+            "font_variant",
+            "text_decoration",
+            "vertical_align",
             "display",
             "variables",
             "substitute",
@@ -393,6 +414,9 @@ fn group_of(alloc: Global, value: &Value) -> Result<LayoutRenderingElement, Read
             "suffix",
             "italic",
             "bold",
+            "font_variant",
+            "text_decoration",
+            "vertical_align",
             "display",
             "children",
             "delimiter",

@@ -2,7 +2,7 @@
 ghost use Rattle.std.specs.Prelude.{codes, map};
 ghost use Rattle.serde_json.specs.Data.{array};
 ghost use Rattle.serde_json.specs.View.{view, items_view};
-ghost use Rattle.csl_base.specs.StyleView.{locale_view, term_view};
+ghost use Rattle.csl_style_values.specs.StyleView.{locale_view, term_view};
 ghost use Rattle.document_words.specs.Words.{all_items, name_form, optional_items, required};
 ghost use Rattle.document_words.specs.Names.{term_named};
 ghost use Rattle.document_styles.specs.Locales.{term_form, locale_form};

@@ -1,8 +1,8 @@
 //! Reading name options.
 ghost use Rattle.std.specs.Prelude.{◌≡◌};
 ghost use Rattle.serde_json.specs.View.{view};
-ghost use Rattle.csl_base.specs.ElementView.{options_view};
-ghost use Rattle.csl_base.specs.PlainLook.{no_options};
+ghost use Rattle.csl_style_values.specs.ElementView.{options_view};
+ghost use Rattle.csl_style_values.specs.PlainLook.{no_options};
 ghost use Rattle.document_styles.specs.Options.{options_form, options_at};
 ghost use Rattle.document_words.specs.Reads.{Faults, Reads};
 

@@ -5,8 +5,8 @@ ghost use Rattle.std.specs.Prelude.{◌≡◌, IfOk, codes, pos, option_and_then
 ghost use Rattle.serde_json.specs.Data.{array, object as object_of};
 ghost use Rattle.serde_json.specs.Find.{as_object};
 ghost use Rattle.serde_json.specs.View.{view, items_view, members_view};
-ghost use Rattle.csl_base.specs.ElementView.{macro_view, macros_view};
-ghost use Rattle.csl_base.specs.StyleView.{layout_view, citation_view, bibliography_view, style_view};
+ghost use Rattle.csl_style_values.specs.ElementView.{macro_view, macros_view};
+ghost use Rattle.csl_style_values.specs.StyleView.{layout_view, citation_view, bibliography_view, style_view};
 ghost use Rattle.document_words.specs.Words.{all_items, all_members, member_form, object_with, optional, optional_items, required, where_present};
 ghost use Rattle.document_styles.specs.NamedStyleView.{named_style_view, named_styles_view};
 ghost use Rattle.document_styles.specs.Styles.{single, spacing, non_zero, line_spacing, layout_form, citation_keys, citation_form, bibliography_keys, bibliography_form, macro_form, style_keys, style_form, styles_form};
@@ -133,6 +133,9 @@ fn citation_object(alloc: Global, value: &Value) -> Result<&Value, ReadError>
             "delimiter",
             "italic",
             "bold",
+            "font_variant",
+            "text_decoration",
+            "vertical_align",
             "add_givenname",
             "givenname_rule",
             "add_names",
@@ -200,6 +203,9 @@ fn bibliography_object(alloc: Global, value: &Value) -> Result<&Value, ReadError
             "suffix",
             "italic",
             "bold",
+            "font_variant",
+            "text_decoration",
+            "vertical_align",
             "hanging_indent",
             "second_field_align",
             "line_spacing",

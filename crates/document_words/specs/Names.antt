@@ -4,8 +4,8 @@ use Rattle.std.specs.Borrow.{Bor}
 use Rattle.std.specs.Cmp.Lexicographic.{pointwise}
 use Rattle.std.specs.List.{starts_with}
 use Rattle.serde_json.specs.Data.{Data}
-use Rattle.csl_base.specs.declared.taxonomy.Term.{Term}
-use Rattle.csl_base.specs.declared.taxonomy.Variable.{Variable}
+use Rattle.csl_values.specs.declared.taxonomy.Term.{Term}
+use Rattle.csl_values.specs.declared.taxonomy.Variable.{Variable}
 use Rattle.document_words.specs.Words.{first_of, name_form}
 use Rattle.document_words.specs.Tables.{NameTable, name_variables, date_variables, standard_variables, number_variables, locators, other_terms}
 

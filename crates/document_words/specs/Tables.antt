@@ -1,24 +1,27 @@
 -- The names of the format, and the values that they stand for.
 use Rattle.std.specs.Prelude.{◌≡◌, ℕ, List, [], ◌∷◌, codes, map}
-use Rattle.csl_base.specs.declared.style.StyleCategory.{StyleCategory}
-use Rattle.csl_base.specs.declared.style.CitationFormat.{CitationFormat}
-use Rattle.csl_base.specs.declared.style.StyleClass.{StyleClass}
-use Rattle.csl_base.specs.declared.style.DisambiguationRule.{DisambiguationRule}
-use Rattle.csl_base.specs.declared.style.Collapse.{Collapse}
-use Rattle.csl_base.specs.declared.style.SecondFieldAlign.{SecondFieldAlign}
-use Rattle.csl_base.specs.declared.style.SubsequentAuthorSubstituteRule.{SubsequentAuthorSubstituteRule}
-use Rattle.csl_base.specs.declared.element.NameAnd.{NameAnd}
-use Rattle.csl_base.specs.declared.element.NameForm.{NameForm}
-use Rattle.csl_base.specs.declared.formatting.Display.{Display}
-use Rattle.csl_base.specs.declared.taxonomy.NameVariable.{NameVariable}
-use Rattle.csl_base.specs.declared.taxonomy.DateVariable.{DateVariable}
-use Rattle.csl_base.specs.declared.taxonomy.StandardVariable.{StandardVariable}
-use Rattle.csl_base.specs.declared.taxonomy.NumberVariable.{NumberVariable}
-use Rattle.csl_base.specs.declared.taxonomy.Locator.{Locator}
-use Rattle.csl_base.specs.declared.taxonomy.OtherTerm.{OtherTerm}
-use Rattle.csl_base.specs.declared.taxonomy.TermForm.{TermForm}
-use Rattle.csl_base.specs.declared.element.TestPosition.{TestPosition}
-use Rattle.csl_base.specs.declared.element.ChooseMatch.{ChooseMatch}
+use Rattle.csl_style_values.specs.declared.style.StyleCategory.{StyleCategory}
+use Rattle.csl_style_values.specs.declared.style.CitationFormat.{CitationFormat}
+use Rattle.csl_style_values.specs.declared.style.StyleClass.{StyleClass}
+use Rattle.csl_style_values.specs.declared.style.DisambiguationRule.{DisambiguationRule}
+use Rattle.csl_style_values.specs.declared.style.Collapse.{Collapse}
+use Rattle.csl_style_values.specs.declared.style.SecondFieldAlign.{SecondFieldAlign}
+use Rattle.csl_style_values.specs.declared.style.SubsequentAuthorSubstituteRule.{SubsequentAuthorSubstituteRule}
+use Rattle.csl_style_values.specs.declared.element.NameAnd.{NameAnd}
+use Rattle.csl_style_values.specs.declared.element.NameForm.{NameForm}
+use Rattle.csl_values.specs.declared.formatting.Display.{Display}
+use Rattle.csl_values.specs.declared.formatting.FontVariant.{FontVariant}
+use Rattle.csl_values.specs.declared.formatting.TextDecoration.{TextDecoration}
+use Rattle.csl_values.specs.declared.formatting.VerticalAlign.{VerticalAlign}
+use Rattle.csl_values.specs.declared.taxonomy.NameVariable.{NameVariable}
+use Rattle.csl_values.specs.declared.taxonomy.DateVariable.{DateVariable}
+use Rattle.csl_values.specs.declared.taxonomy.StandardVariable.{StandardVariable}
+use Rattle.csl_values.specs.declared.taxonomy.NumberVariable.{NumberVariable}
+use Rattle.csl_values.specs.declared.taxonomy.Locator.{Locator}
+use Rattle.csl_values.specs.declared.taxonomy.OtherTerm.{OtherTerm}
+use Rattle.csl_values.specs.declared.taxonomy.TermForm.{TermForm}
+use Rattle.csl_style_values.specs.declared.element.TestPosition.{TestPosition}
+use Rattle.csl_style_values.specs.declared.element.ChooseMatch.{ChooseMatch}
 use Rattle.csl_lookup.specs.declared.purpose.CitePurpose.{CitePurpose}
 
 -- names and the values that they stand for
@@ -93,6 +96,23 @@ abbrev pub name_forms : NameTable NameForm
 name_forms =
     (codes "long", NameForm.Long) ∷
     (codes "short", NameForm.Short) ∷
+    []
+
+-- whether letters are small capitals
+abbrev pub font_variants : NameTable FontVariant
+font_variants = (codes "normal", FontVariant.Normal) ∷ (codes "small-caps", FontVariant.SmallCaps) ∷ []
+
+-- whether a line stands under letters
+abbrev pub text_decorations : NameTable TextDecoration
+text_decorations = (codes "none", TextDecoration.None) ∷ (codes "underline", TextDecoration.Underline) ∷ []
+
+-- where letters stand on their line
+abbrev pub vertical_aligns : NameTable VerticalAlign
+vertical_aligns =
+    (codes "none", VerticalAlign.None) ∷
+    (codes "baseline", VerticalAlign.Baseline) ∷
+    (codes "sup", VerticalAlign.Superscript) ∷
+    (codes "sub", VerticalAlign.Subscript) ∷
     []
 
 -- how an element is set off

@@ -3,7 +3,7 @@ ghost use Rattle.document_words.specs.Tables as tables;
 ghost use Rattle.document_words.specs.Tables.{AreRowsOf};
 
 use csl_base::element::{ChooseMatch, NameAnd, NameForm, TestPosition};
-use csl_base::formatting::Display;
+use csl_base::formatting::{Display, FontVariant, TextDecoration, VerticalAlign};
 use csl_base::style::{
     CitationFormat, Collapse, DisambiguationRule, SecondFieldAlign, StyleCategory, StyleClass,
     SubsequentAuthorSubstituteRule,
@@ -101,6 +101,26 @@ pub const NAME_ANDS: &[(&str, NameAnd)] = &[("text", NameAnd::Text), ("symbol", 
 
 /// How much of a name is written.
 pub const NAME_FORMS: &[(&str, NameForm)] = &[("long", NameForm::Long), ("short", NameForm::Short)];
+
+/// Whether letters are small capitals.
+pub const FONT_VARIANTS: &[(&str, FontVariant)] = &[
+    ("normal", FontVariant::Normal),
+    ("small-caps", FontVariant::SmallCaps),
+];
+
+/// Whether a line stands under letters.
+pub const TEXT_DECORATIONS: &[(&str, TextDecoration)] = &[
+    ("none", TextDecoration::None),
+    ("underline", TextDecoration::Underline),
+];
+
+/// Where letters stand on their line.
+pub const VERTICAL_ALIGNS: &[(&str, VerticalAlign)] = &[
+    ("none", VerticalAlign::None),
+    ("baseline", VerticalAlign::Baseline),
+    ("sup", VerticalAlign::Superscript),
+    ("sub", VerticalAlign::Subscript),
+];
 
 /// How an element is set off.
 pub const DISPLAYS: &[(&str, Display)] = &[
@@ -229,6 +249,9 @@ pub fn rows_are_as_defined()
     ensures name_ands { AreRowsOf tables.name_ands NAME_ANDS.now }
     ensures name_forms { AreRowsOf tables.name_forms NAME_FORMS.now }
     ensures displays { AreRowsOf tables.displays DISPLAYS.now }
+    ensures variants { AreRowsOf tables.font_variants FONT_VARIANTS.now }
+    ensures decorations { AreRowsOf tables.text_decorations TEXT_DECORATIONS.now }
+    ensures aligns { AreRowsOf tables.vertical_aligns VERTICAL_ALIGNS.now }
     ensures name_variables { AreRowsOf tables.name_variables NAME_VARIABLES.now }
     ensures date_variables { AreRowsOf tables.date_variables DATE_VARIABLES.now }
     ensures standard_variables { AreRowsOf tables.standard_variables STANDARD_VARIABLES.now }

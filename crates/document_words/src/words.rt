@@ -5,7 +5,7 @@ ghost use Rattle.std.specs.List.{list_all};
 ghost use Rattle.serde_json.specs.Data.{array, no_items};
 ghost use Rattle.serde_json.specs.View.{view, items_view, members_view};
 ghost use Rattle.serde_json.specs.Find.{as_array, as_str, as_bool};
-ghost use Rattle.csl_base.specs.StyleView.{code_view};
+ghost use Rattle.csl_style_values.specs.StyleView.{code_view};
 ghost use Rattle.document_words.specs.Words.{all_items, object_with, required, optional, where_present, flag, is_one_of, items_of_key, member_keys, optional_items, whole, whole_between};
 ghost use Rattle.document_words.specs.Names.{one_of, rows_view};
 ghost use Rattle.document_words.specs.Reads.{Faults, Reads};

@@ -3,7 +3,7 @@ use Rattle.std.proofs.Common.{◌≡◌, ℕ, zero, suc, ◌+◌, ◌-◌, ◌<�
 use Rattle.std.specs.Prelude.{codes}
 use Rattle.serde_json.specs.Data.{Data, depth}
 use Rattle.serde_json.specs.Find.{get}
-use Rattle.csl_base.specs.Child.{Child}
+use Rattle.csl_trees.specs.Child.{Child}
 use Rattle.document_styles.proofs.Nesting.{AgreeBelow, list_agrees}
 use Rattle.document_written.specs.TreeForm.{element_keys, elem_form, markup_form, cite_mark_form, text_child_form, node_over, node_within, node_form, NodesNest}
 

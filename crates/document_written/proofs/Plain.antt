@@ -8,7 +8,7 @@ use Rattle.serde_json.specs.Data.{Data, string, Members, no_members, member, put
 use Rattle.serde_json.specs.Read.{max_depth}
 use Rattle.serde_json.specs.View.{items_of}
 use Rattle.serde_json.specs.Written.{has_float, items_have_float, members_have_float}
-use Rattle.csl_base.specs.declared.names.DisambiguatedNameForm.{DisambiguatedNameForm}
+use Rattle.csl_values.specs.declared.names.DisambiguatedNameForm.{DisambiguatedNameForm}
 use Rattle.csl_lookup.specs.declared.purpose.CitePurpose.{CitePurpose}
 use Rattle.csl_lookup.specs.declared.state.CollapseVerdict.{CollapseVerdict}
 use Rattle.csl_lookup.specs.declared.state.DisambiguateState.{DisambiguateState}

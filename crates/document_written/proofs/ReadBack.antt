@@ -5,8 +5,8 @@ use Rattle.document_reading.proofs.FirstKeyed.{first_of_none}
 use Rattle.serde_json.specs.Data.{Data, string, no_members}
 use Rattle.serde_json.specs.Find.{get, as_bool, as_str}
 use Rattle.serde_json.specs.View.{items_of}
-use Rattle.csl_base.specs.declared.names.DisambiguatedNameForm.{DisambiguatedNameForm}
-use Rattle.csl_base.specs.declared.taxonomy.Locator.{Locator}
+use Rattle.csl_values.specs.declared.names.DisambiguatedNameForm.{DisambiguatedNameForm}
+use Rattle.csl_values.specs.declared.taxonomy.Locator.{Locator}
 use Rattle.csl_lookup.specs.declared.purpose.CitePurpose.{CitePurpose}
 use Rattle.csl_lookup.specs.declared.state.CollapseVerdict.{CollapseVerdict}
 use Rattle.csl_lookup.specs.declared.state.DisambiguateState.{DisambiguateState}

@@ -7,7 +7,7 @@ use Rattle.std.specs.List.{list_all}
 use Rattle.std.specs.Map.{lookup}
 use Rattle.std.proofs.lemmas.Bool.{and_from}
 use Rattle.document_reading.proofs.FirstKeyed.{first_of_none}
-use Rattle.csl_base.specs.SameTree.{same_trees-Decides}
+use Rattle.csl_trees.specs.SameTree.{same_trees-Decides}
 use Rattle.csl_table.specs.Table.{found, key_eq}
 use Rattle.csl_table.specs.contracts.key.TaskKeyEq.TheImpl.Laws.{laws-law}
 use Rattle.csl_table.specs.declared.key.TaskKey.{TaskKey}

@@ -3,9 +3,9 @@ use Rattle.std.specs.Prelude.{ℕ, Bool, List, Option, Some, None, is_some, opti
 use Rattle.std.specs.Borrow.{Bor}
 use Rattle.std.specs.HashMap.{HashMap}
 use Rattle.serde_json.specs.Data.{Data}
-use Rattle.csl_base.specs.Style.{StyleValue}
-use Rattle.csl_base.specs.StyleView.{style_view}
-use Rattle.csl_base.specs.declared.entry.PlainEntry.{PlainEntry}
+use Rattle.csl_style_values.specs.Style.{StyleValue}
+use Rattle.csl_style_values.specs.StyleView.{style_view}
+use Rattle.csl_values.specs.declared.entry.PlainEntry.{PlainEntry}
 use Rattle.csl_table.specs.declared.key.TaskKey.{TaskKey}
 use Rattle.document_reading.specs.Finders.{entry_in, text_in}
 use Rattle.document_styles.specs.declared.styles.NamedStyle.{NamedStyle}

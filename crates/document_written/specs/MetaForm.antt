@@ -4,9 +4,9 @@ use Rattle.std.specs.Cmp.Lexicographic.{pointwise}
 use Rattle.document_reading.specs.Entries.{person_form}
 use Rattle.serde_json.specs.Data.{Data, Items, no_items, item}
 use Rattle.serde_json.specs.Find.{get, as_array, as_str}
-use Rattle.csl_base.specs.declared.elem.ElemMeta.{ElemMeta}
-use Rattle.csl_base.specs.declared.entry.Person.{Person}
-use Rattle.csl_base.specs.declared.taxonomy.NameVariable.{NameVariable}
+use Rattle.csl_trees.specs.declared.elem.ElemMeta.{ElemMeta}
+use Rattle.csl_values.specs.declared.entry.Person.{Person}
+use Rattle.csl_values.specs.declared.taxonomy.NameVariable.{NameVariable}
 use Rattle.document_words.specs.Words.{◌>>=◌, object_with, required, items_of_key, whole}
 use Rattle.document_words.specs.Names.{one_of}
 use Rattle.document_words.specs.Tables.{name_variables}

@@ -1,7 +1,7 @@
 -- How a task names the values of enums.
 use Rattle.std.specs.Prelude.{ℕ, List, [], ◌∷◌, Option, Some, None, codes}
-use Rattle.csl_base.specs.declared.names.DisambiguatedNameForm.{DisambiguatedNameForm}
-use Rattle.csl_base.specs.declared.taxonomy.Locator.{Locator}
+use Rattle.csl_values.specs.declared.names.DisambiguatedNameForm.{DisambiguatedNameForm}
+use Rattle.csl_values.specs.declared.taxonomy.Locator.{Locator}
 use Rattle.csl_lookup.specs.declared.purpose.CitePurpose.{CitePurpose}
 use Rattle.csl_lookup.specs.declared.state.CollapseVerdict.{CollapseVerdict}
 use Rattle.csl_lookup.specs.declared.state.IbidState.{IbidState}

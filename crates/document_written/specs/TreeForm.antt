@@ -2,14 +2,17 @@
 use Rattle.std.specs.Prelude.{◌≡◌, ℕ, zero, suc, List, [], ◌∷◌, ◌++◌, Option, Some, None, option_map, is_some, codes, if◌then◌else◌}
 use Rattle.serde_json.specs.Data.{Data, depth}
 use Rattle.serde_json.specs.Find.{get, as_str}
-use Rattle.csl_base.specs.Child.{Child, text, elem, markup, link, transparent, kids_of}
-use Rattle.csl_base.specs.declared.formatting.FontStyle.{FontStyle}
-use Rattle.csl_base.specs.declared.formatting.FontWeight.{FontWeight}
-use Rattle.csl_base.specs.declared.formatting.Formatted.{Formatted}
-use Rattle.csl_base.specs.declared.formatting.Formatting.{Formatting}
-use Rattle.document_words.specs.Words.{◌>>=◌, object_with, required, where_present, items_of_key, list_form, whole}
+use Rattle.csl_trees.specs.Child.{Child, text, elem, markup, link, transparent, kids_of}
+use Rattle.csl_values.specs.declared.formatting.FontStyle.{FontStyle}
+use Rattle.csl_values.specs.declared.formatting.FontVariant.{FontVariant}
+use Rattle.csl_values.specs.declared.formatting.FontWeight.{FontWeight}
+use Rattle.csl_values.specs.declared.formatting.TextDecoration.{TextDecoration}
+use Rattle.csl_values.specs.declared.formatting.VerticalAlign.{VerticalAlign}
+use Rattle.csl_values.specs.declared.formatting.Formatted.{Formatted}
+use Rattle.csl_values.specs.declared.formatting.Formatting.{Formatting}
+use Rattle.document_words.specs.Words.{◌>>=◌, object_with, required, optional, where_present, items_of_key, list_form, whole}
 use Rattle.document_words.specs.Names.{one_of}
-use Rattle.document_words.specs.Tables.{NameTable, displays}
+use Rattle.document_words.specs.Tables.{NameTable, displays, font_variants, text_decorations, vertical_aligns}
 use Rattle.document_written.specs.MetaForm.{meta_form}
 
 -- how letters slant
@@ -20,15 +23,26 @@ font_styles = (codes "normal", FontStyle.Normal) ∷ (codes "italic", FontStyle.
 abbrev pub font_weights : NameTable FontWeight
 font_weights = (codes "normal", FontWeight.Normal) ∷ (codes "bold", FontWeight.Bold) ∷ []
 
--- the formatting of an object, which says both of it
+-- the formatting of an object, which says how letters slant and how heavy they are; the rest is usual
+-- where the object doesn't say it
 unfoldable pub full_formatting_form : Data → Option Formatting
 full_formatting_form o = do
   slant ← required (one_of font_styles) (codes "font_style") o
   weight ← required (one_of font_weights) (codes "font_weight") o
-  Some (record { font_style = slant; font_weight = weight })
+  variant ← optional FontVariant.Normal (one_of font_variants) (codes "font_variant") o
+  decoration ← optional TextDecoration.None (one_of text_decorations) (codes "text_decoration") o
+  align ← optional VerticalAlign.None (one_of vertical_aligns) (codes "vertical_align") o
+  Some (record {
+    font_style = slant;
+    font_variant = variant;
+    font_weight = weight;
+    text_decoration = decoration;
+    vertical_align = align;
+  })
 
 abbrev pub formatting_keys : List (List ℕ)
-formatting_keys = codes "font_style" ∷ codes "font_weight" ∷ []
+formatting_keys = codes "font_style" ∷ codes "font_weight" ∷ codes "font_variant" ∷ codes "text_decoration"
+    ∷ codes "vertical_align" ∷ []
 
 -- a text, or where there is a url, a link
 abbrev pub text_or_link : Formatted → Option (List ℕ) → Child

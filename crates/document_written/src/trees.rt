@@ -2,8 +2,8 @@
 ghost use Rattle.std.specs.Prelude.{◌≡◌, codes};
 ghost use Rattle.serde_json.specs.Data.{array};
 ghost use Rattle.serde_json.specs.View.{view, items_view};
-ghost use Rattle.csl_base.specs.Child.{kids_of};
-ghost use Rattle.csl_base.specs.ChildView.{child_view};
+ghost use Rattle.csl_trees.specs.Child.{kids_of};
+ghost use Rattle.csl_trees.specs.ChildView.{child_view};
 ghost use Rattle.document_words.specs.Words.{all_items, items_of_key};
 ghost use Rattle.document_words.specs.Reads.{Faults, Reads};
 ghost use Rattle.document_words.specs.Tables.{AreRowsOf};
@@ -12,12 +12,14 @@ ghost use Rattle.document_written.specs.TreeForm.{font_styles, font_weights, ful
 use crate::metas::optional_meta;
 use crate::wholes::whole_at;
 use csl_base::elem::{Elem, ElemChild, ElemChildren};
-use csl_base::formatting::{FontStyle, FontWeight, Formatted, Formatting};
+use csl_base::formatting::{
+    FontStyle, FontVariant, FontWeight, Formatted, Formatting, TextDecoration, VerticalAlign,
+};
 use csl_base::text::Text;
 use document_words::error::ReadError;
-use document_words::tables::DISPLAYS;
+use document_words::tables::{DISPLAYS, FONT_VARIANTS, TEXT_DECORATIONS, VERTICAL_ALIGNS};
 use document_words::texts::{held_text_at, optional_held_text};
-use document_words::words::{list_of, name_at, object_with, optional_name, required_list};
+use document_words::words::{list_of, name_at, name_or, object_with, optional_name, required_list};
 use serde_json::Value;
 use std::alloc::Global;
 
@@ -48,9 +50,33 @@ fn formatting_of(alloc: Global, object: &Value) -> Result<Formatting, ReadError>
 {
     let font_style = name_at(alloc, FONT_STYLES, object, "font_style")?;
     let font_weight = name_at(alloc, FONT_WEIGHTS, object, "font_weight")?;
+    let font_variant = name_or(
+        alloc,
+        FONT_VARIANTS,
+        object,
+        "font_variant",
+        FontVariant::Normal,
+    )?;
+    let text_decoration = name_or(
+        alloc,
+        TEXT_DECORATIONS,
+        object,
+        "text_decoration",
+        TextDecoration::None,
+    )?;
+    let vertical_align = name_or(
+        alloc,
+        VERTICAL_ALIGNS,
+        object,
+        "vertical_align",
+        VerticalAlign::None,
+    )?;
     Ok(Formatting {
         font_style,
+        font_variant,
         font_weight,
+        text_decoration,
+        vertical_align,
     })
 }
 
@@ -68,7 +94,16 @@ fn text_of(alloc: Global, value: &Value) -> Result<ElemChild, ReadError>
     ensures read { Reads child_view result (text_child_form (view value.now)) }
     ensures fault { Faults result (view value.now) }
 {
-    let object = object_with(alloc, &["font_style", "font_weight", "text", "url"], value)?;
+    let keys = &[
+        "font_style",
+        "font_weight",
+        "font_variant",
+        "text_decoration",
+        "vertical_align",
+        "text",
+        "url",
+    ];
+    let object = object_with(alloc, keys, value)?;
     let formatting = formatting_of(alloc, object)?;
     let text = held_text_at(alloc, object, "text")?;
     let url = optional_held_text(alloc, object, "url")?;
@@ -89,7 +124,15 @@ fn cite_of(alloc: Global, value: &Value) -> Result<ElemChild, ReadError>
     ensures read { Reads child_view result (cite_mark_form (view value.now)) }
     ensures fault { Faults result (view value.now) }
 {
-    let object = object_with(alloc, &["font_style", "font_weight", "cite"], value)?;
+    let keys = &[
+        "font_style",
+        "font_weight",
+        "font_variant",
+        "text_decoration",
+        "vertical_align",
+        "cite",
+    ];
+    let object = object_with(alloc, keys, value)?;
     let format = formatting_of(alloc, object)?;
     let cite_idx = whole_at(alloc, object, "cite")?;
     Ok(ElemChild::Transparent { cite_idx, format })

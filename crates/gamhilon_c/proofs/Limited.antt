@@ -1,7 +1,7 @@
 -- What a refusal of limits says is what its status says.
 use Rattle.std.proofs.Common.{◌≡◌, ℕ, Option, List, Result, Ok, Err, arith, inl, inr}
 use Rattle.std.specs.Prelude.{⊤}
-use Rattle.csl_base.specs.Style.{StyleValue}
+use Rattle.csl_style_values.specs.Style.{StyleValue}
 use Rattle.csl_limits.specs.declared.limits.Excess.TheVariants as excess
 use Rattle.csl_limits.specs.declared.limits.Limits.{Limits}
 use Rattle.cite_document.specs.Limited.{ChecksStyles, limit_status}

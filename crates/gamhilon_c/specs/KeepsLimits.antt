@@ -1,8 +1,8 @@
 -- What a call for limits does.
 use Rattle.std.specs.Prelude.{◌≡◌, ℕ, ◌⊎◌, List, Option, None}
 use Rattle.std.specs.List.{All, Any}
-use Rattle.csl_base.specs.Ring.{HasNoRing}
-use Rattle.csl_base.specs.Style.{StyleValue}
+use Rattle.csl_style_values.specs.Ring.{HasNoRing}
+use Rattle.csl_style_values.specs.Style.{StyleValue}
 use Rattle.csl_limits.specs.Limited.{Exceeds, IsWithinLimits}
 use Rattle.csl_limits.specs.declared.limits.Excess.TheVariants as excess
 use Rattle.csl_limits.specs.declared.limits.Limits.{Limits}

@@ -401,7 +401,7 @@ fn children(rt: &(impl Eprint + AllocGlobal)) -> Result<bool, AllocError> {
     let date = elem(rt.alloc(), "1999", ElemMeta::Date)?;
     let asked = StyleFormatting {
         font_style: Some(FontStyle::Italic),
-        font_weight: None,
+        ..StyleFormatting::default()
     };
     named(rt, "Formatting::default");
     let plain = Formatting::default();

@@ -1,6 +1,6 @@
 //! The passes by themselves, on the cites of a document as they are written without a driver.
 ghost use Rattle.std.specs.Prelude.{All, IfOk};
-ghost use Rattle.csl_base.specs.Ring.{HasNoRing};
+ghost use Rattle.csl_style_values.specs.Ring.{HasNoRing};
 ghost use Rattle.csl_passes.specs.Places.{AreDistinct, IsPlace};
 ghost use Rattle.csl_passes.specs.RendersView.{renders_view};
 ghost use Rattle.csl_writing.specs.ContextSource.{context_source};

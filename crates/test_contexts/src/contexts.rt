@@ -123,7 +123,7 @@ fn push_delimited(context: &mut Writing<'_>) -> Result<(), AllocError>
 pub(crate) fn italic() -> StyleFormatting {
     StyleFormatting {
         font_style: Some(FontStyle::Italic),
-        font_weight: None,
+        ..StyleFormatting::default()
     }
 }
 

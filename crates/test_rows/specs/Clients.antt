@@ -2,7 +2,7 @@
 use Rattle.std.specs.Prelude.{◌≡◌, ◌≢◌, ℕ, ◌+◌, ◌<◌, Bool, List, Option, Some, length, map, slice_get, slice_index, slice_index_or, slice_range}
 use Rattle.csl_assembly.specs.declared.rendered.Rendered.{Rendered}
 use Rattle.csl_writers.specs.Writing.{Writing}
-use Rattle.csl_base.specs.declared.style.Collapse.{Collapse}
+use Rattle.csl_style_values.specs.declared.style.Collapse.{Collapse}
 use Rattle.csl_collapse.specs.NumberLaws.{AreNextShown, CanBeReadBack, WasHid, numbers_of}
 use Rattle.csl_driver.specs.Answer.{Asked, rendered_first}
 use Rattle.csl_driver.specs.AnswerLaws.{KeepsLaws}

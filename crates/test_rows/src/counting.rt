@@ -39,8 +39,8 @@ impl Counting {
 }
 
 impl EntryLike for Counting {
-    ghost use Rattle.csl_base.specs.PlainEntry.{plain_answers};
-    ghost use Rattle.csl_base.specs.EqualEntries.{equal_entries_answer_equally};
+    ghost use Rattle.csl_values.specs.PlainEntry.{plain_answers};
+    ghost use Rattle.csl_values.specs.EqualEntries.{equal_entries_answer_equally};
 
     ghost answers = { λ c. plain_answers c.plain };
 

@@ -3,16 +3,21 @@
 use csl_base::elem::{ElemChildren, ElemMeta};
 use csl_base::entry::PlainEntry;
 use csl_base::style::{IndependentStyle, StyleClass};
+use csl_context::token::heights_equality_decides;
 use csl_driver::driver::BibliographyDriver;
+use csl_driver::error::error_equality_decides;
 use csl_driver::item::CitationItem;
 use csl_driver::laws::{
     ambiguous_stand_together, answer_equality_decides, answers_copy_equal, answers_keep_laws,
-    bibliography_holds_each_once, choose_and_suffix_go_on, final_order_laws, item_equality_decides,
-    items_copy_equal, name_marks_go_on, numbers_have_no_gaps, properties_equality_decides,
-    request_equality_decides, suffixes_count_entries, wanted_equality_decides,
+    bibliography_holds_each_once, choose_and_suffix_go_on, final_order_laws,
+    first_equality_decides, item_equality_decides, items_copy_equal, name_marks_go_on,
+    numbers_have_no_gaps, properties_equality_decides, request_equality_decides,
+    suffixes_count_entries, wanted_equality_decides,
 };
+use csl_driver::mode::mode_equality_decides;
 use csl_driver::rendered::Rendered;
 use csl_driver::request::{BibliographyRequest, CitationRequest};
+use csl_limits::limits::limits_equality_decides;
 use std::alloc::{AllocError, Global};
 use std::convert::Infallible;
 use std::test::Fail;
@@ -92,6 +97,11 @@ fn laws() {
     request_equality_decides::<PlainEntry, Infallible>();
     wanted_equality_decides::<PlainEntry>();
     properties_equality_decides::<Infallible>();
+    first_equality_decides();
+    heights_equality_decides();
+    mode_equality_decides();
+    error_equality_decides();
+    limits_equality_decides();
     name_marks_go_on::<PlainEntry, Infallible>();
     ambiguous_stand_together::<PlainEntry, Infallible>();
     choose_and_suffix_go_on::<PlainEntry, Infallible>();

@@ -14,7 +14,8 @@ pub mod of_base {
     pub use csl_base::equality::equality_laws;
     pub use csl_base::first_names::first_names_laws;
     pub use csl_base::formatting::{
-        Display, FontStyle, FontWeight, Formatted, Formatting, StyleFormatting,
+        Display, FontStyle, FontVariant, FontWeight, Formatted, Formatting, StyleFormatting,
+        TextDecoration, VerticalAlign,
     };
     pub use csl_base::last_text::last_text_laws;
     pub use csl_base::laws::{
@@ -101,12 +102,16 @@ pub mod of_driver {
     pub use csl_driver::error::CitationRefused;
     pub use csl_driver::error::DriverError;
     pub use csl_driver::error::RingPlace;
+    pub use csl_driver::error::error_equality_decides;
     pub use csl_driver::formatting::Display;
     pub use csl_driver::formatting::FontStyle;
+    pub use csl_driver::formatting::FontVariant;
     pub use csl_driver::formatting::FontWeight;
     pub use csl_driver::formatting::Formatted;
     pub use csl_driver::formatting::Formatting;
     pub use csl_driver::formatting::StyleFormatting;
+    pub use csl_driver::formatting::TextDecoration;
+    pub use csl_driver::formatting::VerticalAlign;
     pub use csl_driver::item::CitationItem;
     pub use csl_driver::laws::ambiguous_stand_together;
     pub use csl_driver::laws::answer_equality_decides;
@@ -116,6 +121,7 @@ pub mod of_driver {
     pub use csl_driver::laws::choose_and_suffix_go_on;
     pub use csl_driver::laws::collapsed_can_be_read_back;
     pub use csl_driver::laws::final_order_laws;
+    pub use csl_driver::laws::first_equality_decides;
     pub use csl_driver::laws::grouped_in_final_order;
     pub use csl_driver::laws::item_equality_decides;
     pub use csl_driver::laws::items_copy_equal;

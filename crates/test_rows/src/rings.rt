@@ -1,6 +1,6 @@
 //! Styles without a ring of macros.
 ghost use Rattle.std.specs.Prelude.{IfOk};
-ghost use Rattle.csl_base.specs.Ring.{HasNoRing};
+ghost use Rattle.csl_style_values.specs.Ring.{HasNoRing};
 ghost use Rattle.csl_writing.specs.ContextSource.{context_source};
 
 use csl_base::style::IndependentStyle;

@@ -27,10 +27,7 @@ pub fn no_options() -> InheritableNameOptions {
 }
 
 pub fn no_formatting() -> StyleFormatting {
-    StyleFormatting {
-        font_style: None,
-        font_weight: None,
-    }
+    StyleFormatting::default()
 }
 
 pub fn no_affixes() -> Affixes {
@@ -92,7 +89,7 @@ fn italic_layout(alloc: Global, written: &str) -> Result<Layout, AllocError> {
         elements,
         formatting: StyleFormatting {
             font_style: Some(FontStyle::Italic),
-            font_weight: None,
+            ..StyleFormatting::default()
         },
         prefix: None,
         suffix: text(alloc, ".")?,

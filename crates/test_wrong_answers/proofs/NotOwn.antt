@@ -7,7 +7,7 @@ use Rattle.std.proofs.lemmas.List.Sorted.{sum_by-IsPermutation}
 use Rattle.std.proofs.lemmas.List.Sums.{sum_by-cons}
 use Rattle.csl_assembly.specs.CitationTree.{citation_tree, shown}
 use Rattle.csl_assembly.specs.declared.rendered.RenderedCitation.{RenderedCitation}
-use Rattle.csl_base.specs.Tree.{plain}
+use Rattle.csl_trees.specs.Tree.{plain}
 use Rattle.csl_driver.specs.AnswerLaws.{KeepsLaws, cite_of, places_of}
 use Rattle.csl_driver.specs.declared.account.Account.{Account}
 use Rattle.csl_passes.specs.Purposes.{has_no_purpose}

@@ -3,8 +3,8 @@ use Rattle.std.specs.Prelude.{◌≡◌, ℕ, ◌+◌, false, List, [], ◌∷�
 use Rattle.std.specs.List.{range_with_len}
 use Rattle.csl_assembly.specs.declared.rendered.Rendered.{Rendered}
 use Rattle.csl_assembly.specs.declared.rendered.RenderedCitation.{RenderedCitation}
-use Rattle.csl_base.specs.Child.{Child, elem, kid, no_kids}
-use Rattle.csl_base.specs.declared.elem.ElemMeta.{ElemMeta}
+use Rattle.csl_trees.specs.Child.{Child, elem, kid, no_kids}
+use Rattle.csl_trees.specs.declared.elem.ElemMeta.{ElemMeta}
 use Rattle.csl_driver.specs.Answer.{Asked}
 use Rattle.csl_driver.specs.declared.account.Account.{Account}
 use Rattle.csl_lookup.specs.declared.state.DisambiguateState.{DisambiguateState}

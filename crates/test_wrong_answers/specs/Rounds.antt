@@ -1,7 +1,7 @@
 -- Cites as they were rendered first, and the tables of states that rounds give their entries.
 use Rattle.std.specs.Prelude.{ℕ, true, List, [], ◌∷◌, Some, codes, find, nat_eq, option_map}
-use Rattle.csl_base.specs.declared.names.DisambiguatedNameForm.{DisambiguatedNameForm}
-use Rattle.csl_base.specs.declared.names.NameDisambiguationProperties.{NameDisambiguationProperties}
+use Rattle.csl_values.specs.declared.names.DisambiguatedNameForm.{DisambiguatedNameForm}
+use Rattle.csl_values.specs.declared.names.NameDisambiguationProperties.{NameDisambiguationProperties}
 use Rattle.csl_lookup.specs.declared.state.DisambiguateState.{DisambiguateState}
 use Rattle.csl_lookup.specs.declared.state.DisambiguateState.TheVariants.{Choose, NameDisambiguation, YearSuffix}
 use Rattle.csl_passes.specs.Renders.{CiteRender, ItemRender}

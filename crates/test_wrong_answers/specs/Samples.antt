@@ -1,16 +1,16 @@
 -- Small requests and cites, on which answers are tried.
 use Rattle.std.specs.Prelude.{ℕ, true, false, List, [], ◌∷◌, None, Some, codes}
-use Rattle.csl_base.specs.Child.{Child, elem, kid, no_kids, text}
-use Rattle.csl_base.specs.Element.{no_elements}
-use Rattle.csl_base.specs.Formatting.{normal}
-use Rattle.csl_base.specs.PlainLook.{no_options}
-use Rattle.csl_base.specs.Style.{StyleValue}
-use Rattle.csl_base.specs.declared.elem.ElemMeta.{ElemMeta}
-use Rattle.csl_base.specs.declared.entry.Person.{Person}
-use Rattle.csl_base.specs.declared.style.Collapse.{Collapse}
-use Rattle.csl_base.specs.declared.style.DisambiguationRule.{DisambiguationRule}
-use Rattle.csl_base.specs.declared.style.StyleClass.{StyleClass}
-use Rattle.csl_base.specs.declared.taxonomy.NameVariable.{NameVariable}
+use Rattle.csl_trees.specs.Child.{Child, elem, kid, no_kids, text}
+use Rattle.csl_style_values.specs.Element.{no_elements}
+use Rattle.csl_values.specs.Formatting.{normal, nothing_asked}
+use Rattle.csl_style_values.specs.PlainLook.{no_options}
+use Rattle.csl_style_values.specs.Style.{StyleValue}
+use Rattle.csl_trees.specs.declared.elem.ElemMeta.{ElemMeta}
+use Rattle.csl_values.specs.declared.entry.Person.{Person}
+use Rattle.csl_style_values.specs.declared.style.Collapse.{Collapse}
+use Rattle.csl_style_values.specs.declared.style.DisambiguationRule.{DisambiguationRule}
+use Rattle.csl_style_values.specs.declared.style.StyleClass.{StyleClass}
+use Rattle.csl_values.specs.declared.taxonomy.NameVariable.{NameVariable}
 use Rattle.csl_lookup.specs.declared.state.DisambiguateState.{DisambiguateState}
 use Rattle.csl_lookup.specs.declared.state.IbidState.{IbidState}
 use Rattle.csl_lookup.specs.declared.state.IdentifierUsage.{IdentifierUsage}
@@ -33,7 +33,7 @@ style = record {
   citation = record {
     layout = record {
       elements = no_elements;
-      formatting = record { font_style = None; font_weight = None };
+      formatting = nothing_asked;
       prefix = None;
       suffix = None;
       delimiter = Some (codes "; ");

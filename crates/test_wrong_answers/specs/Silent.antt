@@ -1,6 +1,6 @@
 -- What samples answer, and when they are equal.
 use Rattle.std.specs.Prelude.{◌≡◌, Bool, true, [], None, refl}
-use Rattle.csl_base.specs.Answers.{Answers}
+use Rattle.csl_values.specs.Answers.{Answers}
 use Rattle.csl_writers.specs.Writing.{Writing}
 use Rattle.csl_writing.specs.LayoutWriting.{layout_writing}
 use Rattle.test_wrong_answers.specs.contracts.sample.SamplePartialEq.TheImpl as sample_eq

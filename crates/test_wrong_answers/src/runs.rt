@@ -1,6 +1,6 @@
 //! Runs of numbers that collapsing draws over what isn't one.
 ghost use Rattle.std.specs.Prelude.{Some};
-ghost use Rattle.csl_base.specs.declared.style.Collapse.{Collapse};
+ghost use Rattle.csl_style_values.specs.declared.style.Collapse.{Collapse};
 ghost use Rattle.csl_collapse.specs.NumberLaws.{CanBeReadBack};
 ghost use Rattle.test_wrong_answers.specs.Runs.{over_the_gap, over_the_hidden_cite, with_a_gap, with_a_hidden_cite};
 

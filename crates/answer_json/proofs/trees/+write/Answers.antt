@@ -2,8 +2,8 @@
 use Rattle.std.proofs.Common.{◌++◌, ◌∙◌, ap, sym, map, string_bytes, append_assoc, arith, lit<}
 use Rattle.serde_json.specs.Data.{array}
 use Rattle.serde_json.specs.Written.{compact_text}
-use Rattle.csl_base.specs.Child.{kids_of}
-use Rattle.csl_base.specs.ChildView.{child_view}
+use Rattle.csl_trees.specs.Child.{kids_of}
+use Rattle.csl_trees.specs.ChildView.{child_view}
 use Rattle.answer_json.specs.TreeData.{child_data, kids_data, children_data}
 use Rattle.answer_json.proofs.Closing.{closed}
 use Rattle.answer_json.proofs.Items.{rest_text-end}

@@ -1,6 +1,6 @@
 -- Requests are handed to the driver one after another.
 use Rattle.std.proofs.Common.{◌≡◌, ◌++◌, map, take}
-use Rattle.csl_base.specs.StyleView.{locale_view}
+use Rattle.csl_style_values.specs.StyleView.{locale_view}
 use Rattle.csl_driver.specs.DriverView.{driver_view}
 use Rattle.csl_styles.specs.TablesView.{locales_of}
 use Rattle.document_reading.specs.AskedView.{asked_requests_view}

@@ -1,5 +1,5 @@
 use Rattle.std.proofs.Common.{subst}
-use Rattle.csl_base.specs.StyleView.{style_view}
+use Rattle.csl_style_values.specs.StyleView.{style_view}
 use Rattle.csl_limits.specs.Limited.{Exceeds}
 use Rattle.cite_document.proofs.LimitSteps.{excess-checked, ring-checked}
 use Rattle.cite_document.proofs.limits.check_style.Goals as goal

@@ -1,6 +1,6 @@
 use Rattle.std.proofs.Common.{map, drop}
 use Rattle.std.specs.Prelude.{Result, ⊤}
-use Rattle.csl_base.specs.StyleView.{style_view}
+use Rattle.csl_style_values.specs.StyleView.{style_view}
 use Rattle.cite_document.specs.Limited.{ChecksEach}
 use Rattle.cite_document.specs.declared.limits.LimitError.{LimitError}
 use Rattle.cite_document.proofs.limits.check_styles.Given as goal

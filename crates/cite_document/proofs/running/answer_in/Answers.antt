@@ -1,6 +1,6 @@
 use Rattle.csl_writing.specs.LayoutWriting.{layout_writing}
 use Rattle.std.proofs.Common.{◌≡◌, subst, sym, ◌∙◌}
-use Rattle.csl_base.specs.PlainEntry.{plain_answers}
+use Rattle.csl_values.specs.PlainEntry.{plain_answers}
 use Rattle.csl_driver.specs.Answer.{rendered}
 use Rattle.csl_driver.specs.AskedView.{asked_of}
 use Rattle.csl_driver.specs.Promised.{Finishes, IsAnswer}

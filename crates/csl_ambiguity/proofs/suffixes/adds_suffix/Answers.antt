@@ -1,4 +1,4 @@
-use Rattle.csl_base.specs.StyleView.{style_view}
+use Rattle.csl_style_values.specs.StyleView.{style_view}
 use Rattle.csl_passes.specs.RendersView.{renders_view}
 use Rattle.csl_ambiguity.proofs.Walks.{any-found, any-skip}
 use Rattle.csl_ambiguity.proofs.suffixes.adds_suffix.Goals as goal

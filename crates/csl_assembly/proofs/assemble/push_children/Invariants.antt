@@ -1,5 +1,5 @@
 use Rattle.std.proofs.Common.{◌≡◌, ◌++◌, map}
-use Rattle.csl_base.specs.ChildView.{child_view}
+use Rattle.csl_trees.specs.ChildView.{child_view}
 use Rattle.csl_assembly.proofs.assemble.push_children.Given as goal
 
 abbrev pub invariant-loop-child : goal.invariant-loop-child

@@ -1,6 +1,6 @@
 use Rattle.std.proofs.Common.{◌≡◌, List, map, take, arith, rules}
 use Rattle.std.proofs.lemmas.Grind.{common_steps}
-use Rattle.csl_base.specs.Child.{Child}
+use Rattle.csl_trees.specs.Child.{Child}
 use Rattle.csl_passes.specs.Renders.{ItemRender}
 use Rattle.csl_passes.specs.RendersView.{item_view, items_view}
 use Rattle.csl_passes.specs.Request.{source_of}

@@ -1,4 +1,4 @@
-use Rattle.csl_base.specs.Finds.{decides}
+use Rattle.csl_values.specs.Finds.{decides}
 use Rattle.csl_assembly.proofs.Equal.{citations_find, items_find, bibliographies_find, answers_find}
 use Rattle.csl_assembly.proofs.laws.answer_equality_decides.Goals as goal
 

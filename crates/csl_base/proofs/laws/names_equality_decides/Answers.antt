@@ -2,8 +2,8 @@ use Rattle.std.proofs.Common.{ap}
 use denote.Enum.Bare.{same_true, true_same}
 use Rattle.csl_base.proofs.Seen.{list_told}
 use Rattle.csl_base.specs.Tells.{TellsEqual}
-use Rattle.csl_base.specs.contracts.names.DisambiguatedNameForm as form
-use Rattle.csl_base.specs.contracts.names.DisambiguatedNameFormPartialEq.TheImpl as form_eq
+use Rattle.csl_values.specs.contracts.names.DisambiguatedNameForm as form
+use Rattle.csl_values.specs.contracts.names.DisambiguatedNameFormPartialEq.TheImpl as form_eq
 use Rattle.csl_base.proofs.laws.names_equality_decides.Goals as goal
 
 forms_told : TellsEqual (form_eq.ghosts).eq

@@ -1,6 +1,6 @@
 use Rattle.std.proofs.Common.{◌≡◌, map}
 use Rattle.std.specs.Prelude.{None}
-use Rattle.csl_base.specs.StyleView.{citation_view}
+use Rattle.csl_style_values.specs.StyleView.{citation_view}
 use Rattle.csl_passes.specs.RendersView.{items_view}
 use Rattle.csl_passes.proofs.Halves.{half}
 use Rattle.csl_collapse.specs.YearStretches.{group_at, year_collapsed}

@@ -1,7 +1,7 @@
 -- A tree that has not one child alone.
 use Rattle.std.proofs.Common.{ap, length, arith}
 use Rattle.std.proofs.lemmas.List.{length-map}
-use Rattle.csl_base.specs.ChildView.{child_view}
+use Rattle.csl_trees.specs.ChildView.{child_view}
 use Rattle.csl_context.specs.Steps.{ends_quoted, pulled}
 use Rattle.csl_context.specs.Quotes.{quotes_view}
 use Rattle.csl_context.proofs.FrameSteps.{no_sole_text, no_sole_change}

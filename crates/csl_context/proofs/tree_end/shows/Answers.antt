@@ -1,8 +1,8 @@
 -- The first child shows nothing: the others decide.
 use Rattle.std.proofs.Common.{◌∙◌, sym, ap, arith, refl}
 use Rattle.std.specs.List.{list_any}
-use Rattle.csl_base.specs.ChildView.{child_view}
-use Rattle.csl_base.specs.Tree.{child_has_content}
+use Rattle.csl_trees.specs.ChildView.{child_view}
+use Rattle.csl_trees.specs.Tree.{child_has_content}
 use Rattle.csl_context.proofs.FrameSteps.{shows_later}
 use Rattle.csl_context.proofs.tree_end.shows.Goals as goal
 

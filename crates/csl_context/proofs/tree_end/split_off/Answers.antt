@@ -1,7 +1,7 @@
 -- The children before a place, and those from it on.
 use Rattle.std.proofs.Common.{map, take, drop, ap, sym, ◌∙◌}
 use Rattle.std.proofs.lemmas.List.{take-map, drop-map}
-use Rattle.csl_base.specs.ChildView.{child_view}
+use Rattle.csl_trees.specs.ChildView.{child_view}
 use Rattle.csl_context.proofs.tree_end.split_off.Goals as goal
 
 pub returns-clause-kept : goal.returns-clause-kept

@@ -1,7 +1,7 @@
 -- The first children.
 use Rattle.std.proofs.Common.{map, take, ap, sym, ◌∙◌}
 use Rattle.std.proofs.lemmas.List.{take-map}
-use Rattle.csl_base.specs.ChildView.{child_view}
+use Rattle.csl_trees.specs.ChildView.{child_view}
 use Rattle.csl_context.proofs.tree_end.truncate.Goals as goal
 
 pub returns : goal.returns

@@ -1,6 +1,6 @@
 use Rattle.std.proofs.Common.{Some, subst}
 use Rattle.std.proofs.Math.ListN.{length-map}
-use Rattle.csl_base.specs.Ring.{HasNoRing, IsFirstRing}
+use Rattle.csl_style_values.specs.Ring.{HasNoRing, IsFirstRing}
 use Rattle.csl_lookup.specs.Lookup.{Source}
 use Rattle.csl_passes.specs.RequestView.{request_view, requests_view, wanted_view}
 use Rattle.csl_driver.proofs.RingLemmas.{no_ring-more, first_ring, no_ring-all}

@@ -1,5 +1,5 @@
 use Rattle.std.proofs.Common.{Some, refl, subst}
-use Rattle.csl_base.specs.Ring.{HasNoRing, IsFirstRing}
+use Rattle.csl_style_values.specs.Ring.{HasNoRing, IsFirstRing}
 use Rattle.csl_lookup.specs.Lookup.{Source}
 use Rattle.csl_driver.proofs.standalone.standalone_citation.Goals as goal
 

@@ -1,6 +1,6 @@
 use Rattle.std.proofs.Common.{arith, refl}
 use Rattle.std.proofs.lemmas.Grind.{common_steps}
-use Rattle.csl_base.specs.StyleView.{citation_view}
+use Rattle.csl_style_values.specs.StyleView.{citation_view}
 use Rattle.csl_grouping.proofs.FinalOrders.{brought-together, not-brought}
 use Rattle.csl_grouping.proofs.grouping.group_cites.Goals as goal
 

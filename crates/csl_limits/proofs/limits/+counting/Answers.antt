@@ -1,6 +1,6 @@
 use Rattle.std.proofs.Common.{rules, arith, Ok, Err}
 use Rattle.csl_styles.specs.PreparedView.{prepared_view}
-use Rattle.csl_base.specs.ElementView.{element_view}
+use Rattle.csl_style_values.specs.ElementView.{element_view}
 use Rattle.csl_limits.proofs.Counting.{element_counted, element_exceeds, branch_counted, branch_exceeds, end-counted, one-counted}
 use Rattle.csl_limits.proofs.limits.+counting.Goals as goal
 

@@ -1,6 +1,6 @@
 use Rattle.std.proofs.Common.{ℕ, ◌+◌, ◌*◌, drop}
 use Rattle.std.specs.Prelude.{Result}
-use Rattle.csl_base.specs.ElementView.{branches_view, elements_view}
+use Rattle.csl_style_values.specs.ElementView.{branches_view, elements_view}
 use Rattle.csl_styles.specs.PreparedView.{prepared_view}
 use Rattle.csl_limits.specs.declared.limits.Excess.{Excess}
 use Rattle.csl_limits.specs.Limited.{Counted}

@@ -1,7 +1,7 @@
 use Rattle.std.proofs.Common.{ap, rules}
 use Rattle.std.specs.Cmp.{unsigned_Decides}
 use Rattle.csl_base.proofs.Seen.{some_seen}
-use Rattle.csl_base.specs.Finds.{both, and-true, decides}
+use Rattle.csl_values.specs.Finds.{both, and-true, decides}
 use Rattle.csl_base.specs.Tells.{TellsSeen}
 use Rattle.csl_lookup.specs.PropertiesView.{locator_view}
 use Rattle.csl_lookup.specs.contracts.locator.SpecificLocatorPartialEq.TheImpl as locator_eq

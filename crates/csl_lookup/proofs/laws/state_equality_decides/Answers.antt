@@ -1,4 +1,4 @@
-use Rattle.csl_base.specs.Finds.{decides}
+use Rattle.csl_values.specs.Finds.{decides}
 use Rattle.csl_lookup.proofs.Equal.{certain_find, states_find}
 use Rattle.csl_lookup.proofs.laws.state_equality_decides.Goals as goal
 

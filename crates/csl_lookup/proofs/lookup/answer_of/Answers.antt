@@ -1,6 +1,6 @@
 use Rattle.std.proofs.Common.{◌≡◌, Some, List, option_map, option_to_list, map, sym, ap, ◌∙◌, subst, refl}
-use Rattle.csl_base.specs.Style.{LocaleValue}
-use Rattle.csl_base.specs.StyleView.{locale_view}
+use Rattle.csl_style_values.specs.Style.{LocaleValue}
+use Rattle.csl_style_values.specs.StyleView.{locale_view}
 use Rattle.csl_lookup.specs.FirstAnswer.{Gives, FirstAnswer}
 use Rattle.csl_styles.specs.Terms.{locale_of}
 use Rattle.csl_lookup.proofs.FirstAnswers.{one_asked}

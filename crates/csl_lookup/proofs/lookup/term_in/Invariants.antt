@@ -1,5 +1,5 @@
 use Rattle.std.proofs.Common.{◌≡◌, drop, map, find}
-use Rattle.csl_base.specs.StyleView.{term_view}
+use Rattle.csl_style_values.specs.StyleView.{term_view}
 use Rattle.csl_styles.specs.Terms.{is_term}
 use Rattle.csl_lookup.proofs.lookup.term_in.Given as goal
 

@@ -1,5 +1,5 @@
 use Rattle.std.proofs.Common.{◌≡◌, ◌++◌, map, take}
-use Rattle.csl_base.specs.ChildView.{child_view}
+use Rattle.csl_trees.specs.ChildView.{child_view}
 use Rattle.csl_name_marks.specs.Persons.{persons}
 use Rattle.csl_name_marks.proofs.persons.+add.Given as goal
 

@@ -1,7 +1,7 @@
 use Rattle.std.proofs.Common.{◌≡◌, rules, sym, ◌∙◌}
 use Rattle.std.specs.Cmp.{booleans_Decides, unsigned_Decides}
 use Rattle.std.specs.Prelude.{Some}
-use Rattle.csl_base.specs.Finds.{both, and-true}
+use Rattle.csl_values.specs.Finds.{both, and-true}
 use Rattle.csl_base.proofs.Seen.{codes_told, option_told, some_seen}
 use Rattle.csl_lookup.specs.PropertiesView.{locator_view}
 use Rattle.csl_lookup.specs.contracts.locator.SpecificLocatorPartialEq.TheImpl as locator_eq

@@ -1,5 +1,5 @@
 use Rattle.std.proofs.Common.{ap}
-use Rattle.csl_base.specs.Finds.{both, and-true}
+use Rattle.csl_values.specs.Finds.{both, and-true}
 use Rattle.csl_passes.proofs.laws.properties_equality_decides.Goals as goal
 
 pub returns : goal.returns

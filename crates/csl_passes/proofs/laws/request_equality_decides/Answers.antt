@@ -1,5 +1,5 @@
 use Rattle.std.specs.Cmp.{unsigned_Decides}
-use Rattle.csl_base.specs.Finds.{both, and-true, decides, finds, options_find}
+use Rattle.csl_values.specs.Finds.{both, and-true, decides, finds, options_find}
 use Rattle.csl_base.proofs.Seen.{codes_told, list_seen, some_seen}
 use Rattle.csl_passes.proofs.Same.{lists_tell}
 use Rattle.csl_passes.specs.Same.{IsSameCite}

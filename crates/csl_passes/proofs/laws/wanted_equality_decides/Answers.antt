@@ -1,5 +1,5 @@
 use Rattle.std.proofs.Common.{sym, ◌∙◌}
-use Rattle.csl_base.specs.Finds.{both, and-true}
+use Rattle.csl_values.specs.Finds.{both, and-true}
 use Rattle.csl_base.proofs.Seen.{codes_told, list_seen, some_seen}
 use Rattle.csl_passes.proofs.Same.{orders_seen}
 use Rattle.csl_passes.proofs.laws.wanted_equality_decides.Goals as goal

@@ -4,7 +4,7 @@ use Rattle.std.proofs.lemmas.Iterator.{YieldsList-from_chars}
 use Rattle.std.proofs.lemmas.Iterator.Consumers.{YieldsList-turn, YieldsList-end}
 use Rattle.std.specs.List.{flat_map}
 use Rattle.std.specs.Str.{chars}
-use Rattle.csl_base.proofs.GivenNames.{initials_left, next_between, next_first, next_inside, none_left}
+use Rattle.csl_values.proofs.GivenNames.{initials_left, next_between, next_first, next_inside, none_left}
 use Rattle.csl_picking.proofs.name_text.ended_initials.Goals as goal
 
 abbrev spelled : List ℕ → List ℕ → List ℕ

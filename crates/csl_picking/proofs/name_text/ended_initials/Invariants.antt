@@ -1,8 +1,8 @@
 use Rattle.std.proofs.Common.{◌≡◌, ◌++◌, length, drop, encode_utf8}
 use Rattle.std.specs.List.{flat_map}
 use Rattle.std.specs.Str.{chars}
-use Rattle.csl_base.specs.Initials.{initials}
-use Rattle.csl_base.proofs.GivenNames.{initials_left}
+use Rattle.csl_values.specs.Initials.{initials}
+use Rattle.csl_values.proofs.GivenNames.{initials_left}
 use Rattle.csl_picking.proofs.name_text.ended_initials.Given as goal
 
 abbrev pub invariant-loop-c : goal.invariant-loop-c

@@ -1,7 +1,7 @@
 use Rattle.std.proofs.Common.{rules, ◌≡◌, ◌∙◌, ◌++◌, ◌∷◌, List, ap, sym, map, drop, append_assoc, ◌+◌, slice_index_or}
 use Rattle.std.proofs.lemmas.List.{at_drop_more}
-use Rattle.csl_base.specs.declared.taxonomy.NameVariable.{NameVariable}
-use Rattle.csl_base.specs.declared.entry.Person.{Person}
+use Rattle.csl_values.specs.declared.taxonomy.NameVariable.{NameVariable}
+use Rattle.csl_values.specs.declared.entry.Person.{Person}
 use Rattle.csl_picking.specs.Names.{block_persons}
 use Rattle.csl_picking.proofs.names.names_meta.Goals as goal
 

@@ -1,6 +1,6 @@
 use Rattle.std.proofs.Common.{◌≡◌, ◌∙◌, ◌++◌, ◌∷◌, ◌||◌, Bool, List, ap, sym, map, false}
 use Rattle.std.proofs.lemmas.Result.{on_ok_weaker, IfOk-weaker}
-use Rattle.csl_base.specs.declared.taxonomy.NameVariable.{NameVariable}
+use Rattle.csl_values.specs.declared.taxonomy.NameVariable.{NameVariable}
 use Rattle.csl_picking.specs.InputView.{env_of}
 use Rattle.csl_picking.specs.NameRulesView.{rules_view}
 use Rattle.csl_picking.specs.Names.{blocks_parts, first_block, plain_block}

@@ -1,6 +1,6 @@
 use Rattle.std.proofs.Common.{◌∙◌, ◌++◌, ◌||◌, ◌+◌, Bool, List, ℕ, Option, ap, sym, map, drop, slice_index_or}
 use Rattle.std.proofs.lemmas.List.{at_drop_more}
-use Rattle.csl_base.specs.declared.taxonomy.NameVariable.{NameVariable}
+use Rattle.csl_values.specs.declared.taxonomy.NameVariable.{NameVariable}
 use Rattle.csl_picking.specs.InputView.{env_of}
 use Rattle.csl_picking.specs.NameRulesView.{rules_view}
 use Rattle.csl_picking.specs.Names.{plain_block}

@@ -1,9 +1,9 @@
 use Rattle.std.proofs.Common.{◌+◌, ◌<◌, drop, sym, ap, ◌∙◌, subst}
 use Rattle.std.proofs.lemmas.List.{drop_all}
-use Rattle.csl_base.specs.ElementView.{elements_view, branches_view}
-use Rattle.csl_base.proofs.Views.{branches_rest}
-use Rattle.csl_base.specs.Weight.{weight_all_with, weight_branches_with}
-use Rattle.csl_base.proofs.Weight.{lt-branches, lt-last}
+use Rattle.csl_style_values.specs.ElementView.{elements_view, branches_view}
+use Rattle.csl_style_values.proofs.Views.{branches_rest}
+use Rattle.csl_style_values.specs.Weight.{weight_all_with, weight_branches_with}
+use Rattle.csl_style_values.proofs.Weight.{lt-branches, lt-last}
 use Rattle.csl_picking.specs.InputView.{env_of}
 use Rattle.csl_picking.specs.Conditions.{passes, tested}
 use Rattle.csl_picking.specs.Pick.{pick_all_with, pick_first_with}

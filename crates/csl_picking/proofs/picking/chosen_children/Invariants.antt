@@ -1,5 +1,5 @@
 use Rattle.std.proofs.Common.{◌≡◌, drop}
-use Rattle.csl_base.specs.ElementView.{branches_view}
+use Rattle.csl_style_values.specs.ElementView.{branches_view}
 use Rattle.csl_picking.specs.InputView.{env_of}
 use Rattle.csl_picking.specs.Pick.{Call, pick_first_with}
 use Rattle.csl_picking.specs.Quiet.{Keeps}

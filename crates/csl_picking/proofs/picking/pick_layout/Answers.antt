@@ -1,6 +1,6 @@
 use Rattle.std.proofs.Common.{◌≡◌, ◌<◌, length, ap, sym, ◌∙◌, arith}
-use Rattle.csl_base.specs.ElementView.{elements_view}
-use Rattle.csl_base.proofs.Views.{macros_length}
+use Rattle.csl_style_values.specs.ElementView.{elements_view}
+use Rattle.csl_style_values.proofs.Views.{macros_length}
 use Rattle.csl_picking.specs.declared.picking.Step.TheVariants as steps
 use Rattle.csl_picking.specs.InputView.{env_of, macros_in}
 use Rattle.csl_picking.specs.HeldView.{held}

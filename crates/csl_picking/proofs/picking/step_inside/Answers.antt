@@ -1,6 +1,6 @@
 use Rattle.std.proofs.Common.{◌≡◌, ◌<◌, ap, ap₂, sym, ◌∙◌, subst, arith}
-use Rattle.csl_base.specs.ElementView.{elements_view, branches_view, text_view, look}
-use Rattle.csl_base.proofs.Views.{group_view, choose_view}
+use Rattle.csl_style_values.specs.ElementView.{elements_view, branches_view, text_view, look}
+use Rattle.csl_style_values.proofs.Views.{group_view, choose_view}
 use Rattle.csl_picking.specs.declared.picking.Step.TheVariants as steps
 use Rattle.csl_picking.specs.InputView.{macros_in}
 use Rattle.csl_picking.specs.HeldView.{held}
@@ -8,7 +8,7 @@ use Rattle.csl_picking.specs.Picked.{Held, added}
 use Rattle.csl_picking.specs.PiecesView.{node_view}
 use Rattle.csl_picking.specs.Pick.{group_node, called_macro, picks_first}
 use Rattle.csl_picking.specs.Work.{steps_view, step_view, done, all_done, AllFit, macro_weight, weight_all}
-use Rattle.csl_base.specs.Weight.{weight_branches_with}
+use Rattle.csl_style_values.specs.Weight.{weight_branches_with}
 use Rattle.csl_picking.specs.Walk.{env_in}
 use Rattle.csl_picking.proofs.WorkSteps.{group_pushed, group_fits, pushed, fits_more, pushed-work}
 use Rattle.csl_picking.proofs.picking.step_inside.Goals as goal

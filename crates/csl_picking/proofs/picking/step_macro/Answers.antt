@@ -1,6 +1,6 @@
 use Rattle.std.proofs.Common.{◌-◌, ◌<◌, None, arith}
-use Rattle.csl_base.specs.Element.{macro_target}
-use Rattle.csl_base.specs.ElementView.{elements_view}
+use Rattle.csl_style_values.specs.Element.{macro_target}
+use Rattle.csl_style_values.specs.ElementView.{elements_view}
 use Rattle.csl_picking.specs.declared.picking.OpenMacro.{OpenMacro}
 use Rattle.csl_picking.specs.declared.picking.Step.TheVariants as steps
 use Rattle.csl_picking.specs.InputView.{macros_in}

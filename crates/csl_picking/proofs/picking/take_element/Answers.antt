@@ -1,5 +1,5 @@
 use Rattle.std.proofs.lemmas.Result.{on_ok_weaker}
-use Rattle.csl_base.specs.ElementView.{element_view}
+use Rattle.csl_style_values.specs.ElementView.{element_view}
 use Rattle.csl_picking.specs.HeldView.{held}
 use Rattle.csl_picking.specs.Walk.{env_in}
 use Rattle.csl_picking.proofs.Noted.{plain-kept}

@@ -1,6 +1,6 @@
 use Rattle.std.proofs.Common.{◌≡◌, ap, sym, ◌∙◌, subst}
-use Rattle.csl_base.specs.Element.{element}
-use Rattle.csl_base.specs.ElementView.{element_view, elements_view}
+use Rattle.csl_style_values.specs.Element.{element}
+use Rattle.csl_style_values.specs.ElementView.{element_view, elements_view}
 use Rattle.csl_picking.specs.InputView.{macros_in}
 use Rattle.csl_picking.specs.HeldView.{held}
 use Rattle.csl_picking.specs.Work.{elements_step, step_view, done, step_work}

@@ -1,5 +1,5 @@
 use Rattle.std.proofs.lemmas.Result.{on_ok_weaker}
-use Rattle.csl_base.specs.declared.taxonomy.Variable.{Variable}
+use Rattle.csl_values.specs.declared.taxonomy.Variable.{Variable}
 use Rattle.csl_picking.specs.HeldView.{held}
 use Rattle.csl_picking.specs.PiecesView.{shape_look}
 use Rattle.csl_picking.specs.Variables.{meant}

@@ -1,7 +1,7 @@
 use Rattle.std.proofs.Common.{◌<◌, [], ap, arith, get_or, length, refl, subst, sym, ◌∙◌}
 use Rattle.std.proofs.Math.ListN.{get_or-map, length-map}
 use Rattle.std.proofs.lemmas.List.{get_or_default, with_items_is}
-use Rattle.csl_base.specs.Ring.{HasNoRing}
+use Rattle.csl_style_values.specs.Ring.{HasNoRing}
 use Rattle.csl_entries.specs.TableView.{table_view}
 use Rattle.csl_passes.specs.ByPlaces.{by_places}
 use Rattle.csl_passes.specs.RendersView.{item_view, items_view, render_view, renders_view}

@@ -1,5 +1,5 @@
 use Rattle.std.proofs.Common.{rules}
-use Rattle.csl_base.proofs.Weight.{lt-all, lt-branches, lt-last}
+use Rattle.csl_style_values.proofs.Weight.{lt-all, lt-branches, lt-last}
 use Rattle.csl_styles.proofs.suffix_text.+suffix.Goals as goal
 
 pub have_suffix-has_suffix-requires : goal.have_suffix-has_suffix-requires

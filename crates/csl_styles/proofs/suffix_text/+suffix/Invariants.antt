@@ -1,6 +1,6 @@
 use Rattle.std.proofs.Common.{◌≡◌, drop}
-use Rattle.csl_base.specs.ElementView.{element_view, elements_view, branches_view}
-use Rattle.csl_base.specs.Weight.{weight_with, weight_all_with, weight_branches_with}
+use Rattle.csl_style_values.specs.ElementView.{element_view, elements_view, branches_view}
+use Rattle.csl_style_values.specs.Weight.{weight_with, weight_all_with, weight_branches_with}
 use Rattle.csl_styles.specs.SuffixText.{no_call, suffix_in_all, suffix_in_branches}
 use Rattle.csl_styles.proofs.suffix_text.+suffix.Given as goal
 

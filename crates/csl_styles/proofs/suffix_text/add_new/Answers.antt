@@ -1,6 +1,6 @@
 use Rattle.std.proofs.Common.{◌≡◌, Bor, Option, Some, None, is_some, option_map, map, refl, ap, sym, ◌∙◌}
-use Rattle.csl_base.specs.Element.{Name}
-use Rattle.csl_base.specs.Ring.{has_name}
+use Rattle.csl_style_values.specs.Element.{Name}
+use Rattle.csl_style_values.specs.Ring.{has_name}
 use Rattle.csl_styles.specs.Gathered.{with_new_name}
 use Rattle.csl_styles.proofs.NameLists.{with_named}
 use Rattle.csl_styles.proofs.suffix_text.add_new.Goals as goal

@@ -1,7 +1,7 @@
 use Rattle.std.proofs.Common.{Bor, sym, subst}
-use Rattle.csl_base.specs.declared.style.IndependentStyle.{IndependentStyle}
-use Rattle.csl_base.specs.Ring.{HasNoRing}
-use Rattle.csl_base.specs.StyleView.{style_view}
+use Rattle.csl_style_values.specs.declared.style.IndependentStyle.{IndependentStyle}
+use Rattle.csl_style_values.specs.Ring.{HasNoRing}
+use Rattle.csl_style_values.specs.StyleView.{style_view}
 use Rattle.csl_styles.proofs.suffix_text.explicit_suffix.Goals as goal
 
 pub suffix_by_table-requires : goal.suffix_by_table-requires

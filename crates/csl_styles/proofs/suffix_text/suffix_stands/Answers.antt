@@ -2,10 +2,10 @@ use Rattle.std.proofs.Common.{◌≡◌, ℕ, suc, ◌+◌, ◌∙◌, subst, Li
 use Rattle.std.specs.Prelude.{slice_get}
 use Rattle.std.proofs.lemmas.List.{get_or-map}
 use Rattle.std.proofs.lemmas.Option.{get_or_from_slice_get, slice_get_within}
-use Rattle.csl_base.specs.Element.{Name}
-use Rattle.csl_base.specs.Calls.{calls_of_all}
-use Rattle.csl_base.specs.Ring.{macro_calls}
-use Rattle.csl_base.specs.ElementView.{elements_view}
+use Rattle.csl_style_values.specs.Element.{Name}
+use Rattle.csl_style_values.specs.Calls.{calls_of_all}
+use Rattle.csl_style_values.specs.Ring.{macro_calls}
+use Rattle.csl_style_values.specs.ElementView.{elements_view}
 use Rattle.csl_styles.specs.MacrosOf.{macros_of}
 use Rattle.csl_styles.proofs.Gathering.{falls}
 use Rattle.csl_styles.proofs.Suffixes.{IsGathered, gathered-start, gathered-more, at_once, at_name, at_end}

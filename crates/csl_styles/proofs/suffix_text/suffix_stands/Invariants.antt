@@ -1,6 +1,6 @@
 use Rattle.std.proofs.Common.{◌+◌, ◌-◌, map, length}
-use Rattle.csl_base.specs.Calls.{calls_of_all}
-use Rattle.csl_base.specs.ElementView.{elements_view}
+use Rattle.csl_style_values.specs.Calls.{calls_of_all}
+use Rattle.csl_style_values.specs.ElementView.{elements_view}
 use Rattle.csl_styles.specs.MacrosOf.{macros_of}
 use Rattle.csl_styles.proofs.NameLists.{left}
 use Rattle.csl_styles.proofs.Suffixes.{IsGathered}

@@ -1,11 +1,11 @@
 -- One more term.
 use Rattle.std.proofs.Common.{◌≡◌, ◌<◌, ◌∙◌, List, Some, length, map, take, cond, unwrap_or, Bool, sym, ap, subst, arith}
-use Rattle.csl_base.specs.declared.taxonomy.Term.{Term}
-use Rattle.csl_base.specs.declared.taxonomy.TermForm.{TermForm}
-use Rattle.csl_base.specs.Found.{first_at}
-use Rattle.csl_base.specs.Style.{TermValue}
-use Rattle.csl_base.specs.StyleView.{term_view}
-use Rattle.csl_base.proofs.FirstPlaces.{next_place}
+use Rattle.csl_values.specs.declared.taxonomy.Term.{Term}
+use Rattle.csl_values.specs.declared.taxonomy.TermForm.{TermForm}
+use Rattle.csl_values.specs.Found.{first_at}
+use Rattle.csl_style_values.specs.Style.{TermValue}
+use Rattle.csl_style_values.specs.StyleView.{term_view}
+use Rattle.csl_style_values.proofs.FirstPlaces.{next_place}
 use Rattle.csl_styles.specs.Terms.{is_term}
 use Rattle.csl_styles.specs.TermsPlaced.{term_placed}
 use Rattle.csl_styles.proofs.TermPlaces.{alike, terms-next, length-terms}

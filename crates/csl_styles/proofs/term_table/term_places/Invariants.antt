@@ -1,8 +1,8 @@
 use Rattle.std.proofs.Common.{◌≡◌, map, take}
-use Rattle.csl_base.specs.declared.taxonomy.Term.{Term}
-use Rattle.csl_base.specs.declared.taxonomy.TermForm.{TermForm}
-use Rattle.csl_base.specs.Found.{first_at}
-use Rattle.csl_base.specs.StyleView.{term_view}
+use Rattle.csl_values.specs.declared.taxonomy.Term.{Term}
+use Rattle.csl_values.specs.declared.taxonomy.TermForm.{TermForm}
+use Rattle.csl_values.specs.Found.{first_at}
+use Rattle.csl_style_values.specs.StyleView.{term_view}
 use Rattle.csl_styles.specs.Terms.{is_term}
 use Rattle.csl_styles.specs.TermsPlaced.{term_placed}
 use Rattle.csl_styles.proofs.term_table.term_places.Given as goal

@@ -1,6 +1,6 @@
 -- The names so far, and those of the children from the next one on.
 use Rattle.std.proofs.Common.{◌≡◌, ◌++◌, map, drop}
-use Rattle.csl_base.specs.ChildView.{child_view}
+use Rattle.csl_trees.specs.ChildView.{child_view}
 use Rattle.csl_substitution.specs.Names.{names_in}
 use Rattle.csl_substitution.proofs.names.+names.Given as goal
 

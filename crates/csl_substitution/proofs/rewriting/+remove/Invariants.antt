@@ -1,7 +1,7 @@
 -- The children before the index hold no names any more, and the others are as they were.
 use Rattle.std.proofs.Common.{◌≡◌, ℕ, ◌<◌, ◌≤◌, length, get_or}
-use Rattle.csl_base.specs.ChildView.{child_view}
-use Rattle.csl_base.specs.declared.elem.ElemChild.{ElemChild}
+use Rattle.csl_trees.specs.ChildView.{child_view}
+use Rattle.csl_trees.specs.declared.elem.ElemChild.{ElemChild}
 use Rattle.csl_substitution.specs.Rewriting.{child_without_names}
 use Rattle.csl_substitution.proofs.rewriting.+remove.Given as goal
 

@@ -1,8 +1,8 @@
 -- The child at the index holds the first name, or none does.
 use Rattle.std.proofs.Common.{◌≡◌, true, is_some, arith, sym, ap, ◌∙◌}
 use Rattle.std.proofs.lemmas.List.{get_or_read}
-use Rattle.csl_base.specs.ChildView.{child_view}
-use Rattle.csl_base.specs.Tree.{find_elem}
+use Rattle.csl_trees.specs.ChildView.{child_view}
+use Rattle.csl_trees.specs.Tree.{find_elem}
 use Rattle.csl_substitution.specs.Names.{is_name}
 use Rattle.csl_substitution.specs.Rewriting.{holds_name, name_replaced, first_name_replaced}
 use Rattle.csl_substitution.proofs.Removing.{all_changed}

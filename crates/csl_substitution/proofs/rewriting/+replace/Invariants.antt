@@ -1,7 +1,7 @@
 -- The children before the index hold no name and stayed as they were, and the others weren't looked at.
 use Rattle.std.proofs.Common.{◌≡◌, ℕ, ◌<◌, ◌≤◌, false, length, get_or}
-use Rattle.csl_base.specs.ChildView.{child_view}
-use Rattle.csl_base.specs.declared.elem.ElemChild.{ElemChild}
+use Rattle.csl_trees.specs.ChildView.{child_view}
+use Rattle.csl_trees.specs.declared.elem.ElemChild.{ElemChild}
 use Rattle.csl_substitution.specs.Rewriting.{holds_name, name_replaced}
 use Rattle.csl_substitution.proofs.rewriting.+replace.Given as goal
 

@@ -2,7 +2,7 @@
 use Rattle.std.specs.List.{filter}
 use Rattle.std.proofs.Common.{rules, map, not, ap, ◌∙◌}
 use Rattle.std.proofs.lemmas.Fn.{filter_same}
-use Rattle.csl_base.specs.ChildView.{child_view}
+use Rattle.csl_trees.specs.ChildView.{child_view}
 use Rattle.csl_substitution.specs.Rewriting.{child_is_name}
 use Rattle.csl_substitution.proofs.Removing.{filter-view}
 use Rattle.csl_substitution.proofs.rewriting.drop_names.Goals as goal

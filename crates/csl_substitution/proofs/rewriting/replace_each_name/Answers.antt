@@ -2,7 +2,7 @@
 use Rattle.std.proofs.Common.{map, length, arith, ap, ◌∙◌}
 use Rattle.std.proofs.lemmas.List.{length-map}
 use Rattle.std.proofs.lemmas.Result.{on_ok_weaker}
-use Rattle.csl_base.specs.ChildView.{child_view}
+use Rattle.csl_trees.specs.ChildView.{child_view}
 use Rattle.csl_substitution.specs.Rewriting.{name_replaced}
 use Rattle.csl_substitution.proofs.Replacing.{up_to_all}
 use Rattle.csl_substitution.proofs.rewriting.replace_each_name.Goals as goal

@@ -1,7 +1,7 @@
 -- One child on; enough names; and no more children.
 use Rattle.std.proofs.Common.{◌<◌, ◌+◌, ◌∷◌, map, drop, length, rules, arith, sym, ap, ◌∙◌}
 use Rattle.std.proofs.lemmas.List.{get_or_read}
-use Rattle.csl_base.specs.ChildView.{child_view}
+use Rattle.csl_trees.specs.ChildView.{child_view}
 use Rattle.csl_substitution.specs.Rewriting.{name_replaced, up_to_names}
 use Rattle.csl_substitution.proofs.Counting.{changed_more, counted_next, cut_off, at_last}
 use Rattle.csl_substitution.proofs.Replacing.{up_to_found, up_to_past}

@@ -1,7 +1,7 @@
 -- The children before the index are written, and those that are still to be are those up to so many names from there.
 use Rattle.std.proofs.Common.{◌≡◌, ℕ, ◌<◌, ◌≤◌, ◌++◌, length, get_or, map, take, drop}
-use Rattle.csl_base.specs.ChildView.{child_view}
-use Rattle.csl_base.specs.declared.elem.ElemChild.{ElemChild}
+use Rattle.csl_trees.specs.ChildView.{child_view}
+use Rattle.csl_trees.specs.declared.elem.ElemChild.{ElemChild}
 use Rattle.csl_substitution.specs.Rewriting.{name_replaced, up_to_names}
 use Rattle.csl_substitution.proofs.rewriting.replace_names.Given as goal
 

@@ -1,7 +1,7 @@
 use Rattle.std.proofs.Common.{◌∙◌, ap, arith, length}
 use Rattle.std.specs.Prelude.{true}
-use Rattle.csl_base.specs.ElementView.{options_view}
-use Rattle.csl_base.specs.StyleView.{bibliography_view}
+use Rattle.csl_style_values.specs.ElementView.{options_view}
+use Rattle.csl_style_values.specs.StyleView.{bibliography_view}
 use Rattle.csl_picking.specs.declared.notes.Form.{Form}
 use Rattle.csl_writing.specs.Sections.{item_section}
 use Rattle.csl_lookup.specs.SourceView.{lookup_view}

@@ -1,6 +1,6 @@
 -- What comes of the table, or why the driver refuses, is of the document.
 use Rattle.std.proofs.Common.{◌≡◌, map, refl, rules, ◌∙◌}
-use Rattle.csl_base.specs.StyleView.{locale_view}
+use Rattle.csl_style_values.specs.StyleView.{locale_view}
 use Rattle.csl_driver.specs.DriverView.{driver_view}
 use Rattle.csl_passes.specs.RequestView.{wanted_view}
 use Rattle.csl_table.specs.Table.{found}

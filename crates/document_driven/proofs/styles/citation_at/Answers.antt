@@ -1,6 +1,6 @@
 -- An object without keys is refused as no document.
 use Rattle.serde_json.specs.View.{view}
-use Rattle.csl_base.specs.StyleView.{citation_view}
+use Rattle.csl_style_values.specs.StyleView.{citation_view}
 use Rattle.document_driven.proofs.Absent.{empty_unrefused}
 use Rattle.document_driven.proofs.styles.citation_at.Goals as goal
 

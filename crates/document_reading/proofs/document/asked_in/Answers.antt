@@ -1,9 +1,9 @@
 -- The maps find what the lists hold.
 use Rattle.std.proofs.Common.{ℕ, List, Option, map, subst}
 use Rattle.serde_json.specs.View.{view}
-use Rattle.csl_base.specs.StyleView.{locale_view}
-use Rattle.csl_base.specs.declared.entry.PlainEntry.{PlainEntry}
-use Rattle.csl_base.specs.Style.{StyleValue}
+use Rattle.csl_style_values.specs.StyleView.{locale_view}
+use Rattle.csl_values.specs.declared.entry.PlainEntry.{PlainEntry}
+use Rattle.csl_style_values.specs.Style.{StyleValue}
 use Rattle.document_reading.specs.DocumentView.{document_view}
 use Rattle.document_reading.specs.Finders.{entry_in}
 use Rattle.document_reading.specs.Form.{asked_form}

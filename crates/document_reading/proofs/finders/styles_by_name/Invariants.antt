@@ -1,6 +1,6 @@
 -- The styles are put in one after another, where their names aren't there yet.
 use Rattle.std.proofs.Common.{◌≡◌, ℕ, List, take}
-use Rattle.csl_base.specs.StyleView.{style_view}
+use Rattle.csl_style_values.specs.StyleView.{style_view}
 use Rattle.document_reading.specs.Finders.{style_in}
 use Rattle.document_reading.proofs.FirstKeyed.{found}
 use Rattle.document_reading.proofs.finders.styles_by_name.Given as goal

@@ -1,6 +1,6 @@
 -- One more request was read.
 use Rattle.std.proofs.Common.{map}
-use Rattle.csl_base.specs.StyleView.{locale_view}
+use Rattle.csl_style_values.specs.StyleView.{locale_view}
 use Rattle.document_reading.specs.AskedView.{asked_request_view}
 use Rattle.document_reading.specs.Finders.{entry_in, style_in}
 use Rattle.document_reading.specs.Requests.{request_form}

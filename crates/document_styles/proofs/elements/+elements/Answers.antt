@@ -2,8 +2,8 @@
 use Rattle.std.proofs.Common.{arith, ap, codes, sym, subst, Option}
 use Rattle.serde_json.specs.Data.{depth}
 use Rattle.serde_json.specs.View.{view, items_view}
-use Rattle.csl_base.specs.Element.{Element}
-use Rattle.csl_base.specs.ElementView.{branch_view, element_view}
+use Rattle.csl_style_values.specs.Element.{Element}
+use Rattle.csl_style_values.specs.ElementView.{branch_view, element_view}
 use Rattle.document_styles.specs.Elements.{branch_form, choose_keys, element_form}
 use Rattle.document_words.specs.Reads.{IsErrorOf, Reads}
 use Rattle.document_styles.proofs.ListFaults.{optional_fault, required_fault}

@@ -2,7 +2,7 @@
 use Rattle.std.proofs.Common.{◌+◌, ◌*◌, map}
 use Rattle.serde_json.specs.Data.{depth, items_depth}
 use Rattle.serde_json.specs.View.{view, items_view}
-use Rattle.csl_base.specs.ElementView.{element_view, branch_view}
+use Rattle.csl_style_values.specs.ElementView.{element_view, branch_view}
 use Rattle.document_styles.specs.Elements.{branch_form, element_form}
 use Rattle.document_words.proofs.Progress.{Progress}
 use Rattle.document_styles.proofs.elements.+elements.Given as goal

@@ -1,5 +1,5 @@
 -- One more was read.
-use Rattle.csl_base.specs.StyleView.{locale_view}
+use Rattle.csl_style_values.specs.StyleView.{locale_view}
 use Rattle.document_styles.specs.Locales.{locale_form}
 use Rattle.document_words.proofs.Progress.{Progress-pushed}
 use Rattle.document_styles.proofs.locales.all_locales.Goals as goal

@@ -1,5 +1,5 @@
 -- One more was read.
-use Rattle.csl_base.specs.StyleView.{term_view}
+use Rattle.csl_style_values.specs.StyleView.{term_view}
 use Rattle.document_styles.specs.Locales.{term_form}
 use Rattle.document_words.proofs.Progress.{Progress-pushed}
 use Rattle.document_styles.proofs.locales.all_terms.Goals as goal

@@ -1,5 +1,5 @@
 -- One more macro was read.
-use Rattle.csl_base.specs.ElementView.{macro_view}
+use Rattle.csl_style_values.specs.ElementView.{macro_view}
 use Rattle.document_styles.specs.Styles.{macro_form}
 use Rattle.document_words.proofs.Progress.{Progress-pushed}
 use Rattle.document_styles.proofs.styles.all_macros.Goals as goal

@@ -1,5 +1,5 @@
 -- Macros are read one after another.
-use Rattle.csl_base.specs.ElementView.{macros_view}
+use Rattle.csl_style_values.specs.ElementView.{macros_view}
 use Rattle.document_styles.specs.Styles.{macro_form}
 use Rattle.document_words.proofs.Progress.{Progress}
 use Rattle.document_styles.proofs.styles.all_macros.Given as goal

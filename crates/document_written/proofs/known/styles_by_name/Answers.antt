@@ -1,7 +1,7 @@
 -- A style whose name is there already changes nothing; another one is put in.
 use Rattle.std.proofs.Common.{refl, ap, sym, ◌∙◌, string_bytes, take_all}
 use Rattle.std.proofs.lemmas.Map.Text.{hash_map_updates_str}
-use Rattle.csl_base.specs.StyleView.{style_view}
+use Rattle.csl_style_values.specs.StyleView.{style_view}
 use Rattle.document_reading.specs.Finders.{text_in}
 use Rattle.document_styles.specs.NamedStyleView.{named_styles_view}
 use Rattle.document_styles.specs.Styles.{style_named}

@@ -1,6 +1,6 @@
 -- The styles are put in one after another, where their names aren't there yet.
 use Rattle.std.proofs.Common.{◌≡◌, ℕ, List, take, string_bytes}
-use Rattle.csl_base.specs.StyleView.{style_view}
+use Rattle.csl_style_values.specs.StyleView.{style_view}
 use Rattle.document_reading.proofs.FirstKeyed.{found}
 use Rattle.document_written.specs.Known.{known_style_in}
 use Rattle.document_written.proofs.known.styles_by_name.Given as goal

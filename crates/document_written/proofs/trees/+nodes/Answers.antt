@@ -2,8 +2,8 @@
 use Rattle.std.proofs.Common.{arith, ap, codes, sym, subst, Option}
 use Rattle.serde_json.specs.Data.{depth}
 use Rattle.serde_json.specs.View.{view, items_view}
-use Rattle.csl_base.specs.Child.{Child}
-use Rattle.csl_base.specs.ChildView.{child_view}
+use Rattle.csl_trees.specs.Child.{Child}
+use Rattle.csl_trees.specs.ChildView.{child_view}
 use Rattle.document_styles.proofs.ListFaults.{required_fault}
 use Rattle.document_styles.proofs.Nesting.{item_within, list_within}
 use Rattle.document_words.specs.Reads.{Reads}

@@ -1,9 +1,9 @@
 -- The last child takes the text, or the text is a child of its own.
 use Rattle.std.proofs.Common.{◌≡◌, true, false, drop, length, ap, ◌∙◌, sym, arith}
 use Rattle.std.specs.List.{sum}
-use Rattle.csl_base.specs.Child.{text}
-use Rattle.csl_base.specs.Simplify.{join_last}
-use Rattle.csl_base.specs.declared.formatting.Formatted.{Formatted}
+use Rattle.csl_trees.specs.Child.{text}
+use Rattle.csl_trees.specs.Simplify.{join_last}
+use Rattle.csl_values.specs.declared.formatting.Formatted.{Formatted}
 use Rattle.csl_context.specs.Cuts.{cut}
 use Rattle.csl_context.specs.OpenFrames.{on_top}
 use Rattle.csl_context.proofs.CutSteps.{same_height}

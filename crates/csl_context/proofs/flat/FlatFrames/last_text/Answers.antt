@@ -1,7 +1,7 @@
 -- The last text of all children, where the top frame has some.
 use Rattle.std.proofs.Common.{ap, ◌∙◌, sym, arith}
 use Rattle.std.specs.Option.{option_and_then}
-use Rattle.csl_base.specs.Tree.{last_text}
+use Rattle.csl_trees.specs.Tree.{last_text}
 use Rattle.csl_context.specs.OpenFrames.{top}
 use Rattle.csl_context.proofs.OpenSteps.{seen_top, none_seen_top, last_text-seen}
 use Rattle.csl_context.proofs.flat.FlatFrames.last_text.Goals as goal

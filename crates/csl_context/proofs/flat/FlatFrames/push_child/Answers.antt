@@ -1,6 +1,6 @@
 -- A child behind all others.
 use Rattle.std.proofs.Common.{◌++◌, ◌∷◌, [], length, ap, ◌∙◌, arith}
-use Rattle.csl_base.specs.ChildView.{child_view}
+use Rattle.csl_trees.specs.ChildView.{child_view}
 use Rattle.csl_context.specs.Cuts.{cut}
 use Rattle.csl_context.specs.OpenFrames.{on_top}
 use Rattle.csl_context.proofs.CutSteps.{same_height}

@@ -1,6 +1,6 @@
 -- One element in the place of the children of the top frame.
 use Rattle.std.proofs.Common.{List, ◌++◌, ◌∷◌, [], take, drop, length, ap, ◌∙◌, arith}
-use Rattle.csl_base.specs.Child.{Child, elem, kids_of}
+use Rattle.csl_trees.specs.Child.{Child, elem, kids_of}
 use Rattle.csl_context.specs.Cuts.{cut}
 use Rattle.csl_context.specs.OpenFrames.{on_top}
 use Rattle.csl_context.proofs.CutSteps.{same_height}

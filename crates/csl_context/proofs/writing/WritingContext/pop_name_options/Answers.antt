@@ -1,7 +1,7 @@
 -- A cut of the stack is a cut of what is seen of it.
 use Rattle.std.proofs.Common.{◌-◌, map, take, ap, sym, ◌∙◌}
 use Rattle.std.proofs.lemmas.List.{take-map, length-map}
-use Rattle.csl_base.specs.ElementView.{options_view}
+use Rattle.csl_style_values.specs.ElementView.{options_view}
 use Rattle.csl_context.specs.WritingState.{state}
 use Rattle.csl_context.proofs.writing.WritingContext.pop_name_options.Goals as goal
 

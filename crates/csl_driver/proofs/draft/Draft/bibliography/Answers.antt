@@ -2,7 +2,7 @@ use Rattle.std.proofs.Common.{Some, ap, sym, ◌∙◌}
 use Rattle.std.specs.List.{filter_map}
 use Rattle.std.specs.Prelude.{option_map}
 use Rattle.csl_assembly.specs.BibliographyItems.{bibliography_of, bibliography_tasks, cites_at}
-use Rattle.csl_base.specs.StyleView.{bibliography_view}
+use Rattle.csl_style_values.specs.StyleView.{bibliography_view}
 use Rattle.csl_driver.specs.Answer.{entries_listed}
 use Rattle.csl_driver.specs.DraftView.{asked_in}
 use Rattle.csl_driver.specs.WriterTasks.{where_wanted}

@@ -1,7 +1,7 @@
 use Rattle.std.proofs.Common.{◌++◌, ◌∷◌, [], ap, map, refl, sym, take, ◌∙◌}
 use Rattle.std.proofs.lemmas.List.{take_all}
 use Rattle.csl_rounds.proofs.Pairs.{at_view, past_view, within_view}
-use Rattle.csl_base.specs.Ring.{HasNoRing}
+use Rattle.csl_style_values.specs.Ring.{HasNoRing}
 use Rattle.csl_assembly.specs.CitationTree.{citation_tasks, citation_tree}
 use Rattle.csl_driver.specs.Answer.{citation_of, citations_of}
 use Rattle.csl_driver.specs.DraftView.{asked_in}

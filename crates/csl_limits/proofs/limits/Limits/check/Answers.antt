@@ -1,5 +1,5 @@
 use Rattle.std.proofs.Common.{rules}
-use Rattle.csl_base.specs.StyleView.{bibliography_view}
+use Rattle.csl_style_values.specs.StyleView.{bibliography_view}
 use Rattle.csl_styles.specs.PreparedView.{prepared_view}
 use Rattle.csl_limits.proofs.Counting.{exceeded-there}
 use Rattle.csl_limits.proofs.limits.Limits.check.Goals as goal

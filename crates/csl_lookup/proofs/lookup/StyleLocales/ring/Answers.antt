@@ -1,7 +1,7 @@
 -- A prepared style has no ring.
 use Rattle.std.proofs.Common.{subst}
-use Rattle.csl_base.specs.Ring.{HasNoRing}
-use Rattle.csl_base.specs.StyleView.{style_view}
+use Rattle.csl_style_values.specs.Ring.{HasNoRing}
+use Rattle.csl_style_values.specs.StyleView.{style_view}
 use Rattle.csl_lookup.proofs.lookup.StyleLocales.ring.Goals as goal
 
 pub returns-in-Some-clause-first : goal.returns-in-Some-clause-first

@@ -1,6 +1,6 @@
 -- Where no tables are prepared.
 use Rattle.std.proofs.Common.{rules}
-use Rattle.csl_base.specs.StyleView.{term_view}
+use Rattle.csl_style_values.specs.StyleView.{term_view}
 use Rattle.csl_styles.specs.Terms.{term_in}
 use Rattle.csl_lookup.proofs.FirstAnswers.{gives_known}
 use Rattle.csl_lookup.proofs.lookup.StyleLocales.term_of_form.Goals as goal

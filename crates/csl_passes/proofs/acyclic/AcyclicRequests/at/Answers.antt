@@ -1,7 +1,7 @@
 use Rattle.std.proofs.Common.{◌<◌, Some, ap, length, subst, ◌∙◌}
 use Rattle.std.proofs.Math.ListN.{get_or-map, length-map}
 use Rattle.std.proofs.lemmas.Option.{slice_get-get_or}
-use Rattle.csl_base.specs.Ring.{HasNoRing}
+use Rattle.csl_style_values.specs.Ring.{HasNoRing}
 use Rattle.csl_passes.specs.RequestView.{request_view, requests_view}
 use Rattle.csl_passes.proofs.acyclic.AcyclicRequests.at.Goals as goal
 

@@ -3,8 +3,8 @@ use Rattle.std.proofs.Common.{◌<◌, ◌∙◌, length, Some, option_map, sym,
 use Rattle.std.proofs.lemmas.List.{length-map}
 use Rattle.std.proofs.lemmas.Option.{slice_get-map, slice_get_read}
 use Rattle.std.specs.Prelude.{bytes_eq}
-use Rattle.csl_base.specs.Element.{Macro}
-use Rattle.csl_base.specs.ElementView.{elements_view, macro_view, macros_view}
+use Rattle.csl_style_values.specs.Element.{Macro}
+use Rattle.csl_style_values.specs.ElementView.{elements_view, macro_view, macros_view}
 use Rattle.csl_styles.proofs.FoundPlaces.{place_within}
 use Rattle.csl_styles.proofs.PlacedBodies.{body_at, body_of-place}
 use Rattle.csl_styles.proofs.macros.MacroTable.body_of.Goals as goal

@@ -1,8 +1,8 @@
 -- What was looked at once.
 use Rattle.std.proofs.Common.{Bor, ◌∙◌, sym, subst}
-use Rattle.csl_base.specs.declared.style.IndependentStyle.{IndependentStyle}
-use Rattle.csl_base.specs.Ring.{HasNoRing}
-use Rattle.csl_base.specs.StyleView.{style_view}
+use Rattle.csl_style_values.specs.declared.style.IndependentStyle.{IndependentStyle}
+use Rattle.csl_style_values.specs.Ring.{HasNoRing}
+use Rattle.csl_style_values.specs.StyleView.{style_view}
 use Rattle.csl_styles.proofs.prepared.PreparedStyle.new.Goals as goal
 
 pub suffix_by_table-requires : goal.suffix_by_table-requires

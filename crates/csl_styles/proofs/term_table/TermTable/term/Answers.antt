@@ -3,7 +3,7 @@ use Rattle.std.proofs.Common.{◌<◌, ◌∙◌, length, map, option_map, optio
 use Rattle.std.specs.Prelude.{slice_get}
 use Rattle.std.proofs.lemmas.List.{length-map}
 use Rattle.std.proofs.lemmas.Option.{slice_get-map, slice_get_read}
-use Rattle.csl_base.specs.StyleView.{term_view}
+use Rattle.csl_style_values.specs.StyleView.{term_view}
 use Rattle.csl_styles.specs.Terms.{is_term}
 use Rattle.csl_styles.proofs.FoundPlaces.{find-place, place_within}
 use Rattle.csl_styles.proofs.term_table.TermTable.term.Goals as goal

@@ -3,9 +3,9 @@ use Rattle.std.proofs.Common.{◌≡◌, ◌<◌, ◌∙◌, List, length, map, 
 use Rattle.std.proofs.lemmas.Simd.{map-map}
 use Rattle.std.specs.Prelude.{bytes_eq}
 use Rattle.std.specs.Option.{option_eq}
-use Rattle.csl_base.specs.Style.{LocaleValue}
-use Rattle.csl_base.specs.StyleView.{locale_view}
-use Rattle.csl_base.specs.declared.locale.Locale.{Locale}
+use Rattle.csl_style_values.specs.Style.{LocaleValue}
+use Rattle.csl_style_values.specs.StyleView.{locale_view}
+use Rattle.csl_style_values.specs.declared.locale.Locale.{Locale}
 use Rattle.csl_styles.specs.Terms.{locale_of, term_in}
 use Rattle.csl_styles.specs.declared.term_table.TermTable.{TermTable}
 use Rattle.csl_styles.proofs.FoundPlaces.{find-here, find-past}

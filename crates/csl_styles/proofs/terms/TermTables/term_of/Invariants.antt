@@ -1,5 +1,5 @@
 use Rattle.std.proofs.Common.{◌≡◌, drop, map, option_map}
-use Rattle.csl_base.specs.StyleView.{locale_view}
+use Rattle.csl_style_values.specs.StyleView.{locale_view}
 use Rattle.csl_styles.specs.Terms.{locale_of}
 use Rattle.csl_styles.proofs.terms.TermTables.term_of.Given as goal
 

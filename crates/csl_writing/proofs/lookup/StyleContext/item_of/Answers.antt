@@ -1,6 +1,6 @@
 use Rattle.std.proofs.Common.{◌≡◌, subst}
 use Rattle.std.specs.Prelude.{IfOk}
-use Rattle.csl_base.specs.StyleView.{bibliography_view}
+use Rattle.csl_style_values.specs.StyleView.{bibliography_view}
 use Rattle.csl_writing.specs.CiteText.{rendered_item}
 use Rattle.csl_picking.specs.InputView.{cite_facts}
 use Rattle.csl_lookup.specs.PropertiesView.{properties_view}

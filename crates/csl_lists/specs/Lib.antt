@@ -1,0 +1,4 @@
+pub mod Content
+pub mod HeldText
+pub mod Stack
+pub mod Seq

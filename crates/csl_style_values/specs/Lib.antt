@@ -1,0 +1,10 @@
+pub mod Element
+pub mod PlainLook
+pub mod ElementView
+pub mod Style
+pub mod StyleView
+pub mod Weight
+pub mod Calls
+pub mod Places
+pub mod Ring
+pub mod NamedPlaces

@@ -1,0 +1,162 @@
+-- The derived tests of equality on trees and what they hold decide equality.
+use Rattle.std.specs.Prelude.{◌≡◌, Bool, true, refl}
+use Rattle.std.specs.Bool.{Decides}
+use Rattle.std.specs.Cmp.{unsigned_Decides}
+use Rattle.std.proofs.Common.{ap, sym, true≢false}
+use denote.Enum.Bare.{same_true, true_same}
+use Rattle.csl_values.specs.Finds.{Finds, decides, both, and-true, texts_find, options_find, lists_find, pairs_find}
+use Rattle.csl_values.specs.EqualEntries.{name_variables_find, persons_find}
+use Rattle.csl_trees.specs.SameTree.{same_trees-Decides}
+use Rattle.csl_trees.specs.declared.elem.ElemMeta.{ElemMeta}
+use Rattle.csl_trees.specs.declared.elem.ElemMeta.TheVariants as meta
+use Rattle.csl_trees.specs.declared.elem.Elem.{Elem}
+use Rattle.csl_trees.specs.declared.elem.ElemChild.{ElemChild}
+use Rattle.csl_trees.specs.declared.elem.ElemChild.TheVariants as v
+use Rattle.csl_values.specs.contracts.formatting.FontStyle as font_style
+use Rattle.csl_values.specs.contracts.formatting.FontVariant as font_variant
+use Rattle.csl_values.specs.contracts.formatting.FontWeight as font_weight
+use Rattle.csl_values.specs.contracts.formatting.TextDecoration as text_decoration
+use Rattle.csl_values.specs.contracts.formatting.VerticalAlign as vertical_align
+use Rattle.csl_values.specs.contracts.formatting.Display as display
+use Rattle.csl_values.specs.contracts.formatting.FontStylePartialEq.TheImpl as font_style_eq
+use Rattle.csl_values.specs.contracts.formatting.FontVariantPartialEq.TheImpl as font_variant_eq
+use Rattle.csl_values.specs.contracts.formatting.FontWeightPartialEq.TheImpl as font_weight_eq
+use Rattle.csl_values.specs.contracts.formatting.TextDecorationPartialEq.TheImpl as text_decoration_eq
+use Rattle.csl_values.specs.contracts.formatting.VerticalAlignPartialEq.TheImpl as vertical_align_eq
+use Rattle.csl_values.specs.contracts.formatting.DisplayPartialEq.TheImpl as display_eq
+use Rattle.csl_values.specs.contracts.formatting.FormattingPartialEq.TheImpl as formatting_eq
+use Rattle.csl_values.specs.contracts.formatting.FormattedPartialEq.TheImpl as formatted_eq
+use Rattle.csl_trees.specs.contracts.elem.ElemMetaPartialEq.TheImpl as meta_eq
+use Rattle.csl_trees.specs.contracts.elem.ElemPartialEq.TheImpl as elem_eq
+use Rattle.csl_trees.specs.contracts.elem.ElemChildPartialEq.TheImpl as child_eq
+
+font_styles_find : Finds (font_style_eq.ghosts).eq
+font_styles_find = record {
+  equal = λ a b e. same_true font_style.the_type tt a b e;
+  self = λ a. true_same font_style.the_type a a refl;
+}
+
+font_weights_find : Finds (font_weight_eq.ghosts).eq
+font_weights_find = record {
+  equal = λ a b e. same_true font_weight.the_type tt a b e;
+  self = λ a. true_same font_weight.the_type a a refl;
+}
+
+font_variants_find : Finds (font_variant_eq.ghosts).eq
+font_variants_find = record {
+  equal = λ a b e. same_true font_variant.the_type tt a b e;
+  self = λ a. true_same font_variant.the_type a a refl;
+}
+
+text_decorations_find : Finds (text_decoration_eq.ghosts).eq
+text_decorations_find = record {
+  equal = λ a b e. same_true text_decoration.the_type tt a b e;
+  self = λ a. true_same text_decoration.the_type a a refl;
+}
+
+vertical_aligns_find : Finds (vertical_align_eq.ghosts).eq
+vertical_aligns_find = record {
+  equal = λ a b e. same_true vertical_align.the_type tt a b e;
+  self = λ a. true_same vertical_align.the_type a a refl;
+}
+
+displays_find : Finds (display_eq.ghosts).eq
+displays_find = record {
+  equal = λ a b e. same_true display.the_type tt a b e;
+  self = λ a. true_same display.the_type a a refl;
+}
+
+pub formattings_find : Finds (formatting_eq.ghosts).eq
+formattings_find = record {
+  equal = λ a b e. let p = both _ _ e in let q = both _ _ p.1 in let r = both _ _ q.1 in let s = both _ _ r.1 in
+      λ i. record {
+        font_style = font_styles_find.equal a.font_style b.font_style p.0 i;
+        font_variant = font_variants_find.equal a.font_variant b.font_variant q.0 i;
+        font_weight = font_weights_find.equal a.font_weight b.font_weight r.0 i;
+        text_decoration = text_decorations_find.equal a.text_decoration b.text_decoration s.0 i;
+        vertical_align = vertical_aligns_find.equal a.vertical_align b.vertical_align s.1 i;
+      };
+  self = λ a.
+      and-true _ _ (font_styles_find.self a.font_style)
+      (and-true _ _ (font_variants_find.self a.font_variant)
+      (and-true _ _ (font_weights_find.self a.font_weight)
+      (and-true _ _ (text_decorations_find.self a.text_decoration) (vertical_aligns_find.self a.vertical_align))));
+}
+
+pub formatted_find : Finds (formatted_eq.ghosts).eq
+formatted_find = record {
+  equal = λ a b e. let p = both _ _ e in
+      λ i. record {
+        text = texts_find.equal a.text b.text p.0 i;
+        formatting = formattings_find.equal a.formatting b.formatting p.1 i;
+      };
+  self = λ a. and-true _ _ (texts_find.self a.text) (formattings_find.self a.formatting);
+}
+
+pub metas_find : Finds (meta_eq.ghosts).eq
+metas_find = record { equal = equal; self = self }
+  where
+    equal : (a b : ElemMeta) → (meta_eq.ghosts).eq a b ≡ true → a ≡ b
+    equal (meta.Names xs) (meta.Names ys) e =
+        ap meta.Names ((lists_find (pairs_find (lists_find persons_find) name_variables_find)).equal xs ys e)
+    equal (meta.Name a m) (meta.Name b n) e = let p = both _ _ e in
+        λ i. meta.Name (name_variables_find.equal a b p.0 i) ((unsigned_Decides m n).0 p.1 i)
+    equal meta.Date meta.Date e = refl
+    equal meta.CitationNumber meta.CitationNumber e = refl
+    equal meta.CitationLabel meta.CitationLabel e = refl
+    equal (meta.Entry m) (meta.Entry n) e = ap meta.Entry ((unsigned_Decides m n).0 e)
+    equal _ _ e = absurd (true≢false (sym e))
+
+    self : (a : ElemMeta) → (meta_eq.ghosts).eq a a ≡ true
+    self (meta.Names xs) = (lists_find (pairs_find (lists_find persons_find) name_variables_find)).self xs
+    self (meta.Name a m) = and-true _ _ (name_variables_find.self a) ((unsigned_Decides m m).1 refl)
+    self meta.Date = refl
+    self meta.CitationNumber = refl
+    self meta.CitationLabel = refl
+    self (meta.Entry m) = (unsigned_Decides m m).1 refl
+
+pub elems_find : Finds (elem_eq.ghosts).eq
+elems_find = record {
+  equal = λ a b e. let p = both _ _ e in let q = both _ _ p.1 in
+      λ i. record {
+        children = (same_trees-Decides a.children b.children).0 p.0 i;
+        display = (options_find displays_find).equal a.display b.display q.0 i;
+        meta = (options_find metas_find).equal a.meta b.meta q.1 i;
+      };
+  self = λ a.
+      and-true _ _ ((same_trees-Decides a.children a.children).1 refl)
+      (and-true _ _ ((options_find displays_find).self a.display) ((options_find metas_find).self a.meta));
+}
+
+pub children_find : Finds (child_eq.ghosts).eq
+children_find = record { equal = equal; self = self }
+  where
+    equal : (a b : ElemChild) → (child_eq.ghosts).eq a b ≡ true → a ≡ b
+    equal (v.Text f) (v.Text g) e = ap v.Text (formatted_find.equal f g e)
+    equal (v.Elem x) (v.Elem y) e = ap v.Elem (elems_find.equal x y e)
+    equal (v.Markup s) (v.Markup t) e = ap v.Markup (texts_find.equal s t e)
+    equal (v.Link f s) (v.Link g t) e = let p = both _ _ e in
+        λ i. v.Link (formatted_find.equal f g p.0 i) (texts_find.equal s t p.1 i)
+    equal (v.Transparent m f) (v.Transparent n g) e = let p = both _ _ e in
+        λ i. v.Transparent ((unsigned_Decides m n).0 p.0 i) (formattings_find.equal f g p.1 i)
+    equal _ _ e = absurd (true≢false (sym e))
+
+    self : (a : ElemChild) → (child_eq.ghosts).eq a a ≡ true
+    self (v.Text f) = formatted_find.self f
+    self (v.Elem x) = elems_find.self x
+    self (v.Markup s) = texts_find.self s
+    self (v.Link f s) = and-true _ _ (formatted_find.self f) (texts_find.self s)
+    self (v.Transparent m f) = and-true _ _ ((unsigned_Decides m m).1 refl) (formattings_find.self f)
+
+-- equality of elements and of children, by their derived tests
+abbrev pub same_elem : Elem → Elem → Bool
+same_elem = (elem_eq.ghosts).eq
+
+abbrev pub same_child : ElemChild → ElemChild → Bool
+same_child = (child_eq.ghosts).eq
+
+pub elem_Decides : (a b : Elem) → Decides (same_elem a b) (a ≡ b)
+elem_Decides = decides elems_find
+
+pub child_Decides : (a b : ElemChild) → Decides (same_child a b) (a ≡ b)
+child_Decides = decides children_find

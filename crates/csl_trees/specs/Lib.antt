@@ -1,0 +1,15 @@
+pub mod Child
+pub mod ChildView
+pub mod Falls
+pub mod Tree
+pub mod Simplify
+pub mod SameTree
+pub mod TreeHash
+pub mod EqualTrees
+pub mod Elements
+pub mod Nested
+pub mod LastText
+pub mod LastTextStep
+pub mod FirstNames
+pub mod FirstNamesStep
+pub mod Metas

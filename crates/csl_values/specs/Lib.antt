@@ -1,0 +1,9 @@
+pub mod Formatting
+pub mod Answers
+pub mod Found
+pub mod PlainEntry
+pub mod Finds
+pub mod EqualEntries
+pub mod Forms
+pub mod Ordered
+pub mod Initials
