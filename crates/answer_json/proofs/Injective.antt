@@ -30,7 +30,7 @@ use Rattle.csl_values.specs.declared.formatting.Formatting.{Formatting}
 use Rattle.csl_style_values.specs.declared.style.SecondFieldAlign.{SecondFieldAlign}
 use Rattle.csl_style_values.specs.declared.style.SecondFieldAlign.TheVariants as align
 use Rattle.csl_values.specs.declared.taxonomy.NameVariable.TheVariants as names
-use Rattle.csl_base.proofs.Seen.{spacings_equal}
+use Rattle.csl_values.proofs.Told.{spacings_equal}
 use Rattle.csl_assembly.specs.declared.rendered.RenderedBibliography.{RenderedBibliography}
 use Rattle.answer_json.specs.AnswerData.{align_name, item_data, bibliography_data, citation_data, answer_data}
 use Rattle.answer_json.specs.Members.{member_if}

@@ -1,6 +1,6 @@
 //! What tells how high a stack was before something was put on it.
 ghost use Rattle.std.specs.Prelude.{◌<◌};
-ghost use Rattle.csl_base.specs.Tells.{TellsEqual};
+ghost use Rattle.csl_values.specs.Tells.{TellsEqual};
 
 /// Where a frame was opened: how many frames and how many formats there were before.
 #[derive(Clone, Copy)]

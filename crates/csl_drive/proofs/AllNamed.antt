@@ -8,7 +8,7 @@ use Rattle.std.proofs.lemmas.List.Elements.{All-append, All-cons, All-contains, 
 use Rattle.csl_ambiguity.proofs.Contained.{some-in}
 use Rattle.indexmap.specs.IndexSet.{insert_key}
 use Rattle.csl_values.specs.Answers.{Answers}
-use Rattle.csl_base.specs.Tells.{TellsEqual}
+use Rattle.csl_values.specs.Tells.{TellsEqual}
 use Rattle.csl_table.specs.Keys.{stage, task_key}
 use Rattle.csl_table.specs.Table.{IsMissingOf, is_earlier, is_later, kept_beside, key_eq, note_once}
 use Rattle.csl_table.specs.declared.key.TaskKey.{TaskKey}

@@ -1,5 +1,5 @@
 //! Why the driver refuses.
-ghost use Rattle.csl_base.specs.Tells.{TellsEqual};
+ghost use Rattle.csl_values.specs.Tells.{TellsEqual};
 
 use csl_passes::request::CitationRequest;
 use std::alloc::AllocError;

@@ -1,6 +1,6 @@
 //! How deep the elements of a layout may nest, and how many there may be, with macros written out.
 ghost use Rattle.std.specs.Prelude.{[], ◌∷◌, IfErr, OnOk};
-ghost use Rattle.csl_base.specs.Tells.{TellsEqual};
+ghost use Rattle.csl_values.specs.Tells.{TellsEqual};
 ghost use Rattle.csl_style_values.specs.ElementView.{branches_view, element_view, elements_view, target_view};
 ghost use Rattle.csl_styles.specs.PreparedView.{prepared_view};
 ghost use Rattle.csl_limits.specs.Limited.{ChecksLayout, Counted, Exceeds, IsWithinLimits};

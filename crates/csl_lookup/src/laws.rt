@@ -1,7 +1,7 @@
 //! Laws of the small values, each on a call of its own.
 ghost use Rattle.std.specs.Prelude.{◌≡◌};
 ghost use Rattle.csl_values.specs.Ordered.{IsValueOrder};
-ghost use Rattle.csl_base.specs.Tells.{TellsEqual, TellsSeen};
+ghost use Rattle.csl_values.specs.Tells.{TellsEqual, TellsSeen};
 ghost use Rattle.csl_lookup.specs.PropertiesView.{payload_view, locator_view, speculative_view};
 ghost use Rattle.csl_lookup.specs.declared.locator.LocatorPayload.{LocatorPayload};
 ghost use Rattle.csl_lookup.specs.declared.locator.SpecificLocator.{SpecificLocator};

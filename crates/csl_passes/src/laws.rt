@@ -1,7 +1,7 @@
 //! Laws of what a caller asks for.
 ghost use Rattle.std.specs.Prelude.{◌≡◌};
 ghost use Rattle.std.specs.Bool.{Decides};
-ghost use Rattle.csl_base.specs.Tells.{TellsEqual, TellsSeen};
+ghost use Rattle.csl_values.specs.Tells.{TellsEqual, TellsSeen};
 ghost use Rattle.csl_lookup.specs.PropertiesView.{properties_view};
 ghost use Rattle.csl_lookup.specs.declared.properties.CiteProperties.{CiteProperties};
 ghost use Rattle.csl_passes.specs.RequestView.{cite_view};

@@ -1,5 +1,5 @@
 //! In how many rounds cites are disambiguated.
-ghost use Rattle.csl_base.specs.Tells.{TellsEqual};
+ghost use Rattle.csl_values.specs.Tells.{TellsEqual};
 
 /// In how many rounds cites that read alike are disambiguated, and which marks count in them.
 #[derive(Clone, Copy, PartialEq, Eq)]

@@ -1,5 +1,7 @@
 -- The proofs of this crate.
 pub mod Views
+pub mod Seen
+pub mod ToldElements
 pub mod Weight
 pub mod Reached
 pub mod Rows

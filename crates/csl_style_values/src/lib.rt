@@ -4,6 +4,7 @@
 pub mod calls;
 pub mod element;
 mod graph;
+pub mod laws;
 pub mod locale;
 mod order;
 pub mod ring;

@@ -1,5 +1,5 @@
 //! Laws of keys.
-ghost use Rattle.csl_base.specs.Tells.{TellsEqual};
+ghost use Rattle.csl_values.specs.Tells.{TellsEqual};
 
 use crate::key::{Standing, TaskKey, TaskPart};
 use csl_base::laws::taxonomy_equality_decides;

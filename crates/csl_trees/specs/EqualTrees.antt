@@ -3,8 +3,8 @@ use Rattle.std.specs.Prelude.{◌≡◌, Bool, true, refl}
 use Rattle.std.specs.Bool.{Decides}
 use Rattle.std.specs.Cmp.{unsigned_Decides}
 use Rattle.std.proofs.Common.{ap, sym, true≢false}
-use denote.Enum.Bare.{same_true, true_same}
 use Rattle.csl_values.specs.Finds.{Finds, decides, both, and-true, texts_find, options_find, lists_find, pairs_find}
+use Rattle.csl_values.specs.EqualFormattings.{displays_find, formatted_find, formattings_find}
 use Rattle.csl_values.specs.EqualEntries.{name_variables_find, persons_find}
 use Rattle.csl_trees.specs.SameTree.{same_trees-Decides}
 use Rattle.csl_trees.specs.declared.elem.ElemMeta.{ElemMeta}
@@ -12,86 +12,9 @@ use Rattle.csl_trees.specs.declared.elem.ElemMeta.TheVariants as meta
 use Rattle.csl_trees.specs.declared.elem.Elem.{Elem}
 use Rattle.csl_trees.specs.declared.elem.ElemChild.{ElemChild}
 use Rattle.csl_trees.specs.declared.elem.ElemChild.TheVariants as v
-use Rattle.csl_values.specs.contracts.formatting.FontStyle as font_style
-use Rattle.csl_values.specs.contracts.formatting.FontVariant as font_variant
-use Rattle.csl_values.specs.contracts.formatting.FontWeight as font_weight
-use Rattle.csl_values.specs.contracts.formatting.TextDecoration as text_decoration
-use Rattle.csl_values.specs.contracts.formatting.VerticalAlign as vertical_align
-use Rattle.csl_values.specs.contracts.formatting.Display as display
-use Rattle.csl_values.specs.contracts.formatting.FontStylePartialEq.TheImpl as font_style_eq
-use Rattle.csl_values.specs.contracts.formatting.FontVariantPartialEq.TheImpl as font_variant_eq
-use Rattle.csl_values.specs.contracts.formatting.FontWeightPartialEq.TheImpl as font_weight_eq
-use Rattle.csl_values.specs.contracts.formatting.TextDecorationPartialEq.TheImpl as text_decoration_eq
-use Rattle.csl_values.specs.contracts.formatting.VerticalAlignPartialEq.TheImpl as vertical_align_eq
-use Rattle.csl_values.specs.contracts.formatting.DisplayPartialEq.TheImpl as display_eq
-use Rattle.csl_values.specs.contracts.formatting.FormattingPartialEq.TheImpl as formatting_eq
-use Rattle.csl_values.specs.contracts.formatting.FormattedPartialEq.TheImpl as formatted_eq
 use Rattle.csl_trees.specs.contracts.elem.ElemMetaPartialEq.TheImpl as meta_eq
 use Rattle.csl_trees.specs.contracts.elem.ElemPartialEq.TheImpl as elem_eq
 use Rattle.csl_trees.specs.contracts.elem.ElemChildPartialEq.TheImpl as child_eq
-
-font_styles_find : Finds (font_style_eq.ghosts).eq
-font_styles_find = record {
-  equal = λ a b e. same_true font_style.the_type tt a b e;
-  self = λ a. true_same font_style.the_type a a refl;
-}
-
-font_weights_find : Finds (font_weight_eq.ghosts).eq
-font_weights_find = record {
-  equal = λ a b e. same_true font_weight.the_type tt a b e;
-  self = λ a. true_same font_weight.the_type a a refl;
-}
-
-font_variants_find : Finds (font_variant_eq.ghosts).eq
-font_variants_find = record {
-  equal = λ a b e. same_true font_variant.the_type tt a b e;
-  self = λ a. true_same font_variant.the_type a a refl;
-}
-
-text_decorations_find : Finds (text_decoration_eq.ghosts).eq
-text_decorations_find = record {
-  equal = λ a b e. same_true text_decoration.the_type tt a b e;
-  self = λ a. true_same text_decoration.the_type a a refl;
-}
-
-vertical_aligns_find : Finds (vertical_align_eq.ghosts).eq
-vertical_aligns_find = record {
-  equal = λ a b e. same_true vertical_align.the_type tt a b e;
-  self = λ a. true_same vertical_align.the_type a a refl;
-}
-
-displays_find : Finds (display_eq.ghosts).eq
-displays_find = record {
-  equal = λ a b e. same_true display.the_type tt a b e;
-  self = λ a. true_same display.the_type a a refl;
-}
-
-pub formattings_find : Finds (formatting_eq.ghosts).eq
-formattings_find = record {
-  equal = λ a b e. let p = both _ _ e in let q = both _ _ p.1 in let r = both _ _ q.1 in let s = both _ _ r.1 in
-      λ i. record {
-        font_style = font_styles_find.equal a.font_style b.font_style p.0 i;
-        font_variant = font_variants_find.equal a.font_variant b.font_variant q.0 i;
-        font_weight = font_weights_find.equal a.font_weight b.font_weight r.0 i;
-        text_decoration = text_decorations_find.equal a.text_decoration b.text_decoration s.0 i;
-        vertical_align = vertical_aligns_find.equal a.vertical_align b.vertical_align s.1 i;
-      };
-  self = λ a.
-      and-true _ _ (font_styles_find.self a.font_style)
-      (and-true _ _ (font_variants_find.self a.font_variant)
-      (and-true _ _ (font_weights_find.self a.font_weight)
-      (and-true _ _ (text_decorations_find.self a.text_decoration) (vertical_aligns_find.self a.vertical_align))));
-}
-
-pub formatted_find : Finds (formatted_eq.ghosts).eq
-formatted_find = record {
-  equal = λ a b e. let p = both _ _ e in
-      λ i. record {
-        text = texts_find.equal a.text b.text p.0 i;
-        formatting = formattings_find.equal a.formatting b.formatting p.1 i;
-      };
-  self = λ a. and-true _ _ (texts_find.self a.text) (formattings_find.self a.formatting);
-}
 
 pub metas_find : Finds (meta_eq.ghosts).eq
 metas_find = record { equal = equal; self = self }

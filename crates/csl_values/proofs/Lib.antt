@@ -1,3 +1,4 @@
 -- The proofs of this crate.
+pub mod Told
 pub mod Orders
 pub mod GivenNames

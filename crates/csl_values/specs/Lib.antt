@@ -3,6 +3,8 @@ pub mod Answers
 pub mod Found
 pub mod PlainEntry
 pub mod Finds
+pub mod Tells
+pub mod EqualFormattings
 pub mod EqualEntries
 pub mod Forms
 pub mod Ordered

@@ -4,5 +4,6 @@
 pub mod entry;
 pub mod formatting;
 pub mod initials;
+pub mod laws;
 pub mod names;
 pub mod taxonomy;

@@ -1,8 +1,8 @@
 use Rattle.std.proofs.Common.{ap, rules}
 use Rattle.std.specs.Cmp.{unsigned_Decides}
-use Rattle.csl_base.proofs.Seen.{some_seen}
+use Rattle.csl_values.proofs.Told.{some_seen}
 use Rattle.csl_values.specs.Finds.{both, and-true, decides}
-use Rattle.csl_base.specs.Tells.{TellsSeen}
+use Rattle.csl_values.specs.Tells.{TellsSeen}
 use Rattle.csl_lookup.specs.PropertiesView.{locator_view}
 use Rattle.csl_lookup.specs.contracts.locator.SpecificLocatorPartialEq.TheImpl as locator_eq
 use Rattle.csl_lookup.proofs.Equal.{ibid_find, usage_find, states_find}

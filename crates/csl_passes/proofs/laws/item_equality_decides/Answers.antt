@@ -2,7 +2,8 @@ use Rattle.std.proofs.Common.{◌≡◌, rules, sym, ◌∙◌}
 use Rattle.std.specs.Cmp.{booleans_Decides, unsigned_Decides}
 use Rattle.std.specs.Prelude.{Some}
 use Rattle.csl_values.specs.Finds.{both, and-true}
-use Rattle.csl_base.proofs.Seen.{codes_told, option_told, some_seen}
+use Rattle.csl_style_values.proofs.Seen.{codes_told}
+use Rattle.csl_values.proofs.Told.{option_told, some_seen}
 use Rattle.csl_lookup.specs.PropertiesView.{locator_view}
 use Rattle.csl_lookup.specs.contracts.locator.SpecificLocatorPartialEq.TheImpl as locator_eq
 use Rattle.csl_lookup.specs.declared.locator.SpecificLocator.{SpecificLocator}

@@ -1,6 +1,7 @@
 use Rattle.std.specs.Cmp.{unsigned_Decides}
 use Rattle.csl_values.specs.Finds.{both, and-true, decides, finds, options_find}
-use Rattle.csl_base.proofs.Seen.{codes_told, list_seen, some_seen}
+use Rattle.csl_style_values.proofs.Seen.{codes_told}
+use Rattle.csl_values.proofs.Told.{list_seen, some_seen}
 use Rattle.csl_passes.proofs.Same.{lists_tell}
 use Rattle.csl_passes.specs.Same.{IsSameCite}
 use Rattle.csl_passes.proofs.laws.request_equality_decides.Goals as goal

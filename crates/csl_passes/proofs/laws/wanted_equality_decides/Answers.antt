@@ -1,6 +1,7 @@
 use Rattle.std.proofs.Common.{sym, ◌∙◌}
 use Rattle.csl_values.specs.Finds.{both, and-true}
-use Rattle.csl_base.proofs.Seen.{codes_told, list_seen, some_seen}
+use Rattle.csl_style_values.proofs.Seen.{codes_told}
+use Rattle.csl_values.proofs.Told.{list_seen, some_seen}
 use Rattle.csl_passes.proofs.Same.{orders_seen}
 use Rattle.csl_passes.proofs.laws.wanted_equality_decides.Goals as goal
 

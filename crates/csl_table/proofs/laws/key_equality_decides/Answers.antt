@@ -1,8 +1,8 @@
 use Rattle.std.proofs.Common.{◌≡◌, ap, sym, refl, true≢false}
 use Rattle.std.specs.Cmp.{booleans_Decides, unsigned_Decides}
-use Rattle.csl_base.proofs.Seen.{option_told}
+use Rattle.csl_values.proofs.Told.{option_told}
 use Rattle.csl_values.specs.Finds.{both, and-true, decides, finds, pairs_find, texts_find}
-use Rattle.csl_base.specs.Tells.{TellsEqual}
+use Rattle.csl_values.specs.Tells.{TellsEqual}
 use Rattle.csl_lookup.specs.contracts.purpose.CitePurposePartialEq.TheImpl as purpose_eq
 use Rattle.csl_lookup.specs.contracts.state.CollapseVerdictPartialEq.TheImpl as verdict_eq
 use Rattle.csl_table.specs.contracts.key.StandingPartialEq.TheImpl as standing_eq

@@ -1,13 +1,14 @@
 use Rattle.std.proofs.Common.{ap}
 use Rattle.std.specs.Cmp.{booleans_Decides, signed_Decides, unsigned_Decides}
-use Rattle.csl_base.proofs.Seen.{codes_told, elements_seen, list_seen, list_told, option_told, some_seen, spacings_told, texts_told}
+use Rattle.csl_style_values.proofs.Seen.{codes_told, elements_seen, texts_told}
+use Rattle.csl_values.proofs.Told.{list_seen, list_told, option_told, some_seen, spacings_told}
 use Rattle.csl_values.specs.Finds.{both, and-true}
 use Rattle.csl_style_values.specs.StyleView.{layout_view, citation_view, bibliography_view}
-use Rattle.csl_base.specs.Tells.{TellsSeen}
+use Rattle.csl_values.specs.Tells.{TellsSeen}
 use Rattle.csl_style_values.specs.contracts.style.BibliographyPartialEq.TheImpl as bibliography_eq
 use Rattle.csl_style_values.specs.contracts.style.CitationPartialEq.TheImpl as citation_eq
 use Rattle.csl_style_values.specs.contracts.style.LayoutPartialEq.TheImpl as layout_eq
-use Rattle.csl_base.proofs.laws.style_equality_decides.Goals as goal
+use Rattle.csl_style_values.proofs.laws.style_equality_decides.Goals as goal
 
 pub returns-clause-layout : goal.returns-clause-layout
 returns-clause-layout c a b =

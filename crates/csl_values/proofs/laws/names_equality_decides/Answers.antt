@@ -1,10 +1,10 @@
 use Rattle.std.proofs.Common.{ap}
 use denote.Enum.Bare.{same_true, true_same}
-use Rattle.csl_base.proofs.Seen.{list_told}
-use Rattle.csl_base.specs.Tells.{TellsEqual}
+use Rattle.csl_values.proofs.Told.{list_told}
+use Rattle.csl_values.specs.Tells.{TellsEqual}
 use Rattle.csl_values.specs.contracts.names.DisambiguatedNameForm as form
 use Rattle.csl_values.specs.contracts.names.DisambiguatedNameFormPartialEq.TheImpl as form_eq
-use Rattle.csl_base.proofs.laws.names_equality_decides.Goals as goal
+use Rattle.csl_values.proofs.laws.names_equality_decides.Goals as goal
 
 forms_told : TellsEqual (form_eq.ghosts).eq
 forms_told a b = (same_true form.the_type tt a b, true_same form.the_type a b)

@@ -8,14 +8,15 @@ use Rattle.std.proofs.Common.{ap, arith, max, sym, true≢false, zero, suc, ◌�
 use denote.Hole.Carrier.{out}
 use denote.Hole.Compared.{Rel, Agree, Local, compared, compared_is}
 use denote.Param.Weighed.{most}
-use Rattle.csl_base.proofs.Seen.{list_told, option_told, same_strings, texts_told}
+use Rattle.csl_style_values.proofs.Seen.{texts_told}
+use Rattle.csl_values.proofs.Told.{list_told, option_told, same_strings}
 use Rattle.csl_style_values.proofs.Views.{branch_is}
 use Rattle.csl_style_values.specs.Element.{Look, Element, text_element, number_element, date_element, names_element, group_element, choose_element, element, otherwise, branch, Branch}
 use Rattle.csl_style_values.specs.ElementView.{text_view, affixes_view, options_view, look, target_view, element_step, branch_step, element_view, elements_view, branch_view, branches_view}
 use Rattle.csl_values.specs.EqualEntries.{name_variables_find, date_variables_find, number_variables_find}
 use Rattle.csl_values.specs.Finds.{both, and-true, decides}
 use Rattle.csl_values.specs.PlainEntry.{same_name_variable, same_date_variable, same_number_variable}
-use Rattle.csl_base.specs.Tells.{TellsEqual, TellsSeen}
+use Rattle.csl_values.specs.Tells.{TellsEqual, TellsSeen}
 use Rattle.csl_style_values.specs.contracts.element.AffixesPartialEq.TheImpl as affixes_eq
 use Rattle.csl_style_values.specs.contracts.element.ChooseMatchPartialEq.TheImpl as match_eq
 use Rattle.csl_style_values.specs.contracts.element.ConditionPartialEq.TheImpl as condition_eq

@@ -1,11 +1,12 @@
 use Rattle.std.proofs.Common.{ap}
 use Rattle.std.specs.Cmp.{booleans_Decides}
-use Rattle.csl_base.proofs.Seen.{codes_told, list_seen, option_told, some_seen, texts_told}
+use Rattle.csl_style_values.proofs.Seen.{codes_told, texts_told}
+use Rattle.csl_values.proofs.Told.{list_seen, option_told, some_seen}
 use Rattle.csl_values.specs.Finds.{both, and-true}
 use Rattle.csl_style_values.specs.StyleView.{term_view}
-use Rattle.csl_base.specs.Tells.{TellsSeen}
+use Rattle.csl_values.specs.Tells.{TellsSeen}
 use Rattle.csl_style_values.specs.contracts.locale.LocalizedTermPartialEq.TheImpl as term_eq
-use Rattle.csl_base.proofs.laws.locale_equality_decides.Goals as goal
+use Rattle.csl_style_values.proofs.laws.locale_equality_decides.Goals as goal
 
 pub returns-clause-term : goal.returns-clause-term
 returns-clause-term c a b =

@@ -1,17 +1,18 @@
 use Rattle.std.proofs.Common.{◌≡◌, ap, sym, true≢false}
 use Rattle.std.specs.Cmp.{booleans_Decides, unsigned_Decides}
 use Rattle.std.specs.Prelude.{string_bytes}
-use Rattle.csl_base.proofs.Seen.{option_told, strings_told, texts_told}
+use Rattle.csl_style_values.proofs.Seen.{texts_told}
+use Rattle.csl_values.proofs.Told.{option_told, strings_told}
 use Rattle.csl_style_values.specs.Element.{value_target, standard_target, macro_target, term_target}
 use Rattle.csl_style_values.specs.ElementView.{target_view}
 use Rattle.csl_values.specs.Finds.{both, and-true}
-use Rattle.csl_base.specs.Tells.{TellsEqual, TellsSeen}
+use Rattle.csl_values.specs.Tells.{TellsEqual, TellsSeen}
 use Rattle.csl_style_values.specs.contracts.element.TextTargetPartialEq.TheImpl as target_eq
 use Rattle.csl_values.specs.contracts.taxonomy.StandardVariablePartialEq.TheImpl as standard_eq
 use Rattle.csl_values.specs.contracts.taxonomy.TermPartialEq.TheImpl as term_eq
 use Rattle.csl_values.specs.contracts.taxonomy.TermFormPartialEq.TheImpl as form_eq
 use Rattle.csl_style_values.specs.declared.element.TextTarget.TheVariants as v
-use Rattle.csl_base.proofs.laws.options_equality_decides.Goals as goal
+use Rattle.csl_style_values.proofs.laws.options_equality_decides.Goals as goal
 
 pub returns-clause-options : goal.returns-clause-options
 returns-clause-options c a b =

@@ -1,8 +1,9 @@
 use Rattle.std.proofs.Common.{ap}
-use Rattle.csl_base.proofs.Seen.{elements_seen, strings_told}
-use Rattle.csl_base.proofs.ToldElements.{element_told, arm_told}
+use Rattle.csl_style_values.proofs.Seen.{elements_seen}
+use Rattle.csl_values.proofs.Told.{strings_told}
+use Rattle.csl_style_values.proofs.ToldElements.{element_told, arm_told}
 use Rattle.csl_values.specs.Finds.{both, and-true}
-use Rattle.csl_base.proofs.laws.element_equality_decides.Goals as goal
+use Rattle.csl_style_values.proofs.laws.element_equality_decides.Goals as goal
 
 pub returns-clause-element : goal.returns-clause-element
 returns-clause-element c =

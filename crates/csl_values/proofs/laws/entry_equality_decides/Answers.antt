@@ -1,6 +1,6 @@
 use Rattle.csl_values.specs.EqualEntries.{chunked_strings_find, plain_entries_find}
 use Rattle.csl_values.specs.Finds.{decides}
-use Rattle.csl_base.proofs.laws.entry_equality_decides.Goals as goal
+use Rattle.csl_values.proofs.laws.entry_equality_decides.Goals as goal
 
 pub returns-clause-text : goal.returns-clause-text
 returns-clause-text c = decides chunked_strings_find

@@ -10,13 +10,8 @@ use Rattle.std.proofs.Math.Bridge.{le_prop}
 use mathlib.Core.HLevel.{is_prop→PathP}
 use Rattle.std.proofs.Common.{ap, sym, true≢false}
 use Rattle.std.proofs.lemmas.Slice.Eq.{bytes_eq-Decides}
-use Rattle.csl_style_values.specs.Element.{Element, elements_of}
-use Rattle.csl_style_values.specs.ElementView.{text_view, element_view, elements_view}
 use Rattle.csl_values.specs.Finds.{both, and-true, decides, finds, options_find}
-use Rattle.csl_style_values.specs.StyleView.{code_view}
-use Rattle.csl_base.specs.Tells.{TellsEqual, TellsSeen}
-use Rattle.csl_style_values.specs.contracts.locale.LocaleCodePartialEq.TheImpl as code_eq
-use Rattle.csl_style_values.specs.declared.element.LayoutRenderingElement.{LayoutRenderingElement}
+use Rattle.csl_values.specs.Tells.{TellsEqual, TellsSeen}
 
 -- where values are told by what is seen of them, so are values that may be missing
 pub some_seen : {A V : Type 0} {view : A → V} {test : A → A → Bool} → TellsSeen view test → TellsSeen (option_map view) (option_eq test)
@@ -62,32 +57,12 @@ same_strings a b = bytes_eq (string_bytes a) (string_bytes b)
 pub strings_told : TellsSeen string_bytes same_strings
 strings_told a b = bytes_eq-Decides (string_bytes a) (string_bytes b)
 
-pub texts_told : TellsSeen text_view (option_eq same_strings)
-texts_told = some_seen {view = string_bytes} {test = same_strings} strings_told
-
-pub codes_told : TellsSeen code_view (code_eq.ghosts).eq
-codes_told a b = bytes_eq-Decides (code_view a) (code_view b)
-
 -- where a test tells equal values, so does that of values that may be missing, and that of lists
 pub option_told : {A : Type 0} {test : A → A → Bool} → TellsEqual test → TellsEqual (option_eq test)
 option_told told = decides (options_find (finds told))
 
 pub list_told : {A : Type 0} {test : A → A → Bool} → TellsEqual test → TellsEqual (pointwise test)
 list_told told = pointwise_decides told
-
--- where elements are told by what is seen of them, so are lists of them
-pub elements_seen : {test : LayoutRenderingElement → LayoutRenderingElement → Bool} → TellsSeen element_view test → TellsSeen elements_view (pointwise test)
-elements_seen told xs ys =
-    let lists = list_seen told xs ys in (λ e. ap elements_of (lists.0 e), λ e. lists.1 (elements_of-inj _ _ e))
-  where
-    elements_of-inj : (es fs : List Element) → elements_of es ≡ elements_of fs → es ≡ fs
-    elements_of-inj [] [] p = refl
-    elements_of-inj (e ∷ es) (f ∷ fs) p =
-        let first : e ≡ f = cc in
-        let rest : elements_of es ≡ elements_of fs = cc in
-        let more = elements_of-inj es fs rest in
-        λ i. first i ∷ more i
-    elements_of-inj _ _ p = cc
 
 -- that a number isn't 0 has one proof
 pub spacings_equal : (a b : NonZeroI16) → a.value ≡ b.value → a ≡ b

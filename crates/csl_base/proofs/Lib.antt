@@ -1,3 +1,0 @@
--- The proofs of this crate.
-pub mod Seen
-pub mod ToldElements
