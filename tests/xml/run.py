@@ -36,8 +36,11 @@ MOST_MEMORY = 1 << 30
 SECONDS = 600
 BATCH = 2000
 MOST_GROWTHS = 10000
-# Times as long for four times as much that are still about four times: both are measured while others run.
+# Times as long for four times as much that are still about four times, from a time that can be told from nothing:
+# both are measured while others run, and so more than once before a test fails.
 ABOUT_FOUR = 6
+MEASURABLE = 0.1
+ATTEMPTS = 4
 
 
 class Failed(Exception):
@@ -218,7 +221,8 @@ def refused_in_turn(program, document):
         for n in range(1, MOST_GROWTHS):
             status, out, error = ended(program, [document], 'calls', env={'LD_PRELOAD': shim, 'REFUSE': str(n)})
             calls, was_refused, _ = error.partition(b'!')
-            if (status, out) != (0, answer) and (not was_refused or out or status != (5 if b'read' in calls else status)):
+            ended_as_told = status == 5 or status == 1 and b'read' not in calls
+            if (status, out) != (0, answer) and (not was_refused or out or not ended_as_told):
                 raise Failed('growth %d: status %d, %r, %r' % (n, status, out, error))
             in_reading += status == 5 and calls == b'read\n'
             if not was_refused:
@@ -262,27 +266,49 @@ def shapes(size):
     }
 
 
+def times_of(program, small, large):
+    """Of as much and of four times as much, the least times of a few attempts: one that is about four times the other ends
+    them."""
+    times = [float('inf')] * 2
+    for _ in range(ATTEMPTS):
+        times = [min(time, seconds(program, [document] * 4)) for time, document in zip(times, (small, large))]
+        if are_about_four(times):
+            break
+    return times
+
+
+def are_about_four(times):
+    return times[1] <= ABOUT_FOUR * max(times[0], MEASURABLE)
+
+
 def linear_time(program):
     small, large = shapes(1 << 20), shapes(1 << 22)
     wrong = []
     for name in small:
-        times = [seconds(program, [it[name]] * 4) for it in (small, large)]
+        times = times_of(program, small[name], large[name])
         said = '%s: %.2f s, %.2f s for four times as much' % (name, *times)
         print(said)
-        if times[1] > ABOUT_FOUR * max(times[0], 0.01):
+        if not are_about_four(times):
             wrong.append(said)
     if wrong:
         raise Failed('\n'.join(wrong))
 
 
-def cost(program, paths):
-    """Reading takes no longer than xml.etree takes for its trees."""
-    documents = [read(it) for it in paths]
+def seconds_of_expat(documents):
+    """The processor time of the trees of xml.etree."""
     began = time.process_time()
     for document in documents:
         xml.etree.ElementTree.fromstring(document)
-    theirs = time.process_time() - began
-    ours = seconds(program, documents)
+    return time.process_time() - began
+
+
+def cost(program, paths):
+    """Reading takes no longer than xml.etree takes for its trees."""
+    documents = [read(it) for it in paths]
+    for _ in range(ATTEMPTS):
+        theirs, ours = seconds_of_expat(documents), seconds(program, documents)
+        if ours <= theirs:
+            break
     print('%d files of the packages: %.2f s, and %.2f s by xml.etree' % (len(paths), ours, theirs))
     if ours > theirs:
         raise Failed('longer than xml.etree')

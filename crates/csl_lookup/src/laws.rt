@@ -2,7 +2,7 @@
 ghost use Rattle.std.specs.Prelude.{◌≡◌};
 ghost use Rattle.csl_values.specs.Ordered.{IsValueOrder};
 ghost use Rattle.csl_values.specs.Tells.{TellsEqual, TellsSeen};
-ghost use Rattle.csl_lookup.specs.PropertiesView.{payload_view, locator_view, speculative_view};
+ghost use Rattle.csl_lookup.specs.PropertiesView.{payload_view, locator_view, properties_view, speculative_view};
 ghost use Rattle.csl_lookup.specs.declared.locator.LocatorPayload.{LocatorPayload};
 ghost use Rattle.csl_lookup.specs.declared.locator.SpecificLocator.{SpecificLocator};
 ghost use Rattle.csl_lookup.specs.declared.properties.CertainCiteProperties.{CertainCiteProperties};
@@ -84,7 +84,7 @@ pub fn state_equality_decides()
     ensures certain { TellsEqual ⟦<CertainCiteProperties as PartialEq>⟧.eq }
 {}
 
-/// A law: `==` of locators, of their payloads and of what may change of a cite is true exactly where
+/// A law: `==` of locators, of their payloads and of the properties of a cite is true exactly where
 /// the plain data is equal, if that of the caller's own payloads is.
 pub fn equality_decides<P: PartialEq>()
     ensures shared { TellsEqual P.eq → TellsEqual ⟦<TransparentLocator<P> as PartialEq>⟧.eq }
@@ -94,6 +94,8 @@ pub fn equality_decides<P: PartialEq>()
         → TellsSeen locator_view ⟦<SpecificLocator<'static, P> as PartialEq>⟧.eq }
     ensures speculative { TellsEqual P.eq
         → TellsSeen speculative_view ⟦<SpeculativeCiteProperties<'static, P> as PartialEq>⟧.eq }
+    ensures properties { TellsEqual P.eq
+        → TellsSeen properties_view ⟦<CiteProperties<'static, P> as PartialEq>⟧.eq }
 {}
 
 /// A law: at first a cite has written no identifier, nothing tells its entry apart, and it stands in

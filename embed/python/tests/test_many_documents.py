@@ -147,13 +147,16 @@ def test_a_process_that_ends_costs_no_other_document(folder, render):
 def test_processes_work_at_once(folder, render):
     """Twenty-four documents of 0.3 s each; a process takes a while to begin."""
     path = folder(**{f'n{number}': 'slow' for number in range(24)})
+    assert any(seconds_of(render, path, 4) < seconds_of(render, path, 1) - 1 for _ in range(3))
+
+
+def seconds_of(render, path, jobs):
     began = time.monotonic()
-    assert render(path)[0] == 0
-    alone = time.monotonic() - began
+    assert render('--jobs', jobs, path)[0] == 0
+    seconds = time.monotonic() - began
+    assert len(list((path / 'pages').iterdir())) == 24 and seconds > 7.2 / jobs
     shutil.rmtree(path / 'pages')
-    began = time.monotonic()
-    assert render('--jobs', 4, path)[0] == 0
-    assert alone > 7.2 and time.monotonic() - began < alone - 1
+    return seconds
 
 
 def test_a_folder_without_documents_has_no_pages(folder, render):

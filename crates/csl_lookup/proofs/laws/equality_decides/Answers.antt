@@ -3,9 +3,10 @@ use Rattle.std.specs.Cmp.{unsigned_Decides}
 use Rattle.csl_values.proofs.Told.{some_seen}
 use Rattle.csl_values.specs.Finds.{both, and-true, decides}
 use Rattle.csl_values.specs.Tells.{TellsSeen}
-use Rattle.csl_lookup.specs.PropertiesView.{locator_view}
+use Rattle.csl_lookup.specs.PropertiesView.{locator_view, speculative_view}
 use Rattle.csl_lookup.specs.contracts.locator.SpecificLocatorPartialEq.TheImpl as locator_eq
-use Rattle.csl_lookup.proofs.Equal.{ibid_find, usage_find, states_find}
+use Rattle.csl_lookup.specs.contracts.properties.SpeculativeCitePropertiesPartialEq.TheImpl as speculative_eq
+use Rattle.csl_lookup.proofs.Equal.{certain_find, ibid_find, usage_find, states_find}
 use Rattle.csl_lookup.proofs.laws.equality_decides.Goals as goal
 
 pub returns-clause-locator : goal.returns-clause-locator
@@ -29,4 +30,17 @@ returns-clause-speculative g c told a b =
           (and-true _ _ ((decides ibid_find a.ibid b.ibid).1 (ap (λ v. v.ibid) e))
           (and-true _ _ ((decides states_find a.disambiguation b.disambiguation).1 (ap (λ v. v.disambiguation) e))
           ((decides usage_find a.identifier_usage b.identifier_usage).1 (ap (λ v. v.identifier_usage) e))))),
+    )
+
+pub returns-clause-properties : goal.returns-clause-properties
+returns-clause-properties g c told a b =
+    let speculative : TellsSeen speculative_view (speculative_eq.eq-value g.row.P g.P.PartialEq g.P.PartialEq-dict).it = returns-clause-speculative g c told in (
+      λ e. let p = both _ _ e in
+          λ i. record {
+            certain = certain_find.equal a.certain b.certain p.0 i;
+            speculative = (speculative a.speculative b.speculative).0 p.1 i;
+          },
+      λ e.
+          and-true _ _ ((decides certain_find a.certain b.certain).1 (ap (λ v. v.certain) e))
+          ((speculative a.speculative b.speculative).1 (ap (λ v. v.speculative) e)),
     )
