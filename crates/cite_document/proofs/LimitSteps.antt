@@ -10,8 +10,8 @@ use Rattle.csl_style_values.specs.StyleView.{style_view}
 use Rattle.csl_limits.specs.Limited.{Exceeds, IsWithinLimits}
 use Rattle.csl_limits.specs.declared.limits.Excess.{Excess}
 use Rattle.csl_limits.specs.declared.limits.Limits.{Limits}
-use Rattle.document_styles.specs.NamedStyleView.{named_styles_view}
-use Rattle.document_styles.specs.declared.styles.NamedStyle.{NamedStyle}
+use Rattle.json_styles.specs.NamedStyleView.{named_styles_view}
+use Rattle.json_styles.specs.declared.styles.NamedStyle.{NamedStyle}
 use Rattle.cite_document.specs.Limited.{ChecksEach, ChecksStyles, named_styles_in, styles_in}
 use Rattle.cite_document.specs.declared.limits.LimitError.{LimitError}
 use Rattle.cite_document.specs.declared.limits.LimitError.TheVariants as errors

@@ -14,7 +14,7 @@ use Rattle.csl_driver.specs.declared.error.DriverError.{DriverError}
 use Rattle.csl_driver.specs.declared.error.DriverError.TheVariants as drivers
 use Rattle.csl_driver.specs.declared.error.RingPlace.{RingPlace}
 use Rattle.csl_assembly.specs.declared.rendered.Rendered.{Rendered}
-use Rattle.document_reading.specs.Form.{Document}
+use Rattle.json_document.specs.Form.{Document}
 use Rattle.cite_document.specs.Run.{same_plain_entry, same_own_payload, accepted, wanted_of, answer, HasAnswer, HasFirstRing, HasTooLargeNumbers, IsRefusedFor}
 use Rattle.cite_document.specs.Status.{refused}
 

@@ -7,13 +7,13 @@ use Rattle.std.specs.Str.{chars}
 use Prim.Native.Char.{code}
 use Rattle.serde_json.specs.Data.{Data, string, object, no_members, member}
 use Rattle.serde_json.specs.Written.{compact_text}
-use Rattle.document_words.specs.declared.fault.Fault.{Fault}
-use Rattle.document_words.specs.declared.fault.Found.{Found}
-use Rattle.document_words.specs.declared.fault.Found.TheVariants as found
-use Rattle.document_words.specs.declared.fault.Step.{Step}
-use Rattle.document_words.specs.declared.fault.Step.TheVariants as steps
-use Rattle.document_words.specs.declared.fault.Wanted.{Wanted}
-use Rattle.document_words.specs.declared.fault.Wanted.TheVariants as wanted
+use Rattle.json_values.specs.declared.fault.Fault.{Fault}
+use Rattle.json_values.specs.declared.fault.Found.{Found}
+use Rattle.json_values.specs.declared.fault.Found.TheVariants as found
+use Rattle.json_values.specs.declared.fault.Step.{Step}
+use Rattle.json_values.specs.declared.fault.Step.TheVariants as steps
+use Rattle.json_values.specs.declared.fault.Wanted.{Wanted}
+use Rattle.json_values.specs.declared.fault.Wanted.TheVariants as wanted
 
 -- ---- JSON Pointer (RFC 6901)
 

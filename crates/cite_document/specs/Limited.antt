@@ -7,11 +7,11 @@ use Rattle.csl_style_values.specs.Style.{StyleValue}
 use Rattle.csl_limits.specs.Limited.{Exceeds, IsWithinLimits}
 use Rattle.csl_limits.specs.declared.limits.Excess.TheVariants as excess
 use Rattle.csl_limits.specs.declared.limits.Limits.{Limits}
-use Rattle.document_reading.specs.Form.{top_form, utf8_text}
-use Rattle.document_styles.specs.Styles.{NamedStyle, styles_form}
-use Rattle.document_words.specs.Words.{◌>>=◌}
-use Rattle.document_words.specs.declared.error.ReadError.{ReadError}
-use Rattle.document_words.specs.declared.error.ReadError.TheVariants as parts
+use Rattle.json_document.specs.Form.{top_form, utf8_text}
+use Rattle.json_styles.specs.Styles.{NamedStyle, styles_form}
+use Rattle.json_values.specs.Words.{◌>>=◌}
+use Rattle.json_values.specs.declared.error.ReadError.{ReadError}
+use Rattle.json_values.specs.declared.error.ReadError.TheVariants as parts
 use Rattle.cite_document.specs.declared.limits.LimitError.{LimitError}
 use Rattle.cite_document.specs.declared.limits.LimitError.TheVariants as errors
 

@@ -9,7 +9,7 @@ use Rattle.csl_assembly.specs.declared.rendered.Rendered.{Rendered}
 use Rattle.csl_assembly.specs.declared.rendered.RenderedBibliography.{RenderedBibliography}
 use Rattle.csl_assembly.specs.declared.rendered.RenderedCitation.{RenderedCitation}
 use Rattle.serde_json.specs.Written.{compact_text}
-use Rattle.answer_json.specs.AnswerData.{answer_data}
+use Rattle.json_answer.specs.AnswerData.{answer_data}
 
 -- the byte of a line feed
 abbrev pub line_feed : ℕ

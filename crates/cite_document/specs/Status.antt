@@ -2,8 +2,8 @@
 use Rattle.std.specs.Prelude.{ℕ}
 use Rattle.csl_driver.specs.declared.error.DriverError.{DriverError}
 use Rattle.csl_driver.specs.declared.error.DriverError.TheVariants as drivers
-use Rattle.document_words.specs.declared.error.ReadError.{ReadError}
-use Rattle.document_words.specs.declared.error.ReadError.TheVariants as parts
+use Rattle.json_values.specs.declared.error.ReadError.{ReadError}
+use Rattle.json_values.specs.declared.error.ReadError.TheVariants as parts
 use Rattle.cite_document.specs.declared.error.RunError.{RunError}
 use Rattle.cite_document.specs.declared.error.RunError.TheVariants as errors
 

@@ -2,8 +2,8 @@
 use Rattle.std.specs.Prelude.{◌≡◌, ℕ, List, [], Option, None, IsSome, Result, Ok, Err, ◌⊎◌, String, string_bytes}
 use Rattle.std.specs.declared.alloc.Global.{Global}
 use Rattle.serde_json.specs.Data.{Data}
-use Rattle.document_words.specs.declared.fault.Fault.{Fault}
-use Rattle.document_reading.specs.Faults.{IsFaultIn}
+use Rattle.json_values.specs.declared.fault.Fault.{Fault}
+use Rattle.json_document.specs.Faults.{IsFaultIn}
 use Rattle.cite_document.specs.FaultText.{fault_text}
 use Rattle.cite_document.specs.declared.error.RunError.{RunError}
 use Rattle.cite_document.specs.declared.error.RunError.TheVariants as errors

@@ -3,7 +3,7 @@ ghost use Rattle.std.specs.Prelude.{◌≡◌};
 ghost use Rattle.cite_document.specs.Status.{status};
 
 use csl_driver::error::{DriverError, RingPlace};
-use document_words::error::ReadError;
+use json_values::error::ReadError;
 use std::alloc::{AllocError, AllocFailed};
 use thiserror::Error;
 

@@ -3,14 +3,14 @@ ghost use Rattle.std.specs.Prelude.{◌≡◌, ◌++◌, IfOk, OnOk, string_byte
 ghost use Rattle.std.specs.Fmt.{decimal};
 ghost use Rattle.std.specs.List.{flat_map};
 ghost use Rattle.std.specs.Str.{chars};
-ghost use Rattle.document_reading.specs.Faults.{value_in};
-ghost use Rattle.document_reading.specs.Form.{form};
+ghost use Rattle.json_document.specs.Faults.{value_in};
+ghost use Rattle.json_document.specs.Form.{form};
 ghost use Rattle.cite_document.specs.FaultText.{escaped, fault_text, found_text, pointer_text, step_text, wanted_text};
 ghost use Rattle.cite_document.specs.TellsFault.{TellsFault};
 
 use crate::error::RunError;
-use document_reading::first_fault::first_fault;
-use document_words::fault::{Fault, Found, Step, Wanted};
+use json_document::first_fault::first_fault;
+use json_values::fault::{Fault, Found, Step, Wanted};
 use serde_json::{Map, Value, put};
 use std::alloc::{AllocError, Global};
 

@@ -4,8 +4,8 @@ ghost use Rattle.csl_style_values.specs.StyleView.{locale_view};
 ghost use Rattle.csl_driver.specs.DriverView.{driver_view};
 ghost use Rattle.csl_passes.specs.RequestView.{entries_view, order_view, wanted_view};
 ghost use Rattle.csl_styles.specs.TablesView.{locales_of};
-ghost use Rattle.document_reading.specs.AskedView.{asked_requests_view};
-ghost use Rattle.document_reading.specs.DocumentView.{document_view};
+ghost use Rattle.json_document.specs.AskedView.{asked_requests_view};
+ghost use Rattle.json_document.specs.DocumentView.{document_view};
 ghost use Rattle.cite_document.specs.Run.{accepted, wanted_of};
 
 use crate::error::RunError;
@@ -13,8 +13,8 @@ use csl_base::entry::PlainEntry;
 use csl_driver::driver::BibliographyDriver;
 use csl_driver::request::{BibliographyRequest, Order};
 use csl_driver::terms::TermTables;
-use document_reading::document::Asked;
-use document_reading::requests::{AskedRequest, copied_code, driver_request};
+use json_document::document::Asked;
+use json_document::requests::{AskedRequest, copied_code, driver_request};
 use std::alloc::{AllocError, Global};
 use std::convert::Infallible;
 

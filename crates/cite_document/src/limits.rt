@@ -1,16 +1,16 @@
 //! Limits that a host sets to the documents of others.
 ghost use Rattle.std.specs.Prelude.{[], ◌∷◌, ◌≡◌, map};
 ghost use Rattle.csl_style_values.specs.StyleView.{style_view};
-ghost use Rattle.document_styles.specs.NamedStyleView.{named_styles_view};
-ghost use Rattle.document_words.specs.Reads.{Reads};
+ghost use Rattle.json_styles.specs.NamedStyleView.{named_styles_view};
+ghost use Rattle.json_values.specs.Reads.{Reads};
 ghost use Rattle.cite_document.specs.Limited.{ChecksEach, ChecksStyles, limit_status, named_styles_in, styles_in};
 
 use csl_base::style::IndependentStyle;
 use csl_limits::limits::{Excess, Limits};
 use csl_styles::prepared::PreparedStyle;
-use document_reading::document::{top_of, utf8_text, value_of};
-use document_styles::styles::{NamedStyle, styles_of};
-use document_words::error::ReadError;
+use json_document::document::{top_of, utf8_text, value_of};
+use json_styles::styles::{NamedStyle, styles_of};
+use json_values::error::ReadError;
 use std::alloc::{AllocError, Global};
 
 /// Why a document isn't let through.

@@ -9,18 +9,17 @@ ghost use Rattle.csl_driver.specs.Answer.{rendered};
 ghost use Rattle.csl_driver.specs.AskedView.{asked_of};
 ghost use Rattle.csl_driver.specs.Promised.{Finishes};
 ghost use Rattle.csl_driver.specs.declared.error.RingPlace.{RingPlace};
-ghost use Rattle.document_reading.specs.DocumentView.{document_view};
-ghost use Rattle.document_reading.specs.Form.{asked_form, form, document_form};
-ghost use Rattle.document_reading.specs.Entries.{entry_named};
-ghost use Rattle.document_styles.specs.NamedStyleView.{named_styles_view};
+ghost use Rattle.json_document.specs.DocumentView.{document_view};
+ghost use Rattle.json_document.specs.Form.{asked_form, form, document_form};
+ghost use Rattle.json_document.specs.Entries.{entry_named};
+ghost use Rattle.json_styles.specs.NamedStyleView.{named_styles_view};
 ghost use Rattle.cite_document.specs.Print.{json_text, print};
-ghost use Rattle.document_styles.specs.Styles.{style_named};
+ghost use Rattle.json_styles.specs.Styles.{style_named};
 ghost use Rattle.cite_document.specs.Run.{answer, IsRunAnswer, HasAnswer, HasFirstRing, HasTooLargeNumbers, IsDocumentThat, Prints, same_plain_entry, same_own_payload};
 
 use crate::error::RunError;
 use crate::filling::{bibliography_request, filled_driver};
 use crate::printing::print_rendered;
-use answer_json::printing::print_json;
 use csl_base::entry::PlainEntry;
 use csl_base::locale::Locale;
 use csl_driver::driver::BibliographyDriver;
@@ -29,11 +28,12 @@ use csl_driver::rendered::Rendered;
 use csl_driver::request::BibliographyRequest;
 use csl_driver::terms::TermTables;
 use csl_round_laws::mode::RoundMode;
-use document_reading::document::{Asked, asked_in, top_of, utf8_text, value_of};
-use document_reading::entries::entries_of;
-use document_reading::finders::found_styles;
-use document_styles::locales::locales_at;
-use document_styles::styles::{NamedStyle, styles_of};
+use json_answer::printing::print_json;
+use json_document::document::{Asked, asked_in, top_of, utf8_text, value_of};
+use json_document::entries::entries_of;
+use json_document::finders::found_styles;
+use json_styles::locales::locales_at;
+use json_styles::styles::{NamedStyle, styles_of};
 use serde_json::Value;
 use std::alloc::Global;
 use std::convert::Infallible;
@@ -88,7 +88,7 @@ fn answer_of<'e>(
     answer_asked(alloc, &asked)
 }
 
-#[tactic(auto, unfolding(document_reading::specs::Form::document_form))]
+#[tactic(auto, unfolding(json_document::specs::Form::document_form))]
 fn answer_value(alloc: Global, value: Value) -> Result<Rendered, RunError>
     ensures { IsRunAnswer result (document_form (view value)) }
 {
@@ -103,7 +103,7 @@ fn answer_value(alloc: Global, value: Value) -> Result<Rendered, RunError>
 ///
 /// # Errors
 /// As those of `run`, and never `Output`.
-#[tactic(auto, unfolding(document_reading::specs::Form::form))]
+#[tactic(auto, unfolding(json_document::specs::Form::form))]
 pub fn answer_bytes(alloc: Global, bytes: &[u8]) -> Result<Rendered, RunError>
     ensures { IsRunAnswer result (form bytes.now) }
 {

@@ -1,7 +1,7 @@
 -- What is handed out is of the document.
 use Rattle.std.proofs.Common.{◌≡◌, inl, inr, ℕ, ◌<◌, List, length, Option, Some, Result, Ok, Err, String, Global, subst, arith}
 use Rattle.csl_assembly.specs.declared.rendered.Rendered.{Rendered}
-use Rattle.document_reading.specs.Form.{Document}
+use Rattle.json_document.specs.Form.{Document}
 use Rattle.cite_document.specs.Run.{answer, HasAnswer, IsRefused, Prints}
 use Rattle.cite_document.specs.Status.{status}
 use Rattle.cite_document.specs.declared.error.RunError.{RunError}

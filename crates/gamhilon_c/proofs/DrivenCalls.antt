@@ -4,8 +4,8 @@ use Rattle.cite_document.specs.Status.{status}
 use Rattle.cite_document.specs.declared.error.RunError.{RunError}
 use Rattle.cite_document.specs.declared.error.RunError.TheVariants as errors
 use Rattle.cite_document.specs.Run.{IsDocumentThat, IsRefusedFor}
-use Rattle.document_driven.specs.Drive.{Drives, Tells}
-use Rattle.document_driven.specs.DrivenForm.{DrivenDocument}
+use Rattle.host_document.specs.Drive.{Drives, Tells}
+use Rattle.host_document.specs.DrivenForm.{DrivenDocument}
 use Rattle.gamhilon_c.specs.Called.{HandsOut, PlacesText}
 use Rattle.gamhilon_c.specs.CalledDriven.{CalledDriven}
 

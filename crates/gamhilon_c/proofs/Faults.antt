@@ -2,7 +2,7 @@
 use Rattle.std.proofs.Common.{◌≡◌, inl, inr, ℕ, ◌<◌, ◌⊎◌, List, [], length, Option, Result, Ok, Err, String, Global, string_bytes, subst, ap, ◌∙◌, sym, arith}
 use Rattle.std.specs.Prelude.{IsSome, None}
 use Rattle.serde_json.specs.Data.{Data}
-use Rattle.document_words.specs.declared.fault.Fault.{Fault}
+use Rattle.json_values.specs.declared.fault.Fault.{Fault}
 use Rattle.cite_document.specs.FaultText.{fault_text}
 use Rattle.cite_document.specs.Status.{status}
 use Rattle.cite_document.specs.TellsFault.{IsFaultText, TellsFault}

@@ -1,7 +1,7 @@
 -- What is handed out of a ring is of the document.
 use Rattle.std.proofs.Common.{◌≡◌, ℕ, Option, Result, Ok, Err, arith}
 use Rattle.csl_assembly.specs.declared.rendered.Rendered.{Rendered}
-use Rattle.document_reading.specs.Form.{Document}
+use Rattle.json_document.specs.Form.{Document}
 use Rattle.cite_document.specs.Run.{IsRunAnswer, IsRefused}
 use Rattle.cite_document.specs.Status.{status}
 use Rattle.cite_document.specs.declared.error.RunError.{RunError}

@@ -1,8 +1,8 @@
 -- What a call for the fault of a document does.
 use Rattle.std.specs.Prelude.{◌≡◌, ◌≢◌, ℕ, ◌<◌, ◌⊎◌, List, length, Option, None, IsSome}
 use Rattle.serde_json.specs.Data.{Data}
-use Rattle.document_words.specs.declared.fault.Fault.{Fault}
-use Rattle.document_reading.specs.Faults.{IsFaultIn}
+use Rattle.json_values.specs.declared.fault.Fault.{Fault}
+use Rattle.json_document.specs.Faults.{IsFaultIn}
 use Rattle.cite_document.specs.FaultText.{fault_text}
 use Rattle.gamhilon_c.specs.Called.{Fills}
 

@@ -3,7 +3,7 @@ use Rattle.std.specs.Prelude.{◌≡◌, ◌≢◌, ℕ, ◌≤◌, Option, None
 use Rattle.csl_driver.specs.declared.error.RingPlace.{RingPlace}
 use Rattle.csl_driver.specs.declared.error.RingPlace.TheVariants as places
 use Rattle.csl_assembly.specs.declared.rendered.Rendered.{Rendered}
-use Rattle.document_reading.specs.Form.{Document}
+use Rattle.json_document.specs.Form.{Document}
 use Rattle.cite_document.specs.Run.{HasAnswer, HasFirstRing, HasTooLargeNumbers, IsDocumentThat}
 use Rattle.cite_document.specs.Status.{status}
 use Rattle.cite_document.specs.declared.error.RunError.{RunError}

@@ -6,11 +6,11 @@
 mod buffer;
 mod ring;
 
-ghost use Rattle.document_reading.specs.Faults.{value_in};
-ghost use Rattle.document_reading.specs.Form.{form};
+ghost use Rattle.json_document.specs.Faults.{value_in};
+ghost use Rattle.json_document.specs.Form.{form};
 ghost use Rattle.cite_document.specs.Limited.{styles_in};
 ghost use Rattle.cite_document.specs.Print.{json_text, print};
-ghost use Rattle.document_driven.specs.DrivenForm.{driven_form};
+ghost use Rattle.host_document.specs.DrivenForm.{driven_form};
 ghost use Rattle.gamhilon_c.specs.Called.{Called};
 ghost use Rattle.gamhilon_c.specs.CalledDriven.{CalledDriven};
 ghost use Rattle.gamhilon_c.specs.FindsFault.{FindsFault};
@@ -23,8 +23,8 @@ use cite_document::faults::print_fault_bytes;
 use cite_document::limits::check_limits;
 use cite_document::running::{answer_bytes, print_bytes, print_json_bytes};
 use csl_limits::limits::Limits;
-use document_driven::driving::drive_bytes;
-use document_driven::faults::print_driven_fault_bytes;
+use host_document::driving::drive_bytes;
+use host_document::faults::print_driven_fault_bytes;
 use std::alloc::Global;
 
 /// Puts what the document prints into the buffer, and tells how many bytes that takes. Gives the status.

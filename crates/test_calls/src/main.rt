@@ -18,7 +18,7 @@ mod streams;
 use calls::{How, Seen, answered, fault_told, read_slowly, written_out, written_until};
 use cite_document::error::RunError;
 use cite_document::input::read_input;
-use document_reading::document::utf8_text;
+use json_document::document::utf8_text;
 use std::process::ExitCode;
 
 /// Does what the first line says with the document behind it.

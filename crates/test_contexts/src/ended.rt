@@ -1,6 +1,6 @@
 //! Why the program ends before its end.
 
-use document_words::error::ReadError;
+use json_values::error::ReadError;
 use std::alloc::AllocError;
 use std::io;
 use std::io::ErrorKind;

@@ -6,12 +6,12 @@ use cite_document::error::RunError;
 use cite_document::filling::{bibliography_request, filled_driver};
 use csl_base::elem::ElemChildren;
 use csl_base::entry::PlainEntry;
-use csl_filling::filling::{FillError, FilledAnswer, answer_by};
-use csl_filling::source::CiteSource;
 use csl_lookup::state::IdentifierUsage;
-use csl_table::key::TaskKey;
-use csl_table::table::Table;
 use csl_writers::cite::Cite;
+use host_filling::filling::{FillError, FilledAnswer, answer_by};
+use host_filling::source::CiteSource;
+use host_table::key::TaskKey;
+use host_table::table::Table;
 use std::alloc::{AllocError, Global};
 
 /// Writes what a table has, and an empty tree for the rest.

@@ -2,8 +2,8 @@
 
 use cite_document::error::RunError;
 use csl_base::style::{Bibliography, IndependentStyle};
-use csl_table::host_style::named;
-use document_styles::styles::{NamedStyle, styles_of};
+use host_table::host_style::named;
+use json_styles::styles::{NamedStyle, styles_of};
 use serde_json::Value;
 use std::alloc::{AllocError, Global};
 

@@ -20,7 +20,7 @@ mod taking;
 use by_table::{TableWay, by_table};
 use cite_document::error::RunError;
 use cite_document::input::read_input;
-use document_reading::document::utf8_text;
+use json_document::document::utf8_text;
 use seen::Seen;
 use std::process::ExitCode;
 

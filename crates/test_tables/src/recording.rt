@@ -5,14 +5,14 @@ use csl_base::entry::EntryLike;
 use csl_base::style::IndependentStyle;
 use csl_base::text::Text;
 use csl_lookup::state::IdentifierUsage;
-use csl_table::key::{TaskKey, cite_key, date_key, item_key};
-use csl_table::table::Table;
 use csl_writers::cite::Cite;
 use csl_writers::task::{CiteTask, DateTask, ItemTask};
 use csl_writers::writer::CiteWriter;
 use csl_writing::layout_writer::{LayoutWriter, NoNote};
-use document_styles::styles::NamedStyle;
+use host_table::key::{TaskKey, cite_key, date_key, item_key};
+use host_table::table::Table;
 use indexmap::IndexMap;
+use json_styles::styles::NamedStyle;
 use std::alloc::{AllocError, Global};
 
 /// Writes by the layouts of styles, and puts what it writes into a table, under the names that a document

@@ -3,10 +3,10 @@
 use crate::by_table::{Asking, driven};
 use crate::seen::Seen;
 use cite_document::error::RunError;
-use csl_drive::drive::Driven;
-use csl_table::key::TaskKey;
-use csl_table::table::Table;
 use csl_writers::cite::Cite;
+use host_driver::drive::Driven;
+use host_table::key::TaskKey;
+use host_table::table::Table;
 
 /// Whether the table lacks this and nothing else.
 fn lacks_alone(asking: &Asking<'_, '_>, table: &Table, key: &TaskKey) -> Result<bool, RunError> {

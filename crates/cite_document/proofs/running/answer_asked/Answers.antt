@@ -3,8 +3,8 @@ use Rattle.std.proofs.Common.{◌≡◌, map, refl, rules, ◌∙◌}
 use Rattle.csl_style_values.specs.StyleView.{locale_view}
 use Rattle.csl_driver.specs.DriverView.{driver_view}
 use Rattle.csl_passes.specs.RequestView.{wanted_view}
-use Rattle.document_reading.specs.AskedView.{asked_requests_view}
-use Rattle.document_reading.specs.DocumentView.{document_view}
+use Rattle.json_document.specs.AskedView.{asked_requests_view}
+use Rattle.json_document.specs.DocumentView.{document_view}
 use Rattle.cite_document.specs.Run.{accepted, same_plain_entry, wanted_of}
 use Rattle.cite_document.proofs.Refusals.{has_answer, is_answer, refused-for}
 use Rattle.cite_document.proofs.running.answer_asked.Goals as goal

@@ -1,5 +1,0 @@
-use Rattle.answer_json.proofs.Injective.{answers_tell}
-use Rattle.answer_json.proofs.laws.data_tells_answers_apart.Goals as goal
-
-pub returns : goal.returns
-returns c = answers_tell

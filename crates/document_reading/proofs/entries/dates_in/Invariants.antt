@@ -1,8 +1,0 @@
--- The rows of the table are looked up one after another.
-use Rattle.serde_json.specs.View.{view}
-use Rattle.document_reading.specs.Entries.{year_form}
-use Rattle.document_reading.proofs.Rows.{RowsProgress}
-use Rattle.document_reading.proofs.entries.dates_in.Given as goal
-
-abbrev pub invariant-loop-row : goal.invariant-loop-row
-invariant-loop-row l = RowsProgress year_form (view l.object) l.rows l.row-index l.pairs.items

@@ -1,0 +1,45 @@
+-- What comes of a driven document, and why nothing does.
+use Rattle.std.specs.Prelude.{◌≡◌, ℕ, List, map, ◌++◌, Option, Result, Ok, Err, String, codes, string_bytes}
+use Rattle.std.specs.declared.alloc.Global.{Global}
+use Rattle.serde_json.specs.Data.{array}
+use Rattle.serde_json.specs.View.{items_of}
+use Rattle.serde_json.specs.Written.{compact_text}
+use Rattle.csl_values.specs.PlainEntry.{plain_answers}
+use Rattle.csl_values.specs.declared.entry.PlainEntry.{PlainEntry}
+use Rattle.csl_assembly.specs.declared.rendered.Rendered.{Rendered}
+use Rattle.json_answer.specs.AnswerData.{answer_data}
+use Rattle.host_table.specs.declared.key.TaskKey.{TaskKey}
+use Rattle.host_driver.specs.Driven.{IsDriven}
+use Rattle.host_driver.specs.declared.drive.Driven.{Driven}
+use Rattle.host_driver.specs.declared.drive.Driven.TheVariants as results
+use Rattle.json_tasks.specs.TaskData.{task_data}
+use Rattle.cite_document.specs.Run.{IsDocumentThat, IsRefusedFor, asked_by, same_plain_entry, same_own_payload}
+use Rattle.cite_document.specs.declared.error.RunError.{RunError}
+use Rattle.host_document.specs.DrivenForm.{DrivenDocument}
+
+-- the JSON of an answer
+abbrev pub answer_text : Rendered → List ℕ
+answer_text r = codes "{\"answer\":" ++ (compact_text (answer_data r) ++ codes "}")
+
+-- the JSON of what is missing
+abbrev pub missing_text : List TaskKey → List ℕ
+missing_text keys =
+    codes "{\"missing\":" ++ (compact_text (array (items_of (map task_data keys))) ++ codes "}")
+
+abbrev pub driven_text : Driven PlainEntry → List ℕ
+driven_text (results.Answer rendered account) = answer_text rendered
+driven_text (results.Missing missing) = missing_text missing.keys
+
+-- the answer with what the host has written, or what is missing of that
+abbrev pub ComesOf : DrivenDocument → Driven PlainEntry → Type 0
+ComesOf d = IsDriven same_plain_entry same_own_payload plain_answers d.table (d.asked).rounds
+    (asked_by d.asked)
+
+-- the text is that of what comes of the document
+abbrev pub Tells : List ℕ → DrivenDocument → Type 0
+Tells text d = (r : Driven PlainEntry) × ComesOf d r × (text ≡ driven_text r)
+
+-- the text of what comes, or why nothing does
+abbrev pub Drives : Result (String Global) RunError → Option DrivenDocument → Type 0
+Drives (Ok text) read = IsDocumentThat read (Tells (string_bytes text))
+Drives (Err e) read = IsRefusedFor (λ d. d.asked) e read

@@ -1,0 +1,114 @@
+//! Answers by a source that writes what a table lacks.
+ghost use Rattle.std.specs.Prelude.{◌≡◌, All, IfOk, OnOk};
+ghost use Rattle.indexmap.specs.IndexMap.{insert_entry};
+ghost use Rattle.csl_driver.specs.AskedView.{asked_of};
+ghost use Rattle.host_driver.specs.Driven.{IsWhole};
+ghost use Rattle.host_table.specs.Table.{found, key_eq};
+
+use crate::source::CiteSource;
+use csl_assembly::rendered::Rendered;
+use csl_base::entry::EntryLike;
+use csl_driver::account::Account;
+use csl_driver::driver::BibliographyDriver;
+use csl_driver::error::DriverError;
+use csl_passes::request::BibliographyRequest;
+use csl_round_laws::mode::RoundMode;
+use csl_writers::cite::Cite;
+use host_driver::drive::{Driven, drive_by};
+use host_table::key::TaskKey;
+use host_table::laws::key_equality_decides;
+use host_table::table::Table;
+use indexmap::{IndexMap, IndexSet};
+use std::alloc::{AllocError, Global};
+
+/// An answer, its account, and all that was written for it.
+#[derive(Drop)]
+pub struct FilledAnswer<'a, T> {
+    pub rendered: Rendered,
+    pub account: Account<'a, T>,
+    pub table: Table,
+}
+
+/// Why there is no answer.
+#[derive(Drop)]
+pub enum FillError<E> {
+    /// The driver refuses.
+    Driver(DriverError),
+    /// The source refuses.
+    Source(E),
+    OutOfMemory,
+    /// Something was still missing at the last call.
+    Unsettled,
+}
+
+impl<E> From<AllocError> for FillError<E> {
+    fn from(_error: AllocError) -> FillError<E> {
+        FillError::OutOfMemory
+    }
+}
+
+/// Answers all requests of a driver with what the source writes. The source is asked once for each thing;
+/// the driver is called anew after each time, and of its calls the last one counts.
+///
+/// # Errors
+///
+/// `Driver` with a refusal of `BibliographyDriver::finish`; `Source` with the source's own error, at the first
+/// thing that it refuses; `OutOfMemory`; and `Unsettled` where something is missing at the last of so many
+/// calls. Three calls more than rounds mark were enough for each document that was tried.
+pub fn answer_by<'a, T: EntryLike, P: Eq + Drop, S: CiteSource>(
+    alloc: Global,
+    driver: &BibliographyDriver<'a, T, P>,
+    request: &BibliographyRequest<'_, 'a, T>,
+    mode: RoundMode,
+    calls: usize,
+    source: &S,
+) -> Result<FilledAnswer<'a, T>, FillError<S::Error>>
+    ensures whole { IfOk result (λ r. IsWhole T.eq P.eq T.answers (found r.table) mode
+        (asked_of driver.now request.now) (r.rendered, r.account)) }
+    ensures written { IfOk result (λ r. All (λ e. S.may_write source.now e.0 e.1) r.table.entries) }
+{
+    let mut table = IndexMap::new(alloc);
+    for _ in 0..calls {
+        match drive_by(alloc, driver, request, mode, &table) {
+            Ok(Driven::Answer(rendered, account)) => {
+                return Ok(FilledAnswer {
+                    rendered,
+                    account,
+                    table,
+                });
+            }
+            Ok(Driven::Missing(missing)) => fill(alloc, source, missing, &mut table)?,
+            Err(error) => return Err(FillError::Driver(error)),
+        }
+    }
+    Err(FillError::Unsettled)
+}
+
+/// Writes what is missing into the table.
+fn fill<S: CiteSource>(
+    alloc: Global,
+    source: &S,
+    missing: IndexSet<TaskKey>,
+    table: &mut Table,
+) -> Result<(), FillError<S::Error>>
+    ensures { All (λ e. S.may_write source.now e.0 e.1) table.old.entries
+        → OnOk result (All (λ e. S.may_write source.now e.0 e.1) table.new.entries) }
+{
+    key_equality_decides();
+    for key in missing {
+        let cite = match source.write(alloc, &key) {
+            Ok(cite) => cite,
+            Err(error) => return Err(FillError::Source(error)),
+        };
+        put(table, key, cite)?;
+    }
+    Ok(())
+}
+
+/// Puts what was written into the table.
+fn put(table: &mut Table, key: TaskKey, cite: Cite) -> Result<(), AllocError>
+    ensures { OnOk result (table.new.entries ≡ insert_entry key_eq table.old.entries key cite) }
+{
+    table.insert(key, cite)?;
+    Ok(())
+}

@@ -1,0 +1,149 @@
+//! The writer that answers from a table.
+ghost use Rattle.std.specs.Prelude.{◌≡◌, IfOk, None};
+ghost use Rattle.host_table.specs.Table.{written_as};
+
+use crate::key::{TaskKey, cite_key, date_key, item_key};
+use csl_base::elem::ElemChildren;
+use csl_base::entry::EntryLike;
+use csl_lookup::state::IdentifierUsage;
+use csl_writers::cite::Cite;
+use csl_writers::task::{CiteTask, DateTask, ItemTask};
+use csl_writers::writer::CiteWriter;
+use indexmap::{IndexMap, IndexSet};
+use std::alloc::{AllocError, Global};
+
+/// What a host has written, by what it was asked for. Of an item and of a date the tree alone counts.
+pub type Table = IndexMap<TaskKey, Cite>;
+
+/// Answers from a table that it borrows. What the table lacks is answered by an empty tree, and noted once;
+/// but only what is of the earliest stage of all that is missing stays noted, since what is of a later one
+/// may not be asked for any more once that is there.
+#[derive(Drop)]
+pub struct TableWriter<'t> {
+    pub written: &'t Table,
+    pub missing: IndexSet<TaskKey>,
+}
+
+/// A copy of what was written.
+fn copied(cite: &Cite) -> Result<Cite, AllocError>
+    ensures { IfOk result (λ c. c ≡ cite.now) }
+{
+    let first_name = match &cite.first_name {
+        Some(names) => Some(names.clone()?),
+        None => None,
+    };
+    Ok(Cite {
+        children: cite.children.clone()?,
+        checked_disambiguate: cite.checked_disambiguate,
+        first_name,
+        identifier_usage: cite.identifier_usage,
+    })
+}
+
+/// Nothing: an empty tree.
+fn nothing(alloc: Global) -> Cite
+    ensures { result ≡ written_as None }
+{
+    Cite {
+        children: ElemChildren::new(alloc),
+        checked_disambiguate: false,
+        first_name: None,
+        identifier_usage: IdentifierUsage::None,
+    }
+}
+
+impl<'t> TableWriter<'t> {
+    ghost use Rattle.std.specs.Prelude.{◌≡◌, IfOk, OnOk, []};
+    ghost use Rattle.host_table.specs.Table.{found, is_earlier, is_later, note_once, written_as};
+
+    /// A writer that has noted nothing yet.
+    pub fn new(alloc: Global, written: &'t Table) -> TableWriter<'t>
+        ensures table { result.written.now ≡ written.now }
+        ensures nothing { result.missing.keys ≡ [] }
+    {
+        TableWriter {
+            written,
+            missing: IndexSet::new(alloc),
+        }
+    }
+
+    // Whether something of an earlier stage is missing.
+    fn is_later(&self, key: &TaskKey) -> bool
+        ensures { result ≡ is_later self.now.missing.keys key.now }
+    {
+        match self.missing.first() {
+            Some(first) => first.stage() < key.stage(),
+            None => false,
+        }
+    }
+
+    // Whether what is missing is of a later stage.
+    fn is_earlier(&self, key: &TaskKey) -> bool
+        ensures { result ≡ is_earlier self.now.missing.keys key.now }
+    {
+        match self.missing.first() {
+            Some(first) => key.stage() < first.stage(),
+            None => false,
+        }
+    }
+
+    // What was written; nothing, and a note, where the table lacks it.
+    fn answer(&mut self, alloc: Global, key: TaskKey) -> Result<Cite, AllocError>
+        ensures cite { IfOk result (λ c. c ≡ written_as (found self.old.written.now key)) }
+        ensures same_table { self.new.written ≡ self.old.written }
+        ensures noted { OnOk result
+            (self.new.missing.keys ≡ note_once (found self.old.written.now) key self.old.missing.keys) }
+    {
+        if let Some(cite) = self.written.get(&key) {
+            return copied(cite);
+        }
+        if self.is_earlier(&key) {
+            self.missing.clear();
+        }
+        if !self.is_later(&key) {
+            if let Err(_) = self.missing.insert_full(key) {
+                return Err(AllocError);
+            }
+        }
+        Ok(nothing(alloc))
+    }
+}
+
+impl<'t, T: EntryLike, P> CiteWriter<T, P> for TableWriter<'t> {
+    ghost use Rattle.host_table.specs.Table.{found, table_state};
+    ghost use Rattle.host_table.specs.TableEqual.{table_writes_equally};
+
+    type Error = AllocError;
+
+    type Note = TaskKey;
+
+    ghost state = { λ w. table_state (found w.written.now) T.answers w.missing.keys };
+
+    fn write_cite(
+        &mut self,
+        alloc: Global,
+        task: &CiteTask<'_, '_, T, P>,
+    ) -> Result<Cite, AllocError> {
+        self.answer(alloc, cite_key(alloc, task)?)
+    }
+
+    fn write_item(
+        &mut self,
+        alloc: Global,
+        task: &ItemTask<'_, '_, T, P>,
+    ) -> Result<Option<ElemChildren>, AllocError> {
+        let item = self.answer(alloc, item_key(alloc, task)?)?;
+        Ok(Some(item.children))
+    }
+
+    fn write_date(
+        &mut self,
+        alloc: Global,
+        task: &DateTask<'_, T>,
+    ) -> Result<ElemChildren, AllocError> {
+        let date = self.answer(alloc, date_key(alloc, task)?)?;
+        Ok(date.children)
+    }
+
+    ghost equal_written_equally = { λ w a b e. table_writes_equally (found w.written.now) T.answers w.missing.keys a b (T.equal_answer_equally a b e) };
+}

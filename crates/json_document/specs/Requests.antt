@@ -1,0 +1,69 @@
+-- The form of what is asked for, of the styles and entries that names and keys find.
+use Rattle.std.specs.Prelude.{ℕ, List, [], ◌∷◌, Option, Some, None, option_and_then, codes, if◌then◌else◌}
+use Rattle.std.specs.declared.convert.Infallible.{Infallible}
+use Rattle.serde_json.specs.Data.{Data, Items, no_items, item}
+use Rattle.serde_json.specs.Find.{as_array, as_str}
+use Rattle.csl_values.specs.declared.entry.PlainEntry.{PlainEntry}
+use Rattle.csl_style_values.specs.Style.{LocaleValue, StyleValue}
+use Rattle.csl_passes.specs.Class.{is_note}
+use Rattle.csl_lookup.specs.Properties.{text_payload, LocatorValue}
+use Rattle.csl_passes.specs.Request.{RequestedCite, Request}
+use Rattle.json_values.specs.Words.{◌>>=◌, object_with, required, where_present, flag, list_form, items_of_key, whole, name_form}
+use Rattle.json_values.specs.Names.{one_of}
+use Rattle.json_values.specs.Tables.{locators, purposes}
+
+-- a locator: what it counts, and its text
+abbrev pub locator_of_items : Items → Option (LocatorValue Infallible)
+locator_of_items (item kind (item text no_items)) = do
+  counted ← one_of locators kind
+  place ← as_str text
+  Some (record { kind = counted; payload = text_payload place })
+locator_of_items _ = None
+
+abbrev pub locator_form : Data → Option (LocatorValue Infallible)
+locator_form d = option_and_then locator_of_items (as_array d)
+
+-- a cite of an entry
+unfoldable pub item_form : (List ℕ → Option PlainEntry) → Data → Option (RequestedCite PlainEntry Infallible)
+item_form entry d = do
+  o ← object_with (codes "entry" ∷ codes "locator" ∷ codes "locale" ∷ codes "hidden" ∷ codes "purpose" ∷ []) d
+  cited ← required (name_form entry) (codes "entry") o
+  locator ← where_present locator_form (codes "locator") o
+  locale ← where_present as_str (codes "locale") o
+  hidden ← flag (codes "hidden") o
+  purpose ← where_present (one_of purposes) (codes "purpose") o
+  Some (record {
+    entry = cited;
+    locator = locator;
+    locale = locale;
+    hidden = hidden;
+    purpose = purpose;
+    place = 0;
+  })
+
+module _ (style : List ℕ → Option StyleValue) (entry : List ℕ → Option PlainEntry) where
+  -- a request for a citation, with these locales; the note number is kept where the style's cites stand in
+  -- notes
+  unfoldable pub request_form : List LocaleValue → Data → Option (Request PlainEntry Infallible)
+  request_form locales d = do
+    o ← object_with (codes "style" ∷ codes "locale" ∷ codes "note" ∷ codes "items" ∷ []) d
+    by ← required (name_form style) (codes "style") o
+    locale ← where_present as_str (codes "locale") o
+    note ← where_present whole (codes "note") o
+    cites ← items_of_key (item_form entry) (codes "items") o
+    Some (record {
+      cites = cites;
+      style = by;
+      locale = locale;
+      locales = locales;
+      note_number = (if is_note by.class then note else None);
+    })
+
+  -- what is asked of the bibliography: its style, its locale, and the order of its entries
+  unfoldable pub wanted_form : Data → Option (StyleValue × Option (List ℕ) × Option (List PlainEntry))
+  wanted_form d = do
+    o ← object_with (codes "style" ∷ codes "locale" ∷ codes "order" ∷ []) d
+    by ← required (name_form style) (codes "style") o
+    locale ← where_present as_str (codes "locale") o
+    order ← where_present (list_form (name_form entry)) (codes "order") o
+    Some (by, locale, order)

@@ -1,0 +1,187 @@
+//! The document as a whole, and what it asks for.
+ghost use Rattle.std.specs.Prelude.{◌≡◌, IfOk, codes, map};
+ghost use Rattle.serde_json.specs.Read.{read};
+ghost use Rattle.serde_json.specs.View.{view};
+ghost use Rattle.csl_style_values.specs.StyleView.{locale_view};
+ghost use Rattle.json_document.specs.Finders.{entry_in, style_in};
+ghost use Rattle.json_document.specs.FoundView.{found_views};
+ghost use Rattle.json_styles.specs.Styles.{style_named};
+ghost use Rattle.json_document.specs.Entries.{entry_named};
+ghost use Rattle.json_document.specs.Faults.{IsOfText, IsTextError, TextFaults};
+ghost use Rattle.json_document.specs.Form.{asked_form, top_form, utf8_text};
+ghost use Rattle.json_document.specs.Requests.{wanted_form};
+ghost use Rattle.json_document.specs.WantedView.{asked_bibliography_view};
+ghost use Rattle.json_values.specs.Words.{required};
+ghost use Rattle.json_document.specs.DocumentView.{document_view};
+ghost use Rattle.json_values.specs.Reads.{Faults, Reads};
+
+use crate::finders::{EntriesByKey, StylesByName, entries_by_key, styles_by_name};
+use crate::found::FoundStyle;
+use crate::requests::{AskedRequest, Wanted, requests_of, wanted_of};
+use csl_base::entry::PlainEntry;
+use csl_base::locale::Locale;
+use csl_round_laws::mode::RoundMode;
+use json_values::error::ReadError;
+use json_values::fault;
+use json_values::fault::{Fault, Found};
+use json_values::refusals::lacking;
+use json_values::words::{name_or, number_or, object_with};
+use serde_json::Value;
+use std::alloc::Global;
+
+/// In how many rounds cites are disambiguated.
+const ROUNDS: &[(&str, RoundMode)] = &[("three", RoundMode::Three), ("full", RoundMode::Full)];
+
+/// What the document asks for.
+#[derive(Drop)]
+pub struct Asked<'e> {
+    pub requests: Vec<AskedRequest<'e>>,
+    pub wanted: Wanted<'e>,
+    /// The locales that are asked for terms that a style doesn't have.
+    pub locales: &'e [Locale],
+    /// The number of the first entry.
+    pub offset: usize,
+    pub rounds: RoundMode,
+}
+
+/// The error of a text that is none, or no JSON.
+fn wrong_text(alloc: Global, found: Found, wanted: fault::Wanted) -> ReadError
+    ensures { IsOfText found → IsTextError result }
+{
+    let fault = Fault {
+        path: Vec::new(alloc),
+        found,
+        wanted,
+    };
+    match Box::new(alloc, fault) {
+        Ok(fault) => ReadError::Document(fault),
+        Err(_) => ReadError::OutOfMemory,
+    }
+}
+
+/// The text that the bytes are, which have to be UTF-8.
+#[tactic(auto, using(crate::proofs::Utf8::text_there, crate::proofs::Utf8::no_text))]
+pub fn utf8_text(alloc: Global, bytes: &[u8]) -> Result<&str, ReadError>
+    ensures read { Reads (λ s. s.now) result (utf8_text bytes.now) }
+    ensures fault { TextFaults result }
+{
+    match str::from_utf8(bytes) {
+        Ok(text) => Ok(text),
+        Err(error) => Err(wrong_text(
+            alloc,
+            Found::NoUtf8 {
+                byte: error.valid_up_to(),
+            },
+            fault::Wanted::Utf8,
+        )),
+    }
+}
+
+/// The JSON value that the text is.
+pub fn value_of(alloc: Global, text: &str) -> Result<Value, ReadError>
+    ensures read { Reads view result (read text.now) }
+    ensures fault { TextFaults result }
+{
+    match Value::from_str(alloc, text) {
+        Ok(value) => Ok(value),
+        Err(error) => {
+            if error.is_memory() {
+                return Err(ReadError::OutOfMemory);
+            }
+            let found = Found::NoJson {
+                line: error.line(),
+                column: error.column(),
+            };
+            Err(wrong_text(alloc, found, fault::Wanted::Json))
+        }
+    }
+}
+
+/// The object that the document is.
+pub fn top_of(alloc: Global, value: &Value) -> Result<&Value, ReadError>
+    ensures read { Reads (λ v. view v.now) result (top_form (view value.now)) }
+    ensures fault { Faults result (view value.now) }
+    ensures same { IfOk result (λ v. v.now ≡ value.now) }
+{
+    object_with(
+        alloc,
+        &[
+            "styles",
+            "locales",
+            "entries",
+            "requests",
+            "bibliography",
+            "offset",
+            "rounds",
+        ],
+        value,
+    )
+}
+
+/// What is asked of the bibliography, under the key `bibliography`, which has to be there.
+#[tactic(auto, using(json_values::proofs::Ways::fails_outside))]
+fn wanted_at<'e>(
+    alloc: Global,
+    styles: &StylesByName<'e>,
+    entries: &EntriesByKey<'e>,
+    object: &Value,
+) -> Result<Wanted<'e>, ReadError>
+    ensures read { Reads asked_bibliography_view result
+        (required (wanted_form (style_in styles.now) (entry_in entries.now)) (codes "bibliography")
+        (view object.now)) }
+    ensures fault { Faults result (view object.now) }
+{
+    match object.get("bibliography") {
+        Some(member) => match wanted_of(alloc, styles, entries, member) {
+            Ok(wanted) => Ok(wanted),
+            Err(error) => Err(error.under(alloc, "bibliography")),
+        },
+        None => Err(lacking(alloc, object, "bibliography")),
+    }
+}
+
+/// What the document asks for, of the styles and entries that the maps find, with these locales.
+#[tactic(auto, unfolding(crate::specs::Form::asked_form))]
+fn asked_of<'e>(
+    alloc: Global,
+    styles: &StylesByName<'e>,
+    entries: &EntriesByKey<'e>,
+    locales: &'e [Locale],
+    object: &Value,
+) -> Result<Asked<'e>, ReadError>
+    ensures read { Reads document_view result
+        (asked_form (style_in styles.now) (entry_in entries.now) (map locale_view locales.now)
+        (view object.now)) }
+    ensures fault { Faults result (view object.now) }
+{
+    let requests = requests_of(alloc, styles, entries, locales, object)?;
+    let wanted = wanted_at(alloc, styles, entries, object)?;
+    let offset = number_or(alloc, object, "offset", 0)?;
+    let rounds = name_or(alloc, ROUNDS, object, "rounds", RoundMode::Three)?;
+    Ok(Asked {
+        requests,
+        wanted,
+        locales,
+        offset,
+        rounds,
+    })
+}
+
+/// What the document asks for. A name finds the style of that name, and a key the first entry that
+/// has it.
+pub fn asked_in<'e, 's: 'e>(
+    alloc: Global,
+    styles: &'e [FoundStyle<'s>],
+    entries: &'e [PlainEntry],
+    locales: &'e [Locale],
+    object: &Value,
+) -> Result<Asked<'e>, ReadError>
+    ensures read { Reads document_view result
+        (asked_form (style_named (found_views styles.now)) (entry_named entries.now)
+        (map locale_view locales.now) (view object.now)) }
+    ensures fault { Faults result (view object.now) }
+{
+    let by_name = styles_by_name(alloc, styles)?;
+    let by_key = entries_by_key(alloc, entries)?;
+    asked_of(alloc, &by_name, &by_key, locales, object)
+}

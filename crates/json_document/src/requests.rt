@@ -1,0 +1,476 @@
+//! Reading what is asked for: citations, and a bibliography.
+ghost use Rattle.std.specs.Prelude.{◌≡◌, Some, codes, map, option_map, string_bytes, IfOk};
+ghost use Rattle.serde_json.specs.Data.{Data, array};
+ghost use Rattle.serde_json.specs.Find.{as_str, at};
+ghost use Rattle.serde_json.specs.View.{view, items_view};
+ghost use Rattle.csl_style_values.specs.StyleView.{code_view, locale_view, style_view};
+ghost use Rattle.csl_lookup.specs.PropertiesView.{locator_view};
+ghost use Rattle.csl_passes.specs.RequestView.{cite_view, cites_view, entries_view, request_view};
+ghost use Rattle.csl_styles.specs.TablesView.{locales_of};
+ghost use Rattle.json_document.specs.AskedView.{asked_cite_view, asked_cites_view, asked_locator_view, asked_request_view, asked_requests_view};
+ghost use Rattle.json_values.specs.Words.{all_items, items_of_key, list_form, name_form, required, where_present};
+ghost use Rattle.json_document.specs.Finders.{entry_in, style_in};
+ghost use Rattle.json_document.specs.Requests.{locator_form, item_form, request_form, wanted_form};
+ghost use Rattle.json_document.specs.WantedView.{asked_bibliography_view};
+ghost use Rattle.json_values.specs.Names.{one_of};
+ghost use Rattle.json_values.specs.Tables.{locators};
+ghost use Rattle.json_values.specs.Reads.{Faults, IsErrorOf, Reads};
+
+use crate::finders::{EntriesByKey, StylesByName};
+use crate::found::FoundStyle;
+use csl_base::entry::PlainEntry;
+use csl_base::locale::{Locale, LocaleCode};
+use csl_base::taxonomy::Locator;
+use csl_lookup::locator::{LocatorPayload, SpecificLocator};
+use csl_lookup::purpose::CitePurpose;
+use csl_passes::item::CitationItem;
+use csl_passes::request::CitationRequest;
+use csl_styles::terms::TermTables;
+use json_values::error::ReadError;
+use json_values::fault;
+use json_values::refusals::{lacking, unlike};
+use json_values::tables::{LOCATORS, PURPOSES};
+use json_values::words::{
+    flag, list_of, object_with, one_of, optional_code, optional_name, optional_number,
+    required_list, required_text, text_of,
+};
+use serde_json::Value;
+use std::alloc::{AllocError, Global};
+use std::convert::Infallible;
+
+/// A request for the driver, whose locators hold no payloads.
+pub type Request<'e> = CitationRequest<'e, PlainEntry, Infallible>;
+
+/// A cite for the driver.
+pub type Item<'e> = CitationItem<'e, PlainEntry, Infallible>;
+
+/// A locator of the document: what it counts, and its text.
+#[derive(Drop)]
+pub struct AskedLocator {
+    pub kind: Locator,
+    pub text: String,
+}
+
+/// A cite of the document. It holds its own texts, so the JSON can be dropped before it is written.
+#[derive(Drop)]
+pub struct AskedCite<'e> {
+    pub entry: &'e PlainEntry,
+    pub locator: Option<AskedLocator>,
+    pub locale: Option<LocaleCode>,
+    pub hidden: bool,
+    pub purpose: Option<CitePurpose>,
+}
+
+/// A request of the document.
+#[derive(Drop)]
+pub struct AskedRequest<'e> {
+    pub items: Vec<AskedCite<'e>>,
+    pub style: &'e FoundStyle<'e>,
+    pub locale: Option<LocaleCode>,
+    pub note_number: Option<usize>,
+}
+
+// ---- cites
+
+/// The entry whose key the value is.
+fn known_entry<'e>(
+    alloc: Global,
+    entries: &EntriesByKey<'e>,
+    value: &Value,
+) -> Result<&'e PlainEntry, ReadError>
+    ensures read { Reads (λ e. e.now) result (name_form (entry_in entries.now) (view value.now)) }
+    ensures fault { Faults result (view value.now) }
+{
+    let Some(key) = value.as_str() else {
+        return Err(unlike(alloc, value, fault::Wanted::Entry));
+    };
+    match entries.get(&key) {
+        Some(entry) => Ok(*entry),
+        None => Err(unlike(alloc, value, fault::Wanted::Entry)),
+    }
+}
+
+#[tactic(auto, using(json_values::proofs::Ways::fails_outside))]
+fn required_entry<'e>(
+    alloc: Global,
+    entries: &EntriesByKey<'e>,
+    value: &Value,
+) -> Result<&'e PlainEntry, ReadError>
+    ensures read { Reads (λ e. e.now) result
+        (required (name_form (entry_in entries.now)) (codes "entry") (view value.now)) }
+    ensures fault { Faults result (view value.now) }
+{
+    match value.get("entry") {
+        Some(member) => known_entry(alloc, entries, member).map_err(|error| error.under(
+            alloc, "entry",
+        )),
+        None => Err(lacking(alloc, value, "entry")),
+    }
+}
+
+/// What the first item of a locator says it counts.
+///
+/// # Errors
+/// The fault of an item that names no locator, as one of the list; a want of memory.
+#[tactic(auto, using(json_values::proofs::Ways::fails_outside))]
+pub fn locator_kind(alloc: Global, item: &Value) -> Result<Locator, ReadError>
+    ensures read { Reads (λ k. k) result (one_of locators (view item.now)) }
+    ensures fault { (whole : Data) → at 0 whole ≡ Some (view item.now) → Faults result whole }
+{
+    one_of(alloc, LOCATORS, item).map_err(|error| error.in_item(0))
+}
+
+/// A copy of the second item of a locator, its text.
+#[tactic(auto, using(json_values::proofs::Ways::fails_outside))]
+fn locator_text(alloc: Global, item: &Value) -> Result<String, ReadError>
+    ensures read { Reads string_bytes result (as_str (view item.now)) }
+    ensures fault { (whole : Data) → at 1 whole ≡ Some (view item.now) → Faults result whole }
+{
+    text_of(alloc, item).map_err(|error| error.in_item(1))
+}
+
+#[tactic(auto, using(crate::proofs::Items::item_in))]
+fn locator_of(alloc: Global, value: &Value) -> Result<AskedLocator, ReadError>
+    ensures read { Reads asked_locator_view result (locator_form (view value.now)) }
+    ensures fault { Faults result (view value.now) }
+{
+    match list_of(alloc, value)? {
+        [kind, text] => Ok(AskedLocator {
+            kind: locator_kind(alloc, kind)?,
+            text: locator_text(alloc, text)?,
+        }),
+        _ => Err(unlike(alloc, value, fault::Wanted::Locator)),
+    }
+}
+
+#[tactic(auto, using(json_values::proofs::Ways::fails_outside))]
+fn optional_locator(alloc: Global, value: &Value) -> Result<Option<AskedLocator>, ReadError>
+    ensures read { Reads (option_map asked_locator_view) result
+        (where_present locator_form (codes "locator") (view value.now)) }
+    ensures fault { Faults result (view value.now) }
+{
+    match value.get("locator") {
+        None => Ok(None),
+        Some(member) => match locator_of(alloc, member) {
+            Ok(locator) => Ok(Some(locator)),
+            Err(error) => Err(error.under(alloc, "locator")),
+        },
+    }
+}
+
+#[tactic(auto, unfolding(crate::specs::Requests::item_form))]
+fn item_of<'e>(
+    alloc: Global,
+    entries: &EntriesByKey<'e>,
+    value: &Value,
+) -> Result<AskedCite<'e>, ReadError>
+    ensures read { Reads asked_cite_view result (item_form (entry_in entries.now) (view value.now)) }
+    ensures fault { Faults result (view value.now) }
+{
+    let object = object_with(
+        alloc,
+        &["entry", "locator", "locale", "hidden", "purpose"],
+        value,
+    )?;
+    let entry = required_entry(alloc, entries, object)?;
+    let locator = optional_locator(alloc, object)?;
+    let locale = optional_code(alloc, object, "locale")?;
+    let hidden = flag(alloc, object, "hidden")?;
+    let purpose = optional_name(alloc, PURPOSES, object, "purpose")?;
+    Ok(AskedCite {
+        entry,
+        locator,
+        locale,
+        hidden,
+        purpose,
+    })
+}
+
+#[tactic(auto, using(json_values::proofs::Ways::item_there))]
+fn all_cites<'e>(
+    alloc: Global,
+    entries: &EntriesByKey<'e>,
+    items: &[Value],
+) -> Result<Vec<AskedCite<'e>>, ReadError>
+    ensures read { Reads (λ v. asked_cites_view v.items) result
+        (all_items (item_form (entry_in entries.now)) (items_view items.now)) }
+    ensures fault { Faults result (array (items_view items.now)) }
+{
+    let mut cites = Vec::with_capacity(alloc, items.len())?;
+    for (place, item) in items.iter().enumerate() {
+        match item_of(alloc, entries, item) {
+            Ok(cite) => cites.push(cite)?,
+            Err(error) => return Err(error.in_item(place)),
+        }
+    }
+    Ok(cites)
+}
+
+/// The cites under the key `items`, which has to be there.
+#[tactic(auto, using(json_values::proofs::Ways::fails_outside))]
+fn cites_at<'e>(
+    alloc: Global,
+    entries: &EntriesByKey<'e>,
+    object: &Value,
+) -> Result<Vec<AskedCite<'e>>, ReadError>
+    ensures read { Reads (λ v. asked_cites_view v.items) result
+        (items_of_key (item_form (entry_in entries.now)) (codes "items") (view object.now)) }
+    ensures fault { Faults result (view object.now) }
+{
+    let list = required_list(alloc, object, "items")?;
+    match all_cites(alloc, entries, list) {
+        Ok(cites) => Ok(cites),
+        Err(error) => Err(error.under(alloc, "items")),
+    }
+}
+
+// ---- requests
+
+/// The error of an object whose key `style` names no style.
+fn unknown_style(alloc: Global, value: &Value) -> ReadError
+    ensures { IsErrorOf result (view value.now) }
+{
+    match value.get("style") {
+        Some(member) => unlike(alloc, member, fault::Wanted::Style).under(alloc, "style"),
+        None => lacking(alloc, value, "style"),
+    }
+}
+
+fn required_style<'e>(
+    alloc: Global,
+    styles: &StylesByName<'e>,
+    value: &Value,
+) -> Result<&'e FoundStyle<'e>, ReadError>
+    ensures read { Reads (λ s. style_view s.now.style.now) result
+        (required (name_form (style_in styles.now)) (codes "style") (view value.now)) }
+    ensures fault { Faults result (view value.now) }
+{
+    let name = required_text(alloc, value, "style")?;
+    match styles.get(&name) {
+        Some(style) => Ok(*style),
+        None => Err(unknown_style(alloc, value)),
+    }
+}
+
+#[tactic(auto, unfolding(crate::specs::Requests::request_form))]
+fn request_of<'e>(
+    alloc: Global,
+    styles: &StylesByName<'e>,
+    entries: &EntriesByKey<'e>,
+    locales: &[Locale],
+    value: &Value,
+) -> Result<AskedRequest<'e>, ReadError>
+    ensures read { Reads (asked_request_view (map locale_view locales.now)) result
+        (request_form (style_in styles.now) (entry_in entries.now) (map locale_view locales.now)
+        (view value.now)) }
+    ensures fault { Faults result (view value.now) }
+{
+    let object = object_with(alloc, &["style", "locale", "note", "items"], value)?;
+    let style = required_style(alloc, styles, object)?;
+    let locale = optional_code(alloc, object, "locale")?;
+    let note_number = optional_number(alloc, object, "note")?;
+    let items = cites_at(alloc, entries, object)?;
+    Ok(AskedRequest {
+        items,
+        style,
+        locale,
+        note_number,
+    })
+}
+
+#[tactic(auto, using(json_values::proofs::Ways::item_there))]
+fn all_requests<'e>(
+    alloc: Global,
+    styles: &StylesByName<'e>,
+    entries: &EntriesByKey<'e>,
+    locales: &[Locale],
+    items: &[Value],
+) -> Result<Vec<AskedRequest<'e>>, ReadError>
+    ensures read { Reads (λ v. asked_requests_view (map locale_view locales.now) v.items) result
+        (all_items (request_form (style_in styles.now) (entry_in entries.now) (map locale_view locales.now))
+        (items_view items.now)) }
+    ensures fault { Faults result (array (items_view items.now)) }
+{
+    let mut requests = Vec::with_capacity(alloc, items.len())?;
+    for (place, item) in items.iter().enumerate() {
+        match request_of(alloc, styles, entries, locales, item) {
+            Ok(request) => requests.push(request)?,
+            Err(error) => return Err(error.in_item(place)),
+        }
+    }
+    Ok(requests)
+}
+
+/// The requests of the document.
+#[tactic(auto, using(json_values::proofs::Ways::fails_outside))]
+pub fn requests_of<'e>(
+    alloc: Global,
+    styles: &StylesByName<'e>,
+    entries: &EntriesByKey<'e>,
+    locales: &[Locale],
+    object: &Value,
+) -> Result<Vec<AskedRequest<'e>>, ReadError>
+    ensures read { Reads (λ v. asked_requests_view (map locale_view locales.now) v.items) result
+        (items_of_key (request_form (style_in styles.now) (entry_in entries.now)
+        (map locale_view locales.now)) (codes "requests") (view object.now)) }
+    ensures fault { Faults result (view object.now) }
+{
+    let list = required_list(alloc, object, "requests")?;
+    match all_requests(alloc, styles, entries, locales, list) {
+        Ok(requests) => Ok(requests),
+        Err(error) => Err(error.under(alloc, "requests")),
+    }
+}
+
+// ---- requests for the driver
+
+/// A copy of a language, if there is one.
+pub fn copied_code(
+    alloc: Global,
+    code: &Option<LocaleCode>,
+) -> Result<Option<LocaleCode>, AllocError>
+    ensures { IfOk result (λ c. option_map code_view c ≡ option_map code_view code.now) }
+{
+    match code {
+        Some(code) => Ok(Some(LocaleCode(String::from_str(alloc, code.0.as_str())?))),
+        None => Ok(None),
+    }
+}
+
+fn driver_locator(locator: &Option<AskedLocator>) -> Option<SpecificLocator<'_, Infallible>>
+    ensures { option_map locator_view result ≡ option_map asked_locator_view locator.now }
+{
+    match locator {
+        Some(locator) => Some(SpecificLocator(
+            locator.kind,
+            LocatorPayload::Str(locator.text.as_str()),
+        )),
+        None => None,
+    }
+}
+
+fn driver_item<'r>(alloc: Global, cite: &'r AskedCite<'_>) -> Result<Item<'r>, AllocError>
+    ensures { IfOk result (λ i. cite_view i ≡ asked_cite_view cite.now) }
+{
+    let entry: &'r PlainEntry = cite.entry;
+    let locator = driver_locator(&cite.locator);
+    let locale = copied_code(alloc, &cite.locale)?;
+    Ok(CitationItem::new(entry, locator, locale, cite.hidden, cite.purpose))
+}
+
+fn driver_items<'r>(alloc: Global, cites: &'r [AskedCite<'r>]) -> Result<Vec<Item<'r>>, AllocError>
+    ensures { IfOk result (λ v. cites_view v.items ≡ asked_cites_view cites.now) }
+{
+    let mut items = Vec::with_capacity(alloc, cites.len())?;
+    for cite in cites {
+        items.push(driver_item(alloc, cite)?)?;
+    }
+    Ok(items)
+}
+
+/// The request that the driver takes, with the locales of these tables.
+pub fn driver_request<'r, 'f: 'r>(
+    alloc: Global,
+    request: &'r AskedRequest<'f>,
+    files: &'r TermTables<'f>,
+) -> Result<Request<'r>, AllocError>
+    ensures { IfOk result (λ r. request_view r
+        ≡ asked_request_view (map locale_view (locales_of files.now)) request.now) }
+{
+    let items = driver_items(alloc, &request.items)?;
+    let locale = copied_code(alloc, &request.locale)?;
+    let note = request.note_number;
+    let locales = files.locales();
+    match request.style.prepared() {
+        Some(prepared) => Ok(CitationRequest::of_prepared(items, prepared, locale, files, note)),
+        None => Ok(CitationRequest::new(items, request.style.style, locale, locales, note)),
+    }
+}
+
+// ---- the bibliography
+
+/// What is asked of the bibliography.
+#[derive(Drop)]
+pub struct Wanted<'e> {
+    /// Its style.
+    pub style: &'e FoundStyle<'e>,
+    /// The locale of its terms, if the document names one.
+    pub locale: Option<LocaleCode>,
+    /// The order of its entries, if the document has one.
+    pub order: Option<Vec<&'e PlainEntry>>,
+}
+
+#[tactic(auto, using(json_values::proofs::Ways::item_there))]
+fn all_keyed<'e>(
+    alloc: Global,
+    entries: &EntriesByKey<'e>,
+    items: &[Value],
+) -> Result<Vec<&'e PlainEntry>, ReadError>
+    ensures read { Reads (λ v. entries_view v.items) result
+        (all_items (name_form (entry_in entries.now)) (items_view items.now)) }
+    ensures fault { Faults result (array (items_view items.now)) }
+{
+    let mut found = Vec::new(alloc);
+    for (place, item) in items.iter().enumerate() {
+        match known_entry(alloc, entries, item) {
+            Ok(entry) => found.push(entry)?,
+            Err(error) => return Err(error.in_item(place)),
+        }
+    }
+    Ok(found)
+}
+
+fn order_of<'e>(
+    alloc: Global,
+    entries: &EntriesByKey<'e>,
+    value: &Value,
+) -> Result<Vec<&'e PlainEntry>, ReadError>
+    ensures read { Reads (λ v. entries_view v.items) result
+        (list_form (name_form (entry_in entries.now)) (view value.now)) }
+    ensures fault { Faults result (view value.now) }
+{
+    let list = list_of(alloc, value)?;
+    all_keyed(alloc, entries, list)
+}
+
+#[tactic(auto, using(json_values::proofs::Ways::fails_outside))]
+fn optional_order<'e>(
+    alloc: Global,
+    entries: &EntriesByKey<'e>,
+    value: &Value,
+) -> Result<Option<Vec<&'e PlainEntry>>, ReadError>
+    ensures read { Reads (option_map (λ v. entries_view v.items)) result
+        (where_present (list_form (name_form (entry_in entries.now))) (codes "order") (view value.now)) }
+    ensures fault { Faults result (view value.now) }
+{
+    match value.get("order") {
+        None => Ok(None),
+        Some(member) => match order_of(alloc, entries, member) {
+            Ok(order) => Ok(Some(order)),
+            Err(error) => Err(error.under(alloc, "order")),
+        },
+    }
+}
+
+/// What is asked of the bibliography, of an object of its own.
+#[tactic(auto, unfolding(crate::specs::Requests::wanted_form))]
+pub fn wanted_of<'e>(
+    alloc: Global,
+    styles: &StylesByName<'e>,
+    entries: &EntriesByKey<'e>,
+    value: &Value,
+) -> Result<Wanted<'e>, ReadError>
+    ensures read { Reads asked_bibliography_view result
+        (wanted_form (style_in styles.now) (entry_in entries.now) (view value.now)) }
+    ensures fault { Faults result (view value.now) }
+{
+    let object = object_with(alloc, &["style", "locale", "order"], value)?;
+    let style = required_style(alloc, styles, object)?;
+    let locale = optional_code(alloc, object, "locale")?;
+    let order = optional_order(alloc, entries, object)?;
+    Ok(Wanted {
+        style,
+        locale,
+        order,
+    })
+}

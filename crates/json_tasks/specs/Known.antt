@@ -1,0 +1,33 @@
+-- What a task may name: the styles and the entries of its document.
+use Rattle.std.specs.Prelude.{ℕ, Bool, List, Option, Some, None, is_some, option_map, ◌&&◌, if◌then◌else◌}
+use Rattle.std.specs.Borrow.{Bor}
+use Rattle.std.specs.HashMap.{HashMap}
+use Rattle.serde_json.specs.Data.{Data}
+use Rattle.csl_style_values.specs.Style.{StyleValue}
+use Rattle.csl_style_values.specs.StyleView.{style_view}
+use Rattle.csl_values.specs.declared.entry.PlainEntry.{PlainEntry}
+use Rattle.host_table.specs.declared.key.TaskKey.{TaskKey}
+use Rattle.json_document.specs.Finders.{entry_in, text_in}
+use Rattle.json_styles.specs.declared.styles.NamedStyle.{NamedStyle}
+use Rattle.json_values.specs.Words.{◌>>=◌}
+use Rattle.json_tasks.specs.TaskForm.{key_form}
+use Rattle.json_tasks.specs.declared.known.Known.{Known}
+
+-- there is a style of the name that the task gives, and an entry of its key
+abbrev pub is_known : (List ℕ → Option StyleValue) → (List ℕ → Option PlainEntry) → TaskKey → Bool
+is_known style entry key = is_some (style key.style) && is_some (entry key.entry)
+
+-- a task, if it is one of these
+abbrev pub task_among : (TaskKey → Bool) → Data → Option TaskKey
+task_among known d = do
+  key ← key_form d
+  if known key then Some key else None
+
+-- the style that a map has at a name
+abbrev pub known_style_in : {S : Type 0} → HashMap (Bor (List ℕ)) (Bor NamedStyle) S → List ℕ
+    → Option StyleValue
+known_style_in m name = option_map (λ s. style_view s.now.style) (text_in m name)
+
+-- which tasks are of styles and entries that are known
+abbrev pub knows : Known → TaskKey → Bool
+knows known = is_known (known_style_in known.styles) (entry_in known.entries)
