@@ -40,7 +40,7 @@ module _ (v : Driver PlainEntry Infallible) (w : Wanted PlainEntry) (d : Documen
       (subst (λ (x : Wanted PlainEntry). NoRingAtAll v.requests x.style × Overflows same_plain_entry v.requests v.offset) q h)
 
   -- what the driver refuses is refused of what asks for the document
-  pub refused-for : {D : Type 0} (asked : D → Document) (x : D) → asked x ≡ d → (e : DriverError) → Refuses same_plain_entry v.requests w.style v.offset e → IsRefusedFor asked (refused e) (Some x)
-  refused-for asked x same (drivers.MacroRing place i) h = (x, refl, subst (HasFirstRing place i) (sym same) (first_ring place i h))
-  refused-for asked x same drivers.NumberOverflow h = (x, refl, subst HasTooLargeNumbers (sym same) (too_large h))
-  refused-for asked x same (drivers.OutOfMemory e) h = tt
+  pub refused-for : {D : Type 0} (document : D → Document) (x : D) → document x ≡ d → (e : DriverError) → Refuses same_plain_entry v.requests w.style v.offset e → IsRefusedFor document (refused e) (Some x)
+  refused-for document x same (drivers.MacroRing place i) h = (x, refl, subst (HasFirstRing place i) (sym same) (first_ring place i h))
+  refused-for document x same drivers.NumberOverflow h = (x, refl, subst HasTooLargeNumbers (sym same) (too_large h))
+  refused-for document x same (drivers.OutOfMemory e) h = tt

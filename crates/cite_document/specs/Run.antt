@@ -6,7 +6,7 @@ use Rattle.csl_values.specs.PlainEntry.{plain_answers}
 use Rattle.csl_values.specs.declared.entry.PlainEntry.{PlainEntry}
 use Rattle.csl_values.specs.contracts.entry.PlainEntryPartialEq.TheImpl as plain_entry_eq
 use Rattle.std.specs.contracts.prelude.InfalliblePartialEq.TheImpl as infallible_eq
-use Rattle.csl_driver.specs.Answer.{Asked, rendered}
+use Rattle.csl_driver.specs.Answer.{Job, rendered}
 use Rattle.csl_entries.specs.Entries.{distinct}
 use Rattle.csl_writing.specs.LayoutWriting.{layout_writing}
 use Rattle.csl_passes.specs.Request.{Request, Wanted, cited, with_places}
@@ -34,12 +34,12 @@ abbrev pub wanted_of : Document → Wanted PlainEntry
 wanted_of d = record { style = d.style; locale = d.locale; locales = d.locales; order = d.order }
 
 -- what a document asks of a driver
-abbrev pub asked_by : Document → Asked PlainEntry Infallible
-asked_by d = record { wanted = wanted_of d; requests = accepted d.requests; offset = d.offset }
+abbrev pub document_job : Document → Job PlainEntry Infallible
+document_job d = record { wanted = wanted_of d; requests = accepted d.requests; offset = d.offset }
 
 -- the whole answer to a document: that of as many rounds as it says
 abbrev pub answer : Document → Rendered
-answer d = rendered same_plain_entry same_own_payload (layout_writing plain_answers) d.rounds (asked_by d)
+answer d = rendered same_plain_entry same_own_payload (layout_writing plain_answers) d.rounds (document_job d)
 
 -- the first ring of a document's styles: the style's place, and that of its first macro on a ring
 abbrev pub HasFirstRing : RingPlace → ℕ → Document → Type 0
@@ -61,11 +61,11 @@ IsDocumentThat {D} read Such = (d : D) × (read ≡ Some d) × Such d
 
 -- why nothing comes of what asks for such a document, where there is one
 abbrev pub IsRefusedFor : {D : Type 0} → (D → Document) → RunError → Option D → Type 0
-IsRefusedFor asked errors.Document read = read ≡ None
-IsRefusedFor asked (errors.MacroRing place i) read = IsDocumentThat read (λ d. HasFirstRing place i (asked d))
-IsRefusedFor asked errors.NumberOverflow read = IsDocumentThat read (λ d. HasTooLargeNumbers (asked d))
-IsRefusedFor asked errors.OutOfMemory read = Unit {0}
-IsRefusedFor asked errors.Output read = ⊥
+IsRefusedFor document errors.Document read = read ≡ None
+IsRefusedFor document (errors.MacroRing place i) read = IsDocumentThat read (λ d. HasFirstRing place i (document d))
+IsRefusedFor document errors.NumberOverflow read = IsDocumentThat read (λ d. HasTooLargeNumbers (document d))
+IsRefusedFor document errors.OutOfMemory read = Unit {0}
+IsRefusedFor document errors.Output read = ⊥
 
 -- why there is no answer, where the form gives this document, or none
 abbrev pub IsRefused : RunError → Option Document → Type 0

@@ -4,7 +4,7 @@ ghost use Rattle.csl_style_values.specs.StyleView.{locale_view};
 ghost use Rattle.csl_driver.specs.DriverView.{driver_view};
 ghost use Rattle.csl_passes.specs.RequestView.{entries_view, order_view, wanted_view};
 ghost use Rattle.csl_styles.specs.TablesView.{locales_of};
-ghost use Rattle.json_document.specs.AskedView.{asked_requests_view};
+ghost use Rattle.json_document.specs.JobView.{asked_requests_view};
 ghost use Rattle.json_document.specs.DocumentView.{document_view};
 ghost use Rattle.cite_document.specs.Run.{accepted, wanted_of};
 
@@ -13,7 +13,7 @@ use csl_base::entry::PlainEntry;
 use csl_driver::driver::BibliographyDriver;
 use csl_driver::request::{BibliographyRequest, Order};
 use csl_driver::terms::TermTables;
-use json_document::document::Asked;
+use json_document::document::Job;
 use json_document::requests::{AskedRequest, copied_code, driver_request};
 use std::alloc::{AllocError, Global};
 use std::convert::Infallible;
@@ -80,16 +80,16 @@ fn order_of<'o, 'e>(entries: &'o Option<Vec<&'e PlainEntry>>) -> Option<Order<'o
 /// Where memory is refused.
 pub fn bibliography_request<'o, 'e>(
     alloc: Global,
-    asked: &'o Asked<'e>,
+    job: &'o Job<'e>,
     files: &'o TermTables<'e>,
 ) -> Result<BibliographyRequest<'o, 'e, PlainEntry>, AllocError>
     ensures { IfOk result (λ request. wanted_view request
-        ≡ record (wanted_of (document_view asked.now)) { locales = map locale_view (locales_of files.now) }) }
+        ≡ record (wanted_of (document_view job.now)) { locales = map locale_view (locales_of files.now) }) }
 {
-    let locale = copied_code(alloc, &asked.wanted.locale)?;
-    let order = order_of(&asked.wanted.order);
+    let locale = copied_code(alloc, &job.wanted.locale)?;
+    let order = order_of(&job.wanted.order);
     let locales = files.locales();
-    let found = asked.wanted.style;
+    let found = job.wanted.style;
     match found.prepared() {
         Some(prepared) => Ok(BibliographyRequest::of_prepared(prepared, locale, files, order)),
         None => Ok(BibliographyRequest::ordered(found.style, locale, locales, order)),

@@ -6,7 +6,7 @@ ghost use Rattle.csl_values.specs.PlainEntry.{plain_answers};
 ghost use Rattle.csl_style_values.specs.StyleView.{locale_view};
 ghost use Rattle.csl_writing.specs.LayoutWriting.{layout_writing};
 ghost use Rattle.csl_driver.specs.Answer.{rendered};
-ghost use Rattle.csl_driver.specs.AskedView.{asked_of};
+ghost use Rattle.csl_driver.specs.JobView.{job_of};
 ghost use Rattle.csl_driver.specs.Promised.{Finishes};
 ghost use Rattle.csl_driver.specs.declared.error.RingPlace.{RingPlace};
 ghost use Rattle.json_document.specs.DocumentView.{document_view};
@@ -29,7 +29,7 @@ use csl_driver::request::BibliographyRequest;
 use csl_driver::terms::TermTables;
 use csl_round_laws::mode::RoundMode;
 use json_answer::printing::print_json;
-use json_document::document::{Asked, asked_in, top_of, utf8_text, value_of};
+use json_document::document::{Job, job_in, top_of, utf8_text, value_of};
 use json_document::entries::entries_of;
 use json_document::finders::found_styles;
 use json_styles::locales::locales_at;
@@ -47,8 +47,8 @@ fn answer_in<'e>(
 ) -> Result<Rendered, DriverError>
     ensures { Finishes
         (λ r. r ≡ rendered same_plain_entry same_own_payload (layout_writing plain_answers) rounds
-        (asked_of driver.entry request.entry))
-        same_plain_entry (asked_of driver.entry request.entry) result }
+        (job_of driver.entry request.entry))
+        same_plain_entry (job_of driver.entry request.entry) result }
 {
     match rounds {
         RoundMode::Three => driver.finish(request),
@@ -60,13 +60,13 @@ fn answer_in<'e>(
 }
 
 /// The answer to what a document asks for.
-fn answer_asked<'r>(alloc: Global, asked: &'r Asked<'_>) -> Result<Rendered, RunError>
-    ensures { IsRunAnswer result (Some (document_view asked.now)) }
+fn answer_job<'r>(alloc: Global, job: &'r Job<'_>) -> Result<Rendered, RunError>
+    ensures { IsRunAnswer result (Some (document_view job.now)) }
 {
-    let files = TermTables::new(alloc, asked.locales)?;
-    let driver = filled_driver(alloc, &asked.requests, &files, asked.offset)?;
-    let request = bibliography_request(alloc, asked, &files)?;
-    let rendered = answer_in(driver, request, asked.rounds)?;
+    let files = TermTables::new(alloc, job.locales)?;
+    let driver = filled_driver(alloc, &job.requests, &files, job.offset)?;
+    let request = bibliography_request(alloc, job, &files)?;
+    let rendered = answer_in(driver, request, job.rounds)?;
     Ok(rendered)
 }
 
@@ -83,9 +83,9 @@ fn answer_of<'e>(
         (entry_named entries.now) (map locale_view locales.now) (view value)) }
 {
     let found = found_styles(alloc, styles, &value)?;
-    let asked = asked_in(alloc, &found, entries, locales, &value)?;
+    let job = job_in(alloc, &found, entries, locales, &value)?;
     drop(value);
-    answer_asked(alloc, &asked)
+    answer_job(alloc, &job)
 }
 
 #[tactic(auto, unfolding(json_document::specs::Form::document_form))]

@@ -12,7 +12,7 @@ use Rattle.csl_assembly.specs.declared.rendered.Rendered.{Rendered}
 use Rattle.csl_writers.specs.Writing.{Writing}
 use Rattle.csl_collapse.specs.Collapsed.{collapsed, drawn_together}
 use Rattle.csl_collapse.specs.NumberLaws.{CanBeReadBack}
-use Rattle.csl_driver.specs.Answer.{Asked, entries_listed, final_number, in_final_order, in_the_end, numbered_finally, order_in_use, rendered_first}
+use Rattle.csl_driver.specs.Answer.{Job, entries_listed, final_number, in_final_order, in_the_end, numbered_finally, order_in_use, rendered_first}
 use Rattle.csl_driver.specs.AnswerLaws.{AreInOrder, ComeFrom, HaveNumbersOnce, IsBroughtTogether, IsReadBack, IsSettled, KeepsLaws, entries_in, number_in, numbers_in, unsettled}
 use Rattle.csl_driver.specs.AreCitesOf.{AreCitesOf}
 use Rattle.csl_driver.specs.ListedOnce.{ListsEachOnce}
@@ -143,9 +143,9 @@ module _ {E P : Type 0} (eq : E → E → Bool) (laws : IsEquivalence eq) (each_
           (in-its-order eq laws offset listed entries (λ e within. is_in-distinct eq laws e (cited requests) ∙ sym ((each_once (Some order) (cited requests)).same e) ∙ within)
           (gapless offset (Some order) (cited requests)))
 
-  module _ (writing : Writing E P) (payload_eq : P → P → Bool) (mode : RoundMode) (asked : Asked E P) (r : Rendered × Account E) (is : IsExactly eq payload_eq writing mode asked r) where
+  module _ (writing : Writing E P) (payload_eq : P → P → Bool) (mode : RoundMode) (job : Job E P) (r : Rendered × Account E) (is : IsExactly eq payload_eq writing mode job r) where
     abbrev firsts : List (CiteRender E P)
-    firsts = rendered_first eq payload_eq writing asked
+    firsts = rendered_first eq payload_eq writing job
 
     abbrev all_tables : List (StateTable E)
     all_tables = tables mode eq writing firsts
@@ -154,20 +154,20 @@ module _ {E P : Type 0} (eq : E → E → Bool) (laws : IsEquivalence eq) (each_
     told = disambiguated mode eq writing firsts
 
     abbrev in_order : List (CiteRender E P)
-    in_order = in_final_order eq payload_eq writing mode asked
+    in_order = in_final_order eq payload_eq writing mode job
 
     abbrev number_of : E → ℕ
-    number_of = final_number eq payload_eq writing mode asked
+    number_of = final_number eq payload_eq writing mode job
 
     abbrev in_end : List (CiteRender E P)
-    in_end = in_the_end eq payload_eq writing mode asked
+    in_end = in_the_end eq payload_eq writing mode job
 
-    ordered : AreCitesOf eq (table_of eq asked.requests) asked.requests in_order
+    ordered : AreCitesOf eq (table_of eq job.requests) job.requests in_order
     ordered =
-        ordered-stand laws writing payload_eq asked {table = table_of eq asked.requests} refl {begun = firsts} refl mode {told = told} {ordered = in_order} refl refl
+        ordered-stand laws writing payload_eq job {table = table_of eq job.requests} refl {begun = firsts} refl mode {told = told} {ordered = in_order} refl refl
 
-    same-cited : (e : E) → is_in eq e (cited_finally in_order) ≡ is_in eq e (cited asked.requests)
-    same-cited e = ordered.same e ∙ is_in-distinct eq laws e (cited asked.requests)
+    same-cited : (e : E) → is_in eq e (cited_finally in_order) ≡ is_in eq e (cited job.requests)
+    same-cited e = ordered.same e ∙ is_in-distinct eq laws e (cited job.requests)
 
     abbrev settled : ℕ → CiteRender E P → CiteRender E P
     settled k c = record c { items = with_final_items eq payload_eq number_of (items_before in_order k) c.items }
@@ -188,22 +188,22 @@ module _ {E P : Type 0} (eq : E → E → Bool) (laws : IsEquivalence eq) (each_
     same-number : (e : E) → is_in eq e (cited_finally in_order) ≡ true → number_of e ≡ account_number e
     same-number e within =
         sym ((λ i. number_in eq (is.entries i) (is.numbers i) e)
-        ∙ at-place eq laws number_of (number-alike eq laws asked.offset (numbered_finally eq (order_in_use asked.wanted) asked.requests in_order)) e (distinct eq (cited asked.requests))
-        (is_in-distinct eq laws e (cited asked.requests) ∙ sym (same-cited e) ∙ within))
+        ∙ at-place eq laws number_of (number-alike eq laws job.offset (numbered_finally eq (order_in_use job.wanted) job.requests in_order)) e (distinct eq (cited job.requests))
+        (is_in-distinct eq laws e (cited job.requests) ∙ sym (same-cited e) ∙ within))
 
     placed : in_end ≡ with_final_properties eq payload_eq account_number in_order
     placed = final-agree eq payload_eq number_of account_number in_order (each-cite eq laws (λ e. number_of e ≡ account_number e) in_order same-number)
 
     -- the bibliography
-    listed-once : ListsEachOnce eq writing asked (entries_in r.1) in_end r.0.bibliography
+    listed-once : ListsEachOnce eq writing job (entries_in r.1) in_end r.0.bibliography
     listed-once =
-        let entries : List E = distinct eq (cited asked.requests) in
-        let listed = each_once (order_in_use asked.wanted) (cited asked.requests) in
-        let stand = final-stand eq laws writing (table_of eq asked.requests) asked.requests in_order ordered payload_eq number_of in
-        subst (λ es. ListsEachOnce eq writing asked es in_end r.0.bibliography) (sym is.entries)
-        (lists-each-once eq laws writing asked entries in_end (each_once None (cited asked.requests)).once listed.once
-        (λ e. listed.same e ∙ sym (is_in-distinct eq laws e (cited asked.requests)))
-        (firsts-found eq laws in_end asked.requests (order_in_use asked.wanted) (table_of eq asked.requests) refl stand)
+        let entries : List E = distinct eq (cited job.requests) in
+        let listed = each_once (order_in_use job.wanted) (cited job.requests) in
+        let stand = final-stand eq laws writing (table_of eq job.requests) job.requests in_order ordered payload_eq number_of in
+        subst (λ es. ListsEachOnce eq writing job es in_end r.0.bibliography) (sym is.entries)
+        (lists-each-once eq laws writing job entries in_end (each_once None (cited job.requests)).once listed.once
+        (λ e. listed.same e ∙ sym (is_in-distinct eq laws e (cited job.requests)))
+        (firsts-found eq laws in_end job.requests (order_in_use job.wanted) (table_of eq job.requests) refl stand)
         r.0.bibliography (ap (λ (a : Rendered). a.bibliography) is.ok))
 
     module _ (brought : (c : CiteRender E P) → HasFinalOrder (is_grouped c.request.style.citation) c.items (grouped c).items)
@@ -211,7 +211,7 @@ module _ {E P : Type 0} (eq : E → E → Bool) (laws : IsEquivalence eq) (each_
       are-read-back : AllZip IsReadBack in_end (map drawn_together in_end)
       are-read-back = zip-mapped IsReadBack drawn_together (read-back drawn) in_end
 
-      abbrev citations-come : ComeFrom eq payload_eq writing asked account_number told r.0.citations
+      abbrev citations-come : ComeFrom eq payload_eq writing job account_number told r.0.citations
       citations-come = record {
         ordered = in_order;
         settled = in_end;
@@ -219,10 +219,10 @@ module _ {E P : Type 0} (eq : E → E → Bool) (laws : IsEquivalence eq) (each_
         final_orders = zip-mapped IsBroughtTogether grouped (λ c. record { same_request = grouped-request c; final_order = brought c }) told;
         settles = settled-cites;
         positions = placed;
-        own_cites = settled-own eq payload_eq writing mode asked brought number_of;
+        own_cites = settled-own eq payload_eq writing mode job brought number_of;
         runs = are-read-back;
         numbered = drawn-numbered eq payload_eq account_number in_order (map drawn_together in_end) (subst (λ cs. AllZip IsReadBack cs (map drawn_together in_end)) placed are-read-back);
-        asked_for = drawn-requests in_end ∙ (final-stand eq laws writing (table_of eq asked.requests) asked.requests in_order ordered payload_eq number_of).of;
+        asked_for = drawn-requests in_end ∙ (final-stand eq laws writing (table_of eq job.requests) job.requests in_order ordered payload_eq number_of).of;
         made = ap (λ (a : Rendered). a.citations) is.ok;
         shows = ap (λ (a : Rendered). map (λ c. entries_shown c.citation) a.citations) is.ok ∙ citations-shown writing (map drawn_together in_end);
       }
@@ -244,27 +244,27 @@ module _ {E P : Type 0} (eq : E → E → Bool) (laws : IsEquivalence eq) (each_
 
       pub keeps-laws : ((m : RoundMode) (requests : List (Request E P)) (properties : List (List FirstProperties))
           → let fs = first_renders writing requests properties in IsLawful m eq writing fs (tables m eq writing fs) (rounds m eq writing fs))
-          → KeepsLaws eq payload_eq writing mode asked r
+          → KeepsLaws eq payload_eq writing mode job r
       unfolding disambiguated
       keeps-laws lawful = record {
         tables = all_tables;
         first_is_empty = begins mode eq writing firsts (most_rounds mode eq firsts) no_states;
         one_for_each_round = is.rounds;
         last_is_told = is.states ∙ ap (map (λ e. told_by (last_table all_tables e))) (sym is.entries) ∙ map-map (λ e. told_by (last_table all_tables e)) (λ e. e.now) r.1.entries.items;
-        rounds = laws-of-rounds (lawful mode asked.requests (first_properties eq payload_eq (number eq asked.offset (entries_listed eq asked.wanted asked.requests)) asked.requests));
+        rounds = laws-of-rounds (lawful mode job.requests (first_properties eq payload_eq (number eq job.offset (entries_listed eq job.wanted job.requests)) job.requests));
         cited_entries = is.entries;
-        numbers = subst (λ es. HaveNumbersOnce eq asked.offset es r.1.numbers.items) (sym is.entries)
-            (subst (HaveNumbersOnce eq asked.offset (distinct eq (cited asked.requests))) (sym is.numbers) (by-order asked.requests in_order same-cited asked.offset (order_in_use asked.wanted)));
+        numbers = subst (λ es. HaveNumbersOnce eq job.offset es r.1.numbers.items) (sym is.entries)
+            (subst (HaveNumbersOnce eq job.offset (distinct eq (cited job.requests))) (sym is.numbers) (by-order job.requests in_order same-cited job.offset (order_in_use job.wanted)));
         citations = citations-come;
         numbers_in_order = λ none. (λ i. map (number_in eq (is.entries i) (is.numbers i)) (distinct eq (cited_finally in_order)))
-            ∙ in-order asked.requests in_order same-cited asked.offset (order_in_use asked.wanted) none;
-        numbers_by_order = λ order used. (λ i. map (number_in eq (is.entries i) (is.numbers i)) (bibliography_order eq (Some order) (cited asked.requests)))
-            ∙ in-given-order asked.requests in_order same-cited asked.offset (order_in_use asked.wanted) order used;
+            ∙ in-order job.requests in_order same-cited job.offset (order_in_use job.wanted) none;
+        numbers_by_order = λ order used. (λ i. map (number_in eq (is.entries i) (is.numbers i)) (bibliography_order eq (Some order) (cited job.requests)))
+            ∙ in-given-order job.requests in_order same-cited job.offset (order_in_use job.wanted) order used;
         bibliography = listed-once;
       }
 
 -- what is exactly the answer keeps the laws, and so is all that is promised
-pub is-answer : {E P : Type 0} (eq : E → E → Bool) (payload_eq : P → P → Bool) (writing : Writing E P) (mode : RoundMode) (asked : Asked E P) (r : Rendered × Account E)
-    → ((r : Rendered × Account E) → IsExactly eq payload_eq writing mode asked r → KeepsLaws eq payload_eq writing mode asked r)
-    → IsExactly eq payload_eq writing mode asked r → IsAnswer eq payload_eq writing mode asked r
-is-answer eq payload_eq writing mode asked r keeps exact = record { exact = exact; laws = keeps r exact }
+pub is-answer : {E P : Type 0} (eq : E → E → Bool) (payload_eq : P → P → Bool) (writing : Writing E P) (mode : RoundMode) (job : Job E P) (r : Rendered × Account E)
+    → ((r : Rendered × Account E) → IsExactly eq payload_eq writing mode job r → KeepsLaws eq payload_eq writing mode job r)
+    → IsExactly eq payload_eq writing mode job r → IsAnswer eq payload_eq writing mode job r
+is-answer eq payload_eq writing mode job r keeps exact = record { exact = exact; laws = keeps r exact }

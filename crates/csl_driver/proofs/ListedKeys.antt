@@ -11,7 +11,7 @@ use Rattle.csl_assembly.specs.BibliographyItems.{bibliography_of, with_first_fie
 use Rattle.csl_assembly.specs.declared.rendered.RenderedBibliography.{RenderedBibliography}
 use Rattle.csl_style_values.specs.Style.{BibliographyValue}
 use Rattle.csl_style_values.specs.declared.style.SubsequentAuthorSubstituteRule.{SubsequentAuthorSubstituteRule}
-use Rattle.csl_driver.specs.Answer.{Asked, entries_listed}
+use Rattle.csl_driver.specs.Answer.{Job, entries_listed}
 use Rattle.csl_driver.specs.ListedOnce.{EqualHaveEqualKeys, ListsEachOnce, key_of, keys_of}
 use Rattle.csl_driver.proofs.EachOnce.{permuted}
 use Rattle.csl_entries.specs.Entries.{is_in}
@@ -128,44 +128,44 @@ module _ {E : Type 0} (eq : E → E → Bool) (laws : IsEquivalence eq) where
         ∙ substituted-keys b.subsequent_author_substitute_rule b.subsequent_author_substitute (map (written_item writing source) firsts)
         ∙ written-keys source firsts
 
-    module _ (asked : Asked E P) (entries : List E) (cites : List (CiteRender E P)) (once : NoTwoEqual eq entries) where
+    module _ (job : Job E P) (entries : List E) (cites : List (CiteRender E P)) (once : NoTwoEqual eq entries) where
       abbrev listed : List E
-      listed = entries_listed eq asked.wanted asked.requests
+      listed = entries_listed eq job.wanted job.requests
 
       abbrev first_cites : List (ItemRender E P)
       first_cites = filter_map (first_item eq cites) listed
 
       abbrev made : Option RenderedBibliography
-      made = option_map (λ b. bibliography_of writing (wanted_source asked.wanted) b first_cites) asked.wanted.style.bibliography
+      made = option_map (λ b. bibliography_of writing (wanted_source job.wanted) b first_cites) job.wanted.style.bibliography
 
       module _ (listed_once : NoTwoEqual eq listed) (same : (e : E) → is_in eq e listed ≡ is_in eq e entries) (found : All (λ e. is_some (first_item eq cites e) ≡ true) listed) where
         each : AreEqual listed (map (λ i. i.entry) first_cites)
         each = firsts-equal cites listed first_cites (all-given (first_item eq cites) listed found)
 
-        count : (b : BibliographyValue) → length (bibliography_of writing (wanted_source asked.wanted) b first_cites).items ≡ length entries
+        count : (b : BibliographyValue) → length (bibliography_of writing (wanted_source job.wanted) b first_cites).items ≡ length entries
         count b =
-            let whole : RenderedBibliography = bibliography_of writing (wanted_source asked.wanted) b first_cites in
-            sym (length-map whole.items (λ item. item.key)) ∙ ap length (bibliography-keys (wanted_source asked.wanted) b first_cites)
+            let whole : RenderedBibliography = bibliography_of writing (wanted_source job.wanted) b first_cites in
+            sym (length-map whole.items (λ item. item.key)) ∙ ap length (bibliography-keys (wanted_source job.wanted) b first_cites)
             ∙ length-map first_cites (λ i. key_of eq writing i.entry) ∙ sym (length-map first_cites (λ i. i.entry))
             ∙ equal-length listed (map (λ i. i.entry) first_cites) each ∙ same-length listed entries listed_once once same
 
-        in-order : EqualHaveEqualKeys eq writing → (b : BibliographyValue) → keys_of (bibliography_of writing (wanted_source asked.wanted) b first_cites) ≡ map (key_of eq writing) listed
+        in-order : EqualHaveEqualKeys eq writing → (b : BibliographyValue) → keys_of (bibliography_of writing (wanted_source job.wanted) b first_cites) ≡ map (key_of eq writing) listed
         in-order alike b =
-            bibliography-keys (wanted_source asked.wanted) b first_cites ∙ sym (map-map (key_of eq writing) (λ i. i.entry) first_cites)
+            bibliography-keys (wanted_source job.wanted) b first_cites ∙ sym (map-map (key_of eq writing) (λ i. i.entry) first_cites)
             ∙ equal-values (key_of eq writing) alike listed (map (λ i. i.entry) first_cites) each
 
-        pub lists-each-once : (bibliography : Option RenderedBibliography) → bibliography ≡ made → ListsEachOnce eq writing asked entries cites bibliography
-        lists-each-once bibliography is = subst (ListsEachOnce eq writing asked entries cites) (sym is) (record {
-          where_asked_for = mapped-some (λ b. bibliography_of writing (wanted_source asked.wanted) b first_cites) asked.wanted.style.bibliography;
+        pub lists-each-once : (bibliography : Option RenderedBibliography) → bibliography ≡ made → ListsEachOnce eq writing job entries cites bibliography
+        lists-each-once bibliography is = subst (ListsEachOnce eq writing job entries cites) (sym is) (record {
+          where_asked_for = mapped-some (λ b. bibliography_of writing (wanted_source job.wanted) b first_cites) job.wanted.style.bibliography;
           firsts = first_cites;
           first_cites = all-given (first_item eq cites) listed found;
           none_twice = equal-apart listed (map (λ i. i.entry) first_cites) each listed_once;
           no_other = λ e. equal-in e listed (map (λ i. i.entry) first_cites) each ∙ same e;
-          as_many = mapped-all _ _ count asked.wanted.style.bibliography;
-          keys = mapped-all _ _ (λ b. bibliography-keys (wanted_source asked.wanted) b first_cites) asked.wanted.style.bibliography;
-          keys_in_order = λ alike. mapped-all _ _ (in-order alike) asked.wanted.style.bibliography;
+          as_many = mapped-all _ _ count job.wanted.style.bibliography;
+          keys = mapped-all _ _ (λ b. bibliography-keys (wanted_source job.wanted) b first_cites) job.wanted.style.bibliography;
+          keys_in_order = λ alike. mapped-all _ _ (in-order alike) job.wanted.style.bibliography;
           keys_of_entries = λ alike. mapped-all _ _
               (λ b. subst (IsPermutation (map (key_of eq writing) entries)) (sym (in-order alike b))
-              (permuted eq laws (key_of eq writing) alike entries listed once listed_once (λ e. sym (same e)))) asked.wanted.style.bibliography;
+              (permuted eq laws (key_of eq writing) alike entries listed once listed_once (λ e. sym (same e)))) job.wanted.style.bibliography;
           made = refl;
         })

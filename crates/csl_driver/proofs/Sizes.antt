@@ -12,7 +12,7 @@ use Rattle.csl_writers.specs.Writing.{Writing}
 use Rattle.csl_style_values.specs.Style.{CitationValue}
 use Rattle.csl_style_values.specs.declared.style.Collapse.{Collapse}
 use Rattle.csl_collapse.specs.Collapsed.{collapsed, collapsed_cites, drawn_together}
-use Rattle.csl_driver.specs.Answer.{Asked, entries_listed, final_number, in_final_order, in_the_end, rendered_first}
+use Rattle.csl_driver.specs.Answer.{Job, entries_listed, final_number, in_final_order, in_the_end, rendered_first}
 use Rattle.csl_driver.proofs.FirstPlaced.{first-cited}
 use Rattle.csl_entries.specs.Entries.{number}
 use Rattle.csl_grouping.specs.Blocks.{final_order, group_delimiter, grouped, grouped_cites, is_grouped}
@@ -68,30 +68,30 @@ module _ {E P : Type 0} where
       by true = collapsed-length c.request.style.citation.collapse c.request.style.citation c.items
       by false = refl
 
-module _ {E P : Type 0} (eq : E → E → Bool) (payload_eq : P → P → Bool) (writing : Writing E P) (mode : RoundMode) (asked : Asked E P) where
-  pub first-size : sum_by size (rendered_first eq payload_eq writing asked) ≡ length (cites_of asked.requests)
+module _ {E P : Type 0} (eq : E → E → Bool) (payload_eq : P → P → Bool) (writing : Writing E P) (mode : RoundMode) (job : Job E P) where
+  pub first-size : sum_by size (rendered_first eq payload_eq writing job) ≡ length (cites_of job.requests)
   first-size =
-      let firsts = rendered_first eq payload_eq writing asked in
-      let requests = asked.requests in
+      let firsts = rendered_first eq payload_eq writing job in
+      let requests = job.requests in
       sum-same size (λ c. length (map (λ i. i.entry) c.items)) (λ c. sym (length-map c.items (λ i. i.entry))) firsts
       ∙ sym (length-flat_map (λ c. map (λ i. i.entry) c.items) firsts)
-      ∙ ap length (first-cited eq payload_eq writing (number eq asked.offset (entries_listed eq asked.wanted requests)) [] requests)
+      ∙ ap length (first-cited eq payload_eq writing (number eq job.offset (entries_listed eq job.wanted requests)) [] requests)
       ∙ length-flat_map (λ r. entries_of r.cites) requests
       ∙ sum-same (λ r. length (entries_of r.cites)) (λ r. length r.cites) (λ r. length-map r.cites (λ c. c.entry)) requests
       ∙ sym (length-flat_map (λ r. r.cites) requests)
 
-  told-size : sum_by size (disambiguated mode eq writing (rendered_first eq payload_eq writing asked)) ≡ sum_by size (rendered_first eq payload_eq writing asked)
+  told-size : sum_by size (disambiguated mode eq writing (rendered_first eq payload_eq writing job)) ≡ sum_by size (rendered_first eq payload_eq writing job)
   unfolding disambiguated
   told-size =
-      let firsts = rendered_first eq payload_eq writing asked in
+      let firsts = rendered_first eq payload_eq writing job in
       sum-mapped size (request_at writing (last_states mode eq writing firsts)) (λ c. length-map c.items _) firsts
 
   -- as many as the requests have
-  pub last-size : sum_by size (map drawn_together (in_the_end eq payload_eq writing mode asked)) ≡ length (cites_of asked.requests)
+  pub last-size : sum_by size (map drawn_together (in_the_end eq payload_eq writing mode job)) ≡ length (cites_of job.requests)
   last-size =
-      let told = disambiguated mode eq writing (rendered_first eq payload_eq writing asked) in
-      let number_of = final_number eq payload_eq writing mode asked in
-      sum-mapped size drawn_together drawn-size (in_the_end eq payload_eq writing mode asked)
-      ∙ sum-changed size (λ k c. record c { items = with_final_items eq payload_eq number_of (items_before (in_final_order eq payload_eq writing mode asked) k) c.items })
+      let told = disambiguated mode eq writing (rendered_first eq payload_eq writing job) in
+      let number_of = final_number eq payload_eq writing mode job in
+      sum-mapped size drawn_together drawn-size (in_the_end eq payload_eq writing mode job)
+      ∙ sum-changed size (λ k c. record c { items = with_final_items eq payload_eq number_of (items_before (in_final_order eq payload_eq writing mode job) k) c.items })
       (λ k c. length-map (enumerate_from 0 c.items) _ ∙ length-enumerate_from 0 c.items) 0 (map grouped told)
       ∙ sum-mapped size grouped grouped-size told ∙ told-size ∙ first-size

@@ -6,7 +6,7 @@ use Rattle.std.specs.List.{AllZip, enumerate_from}
 use Rattle.std.proofs.lemmas.List.Elements.{All-cons, All-head, All-nil, All-tail}
 use Rattle.csl_writers.specs.Writing.{Writing}
 use Rattle.csl_collapse.specs.Collapsed.{collapsed, drawn_together}
-use Rattle.csl_driver.specs.Answer.{Asked, entries_listed, rendered_first}
+use Rattle.csl_driver.specs.Answer.{Job, entries_listed, rendered_first}
 use Rattle.csl_driver.specs.AreCitesOf.{AreCitesOf}
 use Rattle.csl_driver.proofs.FirstPlaced.{first-cited, first-placed, first-places, first-requests}
 use Rattle.csl_driver.proofs.Listings.{table-within}
@@ -159,32 +159,32 @@ module _ {E P : Type 0} (eq : E → E → Bool) (laws : IsEquivalence eq) (writi
         settled : ℕ → CiteRender E P → CiteRender E P
         settled k c = record c { items = with_final_items eq payload_eq number_of (items_before cites k) c.items }
 
-module _ {E P : Type 0} {eq : E → E → Bool} (laws : IsEquivalence eq) (writing : Writing E P) (payload_eq : P → P → Bool) (asked : Asked E P)
-    {table : Table E} (is : table ≡ table_of eq asked.requests) {begun : List (CiteRender E P)} (first : begun ≡ rendered_first eq payload_eq writing asked) where
+module _ {E P : Type 0} {eq : E → E → Bool} (laws : IsEquivalence eq) (writing : Writing E P) (payload_eq : P → P → Bool) (job : Job E P)
+    {table : Table E} (is : table ≡ table_of eq job.requests) {begun : List (CiteRender E P)} (first : begun ≡ rendered_first eq payload_eq writing job) where
   -- the first renders, over the table
-  begun-stand : AreCitesOf eq table asked.requests begun
+  begun-stand : AreCitesOf eq table job.requests begun
   begun-stand =
-      subst (AreCitesOf eq table asked.requests) (sym first)
-      (subst (λ t. AreCitesOf eq t asked.requests (rendered_first eq payload_eq writing asked)) (sym is)
-      (first-stand eq laws writing payload_eq (number eq asked.offset (entries_listed eq asked.wanted asked.requests)) asked.requests))
+      subst (AreCitesOf eq table job.requests) (sym first)
+      (subst (λ t. AreCitesOf eq t job.requests (rendered_first eq payload_eq writing job)) (sym is)
+      (first-stand eq laws writing payload_eq (number eq job.offset (entries_listed eq job.wanted job.requests)) job.requests))
 
   -- they can be disambiguated
-  pub begun-of-table : All (λ r. HasNoRing r.style.macros) asked.requests → AreCitesOfTable eq table begun
+  pub begun-of-table : All (λ r. HasNoRing r.style.macros) job.requests → AreCitesOfTable eq table begun
   begun-of-table no_ring = record {
-    no_ring = of-requests (λ r. HasNoRing r.style.macros) begun asked.requests begun-stand.of no_ring;
-    placed = first-places eq payload_eq writing (number eq asked.offset (entries_listed eq asked.wanted asked.requests)) asked.requests table is begun first;
-    listed = table-within eq laws asked.requests table is;
+    no_ring = of-requests (λ r. HasNoRing r.style.macros) begun job.requests begun-stand.of no_ring;
+    placed = first-places eq payload_eq writing (number eq job.offset (entries_listed eq job.wanted job.requests)) job.requests table is begun first;
+    listed = table-within eq laws job.requests table is;
   }
 
   module _ (mode : RoundMode) {told ordered : List (CiteRender E P)} (apart : told ≡ disambiguated mode eq writing begun) (grouping : ordered ≡ map grouped told) where
     -- disambiguated and in their blocks
-    pub ordered-stand : AreCitesOf eq table asked.requests ordered
+    pub ordered-stand : AreCitesOf eq table job.requests ordered
     ordered-stand =
-        subst (AreCitesOf eq table asked.requests) (sym grouping)
-        (grouped-stand eq laws writing table asked.requests told
-        (subst (AreCitesOf eq table asked.requests) (sym apart) (disambiguated-stand eq laws writing table asked.requests begun begun-stand mode)))
+        subst (AreCitesOf eq table job.requests) (sym grouping)
+        (grouped-stand eq laws writing table job.requests told
+        (subst (AreCitesOf eq table job.requests) (sym apart) (disambiguated-stand eq laws writing table job.requests begun begun-stand mode)))
 
     -- and with their final properties
-    pub settled-stand : (number_of : E → ℕ) {settled : List (CiteRender E P)} → settled ≡ with_final_properties eq payload_eq number_of ordered → AreCitesOf eq table asked.requests settled
+    pub settled-stand : (number_of : E → ℕ) {settled : List (CiteRender E P)} → settled ≡ with_final_properties eq payload_eq number_of ordered → AreCitesOf eq table job.requests settled
     settled-stand number_of {settled} are =
-        subst (AreCitesOf eq table asked.requests) (sym are) (final-stand eq laws writing table asked.requests ordered ordered-stand payload_eq number_of)
+        subst (AreCitesOf eq table job.requests) (sym are) (final-stand eq laws writing table job.requests ordered ordered-stand payload_eq number_of)

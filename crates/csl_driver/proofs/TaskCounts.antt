@@ -10,7 +10,7 @@ use Rattle.std.proofs.lemmas.List.Sums.{sum_by-cons}
 use Rattle.csl_assembly.specs.CitationTree.{citation_tasks}
 use Rattle.csl_collapse.specs.Collapsed.{drawn_together}
 use Rattle.csl_driver.specs.Account.{cost, listed_count, rerendered, where_listed}
-use Rattle.csl_driver.specs.Answer.{Asked, entries_listed, listed_first_cites, in_final_order, in_the_end, order_in_use, rendered_first}
+use Rattle.csl_driver.specs.Answer.{Job, entries_listed, listed_first_cites, in_final_order, in_the_end, order_in_use, rendered_first}
 use Rattle.csl_driver.specs.WriterTasks.{begun_tasks, last_tasks, listed_tasks, tasks, where_wanted}
 use Rattle.csl_driver.proofs.FirstPlaced.{first-cited}
 use Rattle.csl_driver.proofs.ListedCount.{firsts-counted}
@@ -77,23 +77,23 @@ wanted-count : {B X : Type 0} (o : Option B) (ts : List X) (n : ℕ) → length 
 wanted-count None ts n same = refl
 wanted-count (Some b) ts n same = same
 
-module _ {E P : Type 0} (eq : E → E → Bool) (laws : IsEquivalence eq) (payload_eq : P → P → Bool) (writing : Writing E P) (mode : RoundMode) (asked : Asked E P) where
+module _ {E P : Type 0} (eq : E → E → Bool) (laws : IsEquivalence eq) (payload_eq : P → P → Bool) (writing : Writing E P) (mode : RoundMode) (job : Job E P) where
   abbrev firsts : List (CiteRender E P)
-  firsts = rendered_first eq payload_eq writing asked
+  firsts = rendered_first eq payload_eq writing job
 
   abbrev in_end : List (CiteRender E P)
-  in_end = in_the_end eq payload_eq writing mode asked
+  in_end = in_the_end eq payload_eq writing mode job
 
-  begun-count : length (begun_tasks eq payload_eq asked) ≡ length (cites_of asked.requests)
+  begun-count : length (begun_tasks eq payload_eq job) ≡ length (cites_of job.requests)
   begun-count =
-      let properties = first_properties eq payload_eq (number eq asked.offset (entries_listed eq asked.wanted asked.requests)) asked.requests in
-      let rows : List (Request E P × List FirstProperties) = zip asked.requests properties in
+      let properties = first_properties eq payload_eq (number eq job.offset (entries_listed eq job.wanted job.requests)) job.requests in
+      let rows : List (Request E P × List FirstProperties) = zip job.requests properties in
       length-flat_map (λ r. first_tasks_of r.0 r.1) rows
       ∙ sum-same (λ r. length (first_tasks_of r.0 r.1)) (λ r. size (first_renders_of writing r.0 r.1))
       (λ r. length-map (zip r.0.cites r.1) _ ∙ sym (length-map (zip r.0.cites r.1) _)) rows
-      ∙ sym (sum-map size (λ r. first_renders_of writing r.0 r.1) rows) ∙ first-size eq payload_eq writing mode asked
+      ∙ sym (sum-map size (λ r. first_renders_of writing r.0 r.1) rows) ∙ first-size eq payload_eq writing mode job
 
-  rounds-count : length (round_tasks mode eq writing firsts) ≡ rerendered eq payload_eq writing mode asked
+  rounds-count : length (round_tasks mode eq writing firsts) ≡ rerendered eq payload_eq writing mode job
   rounds-count =
       let done : List (StateTable E) = take (rounds mode eq writing firsts) (tables mode eq writing firsts) in
       let marked : StateTable E → StateTable E = marked_at mode eq writing firsts in
@@ -102,27 +102,27 @@ module _ {E P : Type 0} (eq : E → E → Bool) (laws : IsEquivalence eq) (paylo
       (λ t. again-count (marked t) (at_table writing t firsts) ∙ ap (λ es. marked_among es (marked t)) (same-entries writing t firsts)) done
       ∙ sym (sum-map (marked_among (entries_cited firsts)) marked done)
       ∙ ap (λ es. rerenders es (round_tables mode eq writing firsts))
-      (first-cited eq payload_eq writing (number eq asked.offset (entries_listed eq asked.wanted asked.requests)) [] asked.requests)
+      (first-cited eq payload_eq writing (number eq job.offset (entries_listed eq job.wanted job.requests)) [] job.requests)
 
-  listed-count : length (listed_tasks eq payload_eq writing mode asked) ≡ listed_count eq asked.wanted asked.requests
+  listed-count : length (listed_tasks eq payload_eq writing mode job) ≡ listed_count eq job.wanted job.requests
   listed-count =
-      let table = table_of eq asked.requests in
-      let ordered = ordered-stand laws writing payload_eq asked {table = table} refl {begun = firsts} refl mode {told = _} {ordered = in_final_order eq payload_eq writing mode asked} refl refl in
-      let stand = final-stand eq laws writing table asked.requests (in_final_order eq payload_eq writing mode asked) ordered payload_eq _ in
-      wanted-count asked.wanted.style.bibliography _ _
-      (length-map (listed_first_cites eq payload_eq writing mode asked) _ ∙ firsts-counted eq laws in_end asked.requests (order_in_use asked.wanted) table refl stand)
+      let table = table_of eq job.requests in
+      let ordered = ordered-stand laws writing payload_eq job {table = table} refl {begun = firsts} refl mode {told = _} {ordered = in_final_order eq payload_eq writing mode job} refl refl in
+      let stand = final-stand eq laws writing table job.requests (in_final_order eq payload_eq writing mode job) ordered payload_eq _ in
+      wanted-count job.wanted.style.bibliography _ _
+      (length-map (listed_first_cites eq payload_eq writing mode job) _ ∙ firsts-counted eq laws in_end job.requests (order_in_use job.wanted) table refl stand)
 
   -- as much as the account says
-  pub task-count : length (tasks eq payload_eq writing mode asked) ≡ cost eq payload_eq writing mode asked
+  pub task-count : length (tasks eq payload_eq writing mode job) ≡ cost eq payload_eq writing mode job
   task-count =
-      let begun : List (TaskValue E P) = begun_tasks eq payload_eq asked in
+      let begun : List (TaskValue E P) = begun_tasks eq payload_eq job in
       let again : List (TaskValue E P) = round_tasks mode eq writing firsts in
-      let listed : List (TaskValue E P) = listed_tasks eq payload_eq writing mode asked in
+      let listed : List (TaskValue E P) = listed_tasks eq payload_eq writing mode job in
       let last : List (TaskValue E P) = last_tasks (map drawn_together in_end) in
       let first_seam = length-append begun (again ++ (listed ++ last)) in
       let second_seam = length-append again (listed ++ last) in
       let third_seam = length-append listed last in
-      let in_last = last-count (map drawn_together in_end) ∙ last-size eq payload_eq writing mode asked in
+      let in_last = last-count (map drawn_together in_end) ∙ last-size eq payload_eq writing mode job in
       let in_listed = listed-count in
       let in_again = rounds-count in
       let in_begun = begun-count in

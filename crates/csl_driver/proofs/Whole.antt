@@ -8,26 +8,26 @@ use Rattle.csl_assembly.specs.declared.rendered.RenderedBibliography.{RenderedBi
 use Rattle.csl_assembly.specs.declared.rendered.RenderedCitation.{RenderedCitation}
 use Rattle.csl_collapse.specs.Collapsed.{drawn_together}
 use Rattle.csl_writers.specs.Writing.{Writing}
-use Rattle.csl_driver.specs.Answer.{Asked, citations_of, entries_listed, in_the_end, rendered}
+use Rattle.csl_driver.specs.Answer.{Job, citations_of, entries_listed, in_the_end, rendered}
 use Rattle.csl_passes.specs.Renders.{CiteRender}
 use Rattle.csl_passes.specs.Request.{wanted_source}
 use Rattle.csl_positions.specs.FinalProperties.{first_item}
 use Rattle.csl_round_laws.specs.declared.mode.RoundMode.{RoundMode}
 
-module _ {E P : Type 0} (eq : E → E → Bool) (payload_eq : P → P → Bool) (writing : Writing E P) (mode : RoundMode) (asked : Asked E P)
-    (settled drawn : List (CiteRender E P)) (in_end : settled ≡ in_the_end eq payload_eq writing mode asked) (together : drawn ≡ map drawn_together settled) where
+module _ {E P : Type 0} (eq : E → E → Bool) (payload_eq : P → P → Bool) (writing : Writing E P) (mode : RoundMode) (job : Job E P)
+    (settled drawn : List (CiteRender E P)) (in_end : settled ≡ in_the_end eq payload_eq writing mode job) (together : drawn ≡ map drawn_together settled) where
   pub whole : {citations : List RenderedCitation} {bibliography : Option RenderedBibliography} → citations ≡ citations_of writing drawn
-      → bibliography ≡ option_map (λ b. bibliography_of writing (wanted_source asked.wanted) b (filter_map (first_item eq settled) (entries_listed eq asked.wanted asked.requests))) asked.wanted.style.bibliography
-      → let r : Rendered = record { bibliography = bibliography; citations = citations } in r ≡ rendered eq payload_eq writing mode asked
+      → bibliography ≡ option_map (λ b. bibliography_of writing (wanted_source job.wanted) b (filter_map (first_item eq settled) (entries_listed eq job.wanted job.requests))) job.wanted.style.bibliography
+      → let r : Rendered = record { bibliography = bibliography; citations = citations } in r ≡ rendered eq payload_eq writing mode job
   whole {citations} {bibliography} cites items = λ i. record { bibliography = all_items i; citations = all_cites i }
     where
       last : List (CiteRender E P)
-      last = in_the_end eq payload_eq writing mode asked
+      last = in_the_end eq payload_eq writing mode job
 
       all_cites : citations ≡ citations_of writing (map drawn_together last)
       all_cites = cites ∙ ap (citations_of writing) (together ∙ ap (map drawn_together) in_end)
 
-      all_items : bibliography ≡ option_map (λ b. bibliography_of writing (wanted_source asked.wanted) b (filter_map (first_item eq last) (entries_listed eq asked.wanted asked.requests))) asked.wanted.style.bibliography
+      all_items : bibliography ≡ option_map (λ b. bibliography_of writing (wanted_source job.wanted) b (filter_map (first_item eq last) (entries_listed eq job.wanted job.requests))) job.wanted.style.bibliography
       all_items =
           items
-          ∙ ap (λ cs. option_map (λ b. bibliography_of writing (wanted_source asked.wanted) b (filter_map (first_item eq cs) (entries_listed eq asked.wanted asked.requests))) asked.wanted.style.bibliography) in_end
+          ∙ ap (λ cs. option_map (λ b. bibliography_of writing (wanted_source job.wanted) b (filter_map (first_item eq cs) (entries_listed eq job.wanted job.requests))) job.wanted.style.bibliography) in_end

@@ -1,7 +1,7 @@
 -- The account of an answer: what it cost, and how it numbers its entries and tells them apart.
 use Rattle.std.specs.Prelude.{ℕ, ◌+◌, ◌*◌, Bool, List, Option, None, Some, length}
 use Rattle.csl_writers.specs.Writing.{Writing}
-use Rattle.csl_driver.specs.Answer.{Asked, entries_listed, rendered_first}
+use Rattle.csl_driver.specs.Answer.{Job, entries_listed, rendered_first}
 use Rattle.csl_lookup.specs.declared.state.DisambiguateState.{DisambiguateState}
 use Rattle.csl_passes.specs.Request.{Request, Wanted, cited, cites_of}
 use Rattle.csl_round_laws.specs.Rerenders.{rerenders}
@@ -20,21 +20,21 @@ listed_count eq wanted requests =
     where_listed wanted.style.bibliography (length (entries_listed eq wanted requests))
 
 module _ {E P : Type 0} (eq : E → E → Bool) (payload_eq : P → P → Bool) (writing : Writing E P)
-    (mode : RoundMode) (asked : Asked E P) where
+    (mode : RoundMode) (job : Job E P) where
   -- how many rounds mark
   abbrev pub marking : ℕ
-  marking = rounds mode eq writing (rendered_first eq payload_eq writing asked)
+  marking = rounds mode eq writing (rendered_first eq payload_eq writing job)
 
   -- the renderings of the rounds: one in each that marks for each cite whose entry it marks
   abbrev pub rerendered : ℕ
-  rerendered = rerenders (cited asked.requests)
-      (round_tables mode eq writing (rendered_first eq payload_eq writing asked))
+  rerendered = rerenders (cited job.requests)
+      (round_tables mode eq writing (rendered_first eq payload_eq writing job))
 
   -- the renderings: two for each cite, hidden or not; those of the rounds; and one for each entry of the
   -- bibliography, where there is one
   abbrev pub cost : ℕ
-  cost = 2 * length (cites_of asked.requests) + rerendered + listed_count eq asked.wanted asked.requests
+  cost = 2 * length (cites_of job.requests) + rerendered + listed_count eq job.wanted job.requests
 
   -- by what an entry is disambiguated in the end
   abbrev pub final_state : E → DisambiguateState
-  final_state e = told_by (last_states mode eq writing (rendered_first eq payload_eq writing asked) e)
+  final_state e = told_by (last_states mode eq writing (rendered_first eq payload_eq writing job) e)

@@ -18,7 +18,7 @@ use Rattle.csl_round_laws.specs.declared.mode.RoundMode.{RoundMode}
 use Rattle.csl_writers.specs.Writing.{Writing}
 
 -- what a driver is asked: the bibliography, the requests, and the number of the first entry
-pub record Asked (E P : Type 0) : Type 0 where
+pub record Job (E P : Type 0) : Type 0 where
   pub wanted : Wanted E
   pub requests : List (Request E P)
   pub offset : ℕ
@@ -51,21 +51,21 @@ module _ {E P : Type 0} (writing : Writing E P) where
 module _ {E P : Type 0} (eq : E → E → Bool) (payload_eq : P → P → Bool) (writing : Writing E P) where
   -- the cites of all requests, rendered by their first properties; their numbers are those of the
   -- bibliography
-  abbrev pub rendered_first : Asked E P → List (CiteRender E P)
-  rendered_first asked =
-      let listed = entries_listed eq asked.wanted asked.requests in
-      first_renders writing asked.requests
-      (first_properties eq payload_eq (number eq asked.offset listed) asked.requests)
+  abbrev pub rendered_first : Job E P → List (CiteRender E P)
+  rendered_first job =
+      let listed = entries_listed eq job.wanted job.requests in
+      first_renders writing job.requests
+      (first_properties eq payload_eq (number eq job.offset listed) job.requests)
 
-  module _ (mode : RoundMode) (asked : Asked E P) where
+  module _ (mode : RoundMode) (job : Job E P) where
     -- the cites in their final order: disambiguated, and those of each request in their blocks
     abbrev pub in_final_order : List (CiteRender E P)
-    in_final_order = map grouped (disambiguated mode eq writing (rendered_first asked))
+    in_final_order = map grouped (disambiguated mode eq writing (rendered_first job))
 
     -- the number of an entry in the end
     abbrev pub final_number : E → ℕ
-    final_number = number eq asked.offset
-        (numbered_finally eq (order_in_use asked.wanted) asked.requests in_final_order)
+    final_number = number eq job.offset
+        (numbered_finally eq (order_in_use job.wanted) job.requests in_final_order)
 
     -- the cites with their final positions and numbers
     abbrev pub in_the_end : List (CiteRender E P)
@@ -73,14 +73,14 @@ module _ {E P : Type 0} (eq : E → E → Bool) (payload_eq : P → P → Bool) 
 
     -- the first cites, in the final order, of the bibliography's entries
     abbrev pub listed_first_cites : List (ItemRender E P)
-    listed_first_cites = filter_map (first_item eq in_the_end) (entries_listed eq asked.wanted asked.requests)
+    listed_first_cites = filter_map (first_item eq in_the_end) (entries_listed eq job.wanted job.requests)
 
     -- the whole answer: one citation for each request, and the bibliography where the style that was asked
     -- for has one
     abbrev pub rendered : Rendered
     rendered = record {
       bibliography = option_map
-          (λ b. bibliography_of writing (wanted_source asked.wanted) b listed_first_cites)
-          asked.wanted.style.bibliography;
+          (λ b. bibliography_of writing (wanted_source job.wanted) b listed_first_cites)
+          job.wanted.style.bibliography;
       citations = citations_of writing (map drawn_together in_the_end);
     }

@@ -8,7 +8,7 @@ use Rattle.csl_assembly.specs.declared.rendered.RenderedCitation.{RenderedCitati
 use Rattle.csl_style_values.specs.declared.style.Collapse.TheVariants.{CitationNumber}
 use Rattle.csl_writers.specs.Writing.{Writing}
 use Rattle.csl_collapse.specs.NumberLaws.{CanBeReadBack, is_hidden}
-use Rattle.csl_driver.specs.Answer.{Asked, citations_of, order_in_use, rendered_first}
+use Rattle.csl_driver.specs.Answer.{Job, citations_of, order_in_use, rendered_first}
 use Rattle.csl_driver.specs.ListedOnce.{ListsEachOnce}
 use Rattle.csl_driver.specs.ShownEntries.{entries_shown}
 use Rattle.csl_driver.specs.declared.account.Account.{Account}
@@ -91,7 +91,7 @@ module _ {E P : Type 0} where
 module _ {E P : Type 0} (eq : E → E → Bool) (payload_eq : P → P → Bool) where
   -- how the citations of an answer came from the cites as they were disambiguated, where entries have these
   -- numbers
-  pub record ComeFrom (writing : Writing E P) (asked : Asked E P) (number_of : E → ℕ)
+  pub record ComeFrom (writing : Writing E P) (job : Job E P) (number_of : E → ℕ)
       (told : List (CiteRender E P)) (citations : List RenderedCitation) : Type 0 where
     -- the cites of each request in a final order, then with final positions and numbers, then collapsed
     pub ordered : List (CiteRender E P)
@@ -108,7 +108,7 @@ module _ {E P : Type 0} (eq : E → E → Bool) (payload_eq : P → P → Bool) 
     pub numbered : All (λ i. i.properties.speculative.citation_number ≡ number_of i.entry)
         (items_finally drawn)
     -- they are those of the requests that were asked, one citation for each
-    pub asked_for : map (λ c. c.request) drawn ≡ asked.requests
+    pub asked_for : map (λ c. c.request) drawn ≡ job.requests
     pub made : citations ≡ citations_of writing drawn
     -- each citation shows those of its cites that aren't hidden, each once, in this order
     pub shows : map (λ c. entries_shown c.citation) citations ≡ map (λ c. places_of (shown c.items)) drawn
@@ -122,27 +122,27 @@ numbers_in eq account = number_in eq (entries_in account) account.numbers.items
 
 -- what holds of every answer and its account
 pub record KeepsLaws {E P : Type 0} (eq : E → E → Bool) (payload_eq : P → P → Bool) (writing : Writing E P)
-    (mode : RoundMode) (asked : Asked E P) (r : Rendered × Account E) : Type 0 where
+    (mode : RoundMode) (job : Job E P) (r : Rendered × Account E) : Type 0 where
   -- the tables of states: the empty one, one more for each round that marked, and last the account's states
   pub tables : List (StateTable E)
   pub first_is_empty : slice_get tables 0 ≡ Some no_states
   pub one_for_each_round : r.1.rounds ≡ min (length tables - 1) (2 ^ 128 - 1)
   pub last_is_told : r.1.states.items ≡ map (λ e. told_by (last_table tables e.now)) r.1.entries.items
   -- states go on from table to table, suffixes stay, nothing is left, and ranks rise
-  pub rounds : IsLawful mode eq writing (rendered_first eq payload_eq writing asked) tables r.1.rounds
+  pub rounds : IsLawful mode eq writing (rendered_first eq payload_eq writing job) tables r.1.rounds
   -- the account's entries are the distinct ones that are cited, in the order of their first cites
-  pub cited_entries : entries_in r.1 ≡ distinct eq (cited asked.requests)
-  pub numbers : HaveNumbersOnce eq asked.offset (entries_in r.1) r.1.numbers.items
+  pub cited_entries : entries_in r.1 ≡ distinct eq (cited job.requests)
+  pub numbers : HaveNumbersOnce eq job.offset (entries_in r.1) r.1.numbers.items
   -- each citation comes from the cites of its request in a final order, whose runs can be read back
-  pub citations : ComeFrom eq payload_eq writing asked (numbers_in eq r.1)
-      (last_shown mode eq writing (rendered_first eq payload_eq writing asked) tables) r.0.citations
+  pub citations : ComeFrom eq payload_eq writing job (numbers_in eq r.1)
+      (last_shown mode eq writing (rendered_first eq payload_eq writing job) tables) r.0.citations
   -- where no order is used, numbers go by the entries' first cites in these orders
-  pub numbers_in_order : order_in_use asked.wanted ≡ None
-      → AreInOrder eq asked.offset (entries_in r.1) r.1.numbers.items
+  pub numbers_in_order : order_in_use job.wanted ≡ None
+      → AreInOrder eq job.offset (entries_in r.1) r.1.numbers.items
       (distinct eq (cited_finally citations.ordered))
   -- and else by the bibliography's entries
-  pub numbers_by_order : (order : List E) → order_in_use asked.wanted ≡ Some order
-      → AreInOrder eq asked.offset (entries_in r.1) r.1.numbers.items
-      (bibliography_order eq (Some order) (cited asked.requests))
+  pub numbers_by_order : (order : List E) → order_in_use job.wanted ≡ Some order
+      → AreInOrder eq job.offset (entries_in r.1) r.1.numbers.items
+      (bibliography_order eq (Some order) (cited job.requests))
   -- the bibliography lists each of the account's entries once, and no other
-  pub bibliography : ListsEachOnce eq writing asked (entries_in r.1) citations.settled r.0.bibliography
+  pub bibliography : ListsEachOnce eq writing job (entries_in r.1) citations.settled r.0.bibliography

@@ -1,7 +1,7 @@
 -- For the code: what a draft answers, and where its entries stand.
 use Rattle.csl_values.specs.declared.entry.EntryLike as entry_like
-use Rattle.csl_driver.specs.Answer.{Asked}
-use Rattle.csl_driver.specs.AskedView.{asked_view}
+use Rattle.csl_driver.specs.Answer.{Job}
+use Rattle.csl_driver.specs.JobView.{job_view}
 use Rattle.csl_driver.specs.declared.draft.Draft.{Draft}
 use Rattle.csl_entries.specs.Table.{Table}
 use Rattle.csl_entries.specs.TableView.{table_view}
@@ -10,8 +10,8 @@ use Rattle.std.specs.declared.hash.Hash as hashed
 
 module _ {T P : Type 0} {entries : entry_like.Ghosts T} {equality : partial_eq.Ghosts T}
     {hashes : hashed.Ghosts T} where
-  abbrev pub asked_in : Draft T P entries equality hashes → Asked T P
-  asked_in draft = asked_view draft.requests.requests.now draft.cited.now.offset draft.wanted.wanted.now
+  abbrev pub job_in : Draft T P entries equality hashes → Job T P
+  job_in draft = job_view draft.requests.requests.now draft.cited.now.offset draft.wanted.wanted.now
 
   abbrev pub table_in : Draft T P entries equality hashes → Table T
   table_in draft = table_view draft.cited.now.table

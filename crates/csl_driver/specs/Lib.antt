@@ -10,7 +10,7 @@ pub mod ShownEntries
 pub mod ListedOnce
 pub mod AnswerLaws
 pub mod Promised
-pub mod AskedView
+pub mod JobView
 pub mod DraftView
 pub mod WriterTasks
 pub mod Finished

@@ -4,7 +4,7 @@ use Rattle.std.specs.List.Sorted.{IsPermutation}
 use Rattle.csl_assembly.specs.BibliographyItems.{bibliography_of}
 use Rattle.csl_assembly.specs.declared.rendered.RenderedBibliography.{RenderedBibliography}
 use Rattle.csl_values.specs.Answers.{Answers}
-use Rattle.csl_driver.specs.Answer.{Asked, entries_listed}
+use Rattle.csl_driver.specs.Answer.{Job, entries_listed}
 use Rattle.csl_entries.specs.Entries.{is_in}
 use Rattle.csl_entries.specs.Laws.{NoTwoEqual}
 use Rattle.csl_passes.specs.Renders.{CiteRender, ItemRender}
@@ -26,13 +26,13 @@ module _ {E P : Type 0} (eq : E → E → Bool) (writing : Writing E P) where
   EqualHaveEqualKeys = (d e : E) → eq d e ≡ true → key_of d ≡ key_of e
 
   -- the bibliography of an answer, by these cites, where the account has these entries
-  pub record ListsEachOnce (asked : Asked E P) (entries : List E) (cites : List (CiteRender E P))
+  pub record ListsEachOnce (job : Job E P) (entries : List E) (cites : List (CiteRender E P))
       (bibliography : Option RenderedBibliography) : Type 0 where
     -- there is one exactly where the style that was asked for has one
-    pub where_asked_for : is_some bibliography ≡ is_some asked.wanted.style.bibliography
+    pub where_asked_for : is_some bibliography ≡ is_some job.wanted.style.bibliography
     -- the first cites of the entries that it lists, in its order
     pub firsts : List (ItemRender E P)
-    pub first_cites : map (first_item eq cites) (entries_listed eq asked.wanted asked.requests)
+    pub first_cites : map (first_item eq cites) (entries_listed eq job.wanted job.requests)
         ≡ map Some firsts
     -- no entry is listed twice
     pub none_twice : NoTwoEqual eq (map (λ i. i.entry) firsts)
@@ -45,11 +45,11 @@ module _ {E P : Type 0} (eq : E → E → Bool) (writing : Writing E P) where
     -- so, where equal entries have equal keys, they have the keys of the entries in the bibliography's order
     pub keys_in_order : EqualHaveEqualKeys
         → IfSome bibliography (λ b. keys_of b
-        ≡ map key_of (entries_listed eq asked.wanted asked.requests))
+        ≡ map key_of (entries_listed eq job.wanted job.requests))
     -- which are those of the account's entries in another order
     pub keys_of_entries : EqualHaveEqualKeys
         → IfSome bibliography (λ b. IsPermutation (map key_of entries) (keys_of b))
     -- and the items are what is written by these cites
     pub made : bibliography
-        ≡ option_map (λ b. bibliography_of writing (wanted_source asked.wanted) b firsts)
-        asked.wanted.style.bibliography
+        ≡ option_map (λ b. bibliography_of writing (wanted_source job.wanted) b firsts)
+        job.wanted.style.bibliography

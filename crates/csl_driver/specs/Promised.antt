@@ -3,7 +3,7 @@ use Rattle.std.specs.Prelude.{◌≡◌, ◌+◌, ◌-◌, ◌<◌, ◌^◌, Boo
 use Rattle.csl_assembly.specs.declared.rendered.Rendered.{Rendered}
 use Rattle.csl_writers.specs.Writing.{Writing}
 use Rattle.csl_driver.specs.Account.{cost, final_state, marking}
-use Rattle.csl_driver.specs.Answer.{Asked, final_number, rendered}
+use Rattle.csl_driver.specs.Answer.{Job, final_number, rendered}
 use Rattle.csl_driver.specs.AnswerLaws.{KeepsLaws}
 use Rattle.csl_driver.specs.Rings.{NoRingAtAll, Refuses}
 use Rattle.csl_driver.specs.declared.account.Account.{Account}
@@ -13,31 +13,31 @@ use Rattle.csl_passes.specs.Request.{cited}
 use Rattle.csl_round_laws.specs.declared.mode.RoundMode.{RoundMode}
 
 module _ {E P : Type 0} (eq : E → E → Bool) (payload_eq : P → P → Bool) (writing : Writing E P)
-    (mode : RoundMode) (asked : Asked E P) (r : Rendered × Account E) where
+    (mode : RoundMode) (job : Job E P) (r : Rendered × Account E) where
   -- the answer to what is asked, with its account
   pub record IsExactly : Type 0 where
-    pub ok : r.0 ≡ rendered eq payload_eq writing mode asked
+    pub ok : r.0 ≡ rendered eq payload_eq writing mode job
     -- the renderings and the rounds that marked; counts stand still at the greatest number of 128 bits
-    pub renders : r.1.renders ≡ min (cost eq payload_eq writing mode asked) (2 ^ 128 - 1)
-    pub rounds : r.1.rounds ≡ min (marking eq payload_eq writing mode asked) (2 ^ 128 - 1)
+    pub renders : r.1.renders ≡ min (cost eq payload_eq writing mode job) (2 ^ 128 - 1)
+    pub rounds : r.1.rounds ≡ min (marking eq payload_eq writing mode job) (2 ^ 128 - 1)
     -- the distinct entries, in the order of their first cites; and at the same places their states and
     -- numbers
-    pub entries : map (λ e. e.now) r.1.entries.items ≡ distinct eq (cited asked.requests)
+    pub entries : map (λ e. e.now) r.1.entries.items ≡ distinct eq (cited job.requests)
     pub states : r.1.states.items
-        ≡ map (final_state eq payload_eq writing mode asked) (distinct eq (cited asked.requests))
+        ≡ map (final_state eq payload_eq writing mode job) (distinct eq (cited job.requests))
     pub numbers : r.1.numbers.items
-        ≡ map (final_number eq payload_eq writing mode asked) (distinct eq (cited asked.requests))
+        ≡ map (final_number eq payload_eq writing mode job) (distinct eq (cited job.requests))
 
   -- it is that, and the laws hold of it
   pub record IsAnswer : Type 0 where
     pub exact : IsExactly
-    pub laws : KeepsLaws eq payload_eq writing mode asked r
+    pub laws : KeepsLaws eq payload_eq writing mode job r
 
 -- how a driver finishes: what is to hold of its answer holds; it answers only where no style has a ring and
 -- the numbers fit; and each refusal has its reason
-pub record Finishes {E P R : Type 0} (holds : R → Type 0) (eq : E → E → Bool) (asked : Asked E P)
+pub record Finishes {E P R : Type 0} (holds : R → Type 0) (eq : E → E → Bool) (job : Job E P)
     (result : Result R DriverError) : Type 0 where
   pub answer : IfOk result holds
-  pub no_ring : OnOk result (NoRingAtAll asked.requests asked.wanted.style)
-  pub fits : OnOk result (asked.offset + length (distinct eq (cited asked.requests)) < 2 ^ 64)
-  pub refused : IfErr result (Refuses eq asked.requests asked.wanted.style asked.offset)
+  pub no_ring : OnOk result (NoRingAtAll job.requests job.wanted.style)
+  pub fits : OnOk result (job.offset + length (distinct eq (cited job.requests)) < 2 ^ 64)
+  pub refused : IfErr result (Refuses eq job.requests job.wanted.style job.offset)

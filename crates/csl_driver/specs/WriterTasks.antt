@@ -4,7 +4,7 @@ use Rattle.std.specs.List.{enumerate_from, flat_map}
 use Rattle.csl_assembly.specs.BibliographyItems.{bibliography_tasks}
 use Rattle.csl_assembly.specs.CitationTree.{citation_tasks}
 use Rattle.csl_collapse.specs.Collapsed.{drawn_together}
-use Rattle.csl_driver.specs.Answer.{Asked, entries_listed, listed_first_cites, in_the_end, rendered_first}
+use Rattle.csl_driver.specs.Answer.{Job, entries_listed, listed_first_cites, in_the_end, rendered_first}
 use Rattle.csl_entries.specs.Entries.{number}
 use Rattle.csl_passes.specs.Renders.{CiteRender}
 use Rattle.csl_passes.specs.Request.{wanted_source}
@@ -26,18 +26,18 @@ last_tasks cites = flat_map (λ c. citation_tasks c.0 c.1) (enumerate_from 0 cit
 
 module _ {E P : Type 0} (eq : E → E → Bool) (payload_eq : P → P → Bool) where
   -- where the cites are rendered first
-  abbrev pub begun_tasks : Asked E P → List (TaskValue E P)
-  begun_tasks asked = first_tasks asked.requests (first_properties eq payload_eq
-      (number eq asked.offset (entries_listed eq asked.wanted asked.requests)) asked.requests)
+  abbrev pub begun_tasks : Job E P → List (TaskValue E P)
+  begun_tasks job = first_tasks job.requests (first_properties eq payload_eq
+      (number eq job.offset (entries_listed eq job.wanted job.requests)) job.requests)
 
-  module _ (writing : Writing E P) (mode : RoundMode) (asked : Asked E P) where
+  module _ (writing : Writing E P) (mode : RoundMode) (job : Job E P) where
     -- where the bibliography is written
     abbrev pub listed_tasks : List (TaskValue E P)
-    listed_tasks = where_wanted asked.wanted.style.bibliography
-        (bibliography_tasks (wanted_source asked.wanted)
-        (listed_first_cites eq payload_eq writing mode asked))
+    listed_tasks = where_wanted job.wanted.style.bibliography
+        (bibliography_tasks (wanted_source job.wanted)
+        (listed_first_cites eq payload_eq writing mode job))
 
     -- all that is asked for: the first renders, those of the rounds, the bibliography, the citations
     abbrev pub tasks : List (TaskValue E P)
-    tasks = begun_tasks asked ++ (round_tasks mode eq writing (rendered_first eq payload_eq writing asked)
-        ++ (listed_tasks ++ last_tasks (map drawn_together (in_the_end eq payload_eq writing mode asked))))
+    tasks = begun_tasks job ++ (round_tasks mode eq writing (rendered_first eq payload_eq writing job)
+        ++ (listed_tasks ++ last_tasks (map drawn_together (in_the_end eq payload_eq writing mode job))))

@@ -4,7 +4,7 @@ ghost use Rattle.std.specs.List.{filter_map};
 ghost use Rattle.csl_assembly.specs.BibliographyItems.{bibliography_of, bibliography_tasks, cites_at};
 ghost use Rattle.csl_driver.specs.Answer.{entries_listed};
 ghost use Rattle.csl_driver.specs.AreCitesOf.{AreCitesOf};
-ghost use Rattle.csl_driver.specs.DraftView.{asked_in, table_in};
+ghost use Rattle.csl_driver.specs.DraftView.{job_in, table_in};
 ghost use Rattle.csl_driver.specs.WriterTasks.{where_wanted};
 ghost use Rattle.csl_passes.specs.RendersView.{renders_view};
 ghost use Rattle.csl_passes.specs.Request.{wanted_source};
@@ -31,20 +31,20 @@ impl<'d, 'o, 'a, T: EntryLike, P: Drop> Draft<'d, 'o, 'a, T, P> {
         writer: &mut W,
         counter: &mut Renders,
     ) -> Result<Option<RenderedBibliography>, W::Error>
-        requires cites { AreCitesOf T.eq (table_in self) (asked_in self).requests (renders_view cites.now) }
-        ensures bibliography { let asked = asked_in self.entry in
+        requires cites { AreCitesOf T.eq (table_in self) (job_in self).requests (renders_view cites.now) }
+        ensures bibliography { let job = job_in self.entry in
             IfOk result (λ r. r
             ≡ option_map (λ b. bibliography_of (writing_of T.answers (W.state writer.old))
-            (wanted_source asked.wanted) b
+            (wanted_source job.wanted) b
             (filter_map (first_item T.eq (renders_view cites.now))
-            (entries_listed T.eq asked.wanted asked.requests)))
-            asked.wanted.style.bibliography) }
-        ensures asked { let asked = asked_in self.entry in
+            (entries_listed T.eq job.wanted job.requests)))
+            job.wanted.style.bibliography) }
+        ensures asked { let job = job_in self.entry in
             OnOk result (desk (W.state writer.new) counter.new
-            ≡ after (where_wanted asked.wanted.style.bibliography
-            (bibliography_tasks (wanted_source asked.wanted)
+            ≡ after (where_wanted job.wanted.style.bibliography
+            (bibliography_tasks (wanted_source job.wanted)
             (filter_map (first_item T.eq (renders_view cites.now))
-            (entries_listed T.eq asked.wanted asked.requests))))
+            (entries_listed T.eq job.wanted job.requests))))
             (desk (W.state writer.old) counter.old)) }
     {
         match &self.wanted.wanted.style.bibliography {
@@ -64,11 +64,11 @@ impl<'d, 'o, 'a, T: EntryLike, P: Drop> Draft<'d, 'o, 'a, T, P> {
         alloc: Global,
         cites: &[SpeculativeCiteRender<'_, 'a, T, P>],
     ) -> Result<Vec<(usize, usize)>, AllocError>
-        requires cites { AreCitesOf T.eq (table_in self) (asked_in self).requests (renders_view cites.now) }
-        ensures { let asked = asked_in self.entry in
+        requires cites { AreCitesOf T.eq (table_in self) (job_in self).requests (renders_view cites.now) }
+        ensures { let job = job_in self.entry in
             IfOk result (λ v. cites_at (renders_view cites.now) v.items
             ≡ filter_map (first_item T.eq (renders_view cites.now))
-            (entries_listed T.eq asked.wanted asked.requests)) }
+            (entries_listed T.eq job.wanted job.requests)) }
     {
         let places = first_items(alloc, cites, &self.cited.table)?;
         let order = self.cited.listing.order();

@@ -3,8 +3,8 @@ ghost use Rattle.std.specs.Prelude.{◌≡◌, ◌+◌, length, map, OnOk, IfErr
 ghost use Rattle.csl_collapse.specs.Collapsed.{drawn_together};
 ghost use Rattle.csl_driver.specs.Answer.{citations_of, numbered_finally, order_in_use, rendered, rendered_first};
 ghost use Rattle.csl_driver.specs.AreCitesOf.{AreCitesOf};
-ghost use Rattle.csl_driver.specs.AskedView.{asked_of};
-ghost use Rattle.csl_driver.specs.DraftView.{asked_in, table_in};
+ghost use Rattle.csl_driver.specs.JobView.{job_of};
+ghost use Rattle.csl_driver.specs.DraftView.{job_in, table_in};
 ghost use Rattle.csl_driver.specs.Finished.{FinishesWith, WhereDriverRefuses};
 ghost use Rattle.csl_driver.specs.Promised.{Finishes, IsAnswer};
 ghost use Rattle.csl_driver.specs.WriterTasks.{begun_tasks, last_tasks, tasks};
@@ -62,8 +62,8 @@ impl<'a, T: EntryLike, P: Eq + Drop> BibliographyDriver<'a, T, P> {
     pub fn finish(self, request: BibliographyRequest<'_, 'a, T>) -> Result<Rendered, DriverError>
         ensures { Finishes
             (λ r. r ≡ rendered T.eq P.eq (layout_writing T.answers) RoundMode.Three
-            (asked_of self.entry request.entry))
-            T.eq (asked_of self.entry request.entry) result }
+            (job_of self.entry request.entry))
+            T.eq (job_of self.entry request.entry) result }
     {
         let (rendered, _account) = self.finish_counted(request)?;
         Ok(rendered)
@@ -83,8 +83,8 @@ impl<'a, T: EntryLike, P: Eq + Drop> BibliographyDriver<'a, T, P> {
     ) -> Result<(Rendered, Account<'a, T>), DriverError>
         ensures { Finishes
             (IsAnswer T.eq P.eq (layout_writing T.answers) RoundMode.Three
-            (asked_of self.entry request.entry))
-            T.eq (asked_of self.entry request.entry) result }
+            (job_of self.entry request.entry))
+            T.eq (job_of self.entry request.entry) result }
     {
         Ok(self.finish_with(request, RoundMode::Three, &mut LayoutWriter::new())?)
     }
@@ -102,8 +102,8 @@ impl<'a, T: EntryLike, P: Eq + Drop> BibliographyDriver<'a, T, P> {
         request: BibliographyRequest<'_, 'a, T>,
     ) -> Result<(Rendered, Account<'a, T>), DriverError>
         ensures { Finishes
-            (IsAnswer T.eq P.eq (layout_writing T.answers) RoundMode.Full (asked_of self.entry request.entry))
-            T.eq (asked_of self.entry request.entry) result }
+            (IsAnswer T.eq P.eq (layout_writing T.answers) RoundMode.Full (job_of self.entry request.entry))
+            T.eq (job_of self.entry request.entry) result }
     {
         Ok(self.finish_with(request, RoundMode::Full, &mut LayoutWriter::new())?)
     }
@@ -120,12 +120,12 @@ impl<'a, T: EntryLike, P: Eq + Drop> BibliographyDriver<'a, T, P> {
         mode: RoundMode,
         writer: &mut W,
     ) -> Result<(Rendered, Account<'a, T>), FinishError<W::Error>>
-        ensures finished { FinishesWith T.eq (asked_of self.entry request.entry)
+        ensures finished { FinishesWith T.eq (job_of self.entry request.entry)
             (IsAnswer T.eq P.eq (writing_of T.answers (W.state writer.old)) mode
-            (asked_of self.entry request.entry)) result }
+            (job_of self.entry request.entry)) result }
         ensures asked { OnOk result (W.state writer.new
             ≡ asked_for (tasks T.eq P.eq (writing_of T.answers (W.state writer.old)) mode
-            (asked_of self.entry request.entry)) (W.state writer.old)) }
+            (job_of self.entry request.entry)) (W.state writer.old)) }
         ensures unasked { IfErr result (WhereDriverRefuses (W.state writer.new ≡ W.state writer.old)) }
     {
         self.answer_with(&request, mode, writer)
@@ -142,13 +142,13 @@ impl<'a, T: EntryLike, P: Eq + Drop> BibliographyDriver<'a, T, P> {
         mode: RoundMode,
         writer: &mut W,
     ) -> Result<(Rendered, Account<'a, T>), FinishError<W::Error>>
-        ensures finished { FinishesWith T.eq (asked_of self.now request.now)
+        ensures finished { FinishesWith T.eq (job_of self.now request.now)
             (IsAnswer T.eq P.eq (writing_of T.answers (W.state writer.old)) mode
-            (asked_of self.now request.now))
+            (job_of self.now request.now))
             result }
         ensures asked { OnOk result (W.state writer.new
             ≡ asked_for (tasks T.eq P.eq (writing_of T.answers (W.state writer.old)) mode
-            (asked_of self.now request.now)) (W.state writer.old)) }
+            (job_of self.now request.now)) (W.state writer.old)) }
         ensures unasked { IfErr result (WhereDriverRefuses (W.state writer.new ≡ W.state writer.old)) }
     {
         let alloc = self.alloc;
@@ -177,10 +177,10 @@ impl<'d, 'o, 'a, T: EntryLike, P: Eq + Drop> Draft<'d, 'o, 'a, T, P> {
         writer: &mut W,
     ) -> Result<(Rendered, Account<'a, T>), W::Error>
         ensures answer { IfOk result (IsAnswer T.eq P.eq (writing_of T.answers (W.state writer.old)) mode
-            (asked_in self.entry)) }
+            (job_in self.entry)) }
         ensures asked { OnOk result (W.state writer.new
             ≡ asked_for (tasks T.eq P.eq (writing_of T.answers (W.state writer.old)) mode
-            (asked_in self.entry))
+            (job_in self.entry))
             (W.state writer.old)) }
     {
         let table = &self.cited.table;
@@ -212,9 +212,9 @@ impl<'d, 'o, 'a, T: EntryLike, P: Eq + Drop> Draft<'d, 'o, 'a, T, P> {
         counter: &mut Renders,
     ) -> Result<Cites<'d, 'a, T, P>, W::Error>
         ensures cites { IfOk result (λ c. renders_view c.by_request.items
-            ≡ rendered_first T.eq P.eq (writing_of T.answers (W.state writer.old)) (asked_in self.entry)) }
+            ≡ rendered_first T.eq P.eq (writing_of T.answers (W.state writer.old)) (job_in self.entry)) }
         ensures asked { OnOk result (desk (W.state writer.new) counter.new
-            ≡ after (begun_tasks T.eq P.eq (asked_in self.entry)) (desk (W.state writer.old) counter.old)) }
+            ≡ after (begun_tasks T.eq P.eq (job_in self.entry)) (desk (W.state writer.old) counter.old)) }
     {
         let table = &self.cited.table;
         let numbers = self.cited.numbers(alloc, &self.cited.listing)?;
@@ -231,12 +231,12 @@ impl<'d, 'o, 'a, T: EntryLike, P: Eq + Drop> Draft<'d, 'o, 'a, T, P> {
         alloc: Global,
         cites: &[SpeculativeCiteRender<'_, 'a, T, P>],
     ) -> Result<Vec<usize>, AllocError>
-        requires cites { AreCitesOf T.eq (table_in self) (asked_in self).requests (renders_view cites.now) }
+        requires cites { AreCitesOf T.eq (table_in self) (job_in self).requests (renders_view cites.now) }
         ensures long { IfOk result (λ v. length v.items ≡ length (table_in self.entry).entries + 1) }
-        ensures numbers { let asked = asked_in self.entry in
+        ensures numbers { let job = job_in self.entry in
             IfOk result (λ v. numbered_by T.eq v.items (table_in self.entry).entries
-            ≡ number T.eq asked.offset
-            (numbered_finally T.eq (order_in_use asked.wanted) asked.requests (renders_view cites.now))) }
+            ≡ number T.eq job.offset
+            (numbered_finally T.eq (order_in_use job.wanted) job.requests (renders_view cites.now))) }
     {
         match used_order(self.wanted.wanted) {
             Some(_) => self.cited.numbers(alloc, &self.cited.listing),
@@ -255,7 +255,7 @@ impl<'d, 'o, 'a, T: EntryLike, P: Eq + Drop> Draft<'d, 'o, 'a, T, P> {
         writer: &mut W,
         counter: &mut Renders,
     ) -> Result<Vec<RenderedCitation>, W::Error>
-        requires cites { map (λ c. c.request) (renders_view cites.now) ≡ (asked_in self).requests }
+        requires cites { map (λ c. c.request) (renders_view cites.now) ≡ (job_in self).requests }
         ensures citations { IfOk result (λ v. v.items
             ≡ citations_of (writing_of T.answers (W.state writer.old)) (renders_view cites.now)) }
         ensures asked { OnOk result (desk (W.state writer.new) counter.new

@@ -1,6 +1,6 @@
 //! Laws of what goes in and comes out, of how cites are disambiguated, and of every answer.
 ghost use Rattle.csl_assembly.specs.declared.rendered.Rendered.{Rendered};
-ghost use Rattle.csl_driver.specs.Answer.{Asked};
+ghost use Rattle.csl_driver.specs.Answer.{Job};
 ghost use Rattle.csl_driver.specs.AnswerLaws.{KeepsLaws};
 ghost use Rattle.csl_driver.specs.Promised.{IsExactly};
 ghost use Rattle.csl_driver.specs.declared.account.Account.{Account};
@@ -27,8 +27,8 @@ pub use csl_round_laws::laws::runs_are_lawful;
 /// the entries of the account have the numbers from the offset on, each once; and each citation comes from
 /// the cites of its request in a final order, whose collapsed runs can be read back.
 pub fn answers_keep_laws<T: EntryLike, P: Eq>()
-    ensures { (writing : Writing T P) (mode : RoundMode) (asked : Asked T P) (r : Rendered × Account T)
-        → IsExactly T.eq P.eq writing mode asked r → KeepsLaws T.eq P.eq writing mode asked r }
+    ensures { (writing : Writing T P) (mode : RoundMode) (job : Job T P) (r : Rendered × Account T)
+        → IsExactly T.eq P.eq writing mode job r → KeepsLaws T.eq P.eq writing mode job r }
 {
     runs_are_lawful::<T, P>();
     bibliography_holds_each_once::<T>();

@@ -34,7 +34,7 @@ module _ (read : Option DrivenDocument) (code : ℕ) (before after : List ℕ) (
     }
   ]
 
-  refused : (e : RunError) → IsRefusedFor (λ d. d.asked) e read → code ≡ status e → after ≡ before → needed ≡ 0 → CalledDriven read code before after needed
+  refused : (e : RunError) → IsRefusedFor (λ d. d.document) e read → code ≡ status e → after ≡ before → needed ≡ 0 → CalledDriven read code before after needed
   refused errors.Output h s same none = absurd h
   refused (errors.MacroRing place i) h s same none = record {
     answered = λ c. absurd (omega arith);

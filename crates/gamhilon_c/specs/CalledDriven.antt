@@ -15,8 +15,8 @@ pub record CalledDriven (read : Option DrivenDocument) (code : ℕ) (before afte
     : Type 0 where
   pub answered : code ≡ 0 → HasTextThat read (λ text. Fills text before after × (needed ≡ length text))
   pub no_document : code ≡ 2 → read ≡ None
-  pub ring : code ≡ 3 → IsDocumentThat read (λ d. HasRing d.asked)
-  pub overflow : code ≡ 4 → IsDocumentThat read (λ d. HasTooLargeNumbers d.asked)
+  pub ring : code ≡ 3 → IsDocumentThat read (λ d. HasRing d.document)
+  pub overflow : code ≡ 4 → IsDocumentThat read (λ d. HasTooLargeNumbers d.document)
   pub too_small : code ≡ 6 → HasTextThat read (λ text. (needed ≡ length text) × (length before < needed))
   pub kept : code ≢ 0 → after ≡ before
   pub nothing_needed : code ≢ 0 → code ≢ 6 → needed ≡ 0

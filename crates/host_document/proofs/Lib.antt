@@ -1,4 +1,4 @@
 pub mod DrivenMembers
 pub mod Absent
-pub mod AskedBy
+pub mod JobOf
 pub mod Tasks

@@ -13,7 +13,7 @@ use Rattle.host_driver.specs.Driven.{IsDriven}
 use Rattle.host_driver.specs.declared.drive.Driven.{Driven}
 use Rattle.host_driver.specs.declared.drive.Driven.TheVariants as results
 use Rattle.json_tasks.specs.TaskData.{task_data}
-use Rattle.cite_document.specs.Run.{IsDocumentThat, IsRefusedFor, asked_by, same_plain_entry, same_own_payload}
+use Rattle.cite_document.specs.Run.{IsDocumentThat, IsRefusedFor, document_job, same_plain_entry, same_own_payload}
 use Rattle.cite_document.specs.declared.error.RunError.{RunError}
 use Rattle.host_document.specs.DrivenForm.{DrivenDocument}
 
@@ -32,8 +32,8 @@ driven_text (results.Missing missing) = missing_text missing.keys
 
 -- the answer with what the host has written, or what is missing of that
 abbrev pub ComesOf : DrivenDocument → Driven PlainEntry → Type 0
-ComesOf d = IsDriven same_plain_entry same_own_payload plain_answers d.table (d.asked).rounds
-    (asked_by d.asked)
+ComesOf d = IsDriven same_plain_entry same_own_payload plain_answers d.table (d.document).rounds
+    (document_job d.document)
 
 -- the text is that of what comes of the document
 abbrev pub Tells : List ℕ → DrivenDocument → Type 0
@@ -42,4 +42,4 @@ Tells text d = (r : Driven PlainEntry) × ComesOf d r × (text ≡ driven_text r
 -- the text of what comes, or why nothing does
 abbrev pub Drives : Result (String Global) RunError → Option DrivenDocument → Type 0
 Drives (Ok text) read = IsDocumentThat read (Tells (string_bytes text))
-Drives (Err e) read = IsRefusedFor (λ d. d.asked) e read
+Drives (Err e) read = IsRefusedFor (λ d. d.document) e read

@@ -14,7 +14,7 @@ use Rattle.host_document.specs.DrivenStyles.{driven_styles_form}
 
 -- a driven document: what it asks for, and what its host has written, by what was asked for
 pub record DrivenDocument : Type 0 where
-  pub asked : Document
+  pub document : Document
   pub table : TaskKey → Option Cite
 
 -- what was written of these styles and entries, by what was asked for; nothing where the key is absent
@@ -24,9 +24,9 @@ written_at styles entries = optional (λ key. None) (table_form styles entries) 
 -- what is asked for, of the styles and entries that names and keys find, and what was written
 unfoldable pub driven_by : List NamedStyle → List PlainEntry → Data → Option DrivenDocument
 driven_by styles entries o = do
-  asked ← asked_form (style_named styles) (entry_named entries) [] o
+  document ← asked_form (style_named styles) (entry_named entries) [] o
   table ← written_at styles entries o
-  Some (record { asked = asked; table = table })
+  Some (record { document = document; table = table })
 
 -- an object of the keys of a driven document
 abbrev pub driven_top_form : Data → Option Data

@@ -16,7 +16,7 @@ use csl_base::entry::PlainEntry;
 use csl_styles::terms::TermTables;
 use host_driver::drive::drive;
 use host_table::table::Table;
-use json_document::document::{Asked, asked_in, utf8_text, value_of};
+use json_document::document::{Job, job_in, utf8_text, value_of};
 use json_document::entries::entries_of;
 use json_document::finders::found_styles;
 use json_styles::styles::NamedStyle;
@@ -24,13 +24,13 @@ use serde_json::Value;
 use std::alloc::Global;
 
 /// What comes of what a document asks for, with what is in this table.
-fn drive_asked(alloc: Global, asked: &Asked<'_>, table: &Table) -> Result<String, RunError>
-    ensures { Drives result (Some (record { asked = document_view asked.now; table = found table.now })) }
+fn drive_job(alloc: Global, job: &Job<'_>, table: &Table) -> Result<String, RunError>
+    ensures { Drives result (Some (record { document = document_view job.now; table = found table.now })) }
 {
-    let files = TermTables::new(alloc, asked.locales)?;
-    let driver = filled_driver(alloc, &asked.requests, &files, asked.offset)?;
-    let request = bibliography_request(alloc, asked, &files)?;
-    let driven = drive(alloc, driver, request, asked.rounds, table)?;
+    let files = TermTables::new(alloc, job.locales)?;
+    let driver = filled_driver(alloc, &job.requests, &files, job.offset)?;
+    let request = bibliography_request(alloc, job, &files)?;
+    let driven = drive(alloc, driver, request, job.rounds, table)?;
     Ok(driven_text(alloc, driven)?)
 }
 
@@ -46,10 +46,10 @@ fn drive_of<'e>(
     ensures { Drives result (driven_by (named_styles_view styles.now) entries.now (view value)) }
 {
     let found = found_styles(alloc, styles, &value)?;
-    let asked = asked_in(alloc, &found, entries, &[], &value)?;
+    let job = job_in(alloc, &found, entries, &[], &value)?;
     let table = table_at(alloc, &value, styles, entries)?;
     drop(value);
-    drive_asked(alloc, &asked, &table)
+    drive_job(alloc, &job, &table)
 }
 
 #[tactic(auto, unfolding(crate::specs::DrivenForm::driven_document_form))]

@@ -10,7 +10,7 @@ use crate::reading::{driven_top_of, table_at};
 use crate::styles::driven_styles_of;
 use cite_document::error::RunError;
 use cite_document::faults::print_fault;
-use json_document::document::{asked_in, utf8_text, value_of};
+use json_document::document::{job_in, utf8_text, value_of};
 use json_document::entries::entries_of;
 use json_document::finders::found_styles;
 use json_values::error::ReadError;
@@ -28,7 +28,7 @@ fn read_through(alloc: Global, value: &Value) -> Result<(), ReadError>
     let styles = driven_styles_of(alloc, object)?;
     let entries = entries_of(alloc, object)?;
     let found = found_styles(alloc, &styles, object)?;
-    let _asked = asked_in(alloc, &found, &entries, &[], object)?;
+    let _job = job_in(alloc, &found, &entries, &[], object)?;
     let _table = table_at(alloc, object, &styles, &entries)?;
     Ok(())
 }

@@ -1,7 +1,7 @@
 -- What comes of a table: the answer where it has all that is asked for, else what it lacks of that.
 use Rattle.std.specs.Prelude.{◌≡◌, ◌≤◌, Bool, List, [], Option, All, Contains, IsSome}
 use Rattle.csl_values.specs.Answers.{Answers}
-use Rattle.csl_driver.specs.Answer.{Asked}
+use Rattle.csl_driver.specs.Answer.{Job}
 use Rattle.csl_driver.specs.Finished.{CanBeAnswered}
 use Rattle.csl_driver.specs.Promised.{IsAnswer}
 use Rattle.csl_driver.specs.WriterTasks.{tasks}
@@ -17,21 +17,21 @@ use Rattle.csl_writers.specs.Tasks.{TaskValue}
 use Rattle.csl_writers.specs.declared.cite.Cite.{Cite}
 
 module _ {E P : Type 0} (eq : E → E → Bool) (payload_eq : P → P → Bool) (answers : E → Answers)
-    (table : TaskKey → Option Cite) (mode : RoundMode) (asked : Asked E P) where
+    (table : TaskKey → Option Cite) (mode : RoundMode) (job : Job E P) where
   -- all that a driver asks for where it answers with what the table has
   abbrev pub asked_for_all : List (TaskValue E P)
-  asked_for_all = tasks eq payload_eq (table_writing table answers) mode asked
+  asked_for_all = tasks eq payload_eq (table_writing table answers) mode job
 
   -- the answer is the one with what the table has, and nothing that is asked for is lacked
   pub record IsWhole (r : Rendered × Account E) : Type 0 where
-    pub possible : CanBeAnswered eq asked
-    pub answer : IsAnswer eq payload_eq (table_writing table answers) mode asked r
+    pub possible : CanBeAnswered eq job
+    pub answer : IsAnswer eq payload_eq (table_writing table answers) mode job r
     pub there : All (λ task. IsSome (table (task_key answers task))) asked_for_all
 
   -- these are asked for, and the table lacks them; they are of the earliest stage of all such keys, and all
   -- such keys of that stage
   pub record IsLacking (missing : List TaskKey) : Type 0 where
-    pub possible : CanBeAnswered eq asked
+    pub possible : CanBeAnswered eq job
     pub each : All (IsMissingOf table answers asked_for_all) missing
     pub some : missing ≡ [] → ⊥
     pub earliest : (key : TaskKey) → IsMissingOf table answers asked_for_all key

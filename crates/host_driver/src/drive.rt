@@ -1,6 +1,6 @@
 //! A driver over a table: the answer, or what the table lacks.
 ghost use Rattle.std.specs.Prelude.{IfErr, IfOk};
-ghost use Rattle.csl_driver.specs.AskedView.{asked_of};
+ghost use Rattle.csl_driver.specs.JobView.{job_of};
 ghost use Rattle.csl_driver.specs.Rings.{Refuses};
 ghost use Rattle.host_driver.specs.Driven.{IsDriven};
 ghost use Rattle.host_table.specs.Table.{found};
@@ -44,9 +44,9 @@ pub fn drive_by<'a, T: EntryLike, P: Eq + Drop>(
     table: &Table,
 ) -> Result<Driven<'a, T>, DriverError>
     ensures driven { IfOk result
-        (IsDriven T.eq P.eq T.answers (found table.now) mode (asked_of driver.now request.now)) }
-    ensures refused { let asked = asked_of driver.now request.now in
-        IfErr result (Refuses T.eq asked.requests asked.wanted.style asked.offset) }
+        (IsDriven T.eq P.eq T.answers (found table.now) mode (job_of driver.now request.now)) }
+    ensures refused { let job = job_of driver.now request.now in
+        IfErr result (Refuses T.eq job.requests job.wanted.style job.offset) }
 {
     key_equality_decides();
     let mut writer = TableWriter::new(alloc, table);
@@ -75,9 +75,9 @@ pub fn drive<'a, T: EntryLike, P: Eq + Drop>(
     table: &Table,
 ) -> Result<Driven<'a, T>, DriverError>
     ensures driven { IfOk result
-        (IsDriven T.eq P.eq T.answers (found table.now) mode (asked_of driver.entry request.entry)) }
-    ensures refused { let asked = asked_of driver.entry request.entry in
-        IfErr result (Refuses T.eq asked.requests asked.wanted.style asked.offset) }
+        (IsDriven T.eq P.eq T.answers (found table.now) mode (job_of driver.entry request.entry)) }
+    ensures refused { let job = job_of driver.entry request.entry in
+        IfErr result (Refuses T.eq job.requests job.wanted.style job.offset) }
 {
     drive_by(alloc, &driver, &request, mode, table)
 }

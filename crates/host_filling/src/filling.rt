@@ -1,7 +1,7 @@
 //! Answers by a source that writes what a table lacks.
 ghost use Rattle.std.specs.Prelude.{◌≡◌, All, IfOk, OnOk};
 ghost use Rattle.indexmap.specs.IndexMap.{insert_entry};
-ghost use Rattle.csl_driver.specs.AskedView.{asked_of};
+ghost use Rattle.csl_driver.specs.JobView.{job_of};
 ghost use Rattle.host_driver.specs.Driven.{IsWhole};
 ghost use Rattle.host_table.specs.Table.{found, key_eq};
 
@@ -64,7 +64,7 @@ pub fn answer_by<'a, T: EntryLike, P: Eq + Drop, S: CiteSource>(
     source: &S,
 ) -> Result<FilledAnswer<'a, T>, FillError<S::Error>>
     ensures whole { IfOk result (λ r. IsWhole T.eq P.eq T.answers (found r.table) mode
-        (asked_of driver.now request.now) (r.rendered, r.account)) }
+        (job_of driver.now request.now) (r.rendered, r.account)) }
     ensures written { IfOk result (λ r. All (λ e. S.may_write source.now e.0 e.1) r.table.entries) }
 {
     let mut table = IndexMap::new(alloc);

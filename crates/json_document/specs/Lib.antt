@@ -4,7 +4,7 @@ pub mod Entries
 pub mod Requests
 pub mod Finders
 pub mod WantedView
-pub mod AskedView
+pub mod JobView
 pub mod Form
 pub mod Faults
 pub mod DocumentView

@@ -34,7 +34,7 @@ const ROUNDS: &[(&str, RoundMode)] = &[("three", RoundMode::Three), ("full", Rou
 
 /// What the document asks for.
 #[derive(Drop)]
-pub struct Asked<'e> {
+pub struct Job<'e> {
     pub requests: Vec<AskedRequest<'e>>,
     pub wanted: Wanted<'e>,
     /// The locales that are asked for terms that a style doesn't have.
@@ -142,13 +142,13 @@ fn wanted_at<'e>(
 
 /// What the document asks for, of the styles and entries that the maps find, with these locales.
 #[tactic(auto, unfolding(crate::specs::Form::asked_form))]
-fn asked_of<'e>(
+fn job_of<'e>(
     alloc: Global,
     styles: &StylesByName<'e>,
     entries: &EntriesByKey<'e>,
     locales: &'e [Locale],
     object: &Value,
-) -> Result<Asked<'e>, ReadError>
+) -> Result<Job<'e>, ReadError>
     ensures read { Reads document_view result
         (asked_form (style_in styles.now) (entry_in entries.now) (map locale_view locales.now)
         (view object.now)) }
@@ -158,7 +158,7 @@ fn asked_of<'e>(
     let wanted = wanted_at(alloc, styles, entries, object)?;
     let offset = number_or(alloc, object, "offset", 0)?;
     let rounds = name_or(alloc, ROUNDS, object, "rounds", RoundMode::Three)?;
-    Ok(Asked {
+    Ok(Job {
         requests,
         wanted,
         locales,
@@ -169,13 +169,13 @@ fn asked_of<'e>(
 
 /// What the document asks for. A name finds the style of that name, and a key the first entry that
 /// has it.
-pub fn asked_in<'e, 's: 'e>(
+pub fn job_in<'e, 's: 'e>(
     alloc: Global,
     styles: &'e [FoundStyle<'s>],
     entries: &'e [PlainEntry],
     locales: &'e [Locale],
     object: &Value,
-) -> Result<Asked<'e>, ReadError>
+) -> Result<Job<'e>, ReadError>
     ensures read { Reads document_view result
         (asked_form (style_named (found_views styles.now)) (entry_named entries.now)
         (map locale_view locales.now) (view object.now)) }
@@ -183,5 +183,5 @@ pub fn asked_in<'e, 's: 'e>(
 {
     let by_name = styles_by_name(alloc, styles)?;
     let by_key = entries_by_key(alloc, entries)?;
-    asked_of(alloc, &by_name, &by_key, locales, object)
+    job_of(alloc, &by_name, &by_key, locales, object)
 }

@@ -5,7 +5,7 @@ ghost use Rattle.json_values.specs.Reads.{Faults};
 ghost use Rattle.json_document.specs.Faults.{FaultsIn, IsFaultIn, Judges, value_in};
 ghost use Rattle.json_document.specs.Form.{document_form, form};
 
-use crate::document::{asked_in, top_of, utf8_text, value_of};
+use crate::document::{job_in, top_of, utf8_text, value_of};
 use crate::entries::entries_of;
 use crate::finders::found_styles;
 use json_styles::locales::locales_at;
@@ -26,7 +26,7 @@ fn read_through(alloc: Global, value: &Value) -> Result<(), ReadError>
     let locales = locales_at(alloc, object, "locales")?;
     let entries = entries_of(alloc, object)?;
     let found = found_styles(alloc, &styles, object)?;
-    let _asked = asked_in(alloc, &found, &entries, &locales, object)?;
+    let _asked = job_in(alloc, &found, &entries, &locales, object)?;
     Ok(())
 }
 

@@ -7,7 +7,7 @@ ghost use Rattle.csl_style_values.specs.StyleView.{code_view, locale_view, style
 ghost use Rattle.csl_lookup.specs.PropertiesView.{locator_view};
 ghost use Rattle.csl_passes.specs.RequestView.{cite_view, cites_view, entries_view, request_view};
 ghost use Rattle.csl_styles.specs.TablesView.{locales_of};
-ghost use Rattle.json_document.specs.AskedView.{asked_cite_view, asked_cites_view, asked_locator_view, asked_request_view, asked_requests_view};
+ghost use Rattle.json_document.specs.JobView.{asked_cite_view, asked_cites_view, asked_locator_view, asked_request_view, asked_requests_view};
 ghost use Rattle.json_values.specs.Words.{all_items, items_of_key, list_form, name_form, required, where_present};
 ghost use Rattle.json_document.specs.Finders.{entry_in, style_in};
 ghost use Rattle.json_document.specs.Requests.{locator_form, item_form, request_form, wanted_form};

@@ -19,7 +19,7 @@ use csl_driver::request::{BibliographyRequest, CitationRequest, Order};
 use csl_driver::standalone::standalone_citation;
 use csl_driver::terms::TermTables;
 use csl_round_laws::mode::RoundMode;
-use json_document::document::{Asked, asked_in, top_of, utf8_text, value_of};
+use json_document::document::{Job, job_in, top_of, utf8_text, value_of};
 use json_document::entries::entries_of;
 use json_document::finders::found_styles;
 use json_document::requests::{AskedCite, AskedRequest, copied_code, driver_request};
@@ -118,12 +118,12 @@ fn request_of<'e, 'f: 'e>(
 fn take_all<'e, 'f: 'e>(
     rt: &(impl Print + Eprint + AllocGlobal),
     driver: &mut Driver<'e>,
-    asked: &'e Asked<'f>,
+    job: &'e Job<'f>,
     files: &'e TermTables<'f>,
     is_prepared: bool,
 ) -> Result<bool, RunError> {
     let mut came_back = false;
-    for request in &asked.requests {
+    for request in &job.requests {
         let _ = eprintln!(rt; "prepare");
         let made = request_of(rt.alloc(), request, files, is_prepared)?;
         let _ = eprintln!(rt; "citation");
@@ -135,21 +135,21 @@ fn take_all<'e, 'f: 'e>(
 /// What the driver is asked of the bibliography.
 fn bibliography_request<'o, 'e>(
     alloc: Global,
-    asked: &'o Asked<'e>,
+    job: &'o Job<'e>,
     files: &'o TermTables<'e>,
     is_prepared: bool,
 ) -> Result<BibliographyRequest<'o, 'e, PlainEntry>, AllocError> {
-    let locale = copied_code(alloc, &asked.wanted.locale)?;
-    let order = match &asked.wanted.order {
+    let locale = copied_code(alloc, &job.wanted.locale)?;
+    let order = match &job.wanted.order {
         Some(entries) => Some(Order(entries.as_slice())),
         None => None,
     };
-    match asked.wanted.style.prepared() {
+    match job.wanted.style.prepared() {
         Some(prepared) if is_prepared => Ok(BibliographyRequest::of_prepared(
             prepared, locale, files, order,
         )),
         _ => {
-            let style = asked.wanted.style.style;
+            let style = job.wanted.style.style;
             Ok(BibliographyRequest::ordered(style, locale, files.locales(), order))
         }
     }
@@ -271,17 +271,17 @@ fn print_asked<'e>(
 /// Hands in all requests and the bibliography's, and prints what is asked for.
 fn answer_all<'e, 'f: 'e>(
     rt: &(impl Print + Eprint + AllocGlobal),
-    asked: &'e Asked<'f>,
+    job: &'e Job<'f>,
     files: &'e TermTables<'f>,
     how: How,
 ) -> Result<Seen, RunError> {
     let alloc = rt.alloc();
-    let mut driver = Driver::new(alloc).with_citation_number_offset(asked.offset);
+    let mut driver = Driver::new(alloc).with_citation_number_offset(job.offset);
     let is_prepared = !matches!(how, How::FinishUnprepared);
-    let came_back = take_all(rt, &mut driver, asked, files, is_prepared)?;
+    let came_back = take_all(rt, &mut driver, job, files, is_prepared)?;
     let _ = eprintln!(rt; "prepare");
-    let request = bibliography_request(alloc, asked, files, is_prepared)?;
-    print_asked(rt, driver, request, asked.rounds, how)?;
+    let request = bibliography_request(alloc, job, files, is_prepared)?;
+    print_asked(rt, driver, request, job.rounds, how)?;
     if came_back {
         Ok(Seen::AnswerAtLast)
     } else {
@@ -292,10 +292,10 @@ fn answer_all<'e, 'f: 'e>(
 /// Answers each request by itself.
 fn answer_alone<'e, 'f: 'e>(
     rt: &(impl Print + Eprint + AllocGlobal),
-    asked: &'e Asked<'f>,
+    job: &'e Job<'f>,
     files: &'e TermTables<'f>,
 ) -> Result<Seen, RunError> {
-    for request in &asked.requests {
+    for request in &job.requests {
         let _ = eprintln!(rt; "prepare");
         let made = driver_request(rt.alloc(), request, files)?;
         let _ = eprintln!(rt; "standalone_citation");
@@ -308,19 +308,19 @@ fn answer_alone<'e, 'f: 'e>(
 /// The requests of a document.
 fn requests_of<'e, 'f: 'e>(
     alloc: Global,
-    asked: &'e Asked<'f>,
+    job: &'e Job<'f>,
     files: &'e TermTables<'f>,
 ) -> Result<Vec<Request<'e>>, RunError> {
     let mut requests = Vec::new(alloc);
-    for request in &asked.requests {
+    for request in &job.requests {
         requests.push(driver_request(alloc, request, files)?)?;
     }
     Ok(requests)
 }
 
 /// The first cite of the first request.
-fn first_cite<'r, 'f>(asked: &'r Asked<'f>) -> Option<&'r AskedCite<'f>> {
-    match asked.requests.as_slice().first() {
+fn first_cite<'r, 'f>(job: &'r Job<'f>) -> Option<&'r AskedCite<'f>> {
+    match job.requests.as_slice().first() {
         Some(request) => request.items.as_slice().first(),
         None => None,
     }
@@ -329,15 +329,15 @@ fn first_cite<'r, 'f>(asked: &'r Asked<'f>) -> Option<&'r AskedCite<'f>> {
 /// Makes calls that take no memory.
 fn call_free<'e, 'f: 'e>(
     rt: &(impl Print + Eprint + AllocGlobal),
-    asked: &'e Asked<'f>,
+    job: &'e Job<'f>,
     files: &'e TermTables<'f>,
 ) -> Result<Seen, RunError> {
-    let requests = requests_of(rt.alloc(), asked, files)?;
-    let Some(cite) = first_cite(asked) else {
+    let requests = requests_of(rt.alloc(), job, files)?;
+    let Some(cite) = first_cite(job) else {
         return Err(RunError::Document);
     };
-    let style = asked.wanted.style.style;
-    if calls_without_memory(rt, &requests, style, cite.entry, asked.locales)? {
+    let style = job.wanted.style.style;
+    if calls_without_memory(rt, &requests, style, cite.entry, job.locales)? {
         Ok(Seen::Answer)
     } else {
         Ok(Seen::Amiss("a call that takes no memory gave what it may not"))
@@ -354,11 +354,11 @@ fn compare_requests(rt: &impl Print, requests: &[Request<'_>]) -> Result<(), All
 /// Compares the requests with the first one, and that for the bibliography with one for its style alone.
 fn compare<'e, 'f: 'e>(
     rt: &(impl Print + AllocGlobal),
-    asked: &'e Asked<'f>,
+    job: &'e Job<'f>,
     files: &'e TermTables<'f>,
 ) -> Result<Seen, RunError> {
-    compare_requests(rt, &requests_of(rt.alloc(), asked, files)?)?;
-    print_wanted(rt, &bibliography_request(rt.alloc(), asked, files, true)?);
+    compare_requests(rt, &requests_of(rt.alloc(), job, files)?)?;
+    print_wanted(rt, &bibliography_request(rt.alloc(), job, files, true)?);
     if properties_differ() {
         Ok(Seen::Answer)
     } else {
@@ -369,26 +369,26 @@ fn compare<'e, 'f: 'e>(
 /// Calls the passes by themselves.
 fn call_passes<'e, 'f: 'e>(
     rt: &(impl Print + Eprint + AllocGlobal),
-    asked: &'e Asked<'f>,
+    job: &'e Job<'f>,
     files: &'e TermTables<'f>,
 ) -> Result<Seen, RunError> {
-    let requests = requests_of(rt.alloc(), asked, files)?;
+    let requests = requests_of(rt.alloc(), job, files)?;
     by_passes(rt, &requests)
 }
 
 /// Does it with what the document asks for, and the tables of its locales.
 fn answered_over<'e, 'f: 'e>(
     rt: &(impl Print + Eprint + AllocGlobal),
-    asked: &'e Asked<'f>,
+    job: &'e Job<'f>,
     files: &'e TermTables<'f>,
     how: How,
 ) -> Result<Seen, RunError> {
     match how {
-        How::Alone => answer_alone(rt, asked, files),
-        How::Passes => call_passes(rt, asked, files),
-        How::Equality => compare(rt, asked, files),
-        How::Free => call_free(rt, asked, files),
-        _ => answer_all(rt, asked, files, how),
+        How::Alone => answer_alone(rt, job, files),
+        How::Passes => call_passes(rt, job, files),
+        How::Equality => compare(rt, job, files),
+        How::Free => call_free(rt, job, files),
+        _ => answer_all(rt, job, files, how),
     }
 }
 
@@ -402,9 +402,9 @@ fn answered_of(
     how: How,
 ) -> Result<Seen, RunError> {
     let found = found_styles(rt.alloc(), styles, object)?;
-    let asked = asked_in(rt.alloc(), &found, entries, locales, object)?;
-    let files = TermTables::new(rt.alloc(), asked.locales)?;
-    answered_over(rt, &asked, &files, how)
+    let job = job_in(rt.alloc(), &found, entries, locales, object)?;
+    let files = TermTables::new(rt.alloc(), job.locales)?;
+    answered_over(rt, &job, &files, how)
 }
 
 /// Does it with the value of a document.

@@ -10,7 +10,7 @@ use Rattle.std.proofs.lemmas.Option.{slice_get-get_or, slice_get-map}
 use Rattle.csl_ambiguity.specs.Members.{Member, entry_of, members}
 use Rattle.csl_assembly.specs.declared.rendered.Rendered.{Rendered}
 use Rattle.csl_writers.specs.Writing.{Writing}
-use Rattle.csl_driver.specs.Answer.{Asked, rendered_first}
+use Rattle.csl_driver.specs.Answer.{Job, rendered_first}
 use Rattle.csl_driver.specs.AnswerLaws.{KeepsLaws}
 use Rattle.csl_driver.specs.declared.account.Account.{Account}
 use Rattle.csl_entries.specs.Entries.{distinct, is_in}
@@ -129,22 +129,22 @@ only-one n h = omega (arith, h)
 earliest : (n a b : ℕ) → n - 1 ≡ 1 → a + 1 < n → b + 1 < n → a ≡ b
 earliest n a b one low lower = omega (arith, one, low, lower)
 
-module _ {E P : Type 0} (eq : E → E → Bool) (equal : IsEquivalence eq) (payload_eq : P → P → Bool) (writing : Writing E P) (mode : RoundMode) (asked : Asked E P) (r : Rendered × Account E)
-    (laws : KeepsLaws eq payload_eq writing mode asked r) where
+module _ {E P : Type 0} (eq : E → E → Bool) (equal : IsEquivalence eq) (payload_eq : P → P → Bool) (writing : Writing E P) (mode : RoundMode) (job : Job E P) (r : Rendered × Account E)
+    (laws : KeepsLaws eq payload_eq writing mode job r) where
   abbrev table : ℕ → StateTable E
-  table round = table_of_round eq payload_eq writing mode asked r laws round
+  table round = table_of_round eq payload_eq writing mode job r laws round
 
   abbrev entries : List E
   entries = map (λ e. e.now) r.1.entries.items
 
   abbrev Got : ℕ → Type 0
-  Got place = GotSuffix eq payload_eq writing mode asked r laws place
+  Got place = GotSuffix eq payload_eq writing mode job r laws place
 
   -- an entry that has a suffix in the end got it in a round
   got : (place n : ℕ) (e : E) → slice_get entries place ≡ Some e → last_table laws.tables e ≡ Some (YearSuffix n) → (g : Got place) × (g.entry ≡ e)
   got place n e is h =
       let some : 0 < length laws.tables = has-one laws.tables no_states laws.first_is_empty in
-      let way = came (λ t. t e ≡ Some (YearSuffix n)) (λ t later. GetsSuffixInGroup mode eq writing (firsts eq payload_eq writing mode asked r laws) t later e) laws.tables no_states
+      let way = came (λ t. t e ≡ Some (YearSuffix n)) (λ t later. GetsSuffixInGroup mode eq writing (firsts eq payload_eq writing mode job r laws) t later e) laws.tables no_states
       (λ first. no-state (sym (ap (λ (t : StateTable E). t e) (first-is laws.tables no_states no_states laws.first_is_empty)) ∙ first))
       (λ k d w. laws.rounds.stay.by_group k d w e n) (length laws.tables - 1) (omega (arith, some)) h in
       (record { entry = e; is_entry = is; round = way.0; marked = way.1; in_group = way.2 }, refl)
@@ -164,7 +164,7 @@ module _ {E P : Type 0} (eq : E → E → Bool) (equal : IsEquivalence eq) (payl
 
   -- the distinct entries of a group at the table of a round
   abbrev entries_of : ℕ → List Place → List E
-  entries_of round group = distinct eq (map entry_of (members (shown_at mode eq writing (firsts eq payload_eq writing mode asked r laws) (table round)) group))
+  entries_of round group = distinct eq (map entry_of (members (shown_at mode eq writing (firsts eq payload_eq writing mode job r laws) (table round)) group))
 
   -- the suffix in the end is the place among them
   pub record IsPlaced (place : ℕ) (got : Got place) : Type 0 where
@@ -177,7 +177,7 @@ module _ {E P : Type 0} (eq : E → E → Bool) (equal : IsEquivalence eq) (payl
   is-placed : (place : ℕ) (got : Got place) → IsPlaced place got
   is-placed place got =
       let group = got.in_group.group in
-      let cites : List (Member E P) = members (shown_at mode eq writing (firsts eq payload_eq writing mode asked r laws) (table got.round)) group in
+      let cites : List (Member E P) = members (shown_at mode eq writing (firsts eq payload_eq writing mode job r laws) (table got.round)) group in
       let cited : is_in eq got.entry (map entry_of cites) ≡ true = any-map (eq got.entry) entry_of cites ∙ list_any-from_Any (λ m. eq got.entry (entry_of m)) cites got.in_group.cites_it in
       let one = Any-from_list_any (eq got.entry) (entries_of got.round group) (is_in-distinct eq equal got.entry (map entry_of cites) ∙ cited) in
       let there : slice_get (entries_of got.round group) one.0 ≡ Some one.1 = slice_get-get_or (entries_of got.round group) one.0 one.1 one.2 ∙ ap Some one.3 in
@@ -213,7 +213,7 @@ module _ {E P : Type 0} (eq : E → E → Bool) (equal : IsEquivalence eq) (payl
 
   -- in mode three those of one round are of one group; so where one round marked all letters differ
   pub letters-differ : mode ≡ RoundMode.Three → r.1.rounds ≡ 1 → (first second : ℕ) (letters others : List ℕ) → first ≢ second
-      → GotLetters eq payload_eq writing mode asked r laws first second letters others → letters ≢ others
+      → GotLetters eq payload_eq writing mode job r laws first second letters others → letters ≢ others
   letters-differ three rounds first second letters others ne both =
       let one = both.one in
       let other = both.other in
@@ -221,5 +221,5 @@ module _ {E P : Type 0} (eq : E → E → Bool) (equal : IsEquivalence eq) (payl
       let same_round : one.round ≡ other.round = earliest (length laws.tables) one.round other.round marking one.marked other.marked in
       let same_group : one.in_group.group ≡ other.in_group.group =
       laws.rounds.stay.one_group three one.round no_states one.marked one.in_group.group other.in_group.group one.in_group.gets_suffixes
-      (subst (λ k. GetsSuffixes mode eq writing (firsts eq payload_eq writing mode asked r laws) (table k) other.in_group.group) (sym same_round) other.in_group.gets_suffixes) in
+      (subst (λ k. GetsSuffixes mode eq writing (firsts eq payload_eq writing mode job r laws) (table k) other.in_group.group) (sym same_round) other.in_group.gets_suffixes) in
       both.differ ne same_round same_group

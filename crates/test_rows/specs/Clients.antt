@@ -4,7 +4,7 @@ use Rattle.csl_assembly.specs.declared.rendered.Rendered.{Rendered}
 use Rattle.csl_writers.specs.Writing.{Writing}
 use Rattle.csl_style_values.specs.declared.style.Collapse.{Collapse}
 use Rattle.csl_collapse.specs.NumberLaws.{AreNextShown, CanBeReadBack, WasHid, numbers_of}
-use Rattle.csl_driver.specs.Answer.{Asked, rendered_first}
+use Rattle.csl_driver.specs.Answer.{Job, rendered_first}
 use Rattle.csl_driver.specs.AnswerLaws.{KeepsLaws}
 use Rattle.csl_driver.specs.declared.account.Account.{Account}
 use Rattle.csl_passes.specs.Renders.{CiteRender, ItemRender}
@@ -28,11 +28,11 @@ AreHiddenBetween E P first last numbers =
     → slice_range (numbers_of drawn) (p + 1) q ≡ numbers
 
 module _ {E P : Type 0} (eq : E → E → Bool) (payload_eq : P → P → Bool) (writing : Writing E P)
-    (mode : RoundMode) (asked : Asked E P) (r : Rendered × Account E)
-    (laws : KeepsLaws eq payload_eq writing mode asked r) where
+    (mode : RoundMode) (job : Job E P) (r : Rendered × Account E)
+    (laws : KeepsLaws eq payload_eq writing mode job r) where
   -- the first renders of what was asked, and the table at which a round begins
   abbrev pub firsts : List (CiteRender E P)
-  firsts = rendered_first eq payload_eq writing asked
+  firsts = rendered_first eq payload_eq writing job
 
   abbrev pub table_of_round : ℕ → StateTable E
   table_of_round round = slice_index_or laws.tables round no_states

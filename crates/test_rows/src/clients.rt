@@ -2,7 +2,7 @@
 ghost use Rattle.std.specs.Prelude.{◌≡◌, ◌≢◌, ◌+◌, ◌≤◌, ◌<◌, Bool, IfOk, IfSome, IsSome, List, Some, ℕ, length, map, nat_eq, option_and_then, position, slice_get, string_bytes};
 ghost use Rattle.csl_assembly.specs.declared.rendered.Rendered.{Rendered};
 ghost use Rattle.csl_collapse.specs.NumberLaws.{between};
-ghost use Rattle.csl_driver.specs.Answer.{Asked};
+ghost use Rattle.csl_driver.specs.Answer.{Job};
 ghost use Rattle.csl_driver.specs.AnswerLaws.{HaveNumbersOnce, KeepsLaws};
 ghost use Rattle.csl_lookup.specs.States.{year_suffix};
 ghost use Rattle.csl_lookup.specs.SuffixLetters.{suffix_letters};
@@ -95,7 +95,7 @@ pub fn letters_of_two<'a, T: EntryLike, P: Eq>(
     second: usize,
 ) -> Result<Option<(String, String)>, AllocError>
     ensures got { IfOk result (λ o. IfSome o (λ letters.
-        (mode : RoundMode) (asked : Asked T P) (rendered : Rendered)
+        (mode : RoundMode) (asked : Job T P) (rendered : Rendered)
         (laws : KeepsLaws T.eq P.eq (layout_writing T.answers) mode asked (rendered, account.now))
         → GotLetters T.eq P.eq (layout_writing T.answers) mode asked (rendered, account.now) laws
         first second (string_bytes letters.0) (string_bytes letters.1))) }

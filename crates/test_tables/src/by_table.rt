@@ -20,7 +20,7 @@ use csl_driver::terms::TermTables;
 use csl_writing::layout_writer::LayoutWriter;
 use host_driver::drive::{Driven, drive};
 use host_table::table::Table;
-use json_document::document::{Asked, asked_in, top_of, value_of};
+use json_document::document::{Job, job_in, top_of, value_of};
 use json_document::entries::entries_of;
 use json_document::finders::found_styles;
 use json_styles::locales::locales_at;
@@ -45,7 +45,7 @@ pub enum TableWay {
 #[derive(Clone, Copy)]
 pub struct Asking<'a, 'e> {
     pub alloc: Global,
-    pub asked: &'a Asked<'e>,
+    pub job: &'a Job<'e>,
     pub files: &'a TermTables<'e>,
 }
 
@@ -113,17 +113,17 @@ fn by_layouts(
     way: TableWay,
 ) -> Result<Seen, RunError> {
     let found = found_styles(rt.alloc(), parts.styles, parts.object)?;
-    let asked = asked_in(
+    let job = job_in(
         rt.alloc(),
         &found,
         parts.entries,
         parts.locales,
         parts.object,
     )?;
-    let files = TermTables::new(rt.alloc(), asked.locales)?;
+    let files = TermTables::new(rt.alloc(), job.locales)?;
     let asking = Asking {
         alloc: rt.alloc(),
-        asked: &asked,
+        job: &job,
         files: &files,
     };
     match way {
@@ -142,10 +142,10 @@ fn finish_often(asking: &Asking<'_, '_>, times: usize) -> Result<Seen, RunError>
 
 /// Answers it by the layouts, and keeps nothing of that.
 fn finished(asking: &Asking<'_, '_>) -> Result<(), RunError> {
-    let asked = asking.asked;
-    let driver = filled_driver(asking.alloc, &asked.requests, asking.files, asked.offset)?;
-    let request = bibliography_request(asking.alloc, asked, asking.files)?;
-    match driver.finish_with(request, asked.rounds, &mut LayoutWriter::new()) {
+    let job = asking.asked;
+    let driver = filled_driver(asking.alloc, &job.requests, asking.files, job.offset)?;
+    let request = bibliography_request(asking.alloc, job, asking.files)?;
+    match driver.finish_with(request, job.rounds, &mut LayoutWriter::new()) {
         Ok(_) => Ok(()),
         Err(error) => Err(DriverError::from(error).into()),
     }
@@ -156,10 +156,10 @@ fn recorded_by<'a>(
     asking: &Asking<'a, '_>,
     recorder: &mut Recorder<'_>,
 ) -> Result<Answer<'a>, RunError> {
-    let asked = asking.asked;
-    let driver = filled_driver(asking.alloc, &asked.requests, asking.files, asked.offset)?;
-    let request = bibliography_request(asking.alloc, asked, asking.files)?;
-    match driver.finish_with(request, asked.rounds, recorder) {
+    let job = asking.asked;
+    let driver = filled_driver(asking.alloc, &job.requests, asking.files, job.offset)?;
+    let request = bibliography_request(asking.alloc, job, asking.files)?;
+    match driver.finish_with(request, job.rounds, recorder) {
         Ok(answer) => Ok(answer),
         Err(error) => Err(DriverError::from(error).into()),
     }
@@ -188,17 +188,17 @@ fn by_hosts(
 ) -> Result<Seen, RunError> {
     let _ = eprintln!(rt; "prepare");
     let found = found_styles(rt.alloc(), parts.hosts, parts.object)?;
-    let asked = asked_in(
+    let job = job_in(
         rt.alloc(),
         &found,
         parts.entries,
         parts.locales,
         parts.object,
     )?;
-    let files = TermTables::new(rt.alloc(), asked.locales)?;
+    let files = TermTables::new(rt.alloc(), job.locales)?;
     let asking = Asking {
         alloc: rt.alloc(),
-        asked: &asked,
+        job: &job,
         files: &files,
     };
     from_table(rt, &asking, answer, table, way)
@@ -263,10 +263,10 @@ pub fn driven<'a>(
     asking: &Asking<'a, '_>,
     table: &Table,
 ) -> Result<Driven<'a, PlainEntry>, RunError> {
-    let asked = asking.asked;
-    let driver = filled_driver(asking.alloc, &asked.requests, asking.files, asked.offset)?;
-    let request = bibliography_request(asking.alloc, asked, asking.files)?;
-    Ok(drive(asking.alloc, driver, request, asked.rounds, table)?)
+    let job = asking.asked;
+    let driver = filled_driver(asking.alloc, &job.requests, asking.files, job.offset)?;
+    let request = bibliography_request(asking.alloc, job, asking.files)?;
+    Ok(drive(asking.alloc, driver, request, job.rounds, table)?)
 }
 
 /// Answers it so many times from the table.

@@ -65,16 +65,16 @@ pub fn fill_from(
     whole: &Table,
     answer: &Answer<'_>,
 ) -> Result<Seen, RunError> {
-    let asked = asking.asked;
-    let driver = filled_driver(asking.alloc, &asked.requests, asking.files, asked.offset)?;
-    let request = bibliography_request(asking.alloc, asked, asking.files)?;
+    let job = asking.asked;
+    let driver = filled_driver(asking.alloc, &job.requests, asking.files, job.offset)?;
+    let request = bibliography_request(asking.alloc, job, asking.files)?;
     let source = WrittenBefore { table: whole };
     let calls = calls_at_most(answer.1.rounds);
     match answer_by(
         asking.alloc,
         &driver,
         &request,
-        asked.rounds,
+        job.rounds,
         calls,
         &source,
     ) {
@@ -87,7 +87,7 @@ pub fn fill_from(
 
 fn compared(filled: &FilledAnswer<'_, PlainEntry>, whole: &Table, answer: &Answer<'_>) -> Seen {
     if !has_all(whole, &filled.table) {
-        Seen::Amiss("not all was asked for")
+        Seen::Amiss("not all was job for")
     } else if filled.rendered == answer.0 && is_same(&filled.account, &answer.1) {
         Seen::Answer
     } else {

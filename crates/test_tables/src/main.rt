@@ -25,8 +25,8 @@ use seen::Seen;
 use std::process::ExitCode;
 
 /// What a line asks for that ends in a number.
-fn way_counted(asked: &str) -> Option<TableWay> {
-    let (way, number) = asked.rsplit_once(' ')?;
+fn way_counted(job: &str) -> Option<TableWay> {
+    let (way, number) = job.rsplit_once(' ')?;
     let Ok(times) = number.parse::<usize>() else {
         return None;
     };
@@ -39,19 +39,19 @@ fn way_counted(asked: &str) -> Option<TableWay> {
 }
 
 /// What a line asks for.
-fn way_of(asked: &str) -> Option<TableWay> {
-    if asked == "table" {
+fn way_of(job: &str) -> Option<TableWay> {
+    if job == "table" {
         return Some(TableWay::Compared);
     }
-    way_counted(asked)
+    way_counted(job)
 }
 
 /// Does what the first line says with the document behind it.
 fn answer_to(rt: &(impl Print + Eprint + AllocGlobal), text: &str) -> Result<Seen, RunError> {
-    let Some((asked, document)) = text.split_once('\n') else {
+    let Some((job, document)) = text.split_once('\n') else {
         return Err(RunError::Document);
     };
-    match way_of(asked) {
+    match way_of(job) {
         Some(way) => by_table(rt, document, way),
         None => Err(RunError::Document),
     }

@@ -4,7 +4,7 @@ use Rattle.std.specs.Prelude.{nat_eq}
 use Rattle.std.specs.List.{range_with_len}
 use Rattle.csl_assembly.specs.declared.rendered.Rendered.{Rendered}
 use Rattle.csl_driver.specs.Account.{cost, final_state, marking}
-use Rattle.csl_driver.specs.Answer.{Asked, final_number, rendered}
+use Rattle.csl_driver.specs.Answer.{Job, final_number, rendered}
 use Rattle.csl_driver.specs.Promised.{IsExactly}
 use Rattle.csl_driver.specs.declared.account.Account.{Account}
 use Rattle.csl_entries.specs.Entries.{distinct}
@@ -26,16 +26,16 @@ abbrev three : RoundMode
 three = RoundMode.Three
 
 -- what is plainly answered, where nothing is ambiguous
-pub record IsPlainAnswer (renders : ℕ) (asked : Asked Sample ℕ) (answer : Rendered) : Type 0 where
-  pub ok : rendered same_sample nat_eq letters three asked ≡ answer
-  pub cost_is : cost same_sample nat_eq letters three asked ≡ renders
-  pub none_marks : marking same_sample nat_eq letters three asked ≡ 0
-  pub states : map (final_state same_sample nat_eq letters three asked) (distinct same_sample (cited asked.requests)) ≡ map (λ e. DisambiguateState.None) (distinct same_sample (cited asked.requests))
-  pub numbers : map (final_number same_sample nat_eq letters three asked) (distinct same_sample (cited asked.requests)) ≡ range_with_len 0 (length (distinct same_sample (cited asked.requests)))
+pub record IsPlainAnswer (renders : ℕ) (job : Job Sample ℕ) (answer : Rendered) : Type 0 where
+  pub ok : rendered same_sample nat_eq letters three job ≡ answer
+  pub cost_is : cost same_sample nat_eq letters three job ≡ renders
+  pub none_marks : marking same_sample nat_eq letters three job ≡ 0
+  pub states : map (final_state same_sample nat_eq letters three job) (distinct same_sample (cited job.requests)) ≡ map (λ e. DisambiguateState.None) (distinct same_sample (cited job.requests))
+  pub numbers : map (final_number same_sample nat_eq letters three job) (distinct same_sample (cited job.requests)) ≡ range_with_len 0 (length (distinct same_sample (cited job.requests)))
 
-module _ (renders : ℕ) (asked : Asked Sample ℕ) (answer : Rendered) (account : Account Sample) where
-  pub exactly : renders < 2 ^ 64 → IsPlainAnswer renders asked answer → IsPlainAccount renders (distinct same_sample (cited asked.requests)) account
-      → IsExactly same_sample nat_eq letters three asked (answer, account)
+module _ (renders : ℕ) (job : Job Sample ℕ) (answer : Rendered) (account : Account Sample) where
+  pub exactly : renders < 2 ^ 64 → IsPlainAnswer renders job answer → IsPlainAccount renders (distinct same_sample (cited job.requests)) account
+      → IsExactly same_sample nat_eq letters three job (answer, account)
   exactly few is has = record {
     ok = sym is.ok;
     renders = omega (arith, few, is.cost_is, has.made);

@@ -10,9 +10,9 @@ use Rattle.csl_round_laws.specs.Tables.{tables_from}
 use Rattle.csl_round_laws.specs.declared.mode.RoundMode.{RoundMode}
 use Rattle.csl_writing.specs.CiteText.{cite}
 use Rattle.csl_writing.specs.PartsWritten.{parts_written}
-use Rattle.test_wrong_answers.specs.Counts.{sample_asked}
+use Rattle.test_wrong_answers.specs.Counts.{sample_job}
 use Rattle.test_wrong_answers.specs.Silent.{same_sample, writing}
 
-pub four : cost same_sample nat_eq writing RoundMode.Three sample_asked ≡ 4
+pub four : cost same_sample nat_eq writing RoundMode.Three sample_job ≡ 4
 unfolding cite parts_written formatted unformatted flushed saved name_marks steps step round_marks tables_from
 four = refl

@@ -3,7 +3,7 @@ use Rattle.std.proofs.Common.{◌≡◌, ℕ, ◌+◌, Bool, List, [], ◌∷◌
 use Rattle.std.specs.Prelude.{nat_eq, slice_get, slice_index, unwrap_or}
 use Rattle.std.specs.Cmp.{unsigned_Decides}
 use Rattle.csl_assembly.specs.declared.rendered.Rendered.{Rendered}
-use Rattle.csl_driver.specs.Answer.{Asked}
+use Rattle.csl_driver.specs.Answer.{Job}
 use Rattle.csl_driver.specs.AnswerLaws.{KeepsLaws}
 use Rattle.csl_driver.specs.ListedOnce.{EqualHaveEqualKeys}
 use Rattle.csl_driver.specs.declared.account.Account.{Account}
@@ -23,10 +23,10 @@ none-cited : {E : Type 0} (eq : E → E → Bool) (xs : List E) → [] ≡ disti
 none-cited eq [] e = sym e
 none-cited eq (x ∷ xs) e = cc
 
-pub no-entries : {E P : Type 0} (eq : E → E → Bool) (payload_eq : P → P → Bool) (writing : Writing E P) (mode : RoundMode) (asked : Asked E P) (answer : Rendered) (account : Account E)
-    → account.entries.items ≡ [] → KeepsLaws eq payload_eq writing mode asked (answer, account) → cited asked.requests ≡ []
-no-entries eq payload_eq writing mode asked answer account none h =
-    none-cited eq (cited asked.requests) (sym (ap (map (λ e. e.now)) none) ∙ h.cited_entries)
+pub no-entries : {E P : Type 0} (eq : E → E → Bool) (payload_eq : P → P → Bool) (writing : Writing E P) (mode : RoundMode) (job : Job E P) (answer : Rendered) (account : Account E)
+    → account.entries.items ≡ [] → KeepsLaws eq payload_eq writing mode job (answer, account) → cited job.requests ≡ []
+no-entries eq payload_eq writing mode job answer account none h =
+    none-cited eq (cited job.requests) (sym (ap (map (λ e. e.now)) none) ∙ h.cited_entries)
 
 -- equal samples have equal keys
 same-keys : EqualHaveEqualKeys same_sample letters

@@ -74,7 +74,7 @@ shown-hidden account h =
     let first = all.0 in
     let request_is = sym first.read.same_request ∙ first.same_request in
     let asked : RequestedCite Sample ℕ = record (asked_cite 0) { hidden = true } in
-    let one = only asked first.settled first.drawn first.own first.read (ap (λ r. (with_places r).cites) request_is) in
+    let one = only job first.settled first.drawn first.own first.read (ap (λ r. (with_places r).cites) request_is) in
     let none : places_of (shown first.drawn.items) ≡ [] = ap (λ l. places_of (shown l)) one.alone ∙ ap (λ b. places_of (cond (not b) (one.item ∷ []) [])) (one.stays_hidden refl) in
     above 1 0 (omega arith) (ap length (first.shows ∙ none))
 

@@ -37,13 +37,13 @@ module _ {E P : Type 0} (writing : Writing E P) where
       → citations ≡ map (λ c. citation_of writing c.0 c.1) (enumerate_from k drawn)
       → map (λ c. entries_shown c.citation) citations ≡ map (λ c. places_of (shown c.items)) drawn
       → AllAnswer k requests citations
-  all-answer k [] settled [] [] asked runs own made shows = tt
-  all-answer k [] settled [] (c ∷ cs) asked runs own made shows = cc
-  all-answer k [] settled (d ∷ ds) citations asked runs own made shows = cc
-  all-answer k (r ∷ rs) settled [] citations asked runs own made shows = cc
-  all-answer k (r ∷ rs) [] (d ∷ ds) citations asked runs own made shows = absurd runs
-  all-answer k (r ∷ rs) (s ∷ ss) (d ∷ ds) [] asked runs own made shows = cc
-  all-answer k (r ∷ rs) (s ∷ ss) (d ∷ ds) (c ∷ cs) asked runs own made shows =
+  all-answer k [] settled [] [] job runs own made shows = tt
+  all-answer k [] settled [] (c ∷ cs) job runs own made shows = cc
+  all-answer k [] settled (d ∷ ds) citations job runs own made shows = cc
+  all-answer k (r ∷ rs) settled [] citations job runs own made shows = cc
+  all-answer k (r ∷ rs) [] (d ∷ ds) citations job runs own made shows = absurd runs
+  all-answer k (r ∷ rs) (s ∷ ss) (d ∷ ds) [] job runs own made shows = cc
+  all-answer k (r ∷ rs) (s ∷ ss) (d ∷ ds) (c ∷ cs) job runs own made shows =
       let request_is : d.request ≡ r = cc in
       let rest_asked : map (λ x. x.request) ds ≡ rs = cc in
       let made_is : c ≡ citation_of writing k d = cc in
@@ -82,7 +82,7 @@ module _ {E P : Type 0} where
   only q c d own read one =
       let asked : RequestedCite E P = record q { place = 0 } in
       let moved = subst (λ l. IsPermutation l (map cite_of c.items)) one own in
-      let s = only-settled asked c.items (length_permutation (asked ∷ []) (map cite_of c.items) moved) (Contains-permutation (asked ∷ []) (map cite_of c.items) asked moved (0, omega arith, refl)) in
+      let s = only-settled job c.items (length_permutation (job ∷ []) (map cite_of c.items) moved) (Contains-permutation (job ∷ []) (map cite_of c.items) job moved (0, omega arith, refl)) in
       let j = only-drawn s.0 d.items (read.same_cites ∙ ap (map uncollapsed) s.1) in
       record {
         item = j.0;

@@ -2,16 +2,16 @@
 use Rattle.std.specs.Prelude.{ℕ, [], ◌∷◌, Some, true, codes}
 use Rattle.csl_assembly.specs.declared.rendered.Rendered.{Rendered}
 use Rattle.csl_collapse.specs.NumberRuns.{en_dash}
-use Rattle.csl_driver.specs.Answer.{Asked}
+use Rattle.csl_driver.specs.Answer.{Job}
 use Rattle.csl_lookup.specs.declared.purpose.CitePurpose.{CitePurpose}
 use Rattle.csl_passes.specs.Request.{Request}
-use Rattle.test_wrong_answers.specs.Letters.{answer, asked, asked_cite, citation, request, shows}
+use Rattle.test_wrong_answers.specs.Letters.{answer, job, asked_cite, citation, request, shows}
 use Rattle.test_wrong_answers.specs.Samples.{words}
 use Rattle.test_wrong_answers.specs.declared.sample.Sample.{Sample}
 
 -- two requests, for A and for B
-abbrev pub two : Asked Sample ℕ
-two = asked (request (asked_cite 0 ∷ []) ∷ request (asked_cite 1 ∷ []) ∷ [])
+abbrev pub two : Job Sample ℕ
+two = job (request (asked_cite 0 ∷ []) ∷ request (asked_cite 1 ∷ []) ∷ [])
 
 -- A, and B
 abbrev pub each_its_own : Rendered
@@ -22,8 +22,8 @@ abbrev pub both_the_first : Rendered
 both_the_first = answer (citation (shows 0 0 ∷ []) ∷ citation (shows 0 0 ∷ []) ∷ [])
 
 -- a request for A that is to be hidden
-abbrev pub hidden_one : Asked Sample ℕ
-hidden_one = asked (request (record (asked_cite 0) { hidden = true } ∷ []) ∷ [])
+abbrev pub hidden_one : Job Sample ℕ
+hidden_one = job (request (record (asked_cite 0) { hidden = true } ∷ []) ∷ [])
 
 -- nothing
 abbrev pub nothing_shown : Rendered
@@ -38,8 +38,8 @@ abbrev pub of_three : Request Sample ℕ
 of_three = request (asked_cite 0 ∷ asked_cite 1
     ∷ record (asked_cite 2) { purpose = Some CitePurpose.Author } ∷ [])
 
-abbrev pub with_a_purpose : Asked Sample ℕ
-with_a_purpose = asked (of_three ∷ [])
+abbrev pub with_a_purpose : Job Sample ℕ
+with_a_purpose = job (of_three ∷ [])
 
 -- A; B; C
 abbrev pub one_by_one : Rendered

@@ -1,6 +1,6 @@
 -- What is asked by two requests of one cite each, in a style whose layout is empty, and what that costs.
 use Rattle.std.specs.Prelude.{ℕ, false, [], ◌∷◌, None}
-use Rattle.csl_driver.specs.Answer.{Asked}
+use Rattle.csl_driver.specs.Answer.{Job}
 use Rattle.csl_passes.specs.Request.{Request}
 use Rattle.test_wrong_answers.specs.Samples.{entry, style}
 use Rattle.test_wrong_answers.specs.declared.sample.Sample.{Sample}
@@ -15,8 +15,8 @@ one_cite n = record {
   note_number = None;
 }
 
-abbrev pub sample_asked : Asked Sample ℕ
-sample_asked = record {
+abbrev pub sample_job : Job Sample ℕ
+sample_job = record {
   wanted = record { style = style; locale = None; locales = []; order = None };
   requests = one_cite 0 ∷ one_cite 1 ∷ [];
   offset = 0;

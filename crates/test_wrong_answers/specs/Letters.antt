@@ -5,7 +5,7 @@ use Rattle.csl_assembly.specs.declared.rendered.Rendered.{Rendered}
 use Rattle.csl_assembly.specs.declared.rendered.RenderedCitation.{RenderedCitation}
 use Rattle.csl_trees.specs.Child.{Child, elem, kid, no_kids}
 use Rattle.csl_trees.specs.declared.elem.ElemMeta.{ElemMeta}
-use Rattle.csl_driver.specs.Answer.{Asked}
+use Rattle.csl_driver.specs.Answer.{Job}
 use Rattle.csl_driver.specs.declared.account.Account.{Account}
 use Rattle.csl_lookup.specs.declared.state.DisambiguateState.{DisambiguateState}
 use Rattle.csl_lookup.specs.declared.state.IdentifierUsage.{IdentifierUsage}
@@ -42,7 +42,7 @@ abbrev pub request : List (RequestedCite Sample ℕ) → Request Sample ℕ
 request cites = record { cites = cites; style = style; locale = None; locales = []; note_number = None }
 
 -- these requests, and no bibliography
-abbrev pub asked : List (Request Sample ℕ) → Asked Sample ℕ
+abbrev pub asked : List (Request Sample ℕ) → Job Sample ℕ
 asked requests = record {
   wanted = record { style = style; locale = None; locales = []; order = None };
   requests = requests;

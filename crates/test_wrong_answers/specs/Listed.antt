@@ -5,7 +5,7 @@ use Rattle.csl_assembly.specs.declared.rendered.Rendered.{Rendered}
 use Rattle.csl_style_values.specs.PlainLook.{no_options}
 use Rattle.csl_style_values.specs.Style.{BibliographyValue}
 use Rattle.csl_style_values.specs.declared.style.SubsequentAuthorSubstituteRule.{SubsequentAuthorSubstituteRule}
-use Rattle.csl_driver.specs.Answer.{Asked}
+use Rattle.csl_driver.specs.Answer.{Job}
 use Rattle.std.specs.declared.num.NonZeroI16.{NonZeroI16}
 use Rattle.test_wrong_answers.specs.Cites.{each_its_own, two}
 use Rattle.test_wrong_answers.specs.Letters.{letter}
@@ -27,7 +27,7 @@ module _ (spacing : NonZeroI16) where
   }
 
   -- requests for A and for B, and a bibliography
-  abbrev pub two_listed : Asked Sample ℕ
+  abbrev pub two_listed : Job Sample ℕ
   two_listed = record two {
     wanted = record two.wanted { style = record style { bibliography = Some bibliography } };
   }

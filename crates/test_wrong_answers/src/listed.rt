@@ -2,7 +2,7 @@
 ghost use Rattle.std.specs.Prelude.{◌≡◌, ◌≢◌, ℕ, List, [], ◌∷◌, nat_eq};
 ghost use Rattle.std.specs.declared.num.NonZeroI16.{NonZeroI16};
 ghost use Rattle.csl_assembly.specs.declared.rendered.Rendered.{Rendered};
-ghost use Rattle.csl_driver.specs.Answer.{Asked};
+ghost use Rattle.csl_driver.specs.Answer.{Job};
 ghost use Rattle.csl_driver.specs.AnswerLaws.{KeepsLaws};
 ghost use Rattle.csl_driver.specs.declared.account.Account.{Account};
 ghost use Rattle.csl_entries.specs.Entries.{distinct};
@@ -19,9 +19,9 @@ use csl_driver::laws::answers_keep_laws;
 
 /// The account has no entries, though something is cited. It belongs to no answer at all.
 pub fn empty_account<T: EntryLike, P: Eq>()
-    ensures refuted { (writing : Writing T P) (mode : RoundMode) (asked : Asked T P) (answer : Rendered)
-        (account : Account T) → account.entries.items ≡ [] → cited asked.requests ≢ []
-        → ¬ KeepsLaws T.eq P.eq writing mode asked (answer, account) }
+    ensures refuted { (writing : Writing T P) (mode : RoundMode) (job : Job T P) (answer : Rendered)
+        (account : Account T) → account.entries.items ≡ [] → cited job.requests ≢ []
+        → ¬ KeepsLaws T.eq P.eq writing mode job (answer, account) }
 {}
 
 /// Of two cited entries, A and B, the bibliography lists A alone; or A, B and B again; or A and C.

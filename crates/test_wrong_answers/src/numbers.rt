@@ -3,7 +3,7 @@ ghost use Rattle.std.specs.Prelude.{◌≡◌, ◌-◌, ◌^◌, min, nat_eq};
 ghost use Rattle.csl_driver.specs.Account.{cost};
 ghost use Rattle.csl_driver.specs.AnswerLaws.{AreInOrder, HaveNumbersOnce};
 ghost use Rattle.csl_round_laws.specs.declared.mode.RoundMode.{RoundMode};
-ghost use Rattle.test_wrong_answers.specs.Counts.{sample_asked};
+ghost use Rattle.test_wrong_answers.specs.Counts.{sample_job};
 ghost use Rattle.test_wrong_answers.specs.Numbers.{after_grouping, entries, numbers_before, numbers_of_cites, right_numbers};
 ghost use Rattle.test_wrong_answers.specs.Silent.{same_sample, writing};
 
@@ -24,6 +24,6 @@ pub fn numbers_before_grouping()
 /// renderings, where they are to take 4.
 pub fn extra_renders()
     ensures refuted { ¬ (6
-        ≡ min (cost same_sample nat_eq writing RoundMode.Three sample_asked) (2 ^ 128 - 1)) }
-    ensures right { 4 ≡ min (cost same_sample nat_eq writing RoundMode.Three sample_asked) (2 ^ 128 - 1) }
+        ≡ min (cost same_sample nat_eq writing RoundMode.Three sample_job) (2 ^ 128 - 1)) }
+    ensures right { 4 ≡ min (cost same_sample nat_eq writing RoundMode.Three sample_job) (2 ^ 128 - 1) }
 {}

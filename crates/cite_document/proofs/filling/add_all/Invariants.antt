@@ -3,7 +3,7 @@ use Rattle.std.proofs.Common.{◌≡◌, ◌++◌, map, take}
 use Rattle.csl_style_values.specs.StyleView.{locale_view}
 use Rattle.csl_driver.specs.DriverView.{driver_view}
 use Rattle.csl_styles.specs.TablesView.{locales_of}
-use Rattle.json_document.specs.AskedView.{asked_requests_view}
+use Rattle.json_document.specs.JobView.{asked_requests_view}
 use Rattle.cite_document.specs.Run.{accepted}
 use Rattle.cite_document.proofs.filling.add_all.Given as goal
 

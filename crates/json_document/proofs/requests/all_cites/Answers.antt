@@ -1,6 +1,6 @@
 -- One more cite was read.
 use Rattle.json_values.proofs.Progress.{Progress-pushed}
-use Rattle.json_document.specs.AskedView.{asked_cite_view}
+use Rattle.json_document.specs.JobView.{asked_cite_view}
 use Rattle.json_document.specs.Finders.{entry_in}
 use Rattle.json_document.specs.Requests.{item_form}
 use Rattle.json_document.proofs.requests.all_cites.Goals as goal

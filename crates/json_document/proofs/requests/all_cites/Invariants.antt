@@ -1,5 +1,5 @@
 -- Cites are read one after another.
-use Rattle.json_document.specs.AskedView.{asked_cites_view}
+use Rattle.json_document.specs.JobView.{asked_cites_view}
 use Rattle.json_document.specs.Finders.{entry_in}
 use Rattle.json_document.specs.Requests.{item_form}
 use Rattle.json_values.proofs.Progress.{Progress}

@@ -1,7 +1,7 @@
 -- One more request was read.
 use Rattle.std.proofs.Common.{map}
 use Rattle.csl_style_values.specs.StyleView.{locale_view}
-use Rattle.json_document.specs.AskedView.{asked_request_view}
+use Rattle.json_document.specs.JobView.{asked_request_view}
 use Rattle.json_document.specs.Finders.{entry_in, style_in}
 use Rattle.json_document.specs.Requests.{request_form}
 use Rattle.json_values.proofs.Progress.{Progress-pushed}

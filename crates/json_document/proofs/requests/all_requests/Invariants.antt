@@ -1,7 +1,7 @@
 -- Requests are read one after another.
 use Rattle.std.proofs.Common.{map}
 use Rattle.csl_style_values.specs.StyleView.{locale_view}
-use Rattle.json_document.specs.AskedView.{asked_requests_view}
+use Rattle.json_document.specs.JobView.{asked_requests_view}
 use Rattle.json_document.specs.Finders.{entry_in, style_in}
 use Rattle.json_document.specs.Requests.{request_form}
 use Rattle.json_values.proofs.Progress.{Progress}

@@ -8,8 +8,8 @@ use Rattle.test_rows.proofs.clients.letters_of_two.Goals as goal
 
 pub returns-in_ok-letters_of_suffix-in-Some-Some-2 : goal.returns-in_ok-letters_of_suffix-in-Some-Some-2
 returns-in_ok-letters_of_suffix-in-Some-Some-2 g c = record {
-  got = λ mode asked rendered laws.
-      let read = is-read g.T.PartialEq.eq g.met.T.Eq.laws g.P.PartialEq.eq (layout_writing g.T.EntryLike.answers) mode asked (rendered, c.args.account.now) laws in
+  got = λ mode job rendered laws.
+      let read = is-read g.T.PartialEq.eq g.met.T.Eq.laws g.P.PartialEq.eq (layout_writing g.T.EntryLike.answers) mode job (rendered, c.args.account.now) laws in
       let one = read c.args.first c.in-Some-Some.one
       (ap (λ (l : List DisambiguateState). option_and_then year_suffix (slice_get l c.args.first)) (sym c.deref.ensures.value) ∙ sym c.suffix_at.ensures ∙ c.in-Some-Some.is-0) in
       let other = read c.args.second c.in-Some-Some.other
@@ -18,7 +18,7 @@ returns-in_ok-letters_of_suffix-in-Some-Some-2 g c = record {
         one = one.got_it;
         other = other.got_it;
         differ = λ ne same_round same_group same.
-            suffixes-differ g.T.PartialEq.eq g.met.T.Eq.laws g.P.PartialEq.eq (layout_writing g.T.EntryLike.answers) mode asked (rendered, c.args.account.now) laws
+            suffixes-differ g.T.PartialEq.eq g.met.T.Eq.laws g.P.PartialEq.eq (layout_writing g.T.EntryLike.answers) mode job (rendered, c.args.account.now) laws
             c.args.first c.args.second c.in-Some-Some.one c.in-Some-Some.other one other ne same_round same_group
             (c.suffixes_differ.ensures.different c.in-Some-Some.one c.in-Some-Some.other
             (sym (c.in_ok-letters_of_suffix-in-Some-Some.ensures) ∙ same ∙ c.in_ok-letters_of_suffix-in-Some-Some-2.ensures));

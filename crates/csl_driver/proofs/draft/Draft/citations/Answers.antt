@@ -4,7 +4,7 @@ use Rattle.csl_rounds.proofs.Pairs.{at_view, past_view, within_view}
 use Rattle.csl_style_values.specs.Ring.{HasNoRing}
 use Rattle.csl_assembly.specs.CitationTree.{citation_tasks, citation_tree}
 use Rattle.csl_driver.specs.Answer.{citation_of, citations_of}
-use Rattle.csl_driver.specs.DraftView.{asked_in}
+use Rattle.csl_driver.specs.DraftView.{job_in}
 use Rattle.csl_driver.specs.WriterTasks.{last_tasks}
 use Rattle.csl_passes.specs.RendersView.{item_view, render_view, renders_view}
 use Rattle.csl_positions.proofs.FinalPlaces.{all-at}
@@ -18,7 +18,7 @@ use Rattle.csl_driver.proofs.draft.Draft.citations.Goals as goal
 pub invariant_of-request : goal.invariant_of-request
 invariant_of-request g c =
     let cites = c.args.cites.now in
-    let acyclic = of-requests (λ r. HasNoRing r.style.macros) (renders_view cites) (asked_in c.args.self).requests c.requires.cites c.args.self.requests.no_ring in
+    let acyclic = of-requests (λ r. HasNoRing r.style.macros) (renders_view cites) (job_in c.args.self).requests c.requires.cites c.args.self.requests.no_ring in
     record { no_ring = all-at (λ r. HasNoRing r.request.style.macros) render_view cites c.loop-index.index c.index-cites-index.result acyclic c.loop-index-test.true c.index-cites-index.is }
 
 pub loop-index-preserved : goal.loop-index-preserved

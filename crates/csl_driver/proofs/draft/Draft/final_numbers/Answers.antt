@@ -1,7 +1,7 @@
 use Rattle.std.proofs.Common.{sym, ap, length, ◌∙◌}
 use Rattle.std.proofs.lemmas.Result.{IfOk-weaker}
 use Rattle.csl_driver.specs.Answer.{order_in_use}
-use Rattle.csl_driver.specs.DraftView.{asked_in, table_in}
+use Rattle.csl_driver.specs.DraftView.{job_in, table_in}
 use Rattle.csl_entries.specs.Entries.{number}
 use Rattle.csl_passes.specs.RendersView.{renders_view}
 use Rattle.csl_passes.specs.RequestView.{order_view}
@@ -19,27 +19,27 @@ numbers-requires-in-None g c = record { fits = numbers-fit c.args.self.known c.i
 pub final_listing-requires-clause-once : goal.final_listing-requires-clause-once
 final_listing-requires-clause-once g c =
     let draft = c.args.self in
-    table-once g.T.PartialEq.eq g.met.T.Eq.laws (asked_in draft).requests (table_in draft) draft.known.table
+    table-once g.T.PartialEq.eq g.met.T.Eq.laws (job_in draft).requests (table_in draft) draft.known.table
 
 pub returns-in-Some-clause-numbers : goal.returns-in-Some-clause-numbers
 returns-in-Some-clause-numbers g c =
     let eq = g.T.PartialEq.eq in
     let draft = c.args.self in
-    let asked = asked_in draft in
+    let job = job_in draft in
     let used = sym (ap order_view c.in-Some.is) ∙ c.used_order.ensures in
     IfOk-weaker c.numbers.result _ _
     (λ v made. ap (λ ns. numbered_by eq ns (table_in draft).entries) made ∙ numbers-are draft.known (known-listed draft.known)
-    ∙ ap (number eq asked.offset) (by-order eq asked.requests (renders_view c.args.cites.now) (order_in_use asked.wanted) _ used)) c.numbers.ensures
+    ∙ ap (number eq job.offset) (by-order eq job.requests (renders_view c.args.cites.now) (order_in_use job.wanted) _ used)) c.numbers.ensures
 
 pub returns-in_ok-listing-in-None-clause-numbers : goal.returns-in_ok-listing-in-None-clause-numbers
 returns-in_ok-listing-in-None-clause-numbers g c =
     let eq = g.T.PartialEq.eq in
     let draft = c.args.self in
-    let asked = asked_in draft in
+    let job = job_in draft in
     let unused = sym (ap order_view c.in-None.is) ∙ c.used_order.ensures in
     IfOk-weaker c.numbers-in-None.result _ _
     (λ v made. ap (λ ns. numbered_by eq ns (table_in draft).entries) made ∙ numbers-are draft.known c.in_ok-listing-in-None.ensures
-    ∙ ap (number eq asked.offset) (by-cites eq asked.requests (renders_view c.args.cites.now) (order_in_use asked.wanted) unused)) c.numbers-in-None.ensures
+    ∙ ap (number eq job.offset) (by-cites eq job.requests (renders_view c.args.cites.now) (order_in_use job.wanted) unused)) c.numbers-in-None.ensures
 
 pub returns-in-Some-clause-long : goal.returns-in-Some-clause-long
 returns-in-Some-clause-long g c =

@@ -4,7 +4,7 @@ use Rattle.std.specs.Prelude.{option_map}
 use Rattle.csl_assembly.specs.BibliographyItems.{bibliography_of, bibliography_tasks}
 use Rattle.csl_collapse.specs.Collapsed.{drawn_together}
 use Rattle.csl_driver.specs.Answer.{citations_of, entries_listed, final_number, in_the_end, numbered_finally, order_in_use, rendered_first}
-use Rattle.csl_driver.specs.DraftView.{asked_in, table_in}
+use Rattle.csl_driver.specs.DraftView.{job_in, table_in}
 use Rattle.csl_driver.specs.WriterTasks.{begun_tasks, last_tasks, listed_tasks, where_wanted}
 use Rattle.csl_driver.proofs.ByEntries.{numbers-of, states-of}
 use Rattle.csl_driver.proofs.KeptLaws.{is-answer}
@@ -33,23 +33,23 @@ use Rattle.csl_driver.proofs.draft.Draft.finish.Goals as goal
 pub disambiguate-requires-clause-cites : goal.disambiguate-requires-clause-cites
 disambiguate-requires-clause-cites g c =
     let draft = c.args.self in
-    begun-of-table g.met.T.Eq.laws (writing_of g.T.EntryLike.answers (g.W.CiteWriter.state c.args.writer.now)) g.P.PartialEq.eq (asked_in draft) draft.known.table (ap renders_view c.deref_mut-cites.ensures.value ∙ c.in_ok-first.ensures.cites) draft.requests.no_ring
+    begun-of-table g.met.T.Eq.laws (writing_of g.T.EntryLike.answers (g.W.CiteWriter.state c.args.writer.now)) g.P.PartialEq.eq (job_in draft) draft.known.table (ap renders_view c.deref_mut-cites.ensures.value ∙ c.in_ok-first.ensures.cites) draft.requests.no_ring
 
 pub disambiguate-requires-clause-begun : goal.disambiguate-requires-clause-begun
 disambiguate-requires-clause-begun g c = λ full.
     let eq = g.T.PartialEq.eq in
-    let asked = asked_in c.args.self in
+    let job = job_in c.args.self in
     subst AreBegun (sym (ap renders_view c.deref_mut-cites.ensures.value ∙ c.in_ok-first.ensures.cites))
-    (first-begun (writing_of g.T.EntryLike.answers (g.W.CiteWriter.state c.args.writer.now)) asked.requests (first_properties eq g.P.PartialEq.eq (number eq asked.offset (entries_listed eq asked.wanted asked.requests)) asked.requests))
+    (first-begun (writing_of g.T.EntryLike.answers (g.W.CiteWriter.state c.args.writer.now)) job.requests (first_properties eq g.P.PartialEq.eq (number eq job.offset (entries_listed eq job.wanted job.requests)) job.requests))
 
 pub final_numbers-requires : goal.final_numbers-requires
 final_numbers-requires g c =
     let draft = c.args.self in
     let rounds =
-    rounds-same g.T.EntryLike.answers c.args.mode g.T.PartialEq.eq (begun_tasks g.T.PartialEq.eq g.P.PartialEq.eq (asked_in draft)) (desk (g.W.CiteWriter.state c.args.writer.now) c.new-counter.result)
+    rounds-same g.T.EntryLike.answers c.args.mode g.T.PartialEq.eq (begun_tasks g.T.PartialEq.eq g.P.PartialEq.eq (job_in draft)) (desk (g.W.CiteWriter.state c.args.writer.now) c.new-counter.result)
     (desk (g.W.CiteWriter.state c.first_renders.new.writer) c.first_renders.new.counter) c.in_ok-first.ensures.asked c.in_ok-rounds.ensures in
     record {
-      cites = ordered-stand g.met.T.Eq.laws (writing_of g.T.EntryLike.answers (g.W.CiteWriter.state c.args.writer.now)) g.P.PartialEq.eq (asked_in draft) draft.known.table
+      cites = ordered-stand g.met.T.Eq.laws (writing_of g.T.EntryLike.answers (g.W.CiteWriter.state c.args.writer.now)) g.P.PartialEq.eq (job_in draft) draft.known.table
           (ap renders_view c.deref_mut-cites.ensures.value ∙ c.in_ok-first.ensures.cites) c.args.mode rounds.cites c.in_ok-group_all.ensures;
     }
 
@@ -57,10 +57,10 @@ pub set_final_properties-requires : goal.set_final_properties-requires
 set_final_properties-requires g c =
     let draft = c.args.self in
     let rounds =
-    rounds-same g.T.EntryLike.answers c.args.mode g.T.PartialEq.eq (begun_tasks g.T.PartialEq.eq g.P.PartialEq.eq (asked_in draft)) (desk (g.W.CiteWriter.state c.args.writer.now) c.new-counter.result)
+    rounds-same g.T.EntryLike.answers c.args.mode g.T.PartialEq.eq (begun_tasks g.T.PartialEq.eq g.P.PartialEq.eq (job_in draft)) (desk (g.W.CiteWriter.state c.args.writer.now) c.new-counter.result)
     (desk (g.W.CiteWriter.state c.first_renders.new.writer) c.first_renders.new.counter) c.in_ok-first.ensures.asked c.in_ok-rounds.ensures in
     record {
-      placed = (ordered-stand g.met.T.Eq.laws (writing_of g.T.EntryLike.answers (g.W.CiteWriter.state c.args.writer.now)) g.P.PartialEq.eq (asked_in draft) draft.known.table
+      placed = (ordered-stand g.met.T.Eq.laws (writing_of g.T.EntryLike.answers (g.W.CiteWriter.state c.args.writer.now)) g.P.PartialEq.eq (job_in draft) draft.known.table
           (ap renders_view c.deref_mut-cites.ensures.value ∙ c.in_ok-first.ensures.cites) c.args.mode rounds.cites c.in_ok-group_all.ensures).placed;
     }
 
@@ -68,10 +68,10 @@ pub bibliography-requires : goal.bibliography-requires
 bibliography-requires g c =
     let draft = c.args.self in
     let rounds =
-    rounds-same g.T.EntryLike.answers c.args.mode g.T.PartialEq.eq (begun_tasks g.T.PartialEq.eq g.P.PartialEq.eq (asked_in draft)) (desk (g.W.CiteWriter.state c.args.writer.now) c.new-counter.result)
+    rounds-same g.T.EntryLike.answers c.args.mode g.T.PartialEq.eq (begun_tasks g.T.PartialEq.eq g.P.PartialEq.eq (job_in draft)) (desk (g.W.CiteWriter.state c.args.writer.now) c.new-counter.result)
     (desk (g.W.CiteWriter.state c.first_renders.new.writer) c.first_renders.new.counter) c.in_ok-first.ensures.asked c.in_ok-rounds.ensures in
     record {
-      cites = settled-stand g.met.T.Eq.laws (writing_of g.T.EntryLike.answers (g.W.CiteWriter.state c.args.writer.now)) g.P.PartialEq.eq (asked_in draft) draft.known.table
+      cites = settled-stand g.met.T.Eq.laws (writing_of g.T.EntryLike.answers (g.W.CiteWriter.state c.args.writer.now)) g.P.PartialEq.eq (job_in draft) draft.known.table
           (ap renders_view c.deref_mut-cites.ensures.value ∙ c.in_ok-first.ensures.cites) c.args.mode rounds.cites c.in_ok-group_all.ensures _ c.set_final_properties.ensures;
     }
 
@@ -79,9 +79,9 @@ pub citations-requires : goal.citations-requires
 citations-requires g c =
     let draft = c.args.self in
     let rounds =
-    rounds-same g.T.EntryLike.answers c.args.mode g.T.PartialEq.eq (begun_tasks g.T.PartialEq.eq g.P.PartialEq.eq (asked_in draft)) (desk (g.W.CiteWriter.state c.args.writer.now) c.new-counter.result)
+    rounds-same g.T.EntryLike.answers c.args.mode g.T.PartialEq.eq (begun_tasks g.T.PartialEq.eq g.P.PartialEq.eq (job_in draft)) (desk (g.W.CiteWriter.state c.args.writer.now) c.new-counter.result)
     (desk (g.W.CiteWriter.state c.first_renders.new.writer) c.first_renders.new.counter) c.in_ok-first.ensures.asked c.in_ok-rounds.ensures in
-    let stand = settled-stand g.met.T.Eq.laws (writing_of g.T.EntryLike.answers (g.W.CiteWriter.state c.args.writer.now)) g.P.PartialEq.eq (asked_in draft) draft.known.table
+    let stand = settled-stand g.met.T.Eq.laws (writing_of g.T.EntryLike.answers (g.W.CiteWriter.state c.args.writer.now)) g.P.PartialEq.eq (job_in draft) draft.known.table
     (ap renders_view c.deref_mut-cites.ensures.value ∙ c.in_ok-first.ensures.cites) c.args.mode rounds.cites c.in_ok-group_all.ensures _ c.set_final_properties.ensures in
     record { cites = ap (map (λ r. r.request)) c.collapse_all.ensures ∙ drawn-requests (renders_view c.set_final_properties.new.cites) ∙ stand.of }
 
@@ -92,25 +92,25 @@ returns g c =
     let answers = g.T.EntryLike.answers in
     let mode = c.args.mode in
     let draft = c.args.self in
-    let asked = asked_in draft in
+    let job = job_in draft in
     let table = table_in draft in
-    let source = wanted_source asked.wanted in
-    let listed = entries_listed eq asked.wanted asked.requests in
+    let source = wanted_source job.wanted in
+    let listed = entries_listed eq job.wanted job.requests in
     let start = desk (g.W.CiteWriter.state c.args.writer.now) c.new-counter.result in
     let begun = desk (g.W.CiteWriter.state c.first_renders.new.writer) c.first_renders.new.counter in
     let told = desk (g.W.CiteWriter.state c.disambiguate.new.writer) c.disambiguate.new.counter in
     let written = desk (g.W.CiteWriter.state c.bibliography.new.writer) c.bibliography.new.counter in
     let end = desk (g.W.CiteWriter.state c.citations.new.writer) c.citations.new.counter in
     let writing = writing_of answers (g.W.CiteWriter.state c.args.writer.now) in
-    let firsts = rendered_first eq peq writing asked in
+    let firsts = rendered_first eq peq writing job in
     let first = ap renders_view c.deref_mut-cites.ensures.value ∙ c.in_ok-first.ensures.cites in
-    let once = table-once eq g.met.T.Eq.laws asked.requests table draft.known.table in
+    let once = table-once eq g.met.T.Eq.laws job.requests table draft.known.table in
     let rounds =
     subst (λ fs. AreAfterRounds mode eq writing fs table.entries begun (renders_view c.disambiguate.new.cites) c.in_ok-rounds.rounds.states.items c.in_ok-rounds.rounds.marked told)
-    first (rounds-same answers mode eq (begun_tasks eq peq asked) start begun c.in_ok-first.ensures.asked c.in_ok-rounds.ensures) in
+    first (rounds-same answers mode eq (begun_tasks eq peq job) start begun c.in_ok-first.ensures.asked c.in_ok-rounds.ensures) in
     let ordered = c.in_ok-group_all.ensures ∙ ap (map grouped) rounds.cites in
-    let number_of = final_number eq peq writing mode asked in
-    let numbers = c.in_ok-numbers.ensures.numbers ∙ ap (λ cs. number eq asked.offset (numbered_finally eq (order_in_use asked.wanted) asked.requests cs)) ordered in
+    let number_of = final_number eq peq writing mode job in
+    let numbers = c.in_ok-numbers.ensures.numbers ∙ ap (λ cs. number eq job.offset (numbered_finally eq (order_in_use job.wanted) job.requests cs)) ordered in
     let settled =
     c.set_final_properties.ensures
     ∙ (λ i. with_final_properties eq peq ((ap (λ ns. numbered_by eq ns table.entries) c.deref.ensures.value ∙ numbers) i) (ordered i)) in
@@ -118,22 +118,22 @@ returns g c =
     let last = last_states mode eq writing firsts in
     let listed_is =
     c.in_ok-bibliography.ensures.asked
-    ∙ ap (λ cs. after (where_wanted asked.wanted.style.bibliography (bibliography_tasks source (filter_map (first_item eq cs) listed))) told) settled in
+    ∙ ap (λ cs. after (where_wanted job.wanted.style.bibliography (bibliography_tasks source (filter_map (first_item eq cs) listed))) told) settled in
     let last_is = c.in_ok-citations.ensures.asked ∙ ap (λ cs. after (last_tasks cs) written) (c.collapse_all.ensures ∙ ap (map drawn_together) settled) in
-    let first_tasks = begun_tasks eq peq asked in
+    let first_tasks = begun_tasks eq peq job in
     let again_tasks = round_tasks mode eq writing firsts in
-    let bibliography_asked = listed_tasks eq peq writing mode asked in
-    let last_asked = last_tasks (map drawn_together (in_the_end eq peq writing mode asked)) in
+    let bibliography_asked = listed_tasks eq peq writing mode job in
+    let last_asked = last_tasks (map drawn_together (in_the_end eq peq writing mode job)) in
     let second = same-told answers first_tasks again_tasks bibliography_asked last_asked start begun told written end c.in_ok-first.ensures.asked rounds.asked listed_is last_is in
     let third = same-written answers first_tasks again_tasks bibliography_asked last_asked start begun told written end c.in_ok-first.ensures.asked rounds.asked listed_is last_is in
     let all = all-steps answers first_tasks again_tasks bibliography_asked last_asked start begun told written end c.in_ok-first.ensures.asked rounds.asked listed_is last_is in
-    let wanted = asked.wanted.style.bibliography in
+    let wanted = job.wanted.style.bibliography in
     record {
-      answer = is-answer eq peq writing mode asked _ (c.answers_keep_laws.ensures writing mode asked) (record {
-        ok = whole eq peq writing mode asked (renders_view c.set_final_properties.new.cites) (renders_view c.collapse_all.new.cites) settled c.collapse_all.ensures
+      answer = is-answer eq peq writing mode job _ (c.answers_keep_laws.ensures writing mode job) (record {
+        ok = whole eq peq writing mode job (renders_view c.set_final_properties.new.cites) (renders_view c.collapse_all.new.cites) settled c.collapse_all.ensures
             (c.new.ensures ∙ c.in_ok-citations.ensures.citations ∙ ap (λ w. citations_of w (renders_view c.collapse_all.new.cites)) third)
             (c.in_ok-bibliography.ensures.bibliography ∙ ap (λ w. option_map (λ b. bibliography_of w source b (filter_map (first_item eq (renders_view c.set_final_properties.new.cites)) listed)) wanted) second);
-        renders = account.renders ∙ ap (λ d. d.renders) all ∙ (λ i. counted_times (task-count eq g.met.T.Eq.laws peq writing mode asked i) (c.new-counter.ensures i)) ∙ counted_times-all _;
+        renders = account.renders ∙ ap (λ d. d.renders) all ∙ (λ i. counted_times (task-count eq g.met.T.Eq.laws peq writing mode job i) (c.new-counter.ensures i)) ∙ counted_times-all _;
         rounds = account.rounds ∙ rounds.marked_is;
         entries = account.entries ∙ ap (λ t. t.entries) draft.known.table;
         states = account.states ∙ states-of eq g.met.T.Eq.laws table.entries once last _ rounds.states_are ∙ ap (λ t. map (λ e. told_by (last e)) t.entries) draft.known.table;

@@ -5,7 +5,7 @@ use Rattle.csl_assembly.specs.BibliographyItems.{cites_at}
 use Rattle.csl_driver.specs.Answer.{order_in_use}
 use Rattle.csl_entries.specs.Entries.{bibliography_order}
 use Rattle.csl_entries.specs.Listed.{Listed}
-use Rattle.csl_driver.specs.DraftView.{asked_in, table_in}
+use Rattle.csl_driver.specs.DraftView.{job_in, table_in}
 use Rattle.csl_passes.specs.Request.{cited}
 use Rattle.csl_passes.specs.RendersView.{renders_view}
 use Rattle.csl_name_marks.proofs.Marking.{same-default}
@@ -16,7 +16,7 @@ use Rattle.csl_driver.proofs.draft.Draft.first_cites.Goals as goal
 
 pub first_items-requires-clause-once : goal.first_items-requires-clause-once
 first_items-requires-clause-once g c =
-    table-once g.T.PartialEq.eq g.met.T.Eq.laws (asked_in c.args.self).requests (table_in c.args.self) c.args.self.known.table
+    table-once g.T.PartialEq.eq g.met.T.Eq.laws (job_in c.args.self).requests (table_in c.args.self) c.args.self.known.table
 
 pub index-first-requires : goal.index-first-requires
 index-first-requires g c =
@@ -57,8 +57,8 @@ returns g c =
     let entries = (table_in c.args.self).entries in
     let cites = renders_view c.args.cites.now in
     let listed = known-listed c.args.self.known in
-    let asked = asked_in c.args.self in
-    let order = bibliography_order eq (order_in_use asked.wanted) (cited asked.requests) in
+    let job = job_in c.args.self in
+    let order = bibliography_order eq (order_in_use job.wanted) (cited job.requests) in
     let past : length c.order-order.result.now ≤ c.loop-entry.entry-index = omega (arith, c.loop-entry-test.false) in
     c.loop-entry.invariant
     ∙ ap (filter_map (first_of eq entries cites)) (take_all c.loop-entry.entry-index c.order-order.result.now past ∙ c.order-order.ensures ∙ ap (λ (l : Listed). l.order) listed.listed)

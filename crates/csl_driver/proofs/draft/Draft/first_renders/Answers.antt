@@ -1,6 +1,6 @@
 use Rattle.std.proofs.Common.{ap, arith, length, map, subst, sym, ◌∙◌}
 use Rattle.csl_entries.specs.Entries.{distinct}
-use Rattle.csl_driver.specs.DraftView.{asked_in, table_in}
+use Rattle.csl_driver.specs.DraftView.{job_in, table_in}
 use Rattle.csl_passes.specs.Request.{cited}
 use Rattle.csl_positions.specs.FirstProperties.{first_properties, numbered_by}
 use Rattle.csl_round_laws.specs.FirstRenders.{HasShapeOf, first_renders, first_tasks}
@@ -22,7 +22,7 @@ first_properties-requires-clause-numbered g c =
 pub first_renders-requires : goal.first_renders-requires
 first_renders-requires g c =
     let eq = g.T.PartialEq.eq in
-    let requests = (asked_in c.args.self).requests in
+    let requests = (job_in c.args.self).requests in
     let number_of = numbered_by eq c.deref.result.now (table_in c.args.self).entries in
     record {
       shape = subst (HasShapeOf requests) (sym (ap (map (λ f. f.items)) c.deref-2.ensures.value ∙ c.in_ok-firsts.ensures))
@@ -33,7 +33,7 @@ pub returns : goal.returns
 returns g c =
     let eq = g.T.PartialEq.eq in
     let draft = c.args.self in
-    let requests = (asked_in draft).requests in
+    let requests = (job_in draft).requests in
     let numbers = ap (λ ns. numbered_by eq ns (table_in draft).entries) (c.deref.ensures.value ∙ c.in_ok-numbers.ensures) ∙ numbers-are draft.known (known-listed draft.known) in
     let properties =
     ap (map (λ f. f.items)) c.deref-2.ensures.value ∙ c.in_ok-firsts.ensures ∙ ap (λ n. first_properties eq g.P.PartialEq.eq n requests) numbers in

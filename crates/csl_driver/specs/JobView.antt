@@ -1,6 +1,6 @@
 -- The plain data that is asked of a driver.
 use Rattle.std.specs.Prelude.{ℕ, List}
-use Rattle.csl_driver.specs.Answer.{Asked}
+use Rattle.csl_driver.specs.Answer.{Job}
 use Rattle.csl_driver.specs.DriverView.{driver_view}
 use Rattle.csl_driver.specs.declared.driver.BibliographyDriver.{BibliographyDriver}
 use Rattle.csl_passes.specs.RequestView.{requests_view, wanted_view}
@@ -9,13 +9,13 @@ use Rattle.csl_passes.specs.declared.request.CitationRequest.{CitationRequest}
 
 module _ {T P : Type 0} where
   -- these requests, numbers from the offset on, and this bibliography
-  abbrev pub asked_view : List (CitationRequest T P) → ℕ → BibliographyRequest T → Asked T P
-  asked_view requests offset wanted =
+  abbrev pub job_view : List (CitationRequest T P) → ℕ → BibliographyRequest T → Job T P
+  job_view requests offset wanted =
       record { wanted = wanted_view wanted; requests = requests_view requests; offset = offset }
 
   -- the requests of a driver
-  abbrev pub asked_of : BibliographyDriver T P → BibliographyRequest T → Asked T P
-  asked_of driver wanted =
+  abbrev pub job_of : BibliographyDriver T P → BibliographyRequest T → Job T P
+  job_of driver wanted =
       record {
         wanted = wanted_view wanted;
         requests = (driver_view driver).requests;
