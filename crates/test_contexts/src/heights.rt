@@ -20,7 +20,7 @@ const FULL: &str = "012345678901234567890123456789012345678901234567890123456789
 
 /// What is written in a context of its own: the style, the affixes, a formula.
 #[derive(Clone, Copy)]
-struct Job<'a> {
+struct Asked<'a> {
     alloc: Global,
     style: &'a IndependentStyle,
     affixes: &'a Affixes,
@@ -82,7 +82,7 @@ pub(crate) fn named(rt: &impl Eprint, call: &str) {
 }
 
 /// A context whose text fills its room.
-fn filled<'a>(rt: &impl Eprint, asked: Job<'a>) -> Result<Writing<'a>, AllocError>
+fn filled<'a>(rt: &impl Eprint, asked: Asked<'a>) -> Result<Writing<'a>, AllocError>
     ensures formats { IfOk result (λ context. length (state context.writing).formats ≡ 1) }
 {
     named(rt, "prepare");
@@ -128,7 +128,7 @@ fn make_text_call(
 /// A call that leaves the heights as they were in any case.
 fn text(
     rt: &impl Eprint,
-    asked: Job<'_>,
+    asked: Asked<'_>,
     context: &mut Writing<'_>,
     (name, call): (&str, TextCall),
 ) -> Result<(), Ended> {
@@ -190,7 +190,7 @@ fn discard_elem(rt: &impl Eprint, context: &mut Writing<'_>) -> Result<(), Ended
 /// A delimiter and name options upon those before.
 fn push_settings<'a>(
     rt: &impl Eprint,
-    asked: Job<'a>,
+    asked: Asked<'a>,
     context: &mut Writing<'a>,
 ) -> Result<(), Ended> {
     let before = context.writing.heights();
@@ -207,7 +207,7 @@ fn push_settings<'a>(
 
 fn apply_prefix(
     rt: &impl Eprint,
-    asked: Job<'_>,
+    asked: Asked<'_>,
     context: &mut Writing<'_>,
 ) -> Result<(), Ended> {
     let before = context.writing.heights();
@@ -218,7 +218,7 @@ fn apply_prefix(
 }
 
 /// A prefix, behind which the text fills its room.
-fn prefixed(asked: Job<'_>, context: &mut Writing<'_>) -> Result<(DisplayLoc, usize), AllocError>
+fn prefixed(asked: Asked<'_>, context: &mut Writing<'_>) -> Result<(DisplayLoc, usize), AllocError>
     ensures { IfOk result (λ prefix. prefix.0.frames + 1 ≡ length (state context.new.writing).frames) }
 {
     let prefix = context.writing.apply_prefix(asked.affixes)?;
@@ -228,7 +228,7 @@ fn prefixed(asked: Job<'_>, context: &mut Writing<'_>) -> Result<(DisplayLoc, us
 
 fn has_content_since(
     rt: &impl Eprint,
-    asked: Job<'_>,
+    asked: Asked<'_>,
     context: &mut Writing<'_>,
 ) -> Result<(), Ended> {
     let prefix = prefixed(asked, context)?;
@@ -241,7 +241,7 @@ fn has_content_since(
 
 fn apply_suffix(
     rt: &impl Eprint,
-    asked: Job<'_>,
+    asked: Asked<'_>,
     context: &mut Writing<'_>,
 ) -> Result<(), Ended> {
     let prefix = prefixed(asked, context)?;
@@ -253,7 +253,7 @@ fn apply_suffix(
 
 fn make<'a>(
     rt: &impl Eprint,
-    asked: Job<'a>,
+    asked: Asked<'a>,
     context: &mut Writing<'a>,
     call: Call,
 ) -> Result<(), Ended> {
@@ -272,19 +272,19 @@ fn make<'a>(
 }
 
 /// Makes a call in a context of its own.
-fn make_alone(rt: &impl Eprint, asked: Job<'_>, call: Call) -> Result<(), Ended> {
+fn make_alone(rt: &impl Eprint, asked: Asked<'_>, call: Call) -> Result<(), Ended> {
     let mut context = filled(rt, asked)?;
     make(rt, asked, &mut context, call)
 }
 
-fn flush(rt: &impl Eprint, asked: Job<'_>) -> Result<(), Ended> {
+fn flush(rt: &impl Eprint, asked: Asked<'_>) -> Result<(), Ended> {
     let context = filled(rt, asked)?;
     named(rt, "flush");
     let _tree = context.writing.flush()?;
     Ok(())
 }
 
-fn all(rt: &impl Eprint, asked: Job<'_>) -> Result<(), Ended> {
+fn all(rt: &impl Eprint, asked: Asked<'_>) -> Result<(), Ended> {
     for call in CALLS {
         make_alone(rt, asked, call)?;
     }
@@ -300,7 +300,7 @@ pub fn keep_heights(
     named(rt, "prepare");
     let affixes = affixes(rt.alloc(), "(", ")")?;
     let formula = formula(rt.alloc(), "x")?;
-    let asked = Job {
+    let asked = Asked {
         alloc: rt.alloc(),
         style,
         affixes: &affixes,

@@ -70,14 +70,7 @@ pub fn fill_from(
     let request = bibliography_request(asking.alloc, job, asking.files)?;
     let source = WrittenBefore { table: whole };
     let calls = calls_at_most(answer.1.rounds);
-    match answer_by(
-        asking.alloc,
-        &driver,
-        &request,
-        job.rounds,
-        calls,
-        &source,
-    ) {
+    match answer_by(asking.alloc, &driver, &request, job.rounds, calls, &source) {
         Ok(filled) => Ok(compared(&filled, whole, answer)),
         Err(FillError::Driver(error)) => Err(error.into()),
         Err(FillError::Unsettled) => Ok(Seen::Amiss("there is no answer after so many calls")),

@@ -73,8 +73,8 @@ shown-hidden account h =
     all-answer letters 0 hidden_one.requests c.settled c.drawn shown_after_all.citations c.asked_for c.runs c.own_cites c.made c.shows in
     let first = all.0 in
     let request_is = sym first.read.same_request ∙ first.same_request in
-    let asked : RequestedCite Sample ℕ = record (asked_cite 0) { hidden = true } in
-    let one = only job first.settled first.drawn first.own first.read (ap (λ r. (with_places r).cites) request_is) in
+    let requested : RequestedCite Sample ℕ = record (asked_cite 0) { hidden = true } in
+    let one = only requested first.settled first.drawn first.own first.read (ap (λ r. (with_places r).cites) request_is) in
     let none : places_of (shown first.drawn.items) ≡ [] = ap (λ l. places_of (shown l)) one.alone ∙ ap (λ b. places_of (cond (not b) (one.item ∷ []) [])) (one.stays_hidden refl) in
     above 1 0 (omega arith) (ap length (first.shows ∙ none))
 

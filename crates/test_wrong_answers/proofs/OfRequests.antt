@@ -80,9 +80,9 @@ module _ {E P : Type 0} where
 
   pub only : (q : RequestedCite E P) (c d : CiteRender E P) → HasOwnCites c → IsReadBack c d → (with_places c.request).cites ≡ record q { place = 0 } ∷ [] → IsOnly q d.items
   only q c d own read one =
-      let asked : RequestedCite E P = record q { place = 0 } in
+      let requested : RequestedCite E P = record q { place = 0 } in
       let moved = subst (λ l. IsPermutation l (map cite_of c.items)) one own in
-      let s = only-settled job c.items (length_permutation (job ∷ []) (map cite_of c.items) moved) (Contains-permutation (job ∷ []) (map cite_of c.items) job moved (0, omega arith, refl)) in
+      let s = only-settled requested c.items (length_permutation (requested ∷ []) (map cite_of c.items) moved) (Contains-permutation (requested ∷ []) (map cite_of c.items) requested moved (0, omega arith, refl)) in
       let j = only-drawn s.0 d.items (read.same_cites ∙ ap (map uncollapsed) s.1) in
       record {
         item = j.0;

@@ -42,8 +42,8 @@ abbrev pub request : List (RequestedCite Sample ℕ) → Request Sample ℕ
 request cites = record { cites = cites; style = style; locale = None; locales = []; note_number = None }
 
 -- these requests, and no bibliography
-abbrev pub asked : List (Request Sample ℕ) → Job Sample ℕ
-asked requests = record {
+abbrev pub job : List (Request Sample ℕ) → Job Sample ℕ
+job requests = record {
   wanted = record { style = style; locale = None; locales = []; order = None };
   requests = requests;
   offset = 0;
