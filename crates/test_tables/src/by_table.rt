@@ -142,7 +142,7 @@ fn finish_often(asking: &Asking<'_, '_>, times: usize) -> Result<Seen, RunError>
 
 /// Answers it by the layouts, and keeps nothing of that.
 fn finished(asking: &Asking<'_, '_>) -> Result<(), RunError> {
-    let job = asking.asked;
+    let job = asking.job;
     let driver = filled_driver(asking.alloc, &job.requests, asking.files, job.offset)?;
     let request = bibliography_request(asking.alloc, job, asking.files)?;
     match driver.finish_with(request, job.rounds, &mut LayoutWriter::new()) {
@@ -156,7 +156,7 @@ fn recorded_by<'a>(
     asking: &Asking<'a, '_>,
     recorder: &mut Recorder<'_>,
 ) -> Result<Answer<'a>, RunError> {
-    let job = asking.asked;
+    let job = asking.job;
     let driver = filled_driver(asking.alloc, &job.requests, asking.files, job.offset)?;
     let request = bibliography_request(asking.alloc, job, asking.files)?;
     match driver.finish_with(request, job.rounds, recorder) {
@@ -263,7 +263,7 @@ pub fn driven<'a>(
     asking: &Asking<'a, '_>,
     table: &Table,
 ) -> Result<Driven<'a, PlainEntry>, RunError> {
-    let job = asking.asked;
+    let job = asking.job;
     let driver = filled_driver(asking.alloc, &job.requests, asking.files, job.offset)?;
     let request = bibliography_request(asking.alloc, job, asking.files)?;
     Ok(drive(asking.alloc, driver, request, job.rounds, table)?)

@@ -65,7 +65,7 @@ pub fn fill_from(
     whole: &Table,
     answer: &Answer<'_>,
 ) -> Result<Seen, RunError> {
-    let job = asking.asked;
+    let job = asking.job;
     let driver = filled_driver(asking.alloc, &job.requests, asking.files, job.offset)?;
     let request = bibliography_request(asking.alloc, job, asking.files)?;
     let source = WrittenBefore { table: whole };
