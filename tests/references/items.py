@@ -127,11 +127,11 @@ def change(draw, items):
 
 
 def mutated_documents(bases, count, seed):
-    """As many documents, each with one to four changes of its items, and one in eight with one of its bytes."""
+    """As many documents, each with one to three changes of its items, and one in eight with one of its bytes."""
     draw = random.Random(seed)
     for _ in range(count):
         items = copy.deepcopy(draw.choice(bases))
-        for _ in range(draw.randint(1, 4)):
+        for _ in range(draw.randint(1, 3)):
             change(draw, items)
         document = json.dumps(items, ensure_ascii=draw.randrange(2) == 0).encode(errors='surrogatepass')
         if draw.randrange(8) == 0:

@@ -225,7 +225,8 @@ def compiled(folder):
 
 
 def refused_in_turn(program, document):
-    """Each run with a growth refused ends with status 5 and prints nothing, wherever it is refused. At last none is."""
+    """Each run with a growth refused ends with status 5 and prints nothing, wherever it is refused; or with the whole answer,
+    where that growth only was to leave memory for later. At last none is refused."""
     answer = ended(program, [document])[1]
     in_reading = 0
     with tempfile.TemporaryDirectory(prefix='references-') as folder:
@@ -233,10 +234,9 @@ def refused_in_turn(program, document):
         for n in range(1, MOST_GROWTHS):
             status, out, error = ended(program, [document], 'calls', env={'LD_PRELOAD': shim, 'REFUSE': str(n)})
             calls, was_refused, _ = error.partition(b'!')
-            wanted = (REFUSED, b'') if was_refused else (0, answer)
-            if (status, out) != wanted:
-                raise Failed('growth %d: status %d, %r, %r' % (n, status, out, error))
-            in_reading += calls == b'read\n'
+            if (status, out) != (0, answer) and (not was_refused or (status, out) != (REFUSED, b'')):
+                raise Failed('growth %d: status %d, %r, %r' % (n, status, out[:200], error[-200:]))
+            in_reading += status == REFUSED and calls == b'read\n'
             if not was_refused:
                 break
     if in_reading < 10:
@@ -259,10 +259,17 @@ def used(program, path, word):
     return usage.ru_utime + usage.ru_stime, usage.ru_maxrss * 1024
 
 
-def written(folder, name, document):
-    path = os.path.join(folder, name)
-    with open(path, 'wb') as file:
-        file.write(given_bytes([document]))
+def written(folder, shape, size):
+    """A file with a document, made by a process of its own, so that this one stays small: what is said of the memory of a process
+    is at least what its parent had."""
+    path = os.path.join(folder, str(size))
+    child = os.fork()
+    if child == 0:
+        with open(path, 'wb') as file:
+            file.write(given_bytes([shape(size)]))
+        os._exit(0)
+    if os.waitpid(child, 0)[1] != 0:
+        raise Failed('a document of size %d was not made' % size)
     return path
 
 
@@ -282,7 +289,7 @@ def growth(program, name, shape, strict):
     """Four times as much takes four times as long, and four times as much memory."""
     most = 4.4 if strict else 6
     with tempfile.TemporaryDirectory(prefix='references-') as folder:
-        paths = [written(folder, str(size), shape(size)) for size in (1, 4)]
+        paths = [written(folder, shape, size) for size in (1, 4)]
         times, memory = least_of_rounds([(program, it, 'count') for it in paths], lambda one, four: four <= most * one)
     said = '%s: %.2f s and %.0f MB, %.2f s and %.0f MB for four times as much' % (name, times[0], memory[0] / 1e6, times[1], memory[1] / 1e6)
     print(said)
@@ -304,15 +311,17 @@ def shapes():
         'Zotero’s items': lambda size: zotero_library(size * 5000),
         'bare items': of_items(item, 100000),
         'unknown keys': of_items({**item, **{'unknown key %d' % n: '' for n in range(20)}}, 4000),
+        'one id': lambda size: json.dumps([{**item, 'title': 'a'}] * (size * 60000)).encode(),
+        'types that differ': lambda size: json.dumps([{'id': n, 'type': 'book%d' % n} for n in range(size * 60000)]).encode(),
         'keys that differ': lambda size: json.dumps([{**item, **{'title%d' % n: '' for n in range(size * 60000)}}]).encode(),
         'dates': of_items({**item, **{it: {'raw': 'January 5, 2020'} for it in ('issued', 'accessed', 'submitted')}}, 20000),
         'names': lambda size: json.dumps([{**item, 'author': [name] * (size * 60000)}]).encode(),
-        'a name': lambda size: json.dumps([{**item, 'author': [{'family': 'de ' * (size * 400000) + 'Cruz', 'given': 'Juana' + ' de' * (size * 400000)}]}]).encode(),
-        'markup': lambda size: json.dumps([{**item, 'title': '<i>a <b>b</b></i>' * (size * 80000)}]).encode(),
-        'unclosed tags': lambda size: json.dumps([{**item, 'title': '<i>' * (size * 300000)}]).encode(),
-        'unopened tags': lambda size: json.dumps([{**item, 'title': '<i>' + '</b>' * (size * 300000)}]).encode(),
-        'a list of texts': lambda size: json.dumps([{**item, 'title': ['a'] * (size * 300000)}]).encode(),
-        'a date': lambda size: json.dumps([{**item, 'issued': '1-' * (size * 1000000)}]).encode(),
+        'a name': lambda size: json.dumps([{**item, 'author': [{'family': 'de ' * (size * 1000000) + 'Cruz', 'given': 'Juana' + ' de' * (size * 1000000)}]}]).encode(),
+        'markup': lambda size: json.dumps([{**item, 'title': '<i>a <b>b</b></i>' * (size * 300000)}]).encode(),
+        'unclosed tags': lambda size: json.dumps([{**item, 'title': '<i>' * (size * 1000000)}]).encode(),
+        'unopened tags': lambda size: json.dumps([{**item, 'title': '<i>' + '</b>' * (size * 1000000)}]).encode(),
+        'a list of texts': lambda size: json.dumps([{**item, 'title': ['a'] * (size * 1000000)}]).encode(),
+        'a date': lambda size: json.dumps([{**item, 'issued': '1-' * (size * 4000000)}]).encode(),
     }
 
 
@@ -320,7 +329,7 @@ def cost(program, strict):
     """Items take no more than twice what reading their JSON alone takes."""
     most = 2 if strict else 3
     with tempfile.TemporaryDirectory(prefix='references-') as folder:
-        path = written(folder, 'library', zotero_library(LIBRARY))
+        path = written(folder, zotero_library, LIBRARY)
         runs = [(program, path, word) for word in ('values', 'count')]
         times, memory = least_of_rounds(runs, lambda values, references: references <= most * values)
         size = os.path.getsize(path)

@@ -179,13 +179,18 @@ impl Reader {
     }
 
     /// A reference with an id and a type, and without variables.
-    fn bare_reference(&mut self, place: &Place, item: &Value) -> Result<Reference, ReferencesError>
+    fn bare_reference<'p>(
+        &mut self,
+        place: &'p Place,
+        item: &Value,
+        members: &'p Map<String, Value>,
+    ) -> Result<Reference, ReferencesError>
         ensures { Faults result place.now (view item.now) }
     {
         Ok(Reference {
             id: self.id_of(place, item)?,
             item_type: self.type_of(place, item)?,
-            texts: Vec::new(self.alloc),
+            texts: Vec::with_capacity(self.alloc, members.len())?,
             numbers: Vec::new(self.alloc),
             dates: Vec::new(self.alloc),
             names: Vec::new(self.alloc),
@@ -202,7 +207,7 @@ impl Reader {
     {
         match value {
             Value::Object(members) => {
-                let mut reference = self.bare_reference(place, value)?;
+                let mut reference = self.bare_reference(place, value, members)?;
                 self.read_members(place, value, members, &mut reference)?;
                 Ok(reference)
             }

@@ -143,7 +143,7 @@ impl Reader {
     fn names_of(&mut self, place: &Place, items: &[Value]) -> Result<Vec<Name>, ReferencesError>
         ensures { Faults result place.now (array (items_view items.now)) }
     {
-        let mut names = Vec::new(self.alloc);
+        let mut names = Vec::with_capacity(self.alloc, items.len())?;
         for index in 0..items.len() {
             if let Some(name) = self.name_at(place, items, index)? {
                 names.push(name)?;

@@ -64,7 +64,7 @@ struct OpenTag {
 /// The runs that the markup writes.
 pub(crate) fn runs_of(alloc: Global, markup: &str) -> Result<Vec<Run>, AllocError> {
     if !markup.contains('<') {
-        let mut runs = Vec::new(alloc);
+        let mut runs = Vec::with_capacity(alloc, 1)?;
         push_text(alloc, &mut runs, RunStyle::PLAIN, markup)?;
         return Ok(runs);
     }
