@@ -146,7 +146,8 @@ fn add_season(span: &mut DateSpan, season: YearPart) -> bool {
     is_year
 }
 
-/// The season that a text tells: one of the four by its number or its English name, or any other by its own.
+/// The season that a text tells: one of the four by its number or its English name, or any other by
+/// its own.
 fn season_of(text: String) -> YearPart {
     let number = text.as_str().parse::<i64>().ok();
     let season = match number {

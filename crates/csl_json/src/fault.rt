@@ -73,8 +73,8 @@ pub enum ReferencesError {
     /// The bytes are no UTF-8 from this one on, counted from 0.
     #[error("no UTF-8 from byte {byte}")]
     NoUtf8 { byte: usize },
-    /// The text is no JSON from this place on: the line counted from 1, and the bytes of that line up to
-    /// the first that can't be there.
+    /// The text is no JSON from this place on: the line counted from 1, and the bytes of that line
+    /// up to the first that can't be there.
     #[error("no JSON from line {line}, column {column}")]
     NoJson { line: usize, column: usize },
     /// The JSON is no list of references.

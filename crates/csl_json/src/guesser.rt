@@ -21,8 +21,8 @@ pub(crate) struct Guesser {
     made: IndexMap<String, Option<&'static str>>,
 }
 
-/// The known name that differs from the word in case alone, or else the one that fewest edits make of it:
-/// for each three bytes of the word one edit at most.
+/// The known name that differs from the word in case alone, or else the one that fewest edits make
+/// of it: for each three bytes of the word one edit at most.
 fn nearest(
     alloc: Global,
     known: &[&'static str],

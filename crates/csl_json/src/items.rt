@@ -22,8 +22,8 @@ enum Kept {
     Twice,
 }
 
-/// Puts a value beside its variable. Where the variable has one already, that under its name in CSL 1.0.2
-/// stays.
+/// Puts a value beside its variable. Where the variable has one already, that under its name in CSL
+/// 1.0.2 stays.
 fn keep<V: PartialEq + Copy, T: Drop>(
     pairs: &mut Vec<(V, T)>,
     variable: V,

@@ -20,8 +20,8 @@ pub(crate) enum Key {
 /// The keys that stand for no variable.
 const NO_VARIABLES: &[&str] = &["categories", "custom", "id", "type"];
 
-/// Names of variables that CSL-JSON has in place of those of CSL: one that pandoc reads, and those of
-/// numbers in the schema.
+/// Names of variables that CSL-JSON has in place of those of CSL: one that pandoc reads, and those
+/// of numbers in the schema.
 const OLDER_KEYS: &[(&str, Variable)] = &[
     (
         "editortranslator",

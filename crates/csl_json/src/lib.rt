@@ -1,4 +1,5 @@
-//! References read from CSL-JSON: the data format of CSL 1.0.2 (csl-data.json), as Zotero and pandoc write it.
+//! References read from CSL-JSON: the data format of CSL 1.0.2 (csl-data.json), as Zotero and
+//! pandoc write it.
 #![tactic(auto)]
 
 mod dates;

@@ -98,8 +98,8 @@ impl Reader {
     }
 }
 
-/// The references of a JSON value: a list of items, or an object that has one under `items`, as Zotero's
-/// web interface writes it. Of items with the same id the last stays.
+/// The references of a JSON value: a list of items, or an object that has one under `items`, as
+/// Zotero's web interface writes it. Of items with the same id the last stays.
 ///
 /// # Errors
 /// The first fault of an item, in the order of the items; a want of memory.
@@ -116,7 +116,8 @@ pub fn references_of(alloc: Global, value: &Value) -> Result<ReadReferences, Ref
 
 /// The JSON value that the bytes are.
 fn value_of(alloc: Global, bytes: &[u8]) -> Result<Value, ReferencesError>
-    ensures { MatchResult result (λ v. read bytes.now ≡ Some (view v)) (λ e. IsErrorIn e bytes.now) }
+    ensures { MatchResult result (λ v. read bytes.now ≡ Some (view v))
+        (λ e. IsErrorIn e bytes.now) }
 {
     let text = match str::from_utf8(bytes) {
         Ok(text) => text,
@@ -136,12 +137,12 @@ fn value_of(alloc: Global, bytes: &[u8]) -> Result<Value, ReferencesError>
     }
 }
 
-/// The references of CSL-JSON: of a list of items, or of an object that has one under `items`, as Zotero's
-/// web interface writes it. Of items with the same id the last stays.
+/// The references of CSL-JSON: of a list of items, or of an object that has one under `items`, as
+/// Zotero's web interface writes it. Of items with the same id the last stays.
 ///
 /// # Errors
-/// Where the bytes are no UTF-8 or no JSON; the first fault of an item, in the order of the items; a want
-/// of memory.
+/// Where the bytes are no UTF-8 or no JSON; the first fault of an item, in the order of the items;
+/// a want of memory.
 pub fn read_references(alloc: Global, bytes: &[u8]) -> Result<ReadReferences, ReferencesError>
     ensures { IfErr result (λ e. IsErrorIn e bytes.now) }
 {

@@ -87,8 +87,8 @@ impl Reader {
         Ok(if text.is_empty() { None } else { Some(text) })
     }
 
-    /// The truth value that the value is or stands for: a number or a text stands for one, and 0, `0`,
-    /// `false` and an empty text for false.
+    /// The truth value that the value is or stands for: a number or a text stands for one, and 0,
+    /// `0`, `false` and an empty text for false.
     pub(crate) fn flag(&self, place: &Place, value: &Value) -> Result<bool, ReferencesError>
         ensures { Faults result place.now (view value.now) }
     {

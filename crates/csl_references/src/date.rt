@@ -170,8 +170,8 @@ impl Season {
 }
 
 impl YearPart {
-    /// The part that these numbers of a month and a day tell, either of which is 0 where it is absent.
-    /// A month from 13 to 16 or from 21 to 24 is a season.
+    /// The part that these numbers of a month and a day tell, either of which is 0 where it is
+    /// absent. A month from 13 to 16 or from 21 to 24 is a season.
     pub fn of_numbers(month: i64, day: i64) -> YearPartReading {
         if let Some(month) = Month::new(month) {
             return match Day::new(day) {
@@ -198,9 +198,8 @@ impl YearPart {
 }
 
 impl Date {
-    /// The date that the text tells: in EDTF (levels 0 and 1, but for unspecified months and days), as
-    /// numbers, or in English words.
-    /// Any other text is the date's literal.
+    /// The date that the text tells: in EDTF (levels 0 and 1, but for unspecified months and days),
+    /// as numbers, or in English words. Any other text is the date's literal.
     ///
     /// # Errors
     /// Where memory is refused.

@@ -131,8 +131,8 @@ enum Era {
     BeforeCommon,
 }
 
-/// A year; or a month or a season, and a year; or a month, a day and a year; or a day, a month and a
-/// year. `circa` may stand before it, and an era before or behind.
+/// A year; or a month or a season, and a year; or a month, a day and a year; or a day, a month and
+/// a year. `circa` may stand before it, and an era before or behind.
 fn worded_date(text: &str) -> Option<Point> {
     let (text, is_uncertain) = without_doubt(text);
     let (text, era) = without_era(text);

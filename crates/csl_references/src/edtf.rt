@@ -1,7 +1,7 @@
 //! Dates in the Extended Date/Time Format (EDTF, ISO 8601-2:2019): level 0, and of level 1 the
 //! seasons, the long years, the open intervals, the qualifications of a whole date and the years of
-//! which the last digits are not told. Of the draft of 2012, as pandoc reads it, `open` and `unknown`
-//! as ends of an interval, and a `u` for a digit that is not told.
+//! which the last digits are not told. Of the draft of 2012, as pandoc reads it, `open` and
+//! `unknown` as ends of an interval, and a `u` for a digit that is not told.
 use crate::date::{DateReading, PartialDate, YearPart};
 use crate::point::{Point, between, on, since, until};
 

@@ -28,9 +28,9 @@ pub struct PersonName {
 }
 
 impl PersonName {
-    /// Takes the suffix behind a comma out of the given name, as in `John, Jr.`. If an exclamation mark
-    /// stands right behind the comma, a comma is to stand before the suffix. A given name in double
-    /// quotes is kept as it is.
+    /// Takes the suffix behind a comma out of the given name, as in `John, Jr.`. If an exclamation
+    /// mark stands right behind the comma, a comma is to stand before the suffix. A given name in
+    /// double quotes is kept as it is.
     ///
     /// # Errors
     /// Where memory is refused; the name may then lack its suffix.
@@ -52,8 +52,8 @@ impl PersonName {
         Ok(())
     }
 
-    /// Takes the particle behind the given name for a dropping one, as in `Alfred de`. A given name in
-    /// double quotes is kept as it is.
+    /// Takes the particle behind the given name for a dropping one, as in `Alfred de`. A given name
+    /// in double quotes is kept as it is.
     ///
     /// # Errors
     /// Where memory is refused; the name is then unchanged.
@@ -71,8 +71,8 @@ impl PersonName {
         Ok(())
     }
 
-    /// Takes the particle in front of the family name for a non-dropping one, as in `van Gogh`. A family
-    /// name in double quotes is kept as it is.
+    /// Takes the particle in front of the family name for a non-dropping one, as in `van Gogh`. A
+    /// family name in double quotes is kept as it is.
     ///
     /// # Errors
     /// Where memory is refused; the name is then unchanged.

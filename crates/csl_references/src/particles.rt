@@ -17,13 +17,14 @@ pub struct SuffixedName<'g> {
     pub has_comma_suffix: bool,
 }
 
-/// What stands between the double quotes of a name that is to be kept as it is; none where it has none.
+/// What stands between the double quotes of a name that is to be kept as it is; none where it has
+/// none.
 pub fn quoted(name: &str) -> Option<&str> {
     name.strip_prefix('"')?.strip_suffix('"')
 }
 
-/// The suffix behind the first comma of a given name. An exclamation mark right behind that comma says
-/// that a comma is to stand before the suffix.
+/// The suffix behind the first comma of a given name. An exclamation mark right behind that comma
+/// says that a comma is to stand before the suffix.
 pub fn suffix_of(given: &str) -> Option<SuffixedName<'_>> {
     let (given, behind) = given.split_once(',')?;
     if given.trim().is_empty() {
@@ -37,9 +38,9 @@ pub fn suffix_of(given: &str) -> Option<SuffixedName<'_>> {
     })
 }
 
-/// The particle in front of a family name: its first words, as far as they have no letters but small
-/// ones; or, where the first word is none, what stands before the only apostrophe, hyphen, dash or full
-/// stop of the name. The name itself is at least a word.
+/// The particle in front of a family name: its first words, as far as they have no letters but
+/// small ones; or, where the first word is none, what stands before the only apostrophe, hyphen,
+/// dash or full stop of the name. The name itself is at least a word.
 ///
 /// # Errors
 /// Where memory is refused.
@@ -59,8 +60,8 @@ pub fn leading_particle(alloc: Global, family: &str) -> Result<Option<PartedName
     }
 }
 
-/// The particle behind a given name: its last words, as far as they have no letters but small ones. The
-/// name itself is at least a word.
+/// The particle behind a given name: its last words, as far as they have no letters but small ones.
+/// The name itself is at least a word.
 ///
 /// # Errors
 /// Where memory is refused.

@@ -9,8 +9,8 @@ use csl_vocabulary::item_type::ItemType;
 use csl_vocabulary::variable::{DateVariable, NameVariable, NumberVariable, TextVariable};
 use indexmap::IndexMap;
 
-/// What a bibliography says of one item. A variable stands in its list once at most, and none has an
-/// empty value.
+/// What a bibliography says of one item. A variable stands in its list once at most, and none has
+/// an empty value.
 #[derive(Drop)]
 pub struct Reference {
     pub id: String,

@@ -12,9 +12,9 @@ pub enum Baseline {
 
 /// How a run differs from the text that it is written into.
 ///
-/// Markup of the same kind flips: italics within italics are upright again, and so with bold and with
-/// small capitals. So `italic` says whether the run is flipped, and a writer that writes the whole text
-/// in italics writes such a run upright.
+/// Markup of the same kind flips: italics within italics are upright again, and so with bold and
+/// with small capitals. So `italic` says whether the run is flipped, and a writer that writes the
+/// whole text in italics writes such a run upright.
 #[derive(Clone, Copy, PartialEq, Eq)]
 pub struct RunStyle {
     pub italic: bool,

@@ -1,10 +1,11 @@
-//! Reads documents of CSL-JSON with `csl_json` and says what they are: tests/references/run.py runs it.
+//! Reads documents of CSL-JSON with `csl_json` and says what they are: tests/references/run.py runs
+//! it.
 //!
-//! Standard input has documents, each behind a line with its length in bytes. For each its references
-//! and warnings are printed (src/show.rt), or its fault, and an empty line. With the argument `count`
-//! only the number of references is printed, and with `values` the number of documents that are JSON,
-//! of which nothing more is read; with `calls` standard error tells before which call the program is.
-//! The exit status is 5 where memory is refused.
+//! Standard input has documents, each behind a line with its length in bytes. For each its
+//! references and warnings are printed (src/show.rt), or its fault, and an empty line. With the
+//! argument `count` only the number of references is printed, and with `values` the number of
+//! documents that are JSON, of which nothing more is read; with `calls` standard error tells before
+//! which call the program is. The exit status is 5 where memory is refused.
 #![tactic(auto)]
 
 ghost use Rattle.std.specs.Prelude.{◌<◌, length, IfSome};
