@@ -370,7 +370,7 @@ def shapes():
         'a name': of_one_item(1000000, lambda n: {'author': [long_name(n)]}),
         'markup': of_one_item(300000, lambda n: {'title': '<i>a <b>b</b></i>' * n}),
         'unclosed tags': of_one_item(1000000, lambda n: {'title': '<i>' * n}),
-        'unopened tags': of_one_item(1000000, lambda n: {'title': '<i>' + '</b>' * n}),
+        'unopened tags': of_one_item(2000000, lambda n: {'title': '<i>' + '</b>' * n}),
         'a list of texts': of_one_item(1000000, lambda n: {'title': ['a'] * n}),
         'a date': of_one_item(4000000, lambda n: {'issued': '1-' * n}),
     }
