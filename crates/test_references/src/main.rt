@@ -1,0 +1,135 @@
+//! Reads documents of CSL-JSON with `csl_json` and says what they are: tests/references/run.py runs
+//! it.
+//!
+//! Standard input has documents, each behind a line with its length in bytes. For each its
+//! references and warnings are printed (src/show.rt), or its fault, and an empty line. With the
+//! argument `count` only the number of references is printed, and with `values` the number of
+//! documents that are JSON, of which nothing more is read; with `calls` standard error tells before
+//! which call the program is. The exit status is 5 where memory is refused.
+#![tactic(auto)]
+
+ghost use Rattle.std.specs.Prelude.{◌<◌, length, IfSome};
+
+mod show;
+
+use csl_json::fault::ReferencesError;
+use csl_json::reading::read_references;
+use serde_json::Value;
+use show::push_read;
+use std::alloc::{AllocError, Global};
+use std::io::{BufWriter, ErrorKind, Read, Write};
+use std::process::ExitCode;
+use std::rt::Env;
+use std::{env, io};
+
+/// What is done with the documents.
+#[derive(Clone, Copy, PartialEq, Eq)]
+enum Task {
+    Show,
+    ShowCalls,
+    Count,
+    CountValues,
+}
+
+/// The document with which the bytes begin, behind the line with its length, and the rest.
+fn next_document(bytes: &[u8]) -> Option<(&[u8], &[u8])>
+    ensures { IfSome result (λ p. length p.1.now < length bytes.now) }
+{
+    let end = bytes.iter().position(|byte| *byte == b'\n')?;
+    let (line, behind) = bytes.split_at_checked(end)?;
+    let length = str::from_utf8(line).ok()?.parse::<usize>().ok()?;
+    behind.split_first()?.1.split_at_checked(length)
+}
+
+/// What is printed of a document.
+fn lines_of(
+    rt: &(impl Eprint + AllocGlobal),
+    task: Task,
+    document: &[u8],
+) -> Result<String, AllocError> {
+    let alloc = rt.alloc();
+    if task == Task::ShowCalls {
+        let _ = eprintln!(rt; "read");
+    }
+    let outcome = read_references(alloc, document);
+    if task == Task::ShowCalls {
+        let _ = eprintln!(rt; "show");
+    }
+    match outcome {
+        Ok(read) => {
+            let mut lines = String::new(alloc);
+            push_read(&mut lines, &read)?;
+            Ok(lines)
+        }
+        Err(ReferencesError::OutOfMemory) => Err(AllocError),
+        Err(fault) => format!(in alloc; "fault {fault}\n"),
+    }
+}
+
+/// How many references, or values, a document has.
+fn count_of(alloc: Global, task: Task, document: &[u8]) -> usize {
+    if task == Task::CountValues {
+        return match str::from_utf8(document) {
+            Ok(text) => usize::from(Value::from_str(alloc, text).is_ok()),
+            Err(_) => 0,
+        };
+    }
+    match read_references(alloc, document) {
+        Ok(read) => read.references.len(),
+        Err(_) => 0,
+    }
+}
+
+/// Does the task with each document.
+fn answer(
+    rt: &(impl Print + Eprint + AllocGlobal),
+    task: Task,
+    documents: &[u8],
+) -> io::Result<()> {
+    let mut out = BufWriter::new(rt.alloc(), io::writer(rt))?;
+    let is_count = task == Task::Count || task == Task::CountValues;
+    let mut count: usize = 0;
+    let mut rest = documents;
+    'documents: while let Some((document, behind)) = next_document(rest) {
+        if is_count {
+            count = count.wrapping_add(count_of(rt.alloc(), task, document));
+        } else {
+            writeln!(out, "{}", lines_of(rt, task, document)?)?;
+        }
+        rest = behind;
+    }
+    if is_count {
+        writeln!(out, "{count}")?;
+    }
+    out.flush()
+}
+
+/// Reads the arguments and the input, and answers.
+fn run(rt: &(impl Input + Print + Eprint + Env + AllocGlobal)) -> io::Result<()> {
+    let mut task = Task::Show;
+    for word in env::args(rt)?.skip(1) {
+        task = match word.as_str() {
+            "count" => Task::Count,
+            "values" => Task::CountValues,
+            "calls" => Task::ShowCalls,
+            _ => task,
+        };
+    }
+    let mut documents = Vec::new(rt.alloc());
+    rt.reader().read_to_end(&mut documents)?;
+    answer(rt, task, &documents)
+}
+
+fn main(rt: HostRuntime) -> ExitCode {
+    match run(&rt) {
+        Ok(()) => ExitCode::SUCCESS,
+        Err(error) => {
+            let _ = eprintln!(rt; "test_references: {error}");
+            let status = match error.kind() {
+                ErrorKind::OutOfMemory => 5,
+                _ => 1,
+            };
+            ExitCode::from(status)
+        }
+    }
+}
