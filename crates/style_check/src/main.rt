@@ -11,8 +11,9 @@ mod one_line;
 use one_line::OneLine;
 use std::process::ExitCode;
 use std::rt::{Env, Files};
-use std::{env, fs, io};
+use std::{env, fmt, fs, io};
 use style_faults::error::StyleError;
+use style_faults::warning::Warning;
 use style_file::style::StyleFile;
 use style_reader::file::{CslFile, read_file};
 use xml_reader::error::{Place, XmlError};
@@ -77,40 +78,48 @@ fn check_text(
 ) -> io::Result<Outcome> {
     match read_file(rt.alloc(), text) {
         Ok((file, warnings)) => {
-            for warning in &warnings {
-                let Place { line, column } = warning.place;
-                eprintln!(rt; "{path}:{line}:{column}: warning: {warning}")?;
-            }
+            show_warnings(rt, path, &warnings)?;
             show_file(rt, path, &file)?;
             Ok(Outcome::Fine)
         }
-        Err(StyleError::Malformed(fault, Place { line, column })) => {
-            eprintln!(rt; "{path}:{line}:{column}: error: {fault}")?;
-            Ok(Outcome::Faulty)
-        }
-        Err(StyleError::Refused(fault, Place { line, column })) => {
-            eprintln!(rt; "{path}:{line}:{column}: error: {fault}")?;
-            Ok(Outcome::Faulty)
-        }
-        Err(StyleError::OutOfMemory) => {
-            eprintln!(rt; "{path}: out of memory")?;
-            Ok(Outcome::Unread)
-        }
+        Err(StyleError::Malformed(fault, place)) => show_fault(rt, path, place, &fault),
+        Err(StyleError::Refused(fault, place)) => show_fault(rt, path, place, &fault),
+        Err(StyleError::OutOfMemory) => show_out_of_memory(rt, path),
     }
 }
 
 /// Checks the bytes of a file that is no text.
 fn check_bytes(rt: &(impl Eprint + AllocGlobal), path: &str, bytes: &[u8]) -> io::Result<Outcome> {
     match read_bytes(rt.alloc(), bytes) {
-        Err(XmlError::Malformed(fault, Place { line, column })) => {
-            eprintln!(rt; "{path}:{line}:{column}: error: {fault}")?;
-            Ok(Outcome::Faulty)
-        }
-        _ => {
-            eprintln!(rt; "{path}: out of memory")?;
-            Ok(Outcome::Unread)
-        }
+        Err(XmlError::Malformed(fault, place)) => show_fault(rt, path, place, &fault),
+        _ => show_out_of_memory(rt, path),
     }
+}
+
+/// Prints what is odd in a file.
+fn show_warnings(rt: &impl Eprint, path: &str, warnings: &[Warning]) -> io::Result<()> {
+    for warning in warnings {
+        let Place { line, column } = warning.place;
+        eprintln!(rt; "{path}:{line}:{column}: warning: {warning}")?;
+    }
+    Ok(())
+}
+
+/// Prints what is wrong in a file.
+fn show_fault<F: fmt::Display>(
+    rt: &impl Eprint,
+    path: &str,
+    place: Place,
+    fault: &F,
+) -> io::Result<Outcome> {
+    let Place { line, column } = place;
+    eprintln!(rt; "{path}:{line}:{column}: error: {fault}")?;
+    Ok(Outcome::Faulty)
+}
+
+fn show_out_of_memory(rt: &impl Eprint, path: &str) -> io::Result<Outcome> {
+    eprintln!(rt; "{path}: out of memory")?;
+    Ok(Outcome::Unread)
 }
 
 /// Prints what a file is.

@@ -3,7 +3,6 @@ use crate::dates::dump_date;
 use crate::dump::Dump;
 use crate::names::{dump_et_al, dump_label_options, dump_name, dump_names_label};
 use csl_vocabulary::term::{TERM_FORMS, TermForm};
-use std::alloc::AllocError;
 use style_elements::tables::{MATCHES, NUMBER_FORMS, POSITIONS, VARIABLE_FORMS};
 use style_file::choose::{Branch, Choose, Match, Test};
 use style_file::element::{
@@ -19,156 +18,133 @@ pub fn dump_elements(
     macros: &[Macro],
     depth: usize,
     dump: &mut Dump,
-) -> Result<(), AllocError> {
+) {
     for element in elements {
         match element {
-            RenderingElement::Text(text) => dump_text(text, macros, depth, dump)?,
-            RenderingElement::Number(number) => dump_number(number, depth, dump)?,
+            RenderingElement::Text(text) => dump_text(text, macros, depth, dump),
+            RenderingElement::Number(number) => dump_number(number, depth, dump),
             RenderingElement::Label(label) => {
-                dump.open(depth, "label")?;
-                dump.word("variable", label.variable.name())?;
-                dump_label_options(&label.options, dump)?;
-                dump.close()?;
+                dump.open(depth, "label");
+                dump.word("variable", label.variable.name());
+                dump_label_options(&label.options, dump);
+                dump.close();
             }
-            RenderingElement::Date(date) => dump_date(date, depth, dump)?,
-            RenderingElement::Names(names) => dump_names(names, macros, depth, dump)?,
-            RenderingElement::Group(group) => dump_group(group, macros, depth, dump)?,
-            RenderingElement::Choose(choose) => dump_choose(choose, macros, depth, dump)?,
+            RenderingElement::Date(date) => dump_date(date, depth, dump),
+            RenderingElement::Names(names) => dump_names(names, macros, depth, dump),
+            RenderingElement::Group(group) => dump_group(group, macros, depth, dump),
+            RenderingElement::Choose(choose) => dump_choose(choose, macros, depth, dump),
             RenderingElement::UnknownVariable => {
-                dump.open(depth, "unknown")?;
-                dump.close()?;
+                dump.open(depth, "unknown");
+                dump.close();
             }
         }
     }
-    Ok(())
 }
 
 /// The name of a macro.
 pub fn macro_name(macros: &[Macro], index: MacroIndex) -> &str {
-    macros.get(index.0).map_or("?", |each| each.name.as_str())
+    match macros.get(index.0) {
+        Some(each) => each.name.as_str(),
+        None => "?",
+    }
 }
 
-fn dump_text(
-    text: &Text,
-    macros: &[Macro],
-    depth: usize,
-    dump: &mut Dump,
-) -> Result<(), AllocError> {
-    dump.open(depth, "text")?;
+fn dump_text(text: &Text, macros: &[Macro], depth: usize, dump: &mut Dump) {
+    dump.open(depth, "text");
     match &text.source {
         TextSource::Variable { variable, form } => {
-            dump.word("variable", variable.name())?;
-            dump.named_if_other("form", *form, VariableForm::Long, VARIABLE_FORMS)?;
+            dump.word("variable", variable.name());
+            dump.named_if_other("form", *form, VariableForm::Long, VARIABLE_FORMS);
         }
-        TextSource::Number(variable) => dump.word("variable", variable.name())?,
-        TextSource::Macro(index) => dump.text("macro", macro_name(macros, *index))?,
+        TextSource::Number(variable) => dump.word("variable", variable.name()),
+        TextSource::Macro(index) => dump.text("macro", macro_name(macros, *index)),
         TextSource::Term { name, form, plural } => {
-            write!(dump.text, " term={name}")?;
-            dump.named_if_other("form", *form, TermForm::Long, TERM_FORMS)?;
-            dump.truth_if_true("plural", *plural)?;
+            dump.shown("term", name);
+            dump.named_if_other("form", *form, TermForm::Long, TERM_FORMS);
+            dump.truth_if_true("plural", *plural);
         }
-        TextSource::Value(value) => dump.text("value", value.as_str())?,
+        TextSource::Value(value) => dump.text("value", value.as_str()),
     }
-    dump.truth_if_true("quotes", text.quotes)?;
-    dump.truth_if_true("strip-periods", text.strip_periods)?;
-    dump.text_case(text.text_case)?;
-    dump.display(text.display)?;
-    dump.affixes(&text.affixes)?;
-    dump.formatting(&text.formatting)?;
-    dump.close()
+    dump.truth_if_true("quotes", text.quotes);
+    dump.truth_if_true("strip-periods", text.strip_periods);
+    dump.text_case(text.text_case);
+    dump.display(text.display);
+    dump.affixes(&text.affixes);
+    dump.formatting(&text.formatting);
+    dump.close();
 }
 
-fn dump_number(number: &Number, depth: usize, dump: &mut Dump) -> Result<(), AllocError> {
-    dump.open(depth, "number")?;
-    dump.word("variable", number.variable.name())?;
-    dump.named_if_other("form", number.form, NumberForm::Numeric, NUMBER_FORMS)?;
-    dump.text_case(number.text_case)?;
-    dump.display(number.display)?;
-    dump.affixes(&number.affixes)?;
-    dump.formatting(&number.formatting)?;
-    dump.close()
+fn dump_number(number: &Number, depth: usize, dump: &mut Dump) {
+    dump.open(depth, "number");
+    dump.word("variable", number.variable.name());
+    dump.named_if_other("form", number.form, NumberForm::Numeric, NUMBER_FORMS);
+    dump.text_case(number.text_case);
+    dump.display(number.display);
+    dump.affixes(&number.affixes);
+    dump.formatting(&number.formatting);
+    dump.close();
 }
 
 #[cycle(dumps)]
-fn dump_names(
-    names: &Names,
-    macros: &[Macro],
-    depth: usize,
-    dump: &mut Dump,
-) -> Result<(), AllocError> {
-    dump.open(depth, "names")?;
+fn dump_names(names: &Names, macros: &[Macro], depth: usize, dump: &mut Dump) {
+    dump.open(depth, "names");
     for variable in &names.variables {
-        dump.word("variable", variable.name())?;
+        dump.word("variable", variable.name());
     }
-    dump.text_if_any("delimiter", &names.delimiter)?;
-    dump.display(names.display)?;
-    dump.affixes(&names.affixes)?;
-    dump.formatting(&names.formatting)?;
-    dump.close()?;
+    dump.text_if_any("delimiter", &names.delimiter);
+    dump.display(names.display);
+    dump.affixes(&names.affixes);
+    dump.formatting(&names.formatting);
+    dump.close();
     let inside = depth.saturating_add(1);
     if let Some(name) = &names.name {
-        dump_name(name, inside, dump)?;
+        dump_name(name, inside, dump);
     }
     if let Some(et_al) = &names.et_al {
-        dump_et_al(et_al, inside, dump)?;
+        dump_et_al(et_al, inside, dump);
     }
     if let Some(label) = &names.label {
-        dump_names_label(label, inside, dump)?;
+        dump_names_label(label, inside, dump);
     }
-    dump_elements(&names.substitute, macros, inside, dump)
+    dump_elements(&names.substitute, macros, inside, dump);
 }
 
 #[cycle(dumps)]
-fn dump_group(
-    group: &Group,
-    macros: &[Macro],
-    depth: usize,
-    dump: &mut Dump,
-) -> Result<(), AllocError> {
-    dump.open(depth, "group")?;
-    dump.text_if_full("delimiter", group.delimiter.as_str())?;
-    dump.display(group.display)?;
-    dump.affixes(&group.affixes)?;
-    dump.formatting(&group.formatting)?;
-    dump.close()?;
-    dump_elements(&group.elements, macros, depth.saturating_add(1), dump)
+fn dump_group(group: &Group, macros: &[Macro], depth: usize, dump: &mut Dump) {
+    dump.open(depth, "group");
+    dump.text_if_full("delimiter", group.delimiter.as_str());
+    dump.display(group.display);
+    dump.affixes(&group.affixes);
+    dump.formatting(&group.formatting);
+    dump.close();
+    dump_elements(&group.elements, macros, depth.saturating_add(1), dump);
 }
 
 #[cycle(dumps)]
-fn dump_choose(
-    choose: &Choose,
-    macros: &[Macro],
-    depth: usize,
-    dump: &mut Dump,
-) -> Result<(), AllocError> {
-    dump.open(depth, "choose")?;
-    dump.close()?;
+fn dump_choose(choose: &Choose, macros: &[Macro], depth: usize, dump: &mut Dump) {
+    dump.open(depth, "choose");
+    dump.close();
     let inside = depth.saturating_add(1);
     for branch in &choose.branches {
-        dump_branch(branch, macros, inside, dump)?;
+        dump_branch(branch, macros, inside, dump);
     }
-    dump.open(inside, "else")?;
-    dump.close()?;
-    dump_elements(&choose.otherwise, macros, inside.saturating_add(1), dump)
+    dump.open(inside, "else");
+    dump.close();
+    dump_elements(&choose.otherwise, macros, inside.saturating_add(1), dump);
 }
 
 #[cycle(dumps)]
-fn dump_branch(
-    branch: &Branch,
-    macros: &[Macro],
-    depth: usize,
-    dump: &mut Dump,
-) -> Result<(), AllocError> {
-    dump.open(depth, "if")?;
-    dump.named_if_other("match", branch.rule, Match::All, MATCHES)?;
+fn dump_branch(branch: &Branch, macros: &[Macro], depth: usize, dump: &mut Dump) {
+    dump.open(depth, "if");
+    dump.named_if_other("match", branch.rule, Match::All, MATCHES);
     for test in &branch.tests {
-        dump_test(test, dump)?;
+        dump_test(test, dump);
     }
-    dump.close()?;
-    dump_elements(&branch.elements, macros, depth.saturating_add(1), dump)
+    dump.close();
+    dump_elements(&branch.elements, macros, depth.saturating_add(1), dump);
 }
 
-fn dump_test(test: &Test, dump: &mut Dump) -> Result<(), AllocError> {
+fn dump_test(test: &Test, dump: &mut Dump) {
     match test {
         Test::Disambiguate => dump.word("disambiguate", "true"),
         Test::IsNumeric(variable) => dump.word("is-numeric", variable.name()),

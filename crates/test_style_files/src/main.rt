@@ -145,9 +145,9 @@ fn warning_lines(alloc: Global, warnings: &[Warning]) -> Result<String, AllocErr
 fn dump_of(alloc: Global, file: &CslFile) -> Result<String, AllocError> {
     let mut dump = Dump::new(alloc);
     match file {
-        CslFile::Style(StyleFile::Independent(style)) => dump_style(style, &mut dump)?,
-        CslFile::Style(StyleFile::Dependent(style)) => dump_dependent(style, &mut dump)?,
-        CslFile::Locale(locale) => dump_locale_file(locale, &mut dump)?,
+        CslFile::Style(StyleFile::Independent(style)) => dump_style(style, &mut dump),
+        CslFile::Style(StyleFile::Dependent(style)) => dump_dependent(style, &mut dump),
+        CslFile::Locale(locale) => dump_locale_file(locale, &mut dump),
     }
-    Ok(dump.text)
+    dump.into_text()
 }
