@@ -7,8 +7,9 @@ CSL = '{http://purl.org/net/xbiblio/csl}'
 LANG = '{http://www.w3.org/XML/1998/namespace}lang'
 AFFIXES = ('prefix', 'suffix')
 FORMATTING = ('font-style', 'font-variant', 'font-weight', 'text-decoration', 'vertical-align')
-# Names of older versions, and those that stand for them.
-OLDER = {'event': 'event-title', 'journalAbbreviation': 'container-title-short', 'shortTitle': 'title-short', 'editortranslator': 'editor-translator', 'sub verbo': 'sub-verbo'}
+# Names of older versions and of items, and those that stand for them.
+OLDER_VARIABLES = {'event': 'event-title', 'journalAbbreviation': 'container-title-short', 'shortTitle': 'title-short'}
+OLDER_TERMS = {'editortranslator': 'editor-translator', 'sub verbo': 'sub-verbo'}
 # Values that mean the same as another.
 SAME = {'chicago-15': 'chicago'}
 NUMBERS = (
@@ -92,8 +93,23 @@ def appearance(element):
     return values(element, [it + '?' for it in AFFIXES] + list(FORMATTING))
 
 
-def current(name):
-    return OLDER.get(name, name)
+def variable_of(element):
+    """The variable that an element names."""
+    return OLDER_VARIABLES.get(element.get('variable'), element.get('variable'))
+
+
+def current_term(name):
+    return OLDER_TERMS.get(name, name)
+
+
+def tests_of(branch):
+    """The tests of a branch, one for each of its values."""
+    tests = []
+    for key, value in branch.attrib.items():
+        if key in CONDITIONS:
+            older = {'variable': OLDER_VARIABLES, 'is-numeric': OLDER_VARIABLES, 'locator': OLDER_TERMS}.get(key, {})
+            tests += [' %s=%s' % (key, older.get(it, it)) for it in value.split()]
+    return tests
 
 
 def trues(*names):
@@ -108,12 +124,12 @@ def say_elements(parent, depth, lines):
 def say_text(element, depth, lines):
     found = []
     if element.get('variable') is not None:
-        variable = current(element.get('variable'))
+        variable = variable_of(element)
         found.append(' variable=' + variable)
         if variable not in NUMBERS:
             found += values(element, ['form=long'])
     elif element.get('term') is not None:
-        found += [' term=' + current(element.get('term')), *values(element, ['form=long', 'plural=false'])]
+        found += [' term=' + current_term(element.get('term')), *values(element, ['form=long', 'plural=false'])]
     else:
         found += values(element, ['macro!', 'value!'])
     keys = [*trues('quotes', 'strip-periods'), 'text-case', 'display']
@@ -171,11 +187,7 @@ def say_group(element, depth, lines):
 def say_choose(element, depth, lines):
     lines.add(depth, 'choose', [])
     for branch in children(element, 'if', 'else-if'):
-        tests = []
-        for key, value in branch.attrib.items():
-            if key in CONDITIONS:
-                tests += [' %s=%s' % (key, current(it)) for it in value.split()]
-        lines.add(depth + 1, 'if', values(branch, ['match=all']) + tests)
+        lines.add(depth + 1, 'if', values(branch, ['match=all']) + tests_of(branch))
         say_elements(branch, depth + 2, lines)
     lines.add(depth + 1, 'else', [])
     for otherwise in children(element, 'else'):
@@ -196,7 +208,7 @@ def say_locale(element, depth, lines):
             else:
                 words = [' %s=%s' % (it, quoted(own_text(only(term, it)))) for it in ('single', 'multiple')]
             keys = ['form=long', 'gender', 'gender-form', 'match']
-            lines.add(2, 'term', [' name=' + current(term.get('name')), *values(term, keys), *words])
+            lines.add(2, 'term', [' name=' + current_term(term.get('name')), *values(term, keys), *words])
 
 
 def own_text(element):
@@ -220,7 +232,7 @@ def say_section(section, keys, lines):
     lines.add(1, tag(section), keys + values(section, INHERITED))
     for sort in children(section, 'sort'):
         for key in children(sort, 'key'):
-            by = [' variable=' + current(key.get('variable'))] if key.get('variable') else values(key, ['macro!'])
+            by = [' variable=' + variable_of(key)] if key.get('variable') else values(key, ['macro!'])
             rest = ['sort=ascending', 'names-min', 'names-use-first', 'names-use-last']
             lines.add(2, 'key', by + values(key, rest))
     layout = only(section, 'layout')
