@@ -301,9 +301,9 @@ def processor_time(who, call):
 
 def seconds(programs, documents):
     """The processor time of reading these documents."""
-    time, (status, _, _) = processor_time(resource.RUSAGE_CHILDREN, lambda: ended(programs.test_style_files, documents, 'count'))
-    if status != 0:
-        raise Failed('status %d' % status)
+    time, (status, out, _) = processor_time(resource.RUSAGE_CHILDREN, lambda: ended(programs.test_style_files, documents, 'count'))
+    if (status, out) != (0, b'%d\n' % len(documents)):
+        raise Failed('status %d, and %r of %d files were read' % (status, out, len(documents)))
     return time
 
 
@@ -334,7 +334,7 @@ def shapes(size):
     return {
         'elements': style('', many('<text variable="title" prefix="(" suffix=")"/>')),
         'macros': style(numbered('<macro name="m%(n)d"><text variable="title"/></macro>')),
-        'calls': style('<macro name="a"/>' + many('<macro name="b"><text macro="a"/></macro>').replace('name="b"', 'name="b%d"') % tuple(range(size // 44))),
+        'calls': style('<macro name="a"/>' + numbered('<macro name="b%(n)d"><text macro="a"/></macro>')),
         'warnings': style('', many('<text variable="titl" later="" fnt-style=""/>\n')),
         'terms': ('<locale xmlns="http://purl.org/net/xbiblio/csl" version="1.0" xml:lang="en"><terms>%s</terms></locale>' % many('<term name="page">p</term>')).encode(),
         'values': style('', '<choose><if variable="%s"/></choose>' % many('title issued unknown ')),

@@ -225,7 +225,9 @@ def say_info(info, lines):
     for link in children(info, 'link'):
         lines.add(2, 'link', values(link, ['href!', 'rel', 'xml:lang!']))
     for category in children(info, 'category'):
-        lines.add(2, 'category', values(category, ['citation-format' if category.get('citation-format') else 'field']))
+        found = values(category, ['citation-format']) or values(category, ['field'])
+        if found:
+            lines.add(2, 'category', found)
 
 
 def say_section(section, keys, lines):
