@@ -196,7 +196,8 @@ def program(programs):
         for name, data in ('odd.csl', odd[0]), ('broken.csl', broken_one[0]), ('bytes.csl', b'<style\n>\xff</style>'):
             with open(folder + '/' + name, 'wb') as file:
                 file.write(data)
-        notes = 'notes.csl: independent style Notes of the house (https://example.org/styles/notes)\n'
+        # a space for each control character: the title goes on in another line of the file
+        notes = 'notes.csl: independent style Notes of       the house (https://example.org/styles/notes)\n'
         parent = 'journal.csl: dependent style of https://example.org/styles/notes\n'
         locale = 'words.xml: locale de-AT\n'
         warning = 'odd.csl:%d:%d: warning: %s\n' % (*odd[1:], WARNED['a variable'][1])
