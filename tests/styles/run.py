@@ -208,7 +208,7 @@ def program(programs):
         program_is(*it, ['odd.csl'], 0, 'odd.csl: independent style T (i)\n', warning)
         program_is(*it, ['broken.csl', 'words.xml'], 1, locale, error)
         program_is(*it, ['bytes.csl'], 1, '', no_text)
-        program_is(*it, ['none.csl', 'broken.csl'], 2, '', 'none.csl: entity not found\n' + error)
+        program_is(*it, ['none.csl', 'broken.csl'], 2, '', 'none.csl: No such file or directory (os error 2)\n' + error)
         program_is(*it, [], 2, '', 'usage: style_check FILE..\n')
 
 
