@@ -1,0 +1,135 @@
+//! The elements that write something, and those around them.
+use crate::choose::{branch_shape, check_choose, rule_of};
+use crate::date::date_of;
+use crate::formatting::{display_of, setting_of};
+use crate::names::{check_names, names_with};
+use crate::text::{label_of, number_of, text_of};
+use std::alloc::Global;
+use style_elements::attributes::text_or_empty;
+use style_elements::children::csl_name;
+use style_elements::reading::Reading;
+use style_elements::shape::{ELSE, GROUP, SUBSTITUTE, Shape, check};
+use style_faults::stop::Stop;
+use style_file::choose::{Branch, Choose};
+use style_file::element::{Group, RenderingElement};
+use xml_reader::tree::{Content, Element};
+
+/// The elements in an element, in the order of the file.
+#[cycle(rendering)]
+pub(crate) fn elements_of(
+    parent: &Element,
+    reading: &mut Reading<'_>,
+) -> Result<Vec<RenderingElement>, Stop> {
+    let mut elements = Vec::new(reading.alloc);
+    for part in &parent.content {
+        if let Content::Element(child) = part {
+            let element = match csl_name(child) {
+                "names" => Some(names_of(child, reading)?),
+                "group" => Some(group_of(child, reading)?),
+                "choose" => Some(choose_of(child, reading)?),
+                _ => plain_element(child, reading)?,
+            };
+            if let Some(element) = element {
+                elements.push(element)?;
+            }
+        }
+    }
+    Ok(elements)
+}
+
+/// The element without others in it that this is; none where it writes nothing.
+fn plain_element(
+    element: &Element,
+    reading: &mut Reading<'_>,
+) -> Result<Option<RenderingElement>, Stop> {
+    match csl_name(element) {
+        "text" => text_of(element, reading),
+        "number" => Ok(Some(number_of(element, reading)?)),
+        "label" => Ok(Some(label_of(element, reading)?)),
+        "date" => Ok(Some(date_of(element, reading)?)),
+        _ => Ok(None),
+    }
+}
+
+/// The element that a `names` is.
+#[cycle(rendering)]
+fn names_of(element: &Element, reading: &mut Reading<'_>) -> Result<RenderingElement, Stop> {
+    check_names(element, reading)?;
+    let substitute = elements_in(element, &SUBSTITUTE, reading)?;
+    Ok(RenderingElement::Names(names_with(element, substitute, reading)?))
+}
+
+/// The element that a `group` is.
+#[cycle(rendering)]
+fn group_of(element: &Element, reading: &mut Reading<'_>) -> Result<RenderingElement, Stop> {
+    check(element, &GROUP, reading)?;
+    let elements = elements_of(element, reading)?;
+    Ok(RenderingElement::Group(group_with(reading.alloc, element, elements)?))
+}
+
+/// A `group` of these elements.
+fn group_with(
+    alloc: Global,
+    element: &Element,
+    elements: Vec<RenderingElement>,
+) -> Result<Group, Stop> {
+    let display = display_of(alloc, element)?;
+    let (affixes, formatting) = setting_of(alloc, element)?;
+    Ok(Group {
+        delimiter: text_or_empty(alloc, element, "delimiter")?,
+        elements,
+        affixes,
+        formatting,
+        display,
+    })
+}
+
+/// The element that a `choose` is.
+#[cycle(rendering)]
+fn choose_of(element: &Element, reading: &mut Reading<'_>) -> Result<RenderingElement, Stop> {
+    check_choose(element, reading)?;
+    let branches = branches_of(element, reading)?;
+    let otherwise = elements_in(element, &ELSE, reading)?;
+    Ok(RenderingElement::Choose(Choose {
+        branches,
+        otherwise,
+    }))
+}
+
+/// The branches of a `choose` that have tests.
+#[cycle(rendering)]
+fn branches_of(choose: &Element, reading: &mut Reading<'_>) -> Result<Vec<Branch>, Stop> {
+    let mut branches = Vec::new(reading.alloc);
+    for part in &choose.content {
+        if let Content::Element(child) = part {
+            if let Some(shape) = branch_shape(csl_name(child)) {
+                let (rule, tests) = rule_of(child, shape, reading)?;
+                let elements = elements_of(child, reading)?;
+                branches.push(Branch {
+                    rule,
+                    tests,
+                    elements,
+                })?;
+            }
+        }
+    }
+    Ok(branches)
+}
+
+/// The elements in the first child of this shape; none where there is no such child.
+#[cycle(rendering)]
+fn elements_in(
+    parent: &Element,
+    shape: &'static Shape,
+    reading: &mut Reading<'_>,
+) -> Result<Vec<RenderingElement>, Stop> {
+    for part in &parent.content {
+        if let Content::Element(child) = part {
+            if csl_name(child) == shape.name {
+                check(child, shape, reading)?;
+                return elements_of(child, reading);
+            }
+        }
+    }
+    Ok(Vec::new(reading.alloc))
+}

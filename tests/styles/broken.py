@@ -1,0 +1,222 @@
+"""Styles and locales that are refused, and others that are read with warnings: what must be said of each, worked out by hand.
+
+In a document `¦` stands at the place that must be told, and is taken out. Faults and warnings have their words."""
+
+HEAD = '<style xmlns="http://purl.org/net/xbiblio/csl" version="1.0" class="in-text">\n'
+INFO = ' <info>\n  <title>T</title>\n  <id>i</id>\n </info>\n'
+LAYOUT = ' <citation>\n  <layout>\n   <text variable="title"/>\n  </layout>\n </citation>\n'
+LOCALE = '<locale xmlns="http://purl.org/net/xbiblio/csl" version="1.0" xml:lang="en-US">\n'
+
+
+def style(body='', info=INFO, citation=LAYOUT, head=HEAD):
+    return head + info + body + citation + '</style>\n'
+
+
+def layout(elements):
+    """A style whose citation has these elements."""
+    return style(citation=' <citation>\n  <layout>\n   %s\n  </layout>\n </citation>\n' % elements)
+
+
+def locale(body):
+    return LOCALE + body + '</locale>\n'
+
+
+REFUSED = {
+    # no XML
+    'an end tag is missing': (HEAD + INFO + '¦', 'found the end of the text, wanted the end tag of `style`'),
+    'another end tag': (layout('<group>¦</grup>'), 'found `</grup>`, wanted the end tag of `group`'),
+    'an entity': (layout('<text value="¦&nbsp;"/>'), "found `&nbsp;\"/>`, wanted an entity that XML predefines, or a character's number"),
+    # roots
+    'another root': ('\n¦<html/>', 'found `html`, wanted the element `style` or `locale` of CSL'),
+    'another namespace': (
+        '<style ¦xmlns="http://purl.org/net/csl"/>',
+        'found `http://purl.org/net/csl`, wanted the namespace `http://purl.org/net/xbiblio/csl`, without a prefix',
+    ),
+    'a root with a prefix': (
+        '<?xml version="1.0"?>\n<!-- one -->\n ¦<c:style xmlns:c="http://purl.org/net/xbiblio/csl"/>',
+        'found `c:style`, wanted the element `style` or `locale` of CSL',
+    ),
+    # what is missing
+    'no info': ('¦' + style(info=''), 'found `style`, wanted an element `info` in it'),
+    'no title': (style(info=' ¦<info>\n  <id>i</id>\n </info>\n'), 'found `info`, wanted an element `title` in it'),
+    'no id': (style(info=' ¦<info><title>T</title></info>\n'), 'found `info`, wanted an element `id` in it'),
+    'no citation': ('¦' + style(body=' <macro name="a"/>\n', citation=''), 'found `style`, wanted an element `citation` in it'),
+    'a dependent style without its parent': (
+        '¦' + style(citation=''),
+        'found `style`, wanted an element `citation` in it, or a link to an independent parent',
+    ),
+    'no class': ('¦' + style(head=HEAD.replace(' class="in-text"', '')), 'found `style`, wanted an attribute `class` of it'),
+    'no layout': (style(citation=' ¦<citation/>\n'), 'found `citation`, wanted an element `layout` in it'),
+    'no variable': (layout('¦<date form="text"/>'), 'found `date`, wanted an attribute `variable` of it'),
+    'no part of a date': (layout('¦<date variable="issued"/>'), 'found `date`, wanted an element `date-part` in it'),
+    'no name of a part': (layout('<date variable="issued">¦<date-part/></date>'), 'found `date-part`, wanted an attribute `name` of it'),
+    'a branch without a condition': (layout('<choose>¦<if match="any"/></choose>'), 'found `if`, wanted a condition in it'),
+    'a choice without a branch': (layout('<group>¦<choose/></group>'), 'found `choose`, wanted an element `if` in it'),
+    'a text of nothing': (
+        layout('¦<text prefix="("/>'),
+        'found `text`, wanted exactly one of its attributes `variable`, `macro`, `term`, `value`',
+    ),
+    'a link without its aim': (
+        style(info=' <info><title>T</title><id>i</id>\n ¦<link rel="self"/></info>'),
+        'found `link`, wanted an attribute `href` of it',
+    ),
+    # what is too much
+    'a text of two things': (
+        layout('¦<text variable="title" term="and"/>'),
+        'found `text`, wanted exactly one of its attributes `variable`, `macro`, `term`, `value`',
+    ),
+    'two layouts': (
+        style(citation=' <citation>\n  <layout/>\n  ¦<layout/>\n </citation>\n'),
+        'found `layout`, wanted no second element of its kind',
+    ),
+    'two bibliographies': (
+        style(body=' <bibliography><layout/></bibliography>\n ¦<bibliography><layout/></bibliography>\n'),
+        'found `bibliography`, wanted no second element of its kind',
+    ),
+    'two parts of a name': (
+        layout('<names variable="author"><name><name-part name="given"/>\n¦<name-part name="given"/></name></names>'),
+        'found `name-part`, wanted no second element of its kind',
+    ),
+    'two macros of a name': (
+        style(body=' <macro name="año"/><macro name="b"/><macro ¦name="año"/>\n'),
+        'found `año`, wanted a name that no macro before has',
+    ),
+    'a branch behind the last': (
+        layout('<choose><if type="book"/><else/>\n¦<else-if type="map"/></choose>'),
+        'found `else-if`, wanted in `choose` an `if`, then each `else-if`, then one `else` at most',
+    ),
+    # elements and values that aren't known
+    'an unknown element': (layout('<group>¦<txt variable="title"/></group>'), 'found `txt`, wanted an element that `group` may contain, perhaps `text`'),
+    'an element out of place': (layout('¦<layout/>'), 'found `layout`, wanted an element that `layout` may contain'),
+    'an unknown value': (
+        layout('<text ¦font-style="itallic" variable="title"/>'),
+        'found `itallic`, wanted a value of `font-style`, perhaps `italic`',
+    ),
+    'no value': (layout('<text ¦quotes="" variable="title"/>'), 'found ``, wanted a value of `quotes`'),
+    'a form of another part': (
+        layout('<date variable="issued">\n<date-part name="year" ¦form="ordinal"/></date>'),
+        'found `ordinal`, wanted a value of `form`',
+    ),
+    'one of several values': (
+        layout('<choose><if ¦position="first lats"/></choose>'),
+        'found `lats`, wanted a value of `position`',
+    ),
+    'no number': (
+        layout('<names variable="author"><name ¦et-al-min="three"/></names>'),
+        'found `three`, wanted a whole number, 0 or more',
+    ),
+    'a number that is too small': (
+        style(body=' <bibliography ¦line-spacing="0"><layout/></bibliography>'),
+        'found `0`, wanted a whole number, 1 or more',
+    ),
+    'a number that is too large': (
+        layout('<names variable="author"><name ¦et-al-min="4294967296"/></names>'),
+        'found `4294967296`, wanted a whole number, 0 or more',
+    ),
+    'a date as text': (layout('<text ¦variable="issued"/>'), 'found `issued`, wanted a text or number variable'),
+    'a text as number': (layout('<number ¦variable="title"/>'), 'found `title`, wanted a number variable'),
+    'a name among dates': (layout('<choose><if ¦is-uncertain-date="author"/></choose>'), 'found `author`, wanted a date variable'),
+    'a text as names': (layout('<names ¦variable="author title"/>'), 'found `title`, wanted a name variable'),
+    # macros
+    'a macro that is missing': (
+        style(body=' <macro name="author-short"/>\n', citation=LAYOUT.replace('variable="title"', '¦macro="autor-short"')),
+        'found `autor-short`, wanted the name of a macro, perhaps `author-short`',
+    ),
+    'a macro that a key misses': (
+        style(citation=' <citation><sort>\n<key ¦macro="year"/></sort><layout/></citation>\n'),
+        'found `year`, wanted the name of a macro',
+    ),
+    'a macro that an unused one misses': (
+        style(body=' <macro name="a"><choose><if type="book"><text ¦macro="c"/></if></choose></macro>\n'),
+        'found `c`, wanted the name of a macro',
+    ),
+    'a macro that calls itself': (
+        style(body=' <macro name="a"/>\n <macro name="b"><text macro="a"/>\n  <group><text ¦macro="b"/></group></macro>\n'),
+        "found `b`, wanted a macro that doesn't lead back to this one",
+    ),
+    'a ring of macros': (
+        style(
+            body=' <macro name="a"><text macro="b"/></macro>\n <macro name="b"><text ¦macro="c"/></macro>\n'
+            ' <macro name="c"><text macro="d"/><text macro="b"/></macro>\n <macro name="d"/>\n'
+        ),
+        "found `c`, wanted a macro that doesn't lead back to this one",
+    ),
+    'macros that double': (
+        style(
+            body=''.join(
+                ' %s<macro name="m%d">%s</macro>\n' % ('¦' if n == 18 else '', n, '<text macro="m%d"/>' % (n + 1) * 2) for n in range(37)
+            )
+            + ' <macro name="m37"/>\n'
+        ),
+        'found `macro`, wanted at most 1000000 elements with all macros written out',
+    ),
+    'a layout of large macros': (
+        style(
+            body=''.join(' <macro name="m%d">%s</macro>\n' % (n, '<text macro="m%d"/>' % (n + 1) * 2) for n in range(18)) + ' <macro name="m18"/>\n',
+            citation=' <citation>\n  ¦<layout><text macro="m0"/><text macro="m0"/></layout>\n </citation>\n',
+        ),
+        'found `layout`, wanted at most 1000000 elements with all macros written out',
+    ),
+    'macros that are deep': (
+        style(
+            body=''.join(
+                ' %s<macro name="m%d">%s</macro>\n' % ('¦' if n == 16 else '', n, '<group>' * 59 + '<text macro="m%d"/>' % (n + 1) + '</group>' * 59)
+                for n in range(33)
+            )
+            + ' <macro name="m33"/>\n'
+        ),
+        'found `macro`, wanted at most 1000 elements in one another with all macros written out',
+    ),
+    # locales
+    'a locale of no language': (
+        '¦<locale xmlns="http://purl.org/net/xbiblio/csl" version="1.0"/>',
+        'found `locale`, wanted an attribute `xml:lang` of it',
+    ),
+    'a term of no name': (locale('<terms>\n  ¦<term>and</term></terms>'), 'found `term`, wanted an attribute `name` of it'),
+    'a term without its plural': (
+        locale('<terms>\n  ¦<term name="page"><single>page</single></term></terms>'),
+        'found `term`, wanted an element `multiple` in it',
+    ),
+    'an unknown gender': (
+        locale('<terms>\n  <term name="page" ¦gender="femminine">page</term></terms>'),
+        'found `femminine`, wanted a value of `gender`, perhaps `feminine`',
+    ),
+    'a date of no form': (locale(' ¦<date><date-part name="year"/></date>'), 'found `date`, wanted an attribute `form` of it'),
+    'an unknown element of a locale': (locale(' ¦<term/>'), 'found `term`, wanted an element that `locale` may contain, perhaps `terms`'),
+}
+
+WARNED = {
+    'an attribute': (layout('<text variable="title" ¦fontstyle="italic"/>'), 'unknown attribute `fontstyle` of `text`, perhaps `font-style`'),
+    'a variable': (layout('<text ¦variable="custom"/>'), 'unknown variable `custom`'),
+    'a variable of several': (layout('<choose><if ¦variable="title isued"/></choose>'), 'unknown variable `isued`, perhaps `issued`'),
+    'a type': (layout('<choose><if ¦type="boook"/></choose>'), 'unknown item type `boook`, perhaps `book`'),
+    'a locator': (layout('<choose><if ¦locator="surah"/></choose>'), 'unknown locator type `surah`'),
+    'a term': (layout('<text ¦term="no-date"/>'), 'unknown term `no-date`, perhaps `no date`'),
+    'a term of a locale': (locale('<terms>\n  <term ¦name="year-range-delimiter">–</term></terms>'), 'unknown term `year-range-delimiter`'),
+    'a field': (style(info=INFO.replace(' </info>', '  <category ¦field="alchemy"/>\n </info>')), 'unknown field `alchemy`'),
+    'a relation': (style(info=INFO.replace(' </info>', '  <link href="h" ¦rel="slef"/>\n </info>')), 'unknown relation `slef`, perhaps `self`'),
+    'an element of CSL-M': (layout('<names variable="author"><name/>¦<institution/></names>'), 'element `institution` is read over'),
+    'an element of another namespace': (
+        layout('<group>\n ¦<x:note xmlns:x="urn:x">n</x:note></group>'),
+        'element `x:note` is read over',
+    ),
+    'an element with a namespace of its own': (layout('<group>\n ¦<text xmlns="urn:x"/></group>'), 'element `text` is read over'),
+    'an element of info': (style(info=INFO.replace(' </info>', '  ¦<dc/>\n </info>')), 'element `dc` is read over'),
+    'text': (layout('¦<group> stray <text variable="title"/></group>'), 'text `stray` is read over'),
+    'a version': (style(head=HEAD.replace('version="1.0"', '¦version="1.1mlz1"')), 'version `1.1mlz1` is read as 1.0'),
+    'no version': ('¦' + style(head=HEAD.replace(' version="1.0"', '')), '`style` without a version is read as 1.0'),
+    'no namespace': (
+        '¦' + style(head=HEAD.replace(' xmlns="http://purl.org/net/xbiblio/csl"', '')),
+        "`style` without a namespace is read as CSL's",
+    ),
+    'a parent that is not used': (
+        style(info=INFO.replace(' </info>', '  <link ¦href="h" rel="independent-parent"/>\n </info>')),
+        'the parent `h` is not used',
+    ),
+}
+
+
+def placed(marked):
+    """A document without its mark, and the line and the column of the mark."""
+    front, behind = marked.split('¦')
+    return (front + behind).encode(), front.count('\n') + 1, len(front) - (front.rfind('\n') + 1) + 1
