@@ -164,7 +164,7 @@ def judge(document, line):
     fault = FAULT.fullmatch(line)
     try:
         theirs = digest(xml.etree.ElementTree.fromstring(document))
-    except xml.etree.ElementTree.ParseError:
+    except (xml.etree.ElementTree.ParseError, LookupError):
         theirs = None
     if fault is None:
         if theirs is None:
