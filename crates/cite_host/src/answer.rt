@@ -1,0 +1,187 @@
+//! The citations and the bibliography of a document.
+use crate::cites::Citation;
+use crate::driven::{Shrinking, driven_style};
+use crate::entries::{Items, SortedCitation, given_names_of, sorted_citations};
+use crate::error::AnswerError;
+use crate::programs::Programs;
+use crate::requests::{DrivenStyles, Driver, filled_driver, locators_of};
+use crate::states::ShownStates;
+use crate::writer::TaskWriter;
+use cite_locale::chain::LocaleChain;
+use cite_pieces::pieces::Pieces;
+use cite_pieces::punctuation::punctuated;
+use cite_trees::streams::{stream_of, stream_of_child, stream_of_citation};
+use csl_base::entry::PlainEntry;
+use csl_drive::drive::{Driven, drive_by};
+use csl_driver::mode::RoundMode;
+use csl_driver::rendered::{Rendered, RenderedBibliography};
+use csl_driver::request::{BibliographyRequest, Order};
+use csl_references::reference::References;
+use indexmap::IndexMap;
+use std::alloc::{AllocError, Global};
+use style_file::style::CslStyle;
+
+/// A document.
+#[derive(Clone, Copy)]
+pub struct Document<'d> {
+    pub style: &'d CslStyle,
+    pub locale: &'d LocaleChain<'d>,
+    pub references: &'d References,
+    pub citations: &'d [Citation],
+}
+
+/// What comes of a document.
+#[derive(Drop)]
+pub struct Answer {
+    /// A citation for each of the document, in its order; empty where nothing of it shows.
+    pub citations: Vec<Pieces>,
+    /// The bibliography; absent where the style has none.
+    pub bibliography: Option<Vec<ListedItem>>,
+}
+
+/// An item of the bibliography.
+#[derive(Drop)]
+pub struct ListedItem {
+    pub id: String,
+    /// What stands in its first field, where that is set apart.
+    pub first_field: Option<Pieces>,
+    pub content: Pieces,
+}
+
+/// How often the driver is asked at most.
+const MOST_CALLS: usize = 10_000;
+
+impl<'d> Document<'d> {
+    /// The citations and the bibliography, written in the style.
+    ///
+    /// # Errors
+    ///
+    /// `NoReference` where an item is cited that isn't there; `StyleTooLong` where the macros of the
+    /// style make a layout too long; `TooManyItems`; `Unsettled` where the driver goes on asking;
+    /// `OutOfMemory`.
+    pub fn answer(&self, alloc: Global) -> Result<Answer, AnswerError> {
+        let programs = Programs::of_style(alloc, self.style)?;
+        let items = Items::cited(
+            alloc,
+            self.style,
+            self.locale,
+            &programs,
+            self.references,
+            self.citations,
+        )?;
+        let citations = sorted_citations(
+            alloc,
+            self.style,
+            self.locale,
+            &programs,
+            &items,
+            self.citations,
+        )?;
+        let rendered = self.rendered(alloc, &programs, &items, citations.as_slice())?;
+        self.finished(alloc, &rendered)
+    }
+
+    fn rendered<'w>(
+        &self,
+        alloc: Global,
+        programs: &'w Programs<'w>,
+        items: &'w Items<'w>,
+        citations: &'w [SortedCitation<'w>],
+    ) -> Result<Rendered, AnswerError>
+    where
+        'd: 'w,
+    {
+        let usual = driven_style(alloc, self.style, Shrinking::AsTheStyle)?;
+        let apart = driven_style(alloc, self.style, Shrinking::Never)?;
+        let locators = locators_of(alloc, citations)?;
+        let styles = DrivenStyles {
+            usual: &usual,
+            apart: &apart,
+        };
+        let driver = filled_driver(alloc, styles, items, citations, &locators)?;
+        let mut order = Vec::new(alloc);
+        for entry in &items.entries {
+            order.push(entry)?;
+        }
+        let request =
+            BibliographyRequest::ordered(&usual, None, &[], Some(Order(order.as_slice())));
+        let mut writer = TaskWriter {
+            alloc,
+            style: self.style,
+            locale: self.locale,
+            programs,
+            items,
+            citations,
+            given_names: given_names_of(alloc, self.style, items.references.as_slice())?,
+            states: ShownStates::new(alloc, items.entries.len())?,
+        };
+        asked_often(alloc, &driver, &request, &mut writer)
+    }
+
+    /// The answer as streams, with their punctuation in order.
+    fn finished(&self, alloc: Global, rendered: &Rendered) -> Result<Answer, AnswerError> {
+        let in_quotes = self.locale.has_punctuation_in_quotes();
+        let mut citations = Vec::new(alloc);
+        for citation in rendered.citations.as_slice() {
+            let stream = stream_of_citation(alloc, &citation.citation)?;
+            citations.push(punctuated(alloc, stream, in_quotes)?)?;
+        }
+        let bibliography = match &rendered.bibliography {
+            Some(bibliography) => Some(self.listed(alloc, bibliography)?),
+            None => None,
+        };
+        Ok(Answer {
+            citations,
+            bibliography,
+        })
+    }
+
+    fn listed(
+        &self,
+        alloc: Global,
+        bibliography: &RenderedBibliography,
+    ) -> Result<Vec<ListedItem>, AllocError> {
+        let in_quotes = self.locale.has_punctuation_in_quotes();
+        let mut listed = Vec::new(alloc);
+        for item in bibliography.items.as_slice() {
+            let first_field = match &item.first_field {
+                Some(field) => Some(punctuated(
+                    alloc,
+                    stream_of_child(alloc, field)?,
+                    in_quotes,
+                )?),
+                None => None,
+            };
+            let content = stream_of(alloc, &item.content)?;
+            listed.push(ListedItem {
+                id: String::from_str(alloc, item.key.as_str())?,
+                first_field,
+                content: punctuated(alloc, content, in_quotes)?,
+            })?;
+        }
+        Ok(listed)
+    }
+}
+
+/// Asks the driver, and writes what it lacks, until there is an answer.
+fn asked_often<'e>(
+    alloc: Global,
+    driver: &Driver<'e>,
+    request: &BibliographyRequest<'_, 'e, PlainEntry>,
+    writer: &mut TaskWriter<'_>,
+) -> Result<Rendered, AnswerError> {
+    let mut table = IndexMap::new(alloc);
+    for _ in 0..MOST_CALLS {
+        match drive_by(alloc, driver, request, RoundMode::Full, &table)? {
+            Driven::Answer(rendered, _) => return Ok(rendered),
+            Driven::Missing(missing) => {
+                writer.settle(&missing)?;
+                for key in missing {
+                    let cite = writer.write(&key)?;
+                    table.insert(key, cite)?;
+                }
+            }
+        }
+    }
+    Err(AnswerError::Unsettled)
+}

@@ -1,0 +1,70 @@
+//! The programs of a style.
+use cite_program::build::program_of;
+use cite_program::program::{Program, ProgramError, Step};
+use cite_sorting::keys::Key;
+use cite_sorting::order::keys_of;
+use csl_vocabulary::variable::TextVariable;
+use std::alloc::Global;
+use style_file::element::TextSource;
+use style_file::sections::Bibliography;
+use style_file::style::CslStyle;
+
+/// The programs of the layouts and the keys of a style.
+#[derive(Drop)]
+pub(crate) struct Programs<'s> {
+    pub citation: Program<'s>,
+    pub citation_keys: Vec<Key<'s>>,
+    pub bibliography: Option<BibliographyProgram<'s>>,
+}
+
+/// The program of a bibliography.
+#[derive(Drop)]
+pub(crate) struct BibliographyProgram<'s> {
+    pub section: &'s Bibliography,
+    pub layout: Program<'s>,
+    pub keys: Vec<Key<'s>>,
+}
+
+impl<'s> Programs<'s> {
+    pub fn of_style(alloc: Global, style: &'s CslStyle) -> Result<Programs<'s>, ProgramError> {
+        let macros = style.macros.as_slice();
+        let bibliography = match &style.bibliography {
+            Some(section) => Some(BibliographyProgram {
+                section,
+                layout: program_of(alloc, macros, &section.layout.elements)?,
+                keys: keys_of(alloc, style, &section.sort)?,
+            }),
+            None => None,
+        };
+        Ok(Programs {
+            citation: program_of(alloc, macros, &style.citation.layout.elements)?,
+            citation_keys: keys_of(alloc, style, &style.citation.sort)?,
+            bibliography,
+        })
+    }
+
+    /// Whether a year suffix stands behind the first date: no layout has a place for it (CSL 1.0.2,
+    /// "Disambiguation").
+    pub fn adds_year_suffix(&self) -> bool {
+        let has_place = writes_suffix(&self.citation);
+        let has_other = match &self.bibliography {
+            Some(bibliography) => writes_suffix(&bibliography.layout),
+            None => false,
+        };
+        !has_place && !has_other
+    }
+}
+
+/// Whether a program writes the variable `year-suffix`.
+fn writes_suffix(program: &Program<'_>) -> bool {
+    for step in &program.steps {
+        if let Step::Text(text) = step {
+            if let TextSource::Variable { variable, .. } = &text.source {
+                if *variable == TextVariable::YearSuffix {
+                    return true;
+                }
+            }
+        }
+    }
+    false
+}

@@ -1,0 +1,16 @@
+//! A cite or an item of a bibliography, written by the program of its layout.
+#![tactic(auto)]
+
+pub mod cite;
+mod conditions;
+mod dates;
+mod frames;
+mod labels;
+mod names;
+mod numbers;
+pub mod sorted;
+mod texts;
+pub mod values;
+pub mod walk;
+#[cfg(test)]
+mod tests;

@@ -1,0 +1,80 @@
+//! What is read of CSL-JSON otherwise than it stands there.
+use crate::fault::Pointer;
+use std::fmt;
+
+/// What was done with a part of the JSON.
+#[derive(Debug, Drop)]
+pub enum WarningKind {
+    /// No item, name or date has this key, so it was left out.
+    UnknownKey { nearest: Option<&'static str> },
+    /// The item has no type, so it is a document.
+    NoType,
+    /// CSL has no item type of this name, so the item is a document.
+    UnknownType { nearest: Option<&'static str> },
+    /// An item before this one has the same id, so this one stands in its place.
+    RepeatedId,
+    /// The variable stands under an older name too, so that was left out.
+    OlderName,
+    /// The texts of a list were joined with commas.
+    JoinedTexts,
+    /// The name has no parts, so it was left out.
+    EmptyName,
+    /// The name has a literal, so its other parts were left out.
+    PartsBesideLiteral,
+    /// The date has nothing that tells it, so it was left out.
+    EmptyDate,
+    /// The date is not kept as a whole: what no date of CSL has was left out.
+    CutDate,
+}
+
+/// Something that is read otherwise than it stands in the JSON.
+#[derive(Debug, Drop)]
+pub struct Warning {
+    /// The way to the part of the JSON.
+    pub pointer: Pointer,
+    pub kind: WarningKind,
+}
+
+/// Writes a guess at what was meant.
+fn write_guess<W: fmt::Write>(
+    f: &mut fmt::Formatter<W>,
+    nearest: Option<&'static str>,
+) -> fmt::Result {
+    match nearest {
+        Some(name) => write!(f, "; is it `{name}`?"),
+        None => Ok(()),
+    }
+}
+
+impl fmt::Display for WarningKind {
+    fn fmt<W: fmt::Write>(&self, f: &mut fmt::Formatter<W>) -> fmt::Result {
+        match self {
+            WarningKind::UnknownKey { nearest } => {
+                f.write_str("unknown key, left out")?;
+                write_guess(f, *nearest)
+            }
+            WarningKind::NoType => f.write_str("no type, taken for a document"),
+            WarningKind::UnknownType { nearest } => {
+                f.write_str("unknown type, taken for a document")?;
+                write_guess(f, *nearest)
+            }
+            WarningKind::RepeatedId => f.write_str("repeated id, the item before was replaced"),
+            WarningKind::OlderName => f.write_str("an older name of the variable was left out"),
+            WarningKind::JoinedTexts => f.write_str("a list of texts, joined with commas"),
+            WarningKind::EmptyName => f.write_str("a name without parts, left out"),
+            WarningKind::PartsBesideLiteral => {
+                f.write_str("a name with a literal, its other parts were left out")
+            }
+            WarningKind::EmptyDate => f.write_str("an empty date, left out"),
+            WarningKind::CutDate => f.write_str("not all of the date could be kept"),
+        }
+    }
+}
+
+impl fmt::Display for Warning {
+    fn fmt<W: fmt::Write>(&self, f: &mut fmt::Formatter<W>) -> fmt::Result {
+        let pointer = &self.pointer;
+        let kind = &self.kind;
+        write!(f, "{pointer}: {kind}")
+    }
+}

@@ -1,0 +1,252 @@
+//! The macros of a style, and the calls of them.
+use crate::attributes::{attribute, needed};
+use crate::children::csl_name;
+use crate::limits::{MAX_DEPTH, MAX_ELEMENTS};
+use macro_order::order::{CallOrder, RingCall, call_order};
+use macro_order::outline::{Call, Outline, Size, sizes_of};
+use std::alloc::{AllocError, Global};
+use std::collections::HashMap;
+use style_faults::fault::Wanted;
+use style_faults::nearest::Nearest;
+use style_faults::stop::Stop;
+use style_file::element::MacroIndex;
+use xml_reader::tree::{Attribute, Content, Element};
+
+/// The macros of a style, by number in the order of the file.
+#[derive(Drop)]
+pub struct MacroTable<'t> {
+    names: MacroNames<'t>,
+    /// Where each macro stands when each is behind those that it calls.
+    indices: Vec<MacroIndex>,
+    /// How large each is with all calls written out.
+    sizes: Vec<Size>,
+}
+
+impl<'t> MacroTable<'t> {
+    /// Of a file without macros.
+    pub fn empty(alloc: Global) -> MacroTable<'t> {
+        MacroTable {
+            names: MacroNames::new(alloc),
+            indices: Vec::new(alloc),
+            sizes: Vec::new(alloc),
+        }
+    }
+
+    /// The macros of a style. Refused are two macros of one name, calls of macros that aren't there, rings of
+    /// calls, and macros that are too large when they are written out.
+    pub fn of_style(alloc: Global, style: &'t Element) -> Result<MacroTable<'t>, Stop> {
+        let elements = macro_elements(alloc, style)?;
+        let names = MacroNames::of_macros(alloc, &elements)?;
+        let mut outlines = Vec::new(alloc);
+        for element in &elements {
+            outlines.push(outline_of(alloc, element, &names)?)?;
+        }
+        let order = match call_order(alloc, &outlines)? {
+            CallOrder::Order(order) => order,
+            CallOrder::Ring(ring) => return Err(ring_stop(alloc, &elements, &ring)),
+        };
+        let sizes = sizes_of(alloc, &outlines, &order)?;
+        for number in &order {
+            if let (Some(element), Some(size)) = (elements.get(*number), sizes.get(*number)) {
+                check_size(alloc, element, *size)?;
+            }
+        }
+        Ok(MacroTable {
+            names,
+            indices: indices_of(alloc, &order)?,
+            sizes,
+        })
+    }
+
+    /// The macro that an attribute names.
+    pub fn index_of(&self, alloc: Global, attribute: &Attribute) -> Result<MacroIndex, Stop> {
+        let number = self.names.number_of(alloc, attribute)?;
+        match self.indices.get(number) {
+            Some(index) => Ok(*index),
+            None => Err(self.names.missing(alloc, attribute)),
+        }
+    }
+
+    /// Refuses a layout that is too large when its calls are written out.
+    pub fn check_layout(&self, alloc: Global, layout: &Element) -> Result<(), Stop> {
+        let outline = outline_of(alloc, layout, &self.names)?;
+        check_size(alloc, layout, outline.written_out(&self.sizes))
+    }
+}
+
+/// The names of macros.
+#[derive(Drop)]
+struct MacroNames<'t> {
+    /// In the order of the file.
+    names: Vec<&'t str>,
+    numbers: HashMap<&'t str, usize>,
+}
+
+impl<'t> MacroNames<'t> {
+    fn new(alloc: Global) -> MacroNames<'t> {
+        MacroNames {
+            names: Vec::new(alloc),
+            numbers: HashMap::new(alloc),
+        }
+    }
+
+    /// The names of these macros, of which no two may have one.
+    fn of_macros(alloc: Global, elements: &[&'t Element]) -> Result<MacroNames<'t>, Stop> {
+        let mut all = MacroNames::new(alloc);
+        for element in elements {
+            let attribute = needed(alloc, element, "name")?;
+            let name = attribute.value.as_str();
+            let number = all.names.len();
+            if all.numbers.insert(name, number)?.is_some() {
+                return Err(Stop::at(alloc, attribute.offset, name, Wanted::NewMacro));
+            }
+            all.names.push(name)?;
+        }
+        Ok(all)
+    }
+
+    /// The number of the macro that an attribute names.
+    fn number_of(&self, alloc: Global, attribute: &Attribute) -> Result<usize, Stop> {
+        match self.numbers.get(&attribute.value.as_str()) {
+            Some(number) => Ok(*number),
+            None => Err(self.missing(alloc, attribute)),
+        }
+    }
+
+    /// The macro that an attribute names is missing.
+    fn missing(&self, alloc: Global, attribute: &Attribute) -> Stop {
+        let name = attribute.value.as_str();
+        match self.nearest(alloc, name) {
+            Ok(nearest) => Stop::at(alloc, attribute.offset, name, Wanted::Macro { nearest }),
+            Err(_) => Stop::OutOfMemory,
+        }
+    }
+
+    /// The name that is nearest to another.
+    fn nearest(&self, alloc: Global, name: &str) -> Result<Option<String>, AllocError> {
+        let mut nearest = Nearest::new(alloc, name);
+        for candidate in &self.names {
+            nearest.consider(candidate)?;
+        }
+        match nearest.word() {
+            Some(word) => Ok(Some(String::from_str(alloc, word)?)),
+            None => Ok(None),
+        }
+    }
+}
+
+/// The macros in a style, in the order of the file.
+fn macro_elements<'t>(alloc: Global, style: &'t Element) -> Result<Vec<&'t Element>, AllocError> {
+    let mut elements = Vec::new(alloc);
+    for child in style.children() {
+        if csl_name(child) == "macro" {
+            elements.push(child)?;
+        }
+    }
+    Ok(elements)
+}
+
+/// The size of an element's content, and its calls.
+fn outline_of(alloc: Global, element: &Element, names: &MacroNames<'_>) -> Result<Outline, Stop> {
+    let mut outline = Outline {
+        size: Size {
+            elements: 0,
+            depth: 0,
+        },
+        calls: Vec::new(alloc),
+    };
+    add_content(element, 1, &mut outline, names, alloc)?;
+    Ok(outline)
+}
+
+/// Adds the content of an element, which nests this deep.
+fn add_content(
+    element: &Element,
+    depth: usize,
+    outline: &mut Outline,
+    names: &MacroNames<'_>,
+    alloc: Global,
+) -> Result<(), Stop> {
+    for part in &element.content {
+        if let Content::Element(child) = part {
+            outline.size.elements = outline.size.elements.saturating_add(1);
+            outline.size.depth = outline.size.depth.max(depth);
+            if let Some(attribute) = call_in(child) {
+                let callee = names.number_of(alloc, attribute)?;
+                outline.calls.push(Call { callee, depth })?;
+            }
+            add_content(child, depth.saturating_add(1), outline, names, alloc)?;
+        }
+    }
+    Ok(())
+}
+
+/// The attribute by which an element calls a macro.
+fn call_in(element: &Element) -> Option<&Attribute> {
+    if csl_name(element) == "text" {
+        attribute(element, "macro")
+    } else {
+        None
+    }
+}
+
+/// The place of each macro in an order.
+fn indices_of(alloc: Global, order: &[usize]) -> Result<Vec<MacroIndex>, AllocError> {
+    let mut indices = Vec::new(alloc);
+    for _ in order {
+        indices.push(MacroIndex(0))?;
+    }
+    for (index, number) in order.iter().enumerate() {
+        if let Some(place) = indices.get_mut(*number) {
+            *place = MacroIndex(index);
+        }
+    }
+    Ok(indices)
+}
+
+/// Refuses an element that has too many elements, or nests too deep, with all calls written out.
+fn check_size(alloc: Global, element: &Element, size: Size) -> Result<(), Stop> {
+    let wanted = if size.elements > MAX_ELEMENTS {
+        Wanted::FewerElements(MAX_ELEMENTS)
+    } else if size.depth > MAX_DEPTH {
+        Wanted::LessDepth(MAX_DEPTH)
+    } else {
+        return Ok(());
+    };
+    Err(Stop::at(alloc, element.offset, element.name.as_str(), wanted))
+}
+
+/// Macros call each other in a ring, with this call.
+fn ring_stop(alloc: Global, elements: &[&Element], ring: &RingCall) -> Stop {
+    let mut left = ring.call;
+    let call = elements
+        .get(ring.caller)
+        .and_then(|element| nth_call(element, &mut left));
+    match call {
+        Some(attribute) => Stop::at(
+            alloc,
+            attribute.offset,
+            attribute.value.as_str(),
+            Wanted::NoRing,
+        ),
+        None => Stop::at(alloc, 0, "macro", Wanted::NoRing),
+    }
+}
+
+/// The call behind this many others in the content of an element.
+fn nth_call<'e>(element: &'e Element, left: &mut usize) -> Option<&'e Attribute> {
+    for part in &element.content {
+        if let Content::Element(child) = part {
+            if let Some(attribute) = call_in(child) {
+                if *left == 0 {
+                    return Some(attribute);
+                }
+                *left -= 1;
+            }
+            if let Some(attribute) = nth_call(child, left) {
+                return Some(attribute);
+            }
+        }
+    }
+    None
+}

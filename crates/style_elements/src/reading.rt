@@ -1,0 +1,37 @@
+//! What stays with a reader on its way through a file.
+use crate::macros::MacroTable;
+use std::alloc::Global;
+use style_faults::fault::Wanted;
+use style_faults::stop::Stop;
+use style_faults::warning::{Note, Oddity};
+
+/// What stays with a reader on its way through a file.
+#[derive(Drop)]
+pub struct Reading<'t> {
+    pub alloc: Global,
+    pub macros: MacroTable<'t>,
+    pub notes: Vec<Note>,
+}
+
+impl<'t> Reading<'t> {
+    /// At the beginning of a file with these macros.
+    pub fn new(alloc: Global, macros: MacroTable<'t>) -> Reading<'t> {
+        Reading {
+            alloc,
+            macros,
+            notes: Vec::new(alloc),
+        }
+    }
+
+    /// Something odd was found at this offset.
+    pub fn note(&mut self, offset: usize, found: &str, oddity: Oddity) -> Result<(), Stop> {
+        self.notes
+            .push(Note::at(self.alloc, offset, found, oddity)?)?;
+        Ok(())
+    }
+
+    /// Something wrong was found at this offset.
+    pub fn stop(&self, offset: usize, found: &str, wanted: Wanted) -> Stop {
+        Stop::at(self.alloc, offset, found, wanted)
+    }
+}

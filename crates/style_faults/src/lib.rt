@@ -1,0 +1,8 @@
+//! What is wrong with a style file or a locale file, or odd in it, and where.
+#![tactic(auto)]
+
+pub mod error;
+pub mod fault;
+pub mod nearest;
+pub mod stop;
+pub mod warning;

@@ -1,0 +1,164 @@
+//! Reading a file.
+ghost use Rattle.std.specs.Prelude.{IfErr};
+ghost use Rattle.style_faults.specs.Places.{IsErrorIn};
+
+use crate::locale::locale_of;
+use crate::style::style_of;
+use std::alloc::Global;
+use style_elements::attributes::{attribute, needed};
+use style_elements::children::NAMESPACE;
+use style_elements::macros::MacroTable;
+use style_elements::reading::Reading;
+use style_faults::error::StyleError;
+use style_faults::fault::{Root, Wanted};
+use style_faults::stop::Stop;
+use style_faults::warning::{Note, Oddity, Warning, warnings_of};
+use style_file::locale::LocaleFile;
+use style_file::style::StyleFile;
+use xml_reader::error::XmlError;
+use xml_reader::reader::read;
+use xml_reader::tree::Element;
+
+/// What a file is.
+#[derive(Drop)]
+pub enum CslFile {
+    Style(StyleFile),
+    Locale(LocaleFile),
+}
+
+/// Reads a style, with warnings in the order of their places.
+///
+/// # Errors
+///
+/// `Malformed` where the text is no XML document that is read; `Refused` where it is no style, with the first
+/// place where that was found; `OutOfMemory` where memory is refused.
+pub fn read_style(alloc: Global, text: &str) -> Result<(StyleFile, Vec<Warning>), StyleError>
+    ensures { IfErr result (IsErrorIn text.now) }
+{
+    let root = match read(alloc, text) {
+        Ok(root) => root,
+        Err(XmlError::Malformed(fault, place)) => return Err(StyleError::Malformed(fault, place)),
+        Err(XmlError::OutOfMemory) => return Err(StyleError::OutOfMemory),
+    };
+    match style_in(alloc, &root) {
+        Ok((style, notes)) => with_warnings(alloc, text, style, notes),
+        Err(stop) => Err(stop.in_text(text)),
+    }
+}
+
+/// Reads a locale, with warnings in the order of their places.
+///
+/// # Errors
+///
+/// Those of `read_style`.
+pub fn read_locale(alloc: Global, text: &str) -> Result<(LocaleFile, Vec<Warning>), StyleError>
+    ensures { IfErr result (IsErrorIn text.now) }
+{
+    let root = match read(alloc, text) {
+        Ok(root) => root,
+        Err(XmlError::Malformed(fault, place)) => return Err(StyleError::Malformed(fault, place)),
+        Err(XmlError::OutOfMemory) => return Err(StyleError::OutOfMemory),
+    };
+    match locale_in(alloc, &root) {
+        Ok((locale, notes)) => with_warnings(alloc, text, locale, notes),
+        Err(stop) => Err(stop.in_text(text)),
+    }
+}
+
+/// Reads a style or a locale, by its root, with warnings in the order of their places.
+///
+/// # Errors
+///
+/// Those of `read_style`.
+pub fn read_file(alloc: Global, text: &str) -> Result<(CslFile, Vec<Warning>), StyleError>
+    ensures { IfErr result (IsErrorIn text.now) }
+{
+    let root = match read(alloc, text) {
+        Ok(root) => root,
+        Err(XmlError::Malformed(fault, place)) => return Err(StyleError::Malformed(fault, place)),
+        Err(XmlError::OutOfMemory) => return Err(StyleError::OutOfMemory),
+    };
+    match file_in(alloc, &root) {
+        Ok((file, notes)) => with_warnings(alloc, text, file, notes),
+        Err(stop) => Err(stop.in_text(text)),
+    }
+}
+
+/// A value with the warnings for its notes.
+fn with_warnings<T: Drop>(
+    alloc: Global,
+    text: &str,
+    value: T,
+    notes: Vec<Note>,
+) -> Result<(T, Vec<Warning>), StyleError>
+    ensures { IfErr result (IsErrorIn text.now) }
+{
+    match warnings_of(alloc, text, notes) {
+        Ok(warnings) => Ok((value, warnings)),
+        Err(_) => Err(StyleError::OutOfMemory),
+    }
+}
+
+/// What the document with this root is.
+fn file_in(alloc: Global, root: &Element) -> Result<(CslFile, Vec<Note>), Stop> {
+    match root.name.as_str() {
+        "style" => {
+            let (style, notes) = style_in(alloc, root)?;
+            Ok((CslFile::Style(style), notes))
+        }
+        "locale" => {
+            let (locale, notes) = locale_in(alloc, root)?;
+            Ok((CslFile::Locale(locale), notes))
+        }
+        other => Err(Stop::at(alloc, root.offset, other, Wanted::Root(Root::Either))),
+    }
+}
+
+/// The style with this root.
+fn style_in(alloc: Global, root: &Element) -> Result<(StyleFile, Vec<Note>), Stop> {
+    let name = root.name.as_str();
+    if name != "style" {
+        return Err(Stop::at(alloc, root.offset, name, Wanted::Root(Root::Style)));
+    }
+    let mut reading = Reading::new(alloc, MacroTable::of_style(alloc, root)?);
+    check_root(root, &mut reading)?;
+    let style = style_of(root, &mut reading)?;
+    Ok((style, reading.notes))
+}
+
+/// The locale file with this root.
+fn locale_in(alloc: Global, root: &Element) -> Result<(LocaleFile, Vec<Note>), Stop> {
+    let name = root.name.as_str();
+    if name != "locale" {
+        return Err(Stop::at(alloc, root.offset, name, Wanted::Root(Root::Locale)));
+    }
+    let mut reading = Reading::new(alloc, MacroTable::empty(alloc));
+    check_root(root, &mut reading)?;
+    let language = needed(alloc, root, "xml:lang")?;
+    let file = LocaleFile {
+        language: language.value.clone()?,
+        locale: locale_of(root, &mut reading)?,
+    };
+    Ok((file, reading.notes))
+}
+
+/// Refuses a root of another namespace, and notes a version that isn't 1.0.
+fn check_root(root: &Element, reading: &mut Reading<'_>) -> Result<(), Stop> {
+    let name = root.name.as_str();
+    match attribute(root, "xmlns") {
+        None => reading.note(root.offset, name, Oddity::NoNamespace)?,
+        Some(namespace) if namespace.value.as_str() != NAMESPACE => {
+            let found = namespace.value.as_str();
+            return Err(reading.stop(namespace.offset, found, Wanted::Namespace));
+        }
+        Some(_) => {}
+    }
+    match attribute(root, "version") {
+        None => reading.note(root.offset, name, Oddity::NoVersion),
+        Some(version) => match version.value.as_str() {
+            "1.0" => Ok(()),
+            other if other.starts_with("1.0.") => Ok(()),
+            other => reading.note(version.offset, other, Oddity::Version),
+        },
+    }
+}
