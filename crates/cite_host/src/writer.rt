@@ -5,12 +5,13 @@ use crate::programs::Programs;
 use crate::states::{ShownStates, ToShow};
 use cite_locale::chain::LocaleChain;
 use cite_pieces::formatting::TextFormatting;
-use cite_pieces::output::{AffixPlace, Element, written};
+use cite_pieces::output::{AffixPlace, Element, Output, written};
 use cite_pieces::piece::{Mark, Piece, Wrap};
 use cite_pieces::pieces::Pieces;
 use cite_pieces::plain::plain_text;
 use cite_trees::trees::tree_of;
 use cite_walk::cite::{CiteFacts, GivenNames, Repetition, Scene, SceneKind, WrittenCite};
+use cite_walk::texts::TERM;
 use cite_walk::walk::write_cite;
 use csl_base::elem::ElemChildren;
 use csl_base::names::{DisambiguatedNameForm, NameDisambiguationProperties};
@@ -18,11 +19,13 @@ use csl_base::seq::Seq;
 use csl_lookup::purpose::CitePurpose;
 use csl_lookup::state::{CollapseVerdict, DisambiguateState, IbidState, IdentifierUsage};
 use csl_references::rich_text::RichText;
+use csl_texts::cases::Language;
 use csl_table::key::{Standing, TaskKey, TaskPart};
 use csl_writers::cite as driver;
 use indexmap::IndexSet;
 use std::alloc::{AllocError, Global};
-use style_file::style::CslStyle;
+use style_file::formatting::TextCase;
+use style_file::style::{CslStyle, StyleClass};
 
 /// Writes the tasks of a document.
 #[derive(Drop)]
@@ -117,7 +120,10 @@ impl<'d> TaskWriter<'d> {
             let text = plain_text(self.alloc, &cite.pieces, self.locale.quote_marks())?;
             self.states.note(place, &standing.disambiguation, text)?;
         }
-        if let Some(shown) = shown {
+        if let (Some(shown), Some((_, own))) = (shown, key.place) {
+            if self.style.class == StyleClass::Note && begins_sentence(shown, own) {
+                cite.pieces = with_capital_term(self.alloc, cite.pieces)?;
+            }
             cite.pieces = with_affixes(self.alloc, cite.pieces, shown)?;
         }
         let formatting = self.style.citation.layout.formatting;
@@ -249,6 +255,42 @@ fn names_alone(alloc: Global, pieces: Pieces) -> Result<Pieces, AllocError> {
     }
 }
 
+/// Whether a cite, which stands at this place in its note, begins a sentence.
+fn begins_sentence(cite: &Cite, own: usize) -> bool {
+    let prefix = cite.prefix.as_str().trim_end();
+    if prefix.is_empty() {
+        own == 0
+    } else {
+        prefix.ends_with('.')
+    }
+}
+
+/// A cite with a capital in front, where it begins with a term.
+fn with_capital_term(alloc: Global, pieces: Pieces) -> Result<Pieces, AllocError> {
+    if !begins_with_term(&pieces) {
+        return Ok(pieces);
+    }
+    let language = Language::Other;
+    let element = Element {
+        text_case: Some(TextCase::CapitalizeFirst),
+        ..Element::PLAIN
+    };
+    written(alloc, element, pieces, language)
+}
+
+/// Whether the first text of a stream is of a term.
+fn begins_with_term(pieces: &Pieces) -> bool {
+    let mut is_term = false;
+    for piece in pieces.as_slice() {
+        match piece {
+            Piece::Open(Wrap::Mark(mark)) => is_term = is_term || *mark == TERM,
+            Piece::Open(_) => {}
+            Piece::Text(_) | Piece::Close => return is_term,
+        }
+    }
+    false
+}
+
 /// A cite between the words that stand around it. Where these have no space of their own beside it,
 /// one is put in.
 fn with_affixes(alloc: Global, pieces: Pieces, cite: &Cite) -> Result<Pieces, AllocError> {
@@ -284,7 +326,7 @@ fn push_markup(alloc: Global, out: &mut Pieces, markup: &str) -> Result<(), Allo
         return Ok(());
     }
     let text = RichText::of_markup(alloc, markup)?;
-    let mut output = cite_pieces::output::Output::new(alloc, csl_texts::cases::Language::Other);
+    let mut output = Output::new(alloc, Language::Other);
     output.push_rich(&text)?;
     out.push_pieces(output.finish()?)
 }

@@ -85,6 +85,9 @@ impl<'s> NameList<'s, '_> {
         if precedes {
             output.push_str(self.rules.delimiter.trim_end())?;
         }
+        if word.ends_with(|c: char| c.is_whitespace()) {
+            return output.push_str(word);
+        }
         output.push_str(" ")?;
         output.push_str(word)?;
         output.push_str(" ")

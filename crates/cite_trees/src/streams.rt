@@ -6,6 +6,7 @@ use csl_base::elem::{Elem, ElemChild, ElemChildren, ElemMeta};
 use csl_base::formatting as tree;
 use csl_base::formatting::Formatted;
 use std::alloc::{AllocError, Global};
+use std::mem::replace;
 use style_file::formatting as file;
 
 /// The stream of a tree. What a tree leaves to its caller is left out.
@@ -31,47 +32,43 @@ pub fn stream_of_child(alloc: Global, child: &ElemChild) -> Result<Pieces, Alloc
 }
 
 /// The stream of a citation, without the cites that are empty and what stands between them and the
-/// others.
+/// others, nor what stands before a cite that begins with a comma, a semicolon or a period.
 ///
 /// # Errors
 ///
 /// Where memory is refused.
 pub fn stream_of_citation(alloc: Global, citation: &ElemChildren) -> Result<Pieces, AllocError> {
     let mut stream = Pieces::new(alloc);
-    let mut has_cite = false;
-    let mut between: Option<&ElemChild> = None;
+    let mut cites = 0usize;
+    let mut shown = 0usize;
+    // What stands before the next cite.
+    let mut between = Pieces::new(alloc);
     for child in &citation.0 {
         if !is_cite(child) {
-            if let Some(before) = between {
-                push_child(alloc, &mut stream, before)?;
-            }
-            between = Some(child);
+            push_child(alloc, &mut between, child)?;
             continue;
         }
-        let is_first = !has_cite && stream.has_no_text();
-        if !child.has_content() {
-            if is_first {
-                // what stands before the first cite is the prefix of the layout
-                if let Some(before) = between {
-                    push_child(alloc, &mut stream, before)?;
-                }
-            }
-            between = None;
-            continue;
+        let before = replace(&mut between, Pieces::new(alloc));
+        let cite = stream_of_child(alloc, child)?;
+        let is_first = cites == 0;
+        cites = cites.saturating_add(1);
+        if is_first {
+            // the prefix of the layout
+            stream.push_pieces(before)?;
+        } else if !cite.has_no_text() && shown > 0 && !begins_with_mark(&cite) {
+            stream.push_pieces(before)?;
         }
-        if let Some(before) = between {
-            if has_cite || is_first {
-                push_child(alloc, &mut stream, before)?;
-            }
+        if !cite.has_no_text() {
+            shown = shown.saturating_add(1);
+            stream.push_pieces(cite)?;
         }
-        between = None;
-        push_child(alloc, &mut stream, child)?;
-        has_cite = true;
     }
-    if let Some(before) = between {
-        push_child(alloc, &mut stream, before)?;
-    }
+    stream.push_pieces(between)?;
     Ok(stream)
+}
+
+fn begins_with_mark(cite: &Pieces) -> bool {
+    matches!(cite.first_char(), Some(',' | ';' | '.'))
 }
 
 fn is_cite(child: &ElemChild) -> bool {

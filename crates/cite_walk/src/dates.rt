@@ -23,10 +23,26 @@ impl<'s> Walk<'s, '_> {
                 return Ok(());
             }
         };
-        self.use_variable(variable)?;
+        self.output.open(Element::PLAIN)?;
         if let SceneKind::Key(_) = self.scene.kind {
-            return self.write_sorted_date(element, value);
+            self.write_sorted_date(element, value)?;
+        } else {
+            self.write_shown_date(element, value)?;
         }
+        if self.output.close()? {
+            self.use_variable(variable)
+        } else {
+            self.call(false);
+            Ok(())
+        }
+    }
+
+    /// Writes a date as its element asks for, with the suffix of the year where it belongs here.
+    fn write_shown_date(
+        &mut self,
+        element: &'s Date,
+        value: &date::Date,
+    ) -> Result<(), AllocError> {
         let mark = Mark::Date(self.dates);
         self.dates = self.dates.saturating_add(1);
         if self.cite.is_cut_to_suffix {
@@ -38,16 +54,6 @@ impl<'s> Walk<'s, '_> {
             self.output.close()?;
             return Ok(());
         }
-        self.write_shown_date(element, value, mark)
-    }
-
-    /// Writes a date as its element asks for, with the suffix of the year where it belongs here.
-    fn write_shown_date(
-        &mut self,
-        element: &'s Date,
-        value: &date::Date,
-        mark: Mark,
-    ) -> Result<(), AllocError> {
         let locale = self.scene.locale;
         let layout = layout_of(self.alloc(), locale, element)?;
         let has_year = layout
@@ -63,16 +69,11 @@ impl<'s> Walk<'s, '_> {
             mark: Some(mark),
             year_suffix: suffix.as_deref(),
         };
-        if value.span.is_some() {
-            return push_date(&mut self.output, locale, element, value, options);
-        }
-        self.output.open(Element::PLAIN)?;
         push_date(&mut self.output, locale, element, value, options)?;
-        if let Some(letters) = &suffix {
-            self.output.push_str(letters.as_str())?;
+        match &suffix {
+            Some(letters) if value.span.is_none() => self.output.push_str(letters.as_str()),
+            _ => Ok(()),
         }
-        self.output.close()?;
-        Ok(())
     }
 
     /// Writes a date as it is sorted, with the parts that its element asks for.
@@ -104,9 +105,6 @@ impl<'s> Walk<'s, '_> {
             }
         };
         let text = sorted_date(self.alloc(), value, parts)?;
-        self.output.open(Element::PLAIN)?;
-        self.output.push_str(text.as_str())?;
-        self.output.close()?;
-        Ok(())
+        self.output.push_str(text.as_str())
     }
 }

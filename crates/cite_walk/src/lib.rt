@@ -9,7 +9,7 @@ mod labels;
 mod names;
 mod numbers;
 pub mod sorted;
-mod texts;
+pub mod texts;
 pub mod values;
 pub mod walk;
 #[cfg(test)]

@@ -11,6 +11,9 @@ use csl_vocabulary::variable::{NumberVariable, TextVariable, Variable};
 use std::alloc::{AllocError, Global};
 use style_file::element::{Text, TextSource, VariableForm};
 
+/// What terms are marked as.
+pub const TERM: Mark = Mark::Other(0);
+
 impl<'s> Walk<'s, '_> {
     /// Writes a text that is no macro. Of a cite that is cut to its suffix, the suffix, the locator
     /// and the words for no date stay.
@@ -28,7 +31,7 @@ impl<'s> Walk<'s, '_> {
                     return Ok(());
                 }
                 let words = self.scene.locale.term(*name, *form, *plural).unwrap_or("");
-                self.write_words(text, words)?;
+                self.write_words(text, words, Some(TERM))?;
                 if is_no_date {
                     self.write_implicit_suffix()?;
                 }
@@ -38,14 +41,22 @@ impl<'s> Walk<'s, '_> {
                 if self.cite.is_cut_to_suffix {
                     return Ok(());
                 }
-                self.write_words(text, value.as_str())
+                self.write_words(text, value.as_str(), None)
             }
         }
     }
 
     /// Writes words of a style or a locale.
-    fn write_words(&mut self, text: &'s Text, words: &str) -> Result<(), AllocError> {
-        self.output.open(text_element(text))?;
+    fn write_words(
+        &mut self,
+        text: &'s Text,
+        words: &str,
+        mark: Option<Mark>,
+    ) -> Result<(), AllocError> {
+        self.output.open(Element {
+            mark,
+            ..text_element(text)
+        })?;
         self.output.push_str(words)?;
         self.output.close()?;
         Ok(())
