@@ -182,26 +182,29 @@ impl Reader {
         Ok(Some(reading.date))
     }
 
-    /// The date of a span or of a raw text, of which the span comes first.
+    /// The date of a raw text or of a span, of which the raw text comes first.
     fn told_date(
         &mut self,
         place: &Place,
         span: Option<DateSpan>,
         raw: Option<String>,
     ) -> Result<Option<Date>, AllocError> {
-        match (span, raw) {
-            (None, None) => Ok(None),
-            (None, Some(raw)) => self.date_of_text(place, raw.as_str()),
-            (Some(span), raw) => {
-                if raw.is_some() {
-                    self.warn(place, WarningKind::CutDate)?;
-                }
-                Ok(Some(Date {
-                    span: Some(span),
-                    is_uncertain: false,
-                    literal: None,
-                }))
+        let told = match raw {
+            Some(raw) => self.date_of_text(place, raw.as_str())?,
+            None => None,
+        };
+        match (told, span) {
+            (Some(date), None) => Ok(Some(date)),
+            (Some(date), Some(_)) => {
+                self.warn(place, WarningKind::CutDate)?;
+                Ok(Some(date))
             }
+            (None, Some(span)) => Ok(Some(Date {
+                span: Some(span),
+                is_uncertain: false,
+                literal: None,
+            })),
+            (None, None) => Ok(None),
         }
     }
 

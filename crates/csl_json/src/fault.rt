@@ -46,7 +46,7 @@ pub enum Wanted {
     Flag,
     /// A list of names.
     Names,
-    /// A name, which is an object.
+    /// A name, which is an object or a text.
     Name,
     /// A text, or an object of a date's parts.
     Date,
@@ -156,7 +156,7 @@ impl fmt::Display for Wanted {
             Wanted::Text => "a text or a number",
             Wanted::Flag => "true or false",
             Wanted::Names => "a list of names",
-            Wanted::Name => "a name, which is an object",
+            Wanted::Name => "a name, which is an object or a text",
             Wanted::Date => "a date, which is a text or an object",
             Wanted::DateParts => "a list of one or two lists of numbers",
             Wanted::DateNumbers => "a list of a year, a month and a day",

@@ -1,6 +1,5 @@
 //! Items.
-ghost use Rattle.serde_json.specs.Data.{object};
-ghost use Rattle.serde_json.specs.View.{members_view, view};
+ghost use Rattle.serde_json.specs.View.{view};
 ghost use Rattle.csl_json.specs.Faults.{Faults};
 
 use crate::fault::{ReferencesError, Wanted};
@@ -108,17 +107,34 @@ impl Reader {
         Ok(())
     }
 
-    /// Reads what stands under all keys.
+    /// Reads what stands under a key of an item.
+    fn read_key<'p>(
+        &mut self,
+        place: &'p Place,
+        item: &Value,
+        key: &'p str,
+        reference: &mut Reference,
+    ) -> Result<(), ReferencesError>
+        ensures { Faults result place.now (view item.now) }
+    {
+        match item.get(key) {
+            Some(value) => self.read_member(&place.member(key), key, value, reference),
+            None => Ok(()),
+        }
+    }
+
+    /// Reads what stands under all keys of an item.
     fn read_members<'p>(
         &mut self,
         place: &'p Place,
+        item: &Value,
         members: &'p Map<String, Value>,
         reference: &mut Reference,
     ) -> Result<(), ReferencesError>
-        ensures { Faults result place.now (object (members_view members.now.entries)) }
+        ensures { Faults result place.now (view item.now) }
     {
-        for (key, value) in members {
-            self.read_member(&place.member(key.as_str()), key.as_str(), value, reference)?;
+        for key in members.keys() {
+            self.read_key(place, item, key.as_str(), reference)?;
         }
         Ok(())
     }
@@ -187,7 +203,7 @@ impl Reader {
         match value {
             Value::Object(members) => {
                 let mut reference = self.bare_reference(place, value)?;
-                self.read_members(place, members, &mut reference)?;
+                self.read_members(place, value, members, &mut reference)?;
                 Ok(reference)
             }
             _ => Err(refusal(self.alloc, place, value, Wanted::Item)),

@@ -1,7 +1,8 @@
 //! The keys of items.
 use csl_vocabulary::item_type::ITEM_TYPES;
 use csl_vocabulary::variable::{
-    DATE_VARIABLES, NAME_VARIABLES, NUMBER_VARIABLES, NumberVariable, TEXT_VARIABLES, Variable,
+    DATE_VARIABLES, NAME_VARIABLES, NUMBER_VARIABLES, NameVariable, NumberVariable, TEXT_VARIABLES,
+    Variable,
 };
 use std::alloc::{AllocError, Global};
 
@@ -19,11 +20,19 @@ pub(crate) enum Key {
 /// The keys that stand for no variable.
 const NO_VARIABLES: &[&str] = &["categories", "custom", "id", "type"];
 
-/// Names of number variables that the schema of CSL-JSON has in place of those of CSL.
-const OLDER_NUMBERS: &[(&str, NumberVariable)] = &[
-    ("part", NumberVariable::PartNumber),
-    ("printing", NumberVariable::PrintingNumber),
-    ("supplement", NumberVariable::SupplementNumber),
+/// Names of variables that CSL-JSON has in place of those of CSL: one that pandoc reads, and those of
+/// numbers in the schema.
+const OLDER_KEYS: &[(&str, Variable)] = &[
+    (
+        "editortranslator",
+        Variable::Name(NameVariable::EditorTranslator),
+    ),
+    ("part", Variable::Number(NumberVariable::PartNumber)),
+    ("printing", Variable::Number(NumberVariable::PrintingNumber)),
+    (
+        "supplement",
+        Variable::Number(NumberVariable::SupplementNumber),
+    ),
 ];
 
 /// What the key stands for; none where no item has it.
@@ -38,9 +47,9 @@ pub(crate) fn key_named(name: &str) -> Option<Key> {
     if NO_VARIABLES.contains(&name) {
         return Some(Key::NoVariable);
     }
-    for (older, variable) in OLDER_NUMBERS {
+    for (older, variable) in OLDER_KEYS {
         if name == *older {
-            return Some(Key::Older(Variable::Number(*variable)));
+            return Some(Key::Older(*variable));
         }
     }
     None

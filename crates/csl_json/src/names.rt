@@ -100,7 +100,16 @@ impl Reader {
         }
     }
 
-    /// The name that the value is.
+    /// The name that a text is as it stands; none of an empty one.
+    fn name_of_text(&mut self, place: &Place, text: &str) -> Result<Option<Name>, AllocError> {
+        if text.is_empty() {
+            self.warn(place, WarningKind::EmptyName)?;
+            return Ok(None);
+        }
+        Ok(Some(Name::Literal(String::from_str(self.alloc, text)?)))
+    }
+
+    /// The name that the value is, an object or a text.
     fn name(&mut self, place: &Place, value: &Value) -> Result<Option<Name>, ReferencesError>
         ensures { Faults result place.now (view value.now) }
     {
@@ -109,18 +118,34 @@ impl Reader {
                 self.warn_of_name_keys(place, members)?;
                 self.name_of_members(place, value)
             }
+            Value::String(text) => Ok(self.name_of_text(place, text.as_str())?),
             _ => Err(refusal(self.alloc, place, value, Wanted::Name)),
         }
     }
 
-    /// The names of a list.
+    /// The name at this index of a list.
     #[tactic(auto, using(crate::proofs::Parts::item_there))]
+    fn name_at(
+        &mut self,
+        place: &Place,
+        items: &[Value],
+        index: usize,
+    ) -> Result<Option<Name>, ReferencesError>
+        ensures { Faults result place.now (array (items_view items.now)) }
+    {
+        match items.get(index) {
+            Some(item) => self.name(&place.item(index), item),
+            None => Ok(None),
+        }
+    }
+
+    /// The names of a list.
     fn names_of(&mut self, place: &Place, items: &[Value]) -> Result<Vec<Name>, ReferencesError>
         ensures { Faults result place.now (array (items_view items.now)) }
     {
         let mut names = Vec::new(self.alloc);
-        for (index, item) in items.iter().enumerate() {
-            if let Some(name) = self.name(&place.item(index), item)? {
+        for index in 0..items.len() {
+            if let Some(name) = self.name_at(place, items, index)? {
                 names.push(name)?;
             }
         }

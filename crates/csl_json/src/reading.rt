@@ -10,7 +10,7 @@ use crate::fault::{ReferencesError, Wanted};
 use crate::place::Place;
 use crate::reader::{Reader, refusal};
 use crate::warning::{Warning, WarningKind};
-use csl_references::reference::References;
+use csl_references::reference::{Reference, References};
 use indexmap::IndexMap;
 use serde_json::{Map, Value};
 use std::alloc::{AllocError, Global};
@@ -24,18 +24,33 @@ pub struct ReadReferences {
 }
 
 impl Reader {
-    /// The references of a list of items.
+    /// The reference at this index of a list of items.
     #[tactic(auto, using(crate::proofs::Parts::item_there))]
+    fn item_at(
+        &mut self,
+        place: &Place,
+        items: &[Value],
+        index: usize,
+    ) -> Result<Option<Reference>, ReferencesError>
+        ensures { Faults result place.now (array (items_view items.now)) }
+    {
+        match items.get(index) {
+            Some(item) => Ok(Some(self.item(&place.item(index), item)?)),
+            None => Ok(None),
+        }
+    }
+
+    /// The references of a list of items.
     fn items(&mut self, place: &Place, items: &[Value]) -> Result<References, ReferencesError>
         ensures { Faults result place.now (array (items_view items.now)) }
     {
         let mut references = IndexMap::new(self.alloc);
-        for (index, item) in items.iter().enumerate() {
-            let place = place.item(index);
-            let reference = self.item(&place, item)?;
-            let id = reference.id.clone()?;
-            if references.insert(id, reference)?.is_some() {
-                self.warn(&place, WarningKind::RepeatedId)?;
+        for index in 0..items.len() {
+            if let Some(reference) = self.item_at(place, items, index)? {
+                let id = reference.id.clone()?;
+                if references.insert(id, reference)?.is_some() {
+                    self.warn(&place.item(index), WarningKind::RepeatedId)?;
+                }
             }
         }
         Ok(references)

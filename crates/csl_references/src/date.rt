@@ -198,7 +198,8 @@ impl YearPart {
 }
 
 impl Date {
-    /// The date that the text tells: in EDTF (levels 0 and 1, but for unspecified digits), as numbers, or in English words.
+    /// The date that the text tells: in EDTF (levels 0 and 1, but for unspecified months and days), as
+    /// numbers, or in English words.
     /// Any other text is the date's literal.
     ///
     /// # Errors

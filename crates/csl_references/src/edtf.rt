@@ -1,5 +1,7 @@
 //! Dates in the Extended Date/Time Format (EDTF, ISO 8601-2:2019): level 0, and of level 1 the
-//! seasons, the long years, the open intervals and the qualifications of a whole date.
+//! seasons, the long years, the open intervals, the qualifications of a whole date and the years of
+//! which the last digits are not told. Of the draft of 2012, as pandoc reads it, `open` and `unknown`
+//! as ends of an interval, and a `u` for a digit that is not told.
 use crate::date::{DateReading, PartialDate, YearPart};
 use crate::point::{Point, between, on, since, until};
 
@@ -14,7 +16,10 @@ enum End {
 /// The date of the text; none where it is not in the format.
 pub(crate) fn edtf_date(text: &str) -> Option<DateReading> {
     match text.split_once('/') {
-        None => Some(on(point_of(text)?)),
+        None => match point_of(text) {
+            Some(point) => Some(on(point)),
+            None => unspecified_years(text),
+        },
         Some((first, last)) => match (end_of(first)?, end_of(last)?) {
             (End::At(first), End::At(last)) => Some(between(first, last)),
             (End::At(first), End::Open) => Some(since(first)),
@@ -26,9 +31,34 @@ pub(crate) fn edtf_date(text: &str) -> Option<DateReading> {
 
 fn end_of(text: &str) -> Option<End> {
     match text {
-        "" | ".." => Some(End::Open),
+        "" | ".." | "open" | "unknown" => Some(End::Open),
         _ => Some(End::At(point_of(text)?)),
     }
+}
+
+/// How years end whose last digits are not told, how many digits are, and how many years these are.
+const UNSPECIFIED: [(&str, usize, i32); 6] = [
+    ("XXX", 1, 1000),
+    ("XX", 2, 100),
+    ("X", 3, 10),
+    ("uuu", 1, 1000),
+    ("uu", 2, 100),
+    ("u", 3, 10),
+];
+
+/// The years of which the last digits are not told.
+fn unspecified_years(text: &str) -> Option<DateReading> {
+    for (ending, digits, years) in UNSPECIFIED {
+        if let Some(known) = text.strip_suffix(ending) {
+            let first = i32::from(number_of(known, digits)?).checked_mul(years)?;
+            let last = first.checked_add(years)?.checked_sub(1)?;
+            if first == 0 {
+                return None;
+            }
+            return Some(between(year_alone(first), year_alone(last)));
+        }
+    }
+    None
 }
 
 /// A date with its qualification.

@@ -22,69 +22,98 @@ fn names_rise<T>(rows: &[(&str, T)]) -> bool {
     true
 }
 
-/// Each value of the table has its row's name, and each name its row's value.
-macro_rules! agree {
-    ($rt:expr, $rows:expr, $kind:ident) => {
-        assert!($rt; names_rise($rows));
+/// Whether the names rise, each value has its row's name, and each name its row's value.
+macro_rules! agrees {
+    ($rows:expr, $kind:ident) => {{
+        let mut agrees = names_rise($rows);
         for row in $rows {
-            assert!($rt; row.1.name() == row.0);
-            assert!($rt; $kind::of_name(row.0) == Some(row.1));
+            agrees = agrees && row.1.name() == row.0 && $kind::of_name(row.0) == Some(row.1);
         }
-    };
+        agrees
+    }};
+}
+
+/// Whether the term of each value has its row's name.
+macro_rules! terms_agree {
+    ($rows:expr) => {{
+        let mut agrees = true;
+        for row in $rows {
+            agrees = agrees && row.1.term().name() == row.0;
+        }
+        agrees
+    }};
+}
+
+fn variables_agree() -> bool {
+    agrees!(TEXT_VARIABLES, TextVariable)
+        && agrees!(NUMBER_VARIABLES, NumberVariable)
+        && agrees!(DATE_VARIABLES, DateVariable)
+        && agrees!(NAME_VARIABLES, NameVariable)
+}
+
+fn types_agree() -> bool {
+    agrees!(ITEM_TYPES, ItemType) && agrees!(LOCATOR_TYPES, LocatorType)
+}
+
+fn terms_agree() -> bool {
+    agrees!(PLAIN_TERMS, PlainTerm)
+        && agrees!(TERM_FORMS, TermForm)
+        && agrees!(GENDERS, Gender)
+        && agrees!(ORDINAL_MATCHES, OrdinalMatch)
 }
 
 #[test]
 fn names_and_values_agree(rt: HostRuntime) {
-    agree!(rt, TEXT_VARIABLES, TextVariable);
-    agree!(rt, NUMBER_VARIABLES, NumberVariable);
-    agree!(rt, DATE_VARIABLES, DateVariable);
-    agree!(rt, NAME_VARIABLES, NameVariable);
-    agree!(rt, ITEM_TYPES, ItemType);
-    agree!(rt, LOCATOR_TYPES, LocatorType);
-    agree!(rt, PLAIN_TERMS, PlainTerm);
-    agree!(rt, TERM_FORMS, TermForm);
-    agree!(rt, GENDERS, Gender);
-    agree!(rt, ORDINAL_MATCHES, OrdinalMatch);
+    assert!(rt; variables_agree());
+    assert!(rt; types_agree());
+    assert!(rt; terms_agree());
 }
 
 /// The terms of variables, locators and types have their names.
 #[test]
 fn terms_have_the_names(rt: HostRuntime) {
-    for row in NUMBER_VARIABLES {
-        assert!(rt; row.1.term().name() == row.0);
-    }
-    for row in NAME_VARIABLES {
-        assert!(rt; row.1.term().name() == row.0);
-    }
-    for row in LOCATOR_TYPES {
-        assert!(rt; row.1.term().name() == row.0);
-    }
-    for row in ITEM_TYPES {
-        assert!(rt; row.1.term().name() == row.0);
-    }
+    assert!(rt; terms_agree!(NUMBER_VARIABLES) && terms_agree!(NAME_VARIABLES));
+    assert!(rt; terms_agree!(LOCATOR_TYPES) && terms_agree!(ITEM_TYPES));
 }
 
 /// A variable of each kind, an older name, and names that are none.
 #[test]
 fn variables_of_all_kinds(rt: HostRuntime) {
-    assert!(rt; Variable::of_name("issued") == Some(Variable::Date(DateVariable::Issued)));
-    assert!(rt; Variable::of_name("guest") == Some(Variable::Name(NameVariable::Guest)));
-    assert!(rt; Variable::of_name("page") == Some(Variable::Number(NumberVariable::Page)));
-    assert!(rt; Variable::of_name("shortTitle") == Some(Variable::Text(TextVariable::TitleShort)));
-    assert!(rt; Variable::of_name("doi").is_none());
-    assert!(rt; Variable::of_name("").is_none());
-    assert!(rt; LocatorType::of_name("sub verbo") == Some(LocatorType::SubVerbo));
+    assert!(rt;
+        Variable::of_name("issued") == Some(Variable::Date(DateVariable::Issued))
+            && Variable::of_name("guest") == Some(Variable::Name(NameVariable::Guest))
+            && Variable::of_name("page") == Some(Variable::Number(NumberVariable::Page))
+    );
+    assert!(rt;
+        Variable::of_name("shortTitle") == Some(Variable::Text(TextVariable::TitleShort))
+            && LocatorType::of_name("sub verbo") == Some(LocatorType::SubVerbo)
+    );
+    assert!(rt; Variable::of_name("doi").is_none() && Variable::of_name("").is_none());
 }
 
 /// Ordinals have two digits, and long ones end at ten.
 #[test]
 fn ordinals(rt: HostRuntime) {
-    assert!(rt; TermName::of_name("ordinal-00") == Some(TermName::Ordinal(0)));
-    assert!(rt; TermName::of_name("ordinal-99") == Some(TermName::Ordinal(99)));
-    assert!(rt; TermName::of_name("long-ordinal-10") == Some(TermName::LongOrdinal(10)));
-    assert!(rt; TermName::of_name("long-ordinal-11").is_none());
-    assert!(rt; TermName::of_name("ordinal-+1").is_none());
-    assert!(rt; TermName::of_name("ordinal") == Some(TermName::Plain(PlainTerm::Ordinal)));
-    assert!(rt; MONTHS[11].name() == "month-12");
-    assert!(rt; SEASONS[3].name() == "season-04");
+    assert!(rt;
+        TermName::of_name("ordinal-00") == Some(TermName::Ordinal(0))
+            && TermName::of_name("ordinal-99") == Some(TermName::Ordinal(99))
+            && TermName::of_name("long-ordinal-10") == Some(TermName::LongOrdinal(10))
+    );
+    assert!(rt;
+        TermName::of_name("long-ordinal-11").is_none()
+            && TermName::of_name("ordinal-+1").is_none()
+            && TermName::of_name("ordinal") == Some(TermName::Plain(PlainTerm::Ordinal))
+    );
+}
+
+fn last_name(terms: &[PlainTerm]) -> &'static str {
+    match terms.last() {
+        Some(term) => term.name(),
+        None => "",
+    }
+}
+
+#[test]
+fn months_and_seasons_have_numbers(rt: HostRuntime) {
+    assert!(rt; last_name(&MONTHS) == "month-12" && last_name(&SEASONS) == "season-04");
 }

@@ -19,8 +19,8 @@ pub struct RingCall {
     pub call: usize,
 }
 
-/// The order of these macros: those that call nothing first, and then each as soon as all that it calls are
-/// ordered. A macro that calls a number that no macro has is never ordered.
+/// The order of these macros: those that call nothing first, and then each as soon as all that it
+/// calls are ordered. A macro that calls a number that no macro has is never ordered.
 ///
 /// # Errors
 ///

@@ -29,8 +29,8 @@ pub struct Size {
 }
 
 impl Outline {
-    /// How large it is if each call is replaced by what it calls, given the sizes of that. What has no size
-    /// counts nothing.
+    /// How large it is if each call is replaced by what it calls, given the sizes of that. What has
+    /// no size counts nothing.
     pub fn written_out(&self, sizes: &[Size]) -> Size {
         let mut total = self.size;
         for call in &self.calls {
@@ -43,8 +43,8 @@ impl Outline {
     }
 }
 
-/// How large macros are if each call is replaced by what it calls, by their numbers, for macros in this order,
-/// each behind those that it calls.
+/// How large macros are if each call is replaced by what it calls, by their numbers, for macros in
+/// this order, each behind those that it calls.
 ///
 /// # Errors
 ///

@@ -35,17 +35,16 @@ fn an_order(rt: HostRuntime) -> Result<(), Fail> {
     };
     assert!(rt; order.as_slice() == [2, 1, 0].as_slice());
     let sizes = sizes_of(rt.alloc(), &macros, &order)?;
-    assert_eq!(rt;
-        sizes[0],
-        Size {
-            elements: 5,
-            depth: 3
-        }
-    );
+    let size = Size {
+        elements: 5,
+        depth: 3,
+    };
+    assert!(rt; sizes.first() == Some(&size));
     Ok(())
 }
 
-/// Of a ring the first macro is told, with its call of the next one. Those that lead there are not on it.
+/// Of a ring the first macro is told, with its call of the next one. Those that lead there are not
+/// on it.
 #[test]
 fn a_ring(rt: HostRuntime) -> Result<(), Fail> {
     let macros = macros_with(rt.alloc(), &[&[3], &[4, 2], &[3], &[1], &[]])?;

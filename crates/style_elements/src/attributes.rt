@@ -159,7 +159,7 @@ pub fn is_true(alloc: Global, element: &Element, name: &'static str) -> Result<b
     Ok(truth(alloc, element, name)?.unwrap_or(false))
 }
 
-/// The number that an attribute is, of at least this.
+/// The number that an attribute is, of at least this. White space around it is left out.
 pub fn number(
     alloc: Global,
     element: &Element,
@@ -169,7 +169,7 @@ pub fn number(
     let Some(attribute) = attribute(element, name) else {
         return Ok(None);
     };
-    match attribute.value.parse::<u32>() {
+    match attribute.value.as_str().trim().parse::<u32>() {
         Ok(number) if number >= least => Ok(Some(number)),
         _ => Err(Stop::at(
             alloc,

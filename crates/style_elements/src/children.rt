@@ -7,8 +7,8 @@ use xml_reader::tree::{Element, text_of};
 /// CSL's namespace.
 pub const NAMESPACE: &str = "http://purl.org/net/xbiblio/csl";
 
-/// The name of an element of CSL. That of an element of another namespace, which has a prefix or a default
-/// namespace of its own, is empty.
+/// The name of an element of CSL. That of an element of another namespace, which has a prefix or a
+/// default namespace of its own, is empty.
 pub fn csl_name(element: &Element) -> &str {
     let name = element.name.as_str();
     let is_foreign = name.contains(':')

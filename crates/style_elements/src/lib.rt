@@ -1,8 +1,8 @@
-//! What the elements of CSL 1.0.2 have, and how that is read: attributes and children, words for variables,
-//! types and terms, and calls of macros.
+//! What the elements of CSL 1.0.2 have, and how that is read: attributes and children, words for
+//! variables, types and terms, and calls of macros.
 //!
-//! What is wrong is refused with its place; an attribute, a variable, a term or a type that CSL 1.0.2 lacks is
-//! noted and read over.
+//! What is wrong is refused with its place; an attribute, a variable, a term or a type that CSL
+//! 1.0.2 lacks is noted and read over.
 #![tactic(auto)]
 
 pub mod attributes;

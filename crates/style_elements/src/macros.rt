@@ -1,7 +1,7 @@
 //! The macros of a style, and the calls of them.
 use crate::attributes::{attribute, needed};
 use crate::children::csl_name;
-use crate::limits::{MAX_DEPTH, MAX_ELEMENTS};
+use crate::limits::check_limits;
 use macro_order::order::{CallOrder, RingCall, call_order};
 use macro_order::outline::{Call, Outline, Size, sizes_of};
 use std::alloc::{AllocError, Global};
@@ -32,8 +32,8 @@ impl<'t> MacroTable<'t> {
         }
     }
 
-    /// The macros of a style. Refused are two macros of one name, calls of macros that aren't there, rings of
-    /// calls, and macros that are too large when they are written out.
+    /// The macros of a style. Refused are two macros of one name, calls of macros that aren't
+    /// there, rings of calls, and macros that are too large when they are written out.
     pub fn of_style(alloc: Global, style: &'t Element) -> Result<MacroTable<'t>, Stop> {
         let elements = macro_elements(alloc, style)?;
         let names = MacroNames::of_macros(alloc, &elements)?;
@@ -204,16 +204,15 @@ fn indices_of(alloc: Global, order: &[usize]) -> Result<Vec<MacroIndex>, AllocEr
     Ok(indices)
 }
 
-/// Refuses an element that has too many elements, or nests too deep, with all calls written out.
+/// Refuses an element that is beyond the limits with all calls written out.
 fn check_size(alloc: Global, element: &Element, size: Size) -> Result<(), Stop> {
-    let wanted = if size.elements > MAX_ELEMENTS {
-        Wanted::FewerElements(MAX_ELEMENTS)
-    } else if size.depth > MAX_DEPTH {
-        Wanted::LessDepth(MAX_DEPTH)
-    } else {
-        return Ok(());
-    };
-    Err(Stop::at(alloc, element.offset, element.name.as_str(), wanted))
+    match check_limits(size) {
+        Ok(()) => Ok(()),
+        Err(wanted) => {
+            let name = element.name.as_str();
+            Err(Stop::at(alloc, element.offset, name, wanted))
+        }
+    }
 }
 
 /// Macros call each other in a ring, with this call.

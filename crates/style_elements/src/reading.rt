@@ -34,4 +34,14 @@ impl<'t> Reading<'t> {
     pub fn stop(&self, offset: usize, found: &str, wanted: Wanted) -> Stop {
         Stop::at(self.alloc, offset, found, wanted)
     }
+
+    /// What was odd, in the order in which it was found.
+    pub fn into_notes(self) -> Vec<Note> {
+        let Reading {
+            alloc: _,
+            macros: _macros,
+            notes,
+        } = self;
+        notes
+    }
 }

@@ -4,8 +4,8 @@ use std::fmt;
 /// What is wrong at a place of a file.
 #[derive(Debug, Drop)]
 pub struct Fault {
-    /// What stands there: an element's name, or an attribute's value or the part of it, at most `MAX_FOUND`
-    /// characters, with U+FFFD for each control character.
+    /// What stands there: an element's name, or an attribute's value or the part of it, at most
+    /// `MAX_FOUND` characters, with U+FFFD for each control character.
     pub found: String,
     pub wanted: Wanted,
 }

@@ -42,8 +42,8 @@ impl Stop {
     }
 }
 
-/// The beginning of a text, as errors and warnings tell it: at most `MAX_FOUND` characters, with U+FFFD for
-/// each control character.
+/// The beginning of a text, as errors and warnings tell it: at most `MAX_FOUND` characters, with
+/// U+FFFD for each control character.
 ///
 /// # Errors
 ///

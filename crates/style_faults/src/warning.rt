@@ -27,7 +27,8 @@ pub enum Oddity {
         kind: WordKind,
         nearest: Option<&'static str>,
     },
-    /// An element that CSL 1.0.2 lacks and that is read over: of CSL-M, of another namespace, or in `info`.
+    /// An element that CSL 1.0.2 lacks and that is read over: of CSL-M, of another namespace, or in
+    /// `info`.
     Element,
     /// Text where CSL has none. It is read over.
     Text,

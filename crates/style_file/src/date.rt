@@ -41,8 +41,8 @@ pub enum YearForm {
     Short,
 }
 
-/// A part of a date, and its form. Without a form it is that of the locale's date, or else the default: a
-/// numeric day, a long month, a long year.
+/// A part of a date, and its form. Without a form it is that of the locale's date, or else the
+/// default: a numeric day, a long month, a long year.
 #[derive(Clone, Copy, PartialEq, Eq)]
 pub enum DatePartName {
     Day(Option<DayForm>),
@@ -54,7 +54,8 @@ pub enum DatePartName {
 #[derive(Drop)]
 pub struct DatePart {
     pub name: DatePartName,
-    /// What stands between two dates of a range that differ first in this part; an en dash where it is absent.
+    /// What stands between two dates of a range that differ first in this part; an en dash where it
+    /// is absent.
     pub range_delimiter: Option<String>,
     pub affixes: Affixes,
     pub formatting: Formatting,
@@ -65,8 +66,8 @@ pub struct DatePart {
 /// Where the form of a date comes from.
 #[derive(Drop)]
 pub enum DateFormat {
-    /// From the locale: its date of this form, of which these parts are written. The style's own parts say
-    /// how the locale's are set.
+    /// From the locale: its date of this form, of which these parts are written. The style's own
+    /// parts say how the locale's are set.
     Localized {
         form: DateForm,
         parts: DateParts,

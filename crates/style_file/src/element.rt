@@ -10,7 +10,8 @@ use csl_vocabulary::variable::{NumberVariable, TextVariable};
 #[derive(Clone, Copy, PartialEq, Eq)]
 pub struct MacroIndex(pub usize);
 
-/// The form of a variable that a text writes. Where an item lacks the short form, it is the long one.
+/// The form of a variable that a text writes. Where an item lacks the short form, it is the long
+/// one.
 #[derive(Clone, Copy, PartialEq, Eq)]
 pub enum VariableForm {
     Long,
@@ -96,6 +97,7 @@ pub enum RenderingElement {
     Names(Names),
     Group(Group),
     Choose(Choose),
-    /// An element whose variables are all unknown to CSL 1.0.2: it is one whose variables are empty.
+    /// An element whose variables are all unknown to CSL 1.0.2: it is one whose variables are
+    /// empty.
     UnknownVariable,
 }

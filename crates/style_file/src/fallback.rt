@@ -67,9 +67,10 @@ pub fn is_same_language(tag: &str, other: &str) -> bool {
     tag.eq_ignore_ascii_case(other)
 }
 
-/// Where each term, date and option is looked for in turn, for a document in this language: in the style's
-/// locales for the dialect, for the language and for all; then in the locale files of the dialect, of the
-/// language's primary dialect, and of en-US. For a language without a dialect the dialect is the primary one.
+/// Where each term, date and option is looked for in turn, for a document in this language: in the
+/// style's locales for the dialect, for the language and for all; then in the locale files of the
+/// dialect, of the language's primary dialect, and of en-US. For a language without a dialect the
+/// dialect is the primary one.
 ///
 /// # Errors
 ///

@@ -36,7 +36,8 @@ pub struct LocaleDate {
     pub text_case: Option<TextCase>,
 }
 
-/// The attributes of `style-options`. What is absent is for another locale to say, and then is `false`.
+/// The attributes of `style-options`. What is absent is for another locale to say, and then is
+/// `false`.
 #[derive(Clone, Copy, PartialEq, Eq)]
 pub struct LocaleOptions {
     pub limit_day_ordinals_to_day_1: Option<bool>,

@@ -35,8 +35,8 @@ pub enum NameAsSortOrder {
     All,
 }
 
-/// The options of an element `name`. What is absent comes from `citation` or `bibliography`, then from
-/// `style`, and then is CSL's default.
+/// The options of an element `name`. What is absent comes from `citation` or `bibliography`, then
+/// from `style`, and then is CSL's default.
 #[derive(Drop)]
 pub struct NameOptions {
     pub and: Option<NameAnd>,

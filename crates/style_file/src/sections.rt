@@ -1,4 +1,5 @@
-//! The citation and the bibliography (CSL 1.0.2, "Citation", "Bibliography", "Sorting" and their options).
+//! The citation and the bibliography (CSL 1.0.2, "Citation", "Bibliography", "Sorting" and their
+//! options).
 use crate::element::{MacroIndex, RenderingElement};
 use crate::formatting::{Affixes, Formatting};
 use crate::names::InheritedNameOptions;

@@ -1,14 +1,15 @@
 //! Dates.
-use crate::formatting::{affixes_of, display_of, formatting_of, text_case_of};
+use crate::formatting::{display_of, formatting_of, setting_of, text_case_of, wording_of};
+use csl_vocabulary::variable::DateVariable;
 use std::alloc::Global;
-use style_elements::attributes::{is_true, named, needed, needed_value, text, text_or_empty};
+use style_elements::attributes::{named, needed, needed_value, text, text_or_empty};
 use style_elements::children::{csl_name, missing};
 use style_elements::reading::Reading;
 use style_elements::shape::{DATE, DATE_PART, LOCALE_DATE, check};
 use style_elements::tables::{DATE_FORMS, DATE_PARTS, DAY_FORMS, MONTH_FORMS, YEAR_FORMS};
 use style_elements::words::date_variable;
 use style_faults::stop::Stop;
-use style_file::date::{Date, DateFormat, DatePart, DatePartName, DateParts};
+use style_file::date::{Date, DateForm, DateFormat, DatePart, DatePartName, DateParts};
 use style_file::element::RenderingElement;
 use style_file::locale::LocaleDate;
 use xml_reader::tree::Element;
@@ -18,42 +19,69 @@ pub(crate) fn date_of(
     element: &Element,
     reading: &mut Reading<'_>,
 ) -> Result<RenderingElement, Stop> {
-    let alloc = reading.alloc;
     check(element, &DATE, reading)?;
-    let name = needed(alloc, element, "variable")?;
+    let name = needed(reading.alloc, element, "variable")?;
     let variable = date_variable(reading, name.offset, name.value.as_str())?;
     let format = format_of(element, reading)?;
-    let Some(variable) = variable else {
-        return Ok(RenderingElement::UnknownVariable);
-    };
+    match variable {
+        Some(variable) => date_with(reading.alloc, element, variable, format),
+        None => Ok(RenderingElement::UnknownVariable),
+    }
+}
+
+/// A `date` of this variable and this form.
+fn date_with(
+    alloc: Global,
+    element: &Element,
+    variable: DateVariable,
+    format: DateFormat,
+) -> Result<RenderingElement, Stop> {
+    let display = display_of(alloc, element)?;
+    let text_case = text_case_of(alloc, element)?;
+    let (affixes, formatting) = setting_of(alloc, element)?;
     Ok(RenderingElement::Date(Date {
         variable,
         format,
-        affixes: affixes_of(alloc, element)?,
-        formatting: formatting_of(alloc, element)?,
-        display: display_of(alloc, element)?,
-        text_case: text_case_of(alloc, element)?,
+        affixes,
+        formatting,
+        display,
+        text_case,
     }))
 }
 
 /// Where the form of a `date` comes from.
 fn format_of(element: &Element, reading: &mut Reading<'_>) -> Result<DateFormat, Stop> {
-    let alloc = reading.alloc;
-    if let Some(form) = named(alloc, element, "form", DATE_FORMS)? {
-        let parts = named(alloc, element, "date-parts", DATE_PARTS)?;
-        return Ok(DateFormat::Localized {
-            form,
-            parts: parts.unwrap_or(DateParts::YearMonthDay),
-            settings: parts_of(element, reading)?,
-        });
-    }
+    let form = named(reading.alloc, element, "form", DATE_FORMS)?;
     let parts = parts_of(element, reading)?;
+    match form {
+        Some(form) => localized(reading.alloc, element, form, parts),
+        None => own_format(reading.alloc, element, parts),
+    }
+}
+
+/// The form that the locale has for a `date`, with these settings of its parts.
+fn localized(
+    alloc: Global,
+    element: &Element,
+    form: DateForm,
+    settings: Vec<DatePart>,
+) -> Result<DateFormat, Stop> {
+    let parts = named(alloc, element, "date-parts", DATE_PARTS)?;
+    Ok(DateFormat::Localized {
+        form,
+        parts: parts.unwrap_or(DateParts::YearMonthDay),
+        settings,
+    })
+}
+
+/// The form that the parts of a `date` give.
+fn own_format(alloc: Global, element: &Element, parts: Vec<DatePart>) -> Result<DateFormat, Stop> {
     if parts.is_empty() {
         return Err(missing(alloc, element, "date-part"));
     }
     Ok(DateFormat::Own {
-        parts,
         delimiter: text_or_empty(alloc, element, "delimiter")?,
+        parts,
     })
 }
 
@@ -72,13 +100,16 @@ fn parts_of(date: &Element, reading: &mut Reading<'_>) -> Result<Vec<DatePart>, 
 fn part_of(element: &Element, reading: &mut Reading<'_>) -> Result<DatePart, Stop> {
     let alloc = reading.alloc;
     check(element, &DATE_PART, reading)?;
+    let name = part_name(alloc, element)?;
+    let (text_case, strip_periods) = wording_of(alloc, element)?;
+    let (affixes, formatting) = setting_of(alloc, element)?;
     Ok(DatePart {
-        name: part_name(alloc, element)?,
+        name,
         range_delimiter: text(alloc, element, "range-delimiter")?,
-        affixes: affixes_of(alloc, element)?,
-        formatting: formatting_of(alloc, element)?,
-        text_case: text_case_of(alloc, element)?,
-        strip_periods: is_true(alloc, element, "strip-periods")?,
+        affixes,
+        formatting,
+        text_case,
+        strip_periods,
     })
 }
 
@@ -110,13 +141,25 @@ pub(crate) fn locale_date_of(
     element: &Element,
     reading: &mut Reading<'_>,
 ) -> Result<LocaleDate, Stop> {
-    let alloc = reading.alloc;
     check(element, &LOCALE_DATE, reading)?;
+    let parts = parts_of(element, reading)?;
+    locale_date_with(reading.alloc, element, parts)
+}
+
+/// The `date` of a locale with these parts.
+fn locale_date_with(
+    alloc: Global,
+    element: &Element,
+    parts: Vec<DatePart>,
+) -> Result<LocaleDate, Stop> {
+    let form = needed_value(alloc, element, "form", DATE_FORMS)?;
+    let formatting = formatting_of(alloc, element)?;
+    let text_case = text_case_of(alloc, element)?;
     Ok(LocaleDate {
-        form: needed_value(alloc, element, "form", DATE_FORMS)?,
-        parts: parts_of(element, reading)?,
+        form,
+        parts,
         delimiter: text_or_empty(alloc, element, "delimiter")?,
-        formatting: formatting_of(alloc, element)?,
-        text_case: text_case_of(alloc, element)?,
+        formatting,
+        text_case,
     })
 }

@@ -30,19 +30,14 @@ pub enum CslFile {
 ///
 /// # Errors
 ///
-/// `Malformed` where the text is no XML document that is read; `Refused` where it is no style, with the first
-/// place where that was found; `OutOfMemory` where memory is refused.
+/// `Malformed` where the text is no XML document that is read; `Refused` where it is no style, with
+/// the first place where that was found; `OutOfMemory` where memory is refused.
 pub fn read_style(alloc: Global, text: &str) -> Result<(StyleFile, Vec<Warning>), StyleError>
     ensures { IfErr result (IsErrorIn text.now) }
 {
-    let root = match read(alloc, text) {
-        Ok(root) => root,
-        Err(XmlError::Malformed(fault, place)) => return Err(StyleError::Malformed(fault, place)),
-        Err(XmlError::OutOfMemory) => return Err(StyleError::OutOfMemory),
-    };
-    match style_in(alloc, &root) {
-        Ok((style, notes)) => with_warnings(alloc, text, style, notes),
-        Err(stop) => Err(stop.in_text(text)),
+    match root_of(alloc, text) {
+        Ok(root) => placed(alloc, text, style_in(alloc, &root)),
+        Err(error) => Err(error),
     }
 }
 
@@ -54,14 +49,9 @@ pub fn read_style(alloc: Global, text: &str) -> Result<(StyleFile, Vec<Warning>)
 pub fn read_locale(alloc: Global, text: &str) -> Result<(LocaleFile, Vec<Warning>), StyleError>
     ensures { IfErr result (IsErrorIn text.now) }
 {
-    let root = match read(alloc, text) {
-        Ok(root) => root,
-        Err(XmlError::Malformed(fault, place)) => return Err(StyleError::Malformed(fault, place)),
-        Err(XmlError::OutOfMemory) => return Err(StyleError::OutOfMemory),
-    };
-    match locale_in(alloc, &root) {
-        Ok((locale, notes)) => with_warnings(alloc, text, locale, notes),
-        Err(stop) => Err(stop.in_text(text)),
+    match root_of(alloc, text) {
+        Ok(root) => placed(alloc, text, locale_in(alloc, &root)),
+        Err(error) => Err(error),
     }
 }
 
@@ -73,13 +63,33 @@ pub fn read_locale(alloc: Global, text: &str) -> Result<(LocaleFile, Vec<Warning
 pub fn read_file(alloc: Global, text: &str) -> Result<(CslFile, Vec<Warning>), StyleError>
     ensures { IfErr result (IsErrorIn text.now) }
 {
-    let root = match read(alloc, text) {
-        Ok(root) => root,
-        Err(XmlError::Malformed(fault, place)) => return Err(StyleError::Malformed(fault, place)),
-        Err(XmlError::OutOfMemory) => return Err(StyleError::OutOfMemory),
-    };
-    match file_in(alloc, &root) {
-        Ok((file, notes)) => with_warnings(alloc, text, file, notes),
+    match root_of(alloc, text) {
+        Ok(root) => placed(alloc, text, file_in(alloc, &root)),
+        Err(error) => Err(error),
+    }
+}
+
+/// The root of the document that the text is.
+fn root_of(alloc: Global, text: &str) -> Result<Element, StyleError>
+    ensures { IfErr result (IsErrorIn text.now) }
+{
+    match read(alloc, text) {
+        Ok(root) => Ok(root),
+        Err(XmlError::Malformed(fault, place)) => Err(StyleError::Malformed(fault, place)),
+        Err(XmlError::OutOfMemory) => Err(StyleError::OutOfMemory),
+    }
+}
+
+/// What was read of the text, with the places of its warnings, or of what stopped the reading.
+fn placed<T: Drop>(
+    alloc: Global,
+    text: &str,
+    outcome: Result<(T, Vec<Note>), Stop>,
+) -> Result<(T, Vec<Warning>), StyleError>
+    ensures { IfErr result (IsErrorIn text.now) }
+{
+    match outcome {
+        Ok((value, notes)) => with_warnings(alloc, text, value, notes),
         Err(stop) => Err(stop.in_text(text)),
     }
 }
@@ -123,7 +133,7 @@ fn style_in(alloc: Global, root: &Element) -> Result<(StyleFile, Vec<Note>), Sto
     let mut reading = Reading::new(alloc, MacroTable::of_style(alloc, root)?);
     check_root(root, &mut reading)?;
     let style = style_of(root, &mut reading)?;
-    Ok((style, reading.notes))
+    Ok((style, reading.into_notes()))
 }
 
 /// The locale file with this root.
@@ -134,31 +144,42 @@ fn locale_in(alloc: Global, root: &Element) -> Result<(LocaleFile, Vec<Note>), S
     }
     let mut reading = Reading::new(alloc, MacroTable::empty(alloc));
     check_root(root, &mut reading)?;
-    let language = needed(alloc, root, "xml:lang")?;
-    let file = LocaleFile {
+    let file = locale_file_of(root, &mut reading)?;
+    Ok((file, reading.into_notes()))
+}
+
+/// The locale file that this root is.
+fn locale_file_of(root: &Element, reading: &mut Reading<'_>) -> Result<LocaleFile, Stop> {
+    let language = needed(reading.alloc, root, "xml:lang")?;
+    let locale = locale_of(root, reading)?;
+    Ok(LocaleFile {
         language: language.value.clone()?,
-        locale: locale_of(root, &mut reading)?,
-    };
-    Ok((file, reading.notes))
+        locale,
+    })
 }
 
 /// Refuses a root of another namespace, and notes a version that isn't 1.0.
 fn check_root(root: &Element, reading: &mut Reading<'_>) -> Result<(), Stop> {
-    let name = root.name.as_str();
-    match attribute(root, "xmlns") {
-        None => reading.note(root.offset, name, Oddity::NoNamespace)?,
-        Some(namespace) if namespace.value.as_str() != NAMESPACE => {
-            let found = namespace.value.as_str();
-            return Err(reading.stop(namespace.offset, found, Wanted::Namespace));
-        }
-        Some(_) => {}
+    check_namespace(root, reading)?;
+    let Some(version) = attribute(root, "version") else {
+        return reading.note(root.offset, root.name.as_str(), Oddity::NoVersion);
+    };
+    let value = version.value.as_str();
+    if value == "1.0" || value.starts_with("1.0.") {
+        Ok(())
+    } else {
+        reading.note(version.offset, value, Oddity::Version)
     }
-    match attribute(root, "version") {
-        None => reading.note(root.offset, name, Oddity::NoVersion),
-        Some(version) => match version.value.as_str() {
-            "1.0" => Ok(()),
-            other if other.starts_with("1.0.") => Ok(()),
-            other => reading.note(version.offset, other, Oddity::Version),
-        },
+}
+
+fn check_namespace(root: &Element, reading: &mut Reading<'_>) -> Result<(), Stop> {
+    let Some(namespace) = attribute(root, "xmlns") else {
+        return reading.note(root.offset, root.name.as_str(), Oddity::NoNamespace);
+    };
+    let found = namespace.value.as_str();
+    if found == NAMESPACE {
+        Ok(())
+    } else {
+        Err(reading.stop(namespace.offset, found, Wanted::Namespace))
     }
 }

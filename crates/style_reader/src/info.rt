@@ -1,4 +1,5 @@
 //! What a style says of itself.
+use std::alloc::Global;
 use style_elements::attributes::{attribute, named, nearest_row, needed, row_value, text};
 use style_elements::children::{child_text, csl_name, needed_child, needed_text};
 use style_elements::reading::Reading;
@@ -6,8 +7,8 @@ use style_elements::tables::{CITATION_FORMATS, FIELDS, LINK_RELATIONS};
 use style_elements::words::unknown;
 use style_faults::stop::Stop;
 use style_faults::warning::{Oddity, WordKind};
-use style_file::info::{Category, Info, Link};
-use xml_reader::tree::Element;
+use style_file::info::{Category, Info, Link, LinkRelation};
+use xml_reader::tree::{Attribute, Element};
 
 /// The elements of an `info`. Of those that no value holds nothing is read.
 const PARTS: &[&str] = &[
@@ -30,18 +31,48 @@ const PARTS: &[&str] = &[
 
 /// The `info` in a style.
 pub(crate) fn info_of(style: &Element, reading: &mut Reading<'_>) -> Result<Info, Stop> {
-    let alloc = reading.alloc;
-    let info = needed_child(alloc, style, "info")?;
+    let info = needed_child(reading.alloc, style, "info")?;
     note_parts(info, reading)?;
+    let (links, categories) = relations_of(info, reading)?;
+    info_with(reading.alloc, info, links, categories)
+}
+
+/// An `info` with these links and categories.
+fn info_with(
+    alloc: Global,
+    info: &Element,
+    links: Vec<Link>,
+    categories: Vec<Category>,
+) -> Result<Info, Stop> {
+    let (title, id) = identity_of(alloc, info)?;
+    let (title_short, summary, updated) = remarks_of(alloc, info)?;
     Ok(Info {
-        title: needed_text(alloc, info, "title")?,
-        title_short: child_text(alloc, info, "title-short")?,
-        id: needed_text(alloc, info, "id")?,
-        links: links_of(info, reading)?,
-        categories: categories_of(info, reading)?,
-        summary: child_text(alloc, info, "summary")?,
-        updated: child_text(alloc, info, "updated")?,
+        title,
+        title_short,
+        id,
+        links,
+        categories,
+        summary,
+        updated,
     })
+}
+
+/// The title and the identifier.
+fn identity_of(alloc: Global, info: &Element) -> Result<(String, String), Stop> {
+    let title = needed_text(alloc, info, "title")?;
+    let id = needed_text(alloc, info, "id")?;
+    Ok((title, id))
+}
+
+/// The short title, the summary, and when the style was changed.
+fn remarks_of(
+    alloc: Global,
+    info: &Element,
+) -> Result<(Option<String>, Option<String>, Option<String>), Stop> {
+    let title_short = child_text(alloc, info, "title-short")?;
+    let summary = child_text(alloc, info, "summary")?;
+    let updated = child_text(alloc, info, "updated")?;
+    Ok((title_short, summary, updated))
 }
 
 /// Notes the elements of an `info` that CSL 1.0.2 lacks.
@@ -52,6 +83,15 @@ fn note_parts(info: &Element, reading: &mut Reading<'_>) -> Result<(), Stop> {
         }
     }
     Ok(())
+}
+
+fn relations_of(
+    info: &Element,
+    reading: &mut Reading<'_>,
+) -> Result<(Vec<Link>, Vec<Category>), Stop> {
+    let links = links_of(info, reading)?;
+    let categories = categories_of(info, reading)?;
+    Ok((links, categories))
 }
 
 fn links_of(info: &Element, reading: &mut Reading<'_>) -> Result<Vec<Link>, Stop> {
@@ -68,20 +108,27 @@ fn links_of(info: &Element, reading: &mut Reading<'_>) -> Result<Vec<Link>, Stop
 
 /// The link that an element `link` is; none where its relation is unknown.
 fn link_of(element: &Element, reading: &mut Reading<'_>) -> Result<Option<Link>, Stop> {
-    let alloc = reading.alloc;
-    let href = needed(alloc, element, "href")?;
-    let rel = needed(alloc, element, "rel")?;
+    let href = needed(reading.alloc, element, "href")?;
+    let rel = needed(reading.alloc, element, "rel")?;
+    match relation_of(rel, reading)? {
+        Some(relation) => Ok(Some(Link {
+            href: href.value.clone()?,
+            relation,
+            language: text(reading.alloc, element, "xml:lang")?,
+        })),
+        None => Ok(None),
+    }
+}
+
+/// The relation of a link. One that CSL 1.0.2 lacks is noted.
+fn relation_of(rel: &Attribute, reading: &mut Reading<'_>) -> Result<Option<LinkRelation>, Stop> {
     let word = rel.value.as_str();
-    let Some(relation) = row_value(LINK_RELATIONS, word) else {
-        let nearest = nearest_row(alloc, word, LINK_RELATIONS)?;
+    let relation = row_value(LINK_RELATIONS, word);
+    if relation.is_none() {
+        let nearest = nearest_row(reading.alloc, word, LINK_RELATIONS)?;
         unknown(reading, rel.offset, word, WordKind::LinkRelation, nearest)?;
-        return Ok(None);
-    };
-    Ok(Some(Link {
-        href: href.value.clone()?,
-        relation,
-        language: text(alloc, element, "xml:lang")?,
-    }))
+    }
+    Ok(relation)
 }
 
 fn categories_of(info: &Element, reading: &mut Reading<'_>) -> Result<Vec<Category>, Stop> {
@@ -98,17 +145,21 @@ fn categories_of(info: &Element, reading: &mut Reading<'_>) -> Result<Vec<Catego
 
 /// The category that an element `category` is; none where its field is unknown or it says nothing.
 fn category_of(element: &Element, reading: &mut Reading<'_>) -> Result<Option<Category>, Stop> {
-    let alloc = reading.alloc;
-    if let Some(format) = named(alloc, element, "citation-format", CITATION_FORMATS)? {
+    if let Some(format) = named(reading.alloc, element, "citation-format", CITATION_FORMATS)? {
         return Ok(Some(Category::CitationFormat(format)));
     }
-    let Some(attribute) = attribute(element, "field") else {
-        return Ok(None);
-    };
+    match attribute(element, "field") {
+        Some(attribute) => field_of(attribute, reading),
+        None => Ok(None),
+    }
+}
+
+/// The field of science that an attribute names. One that CSL 1.0.2 lacks is noted.
+fn field_of(attribute: &Attribute, reading: &mut Reading<'_>) -> Result<Option<Category>, Stop> {
     let word = attribute.value.as_str();
     let field = row_value(FIELDS, word);
     if field.is_none() {
-        let nearest = nearest_row(alloc, word, FIELDS)?;
+        let nearest = nearest_row(reading.alloc, word, FIELDS)?;
         unknown(reading, attribute.offset, word, WordKind::Field, nearest)?;
     }
     Ok(field.map(Category::Field))

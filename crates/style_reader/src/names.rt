@@ -1,75 +1,59 @@
 //! Names and labels.
-use crate::formatting::{affixes_of, formatting_of, text_case_of};
+use crate::formatting::{display_of, formatting_of, setting_of, text_case_of, wording_of};
 use csl_vocabulary::term::{TERM_FORMS, TermForm};
 use csl_vocabulary::variable::NameVariable;
 use std::alloc::Global;
-use style_elements::attributes::{is_true, named, needed, needed_value, number, text, truth};
+use style_elements::attributes::{named, needed, needed_value, number, text, truth};
 use style_elements::children::{csl_name, only_child};
 use style_elements::reading::Reading;
-use style_elements::shape::{ET_AL, NAME, NAME_PART, NAMES_LABEL, check};
+use style_elements::shape::{ET_AL, NAME, NAME_PART, NAMES, NAMES_LABEL, check};
 use style_elements::tables::{
     DELIMITER_PRECEDES, ET_AL_TERMS, LABEL_PLURALS, NAME_ANDS, NAME_FORMS, NAME_ORDERS,
 };
 use style_elements::words::name_variable;
 use style_faults::fault::Wanted;
 use style_faults::stop::Stop;
+use style_file::element::RenderingElement;
 use style_file::names::{
-    EtAl, EtAlTerm, InheritedNameOptions, LabelOptions, LabelPlural, LabelSide, Name, NameOptions,
-    NamePart, NamesLabel,
+    DelimiterPrecedes, EtAl, EtAlTerm, InheritedNameOptions, LabelOptions, LabelPlural, LabelSide,
+    Name, NameAsSortOrder, NameOptions, NamePart, Names, NamesLabel,
 };
 use xml_reader::tree::Element;
 
-/// The options of names that a `style`, `citation` or `bibliography` hands down.
-pub(crate) fn inherited_options(
-    alloc: Global,
-    element: &Element,
-) -> Result<InheritedNameOptions, Stop> {
-    Ok(InheritedNameOptions {
-        name: options_of(alloc, element, "name-form", "name-delimiter")?,
-        names_delimiter: text(alloc, element, "names-delimiter")?,
-    })
+/// Refuses a `names` with elements that it may not have, or with a second `substitute`.
+pub(crate) fn check_names(names: &Element, reading: &mut Reading<'_>) -> Result<(), Stop> {
+    check(names, &NAMES, reading)?;
+    only_child(reading.alloc, names, "substitute")?;
+    Ok(())
 }
 
-/// The options of names, where their form and their delimiter are attributes of these names.
-fn options_of(
-    alloc: Global,
+/// A `names` in whose place this is written where there are none.
+pub(crate) fn names_with(
     element: &Element,
-    form: &'static str,
-    delimiter: &str,
-) -> Result<NameOptions, Stop> {
-    Ok(NameOptions {
-        and: named(alloc, element, "and", NAME_ANDS)?,
-        delimiter: text(alloc, element, delimiter)?,
-        delimiter_precedes_et_al: named(
-            alloc,
-            element,
-            "delimiter-precedes-et-al",
-            DELIMITER_PRECEDES,
-        )?,
-        delimiter_precedes_last: named(
-            alloc,
-            element,
-            "delimiter-precedes-last",
-            DELIMITER_PRECEDES,
-        )?,
-        et_al_min: number(alloc, element, "et-al-min", 0)?,
-        et_al_use_first: number(alloc, element, "et-al-use-first", 0)?,
-        et_al_subsequent_min: number(alloc, element, "et-al-subsequent-min", 0)?,
-        et_al_subsequent_use_first: number(alloc, element, "et-al-subsequent-use-first", 0)?,
-        et_al_use_last: truth(alloc, element, "et-al-use-last")?,
-        form: named(alloc, element, form, NAME_FORMS)?,
-        initialize: truth(alloc, element, "initialize")?,
-        initialize_with: text(alloc, element, "initialize-with")?,
-        name_as_sort_order: named(alloc, element, "name-as-sort-order", NAME_ORDERS)?,
-        sort_separator: text(alloc, element, "sort-separator")?,
+    substitute: Vec<RenderingElement>,
+    reading: &mut Reading<'_>,
+) -> Result<Names, Stop> {
+    let et_al = et_al_of(element, reading)?;
+    let variables = name_variables(element, reading)?;
+    let (name, label) = name_and_label(element, reading)?;
+    let alloc = reading.alloc;
+    let display = display_of(alloc, element)?;
+    let (affixes, formatting) = setting_of(alloc, element)?;
+    Ok(Names {
+        delimiter: text(alloc, element, "delimiter")?,
+        variables,
+        name,
+        et_al,
+        label,
+        substitute,
+        affixes,
+        formatting,
+        display,
     })
 }
 
 /// The variables of a `names`. Those that CSL 1.0.2 lacks are left out.
-pub(crate) fn name_variables(
-    element: &Element,
-    reading: &mut Reading<'_>,
-) -> Result<Vec<NameVariable>, Stop> {
+fn name_variables(element: &Element, reading: &mut Reading<'_>) -> Result<Vec<NameVariable>, Stop> {
     let attribute = needed(reading.alloc, element, "variable")?;
     let mut variables = Vec::new(reading.alloc);
     for word in attribute.value.as_str().split_ascii_whitespace() {
@@ -80,21 +64,76 @@ pub(crate) fn name_variables(
     Ok(variables)
 }
 
-/// The `name` in a `names`.
-pub(crate) fn name_of(names: &Element, reading: &mut Reading<'_>) -> Result<Option<Name>, Stop> {
-    let alloc = reading.alloc;
-    let Some(element) = only_child(alloc, names, "name")? else {
+/// The `name` and the `label` in a `names`. The label stands before the names where it stands
+/// before their `name`.
+fn name_and_label(
+    names: &Element,
+    reading: &mut Reading<'_>,
+) -> Result<(Option<Name>, Option<NamesLabel>), Stop> {
+    let name = only_child(reading.alloc, names, "name")?;
+    let label = only_child(reading.alloc, names, "label")?;
+    let side = match (name, label) {
+        (Some(name), Some(label)) if label.offset < name.offset => LabelSide::Before,
+        _ => LabelSide::Behind,
+    };
+    let label = optional_label(label, side, reading)?;
+    Ok((optional_name(name, reading)?, label))
+}
+
+fn optional_label(
+    element: Option<&Element>,
+    side: LabelSide,
+    reading: &mut Reading<'_>,
+) -> Result<Option<NamesLabel>, Stop> {
+    let Some(element) = element else {
+        return Ok(None);
+    };
+    check(element, &NAMES_LABEL, reading)?;
+    Ok(Some(NamesLabel {
+        side,
+        options: label_options(reading.alloc, element)?,
+    }))
+}
+
+/// How a label is written.
+pub(crate) fn label_options(alloc: Global, element: &Element) -> Result<LabelOptions, Stop> {
+    let form = named(alloc, element, "form", TERM_FORMS)?;
+    let plural = named(alloc, element, "plural", LABEL_PLURALS)?;
+    let (text_case, strip_periods) = wording_of(alloc, element)?;
+    let (affixes, formatting) = setting_of(alloc, element)?;
+    Ok(LabelOptions {
+        form: form.unwrap_or(TermForm::Long),
+        plural: plural.unwrap_or(LabelPlural::Contextual),
+        affixes,
+        formatting,
+        text_case,
+        strip_periods,
+    })
+}
+
+fn optional_name(
+    element: Option<&Element>,
+    reading: &mut Reading<'_>,
+) -> Result<Option<Name>, Stop> {
+    let Some(element) = element else {
         return Ok(None);
     };
     check(element, &NAME, reading)?;
     let parts = name_parts(element, reading)?;
-    Ok(Some(Name {
+    Ok(Some(name_with(reading.alloc, element, parts)?))
+}
+
+/// A `name` with these parts.
+fn name_with(alloc: Global, element: &Element, parts: NameParts) -> Result<Name, Stop> {
+    let NameParts { given, family } = parts;
+    let (affixes, formatting) = setting_of(alloc, element)?;
+    Ok(Name {
         options: options_of(alloc, element, "form", "delimiter")?,
-        given: parts.given,
-        family: parts.family,
-        affixes: affixes_of(alloc, element)?,
-        formatting: formatting_of(alloc, element)?,
-    }))
+        given,
+        family,
+        affixes,
+        formatting,
+    })
 }
 
 /// The parts of names that may be set differently.
@@ -133,14 +172,10 @@ fn add_name_part(
     parts: &mut NameParts,
     reading: &mut Reading<'_>,
 ) -> Result<(), Stop> {
-    let alloc = reading.alloc;
     check(element, &NAME_PART, reading)?;
-    let part = NamePart {
-        affixes: affixes_of(alloc, element)?,
-        formatting: formatting_of(alloc, element)?,
-        text_case: text_case_of(alloc, element)?,
-    };
-    let earlier = match needed_value(alloc, element, "name", PART_NAMES)? {
+    let name = needed_value(reading.alloc, element, "name", PART_NAMES)?;
+    let part = name_part_of(reading.alloc, element)?;
+    let earlier = match name {
         PartName::Given => parts.given.replace(part),
         PartName::Family => parts.family.replace(part),
     };
@@ -150,48 +185,137 @@ fn add_name_part(
     }
 }
 
+fn name_part_of(alloc: Global, element: &Element) -> Result<NamePart, Stop> {
+    let text_case = text_case_of(alloc, element)?;
+    let (affixes, formatting) = setting_of(alloc, element)?;
+    Ok(NamePart {
+        affixes,
+        formatting,
+        text_case,
+    })
+}
+
 /// The `et-al` in a `names`.
-pub(crate) fn et_al_of(names: &Element, reading: &mut Reading<'_>) -> Result<Option<EtAl>, Stop> {
-    let alloc = reading.alloc;
-    let Some(element) = only_child(alloc, names, "et-al")? else {
+fn et_al_of(names: &Element, reading: &mut Reading<'_>) -> Result<Option<EtAl>, Stop> {
+    let Some(element) = only_child(reading.alloc, names, "et-al")? else {
         return Ok(None);
     };
     check(element, &ET_AL, reading)?;
+    let term = named(reading.alloc, element, "term", ET_AL_TERMS)?;
     Ok(Some(EtAl {
-        term: named(alloc, element, "term", ET_AL_TERMS)?.unwrap_or(EtAlTerm::EtAl),
-        formatting: formatting_of(alloc, element)?,
+        term: term.unwrap_or(EtAlTerm::EtAl),
+        formatting: formatting_of(reading.alloc, element)?,
     }))
 }
 
-/// The `label` in a `names`. It stands before the names where it stands before their `name`.
-pub(crate) fn names_label(
-    names: &Element,
-    reading: &mut Reading<'_>,
-) -> Result<Option<NamesLabel>, Stop> {
-    let alloc = reading.alloc;
-    let Some(element) = only_child(alloc, names, "label")? else {
-        return Ok(None);
-    };
-    check(element, &NAMES_LABEL, reading)?;
-    let side = match only_child(alloc, names, "name")? {
-        Some(name) if element.offset < name.offset => LabelSide::Before,
-        _ => LabelSide::Behind,
-    };
-    Ok(Some(NamesLabel {
-        side,
-        options: label_options(alloc, element)?,
-    }))
-}
-
-/// How a label is written.
-pub(crate) fn label_options(alloc: Global, element: &Element) -> Result<LabelOptions, Stop> {
-    let plural = named(alloc, element, "plural", LABEL_PLURALS)?;
-    Ok(LabelOptions {
-        form: named(alloc, element, "form", TERM_FORMS)?.unwrap_or(TermForm::Long),
-        plural: plural.unwrap_or(LabelPlural::Contextual),
-        affixes: affixes_of(alloc, element)?,
-        formatting: formatting_of(alloc, element)?,
-        text_case: text_case_of(alloc, element)?,
-        strip_periods: is_true(alloc, element, "strip-periods")?,
+/// The options of names that a `style`, `citation` or `bibliography` hands down.
+pub(crate) fn inherited_options(
+    alloc: Global,
+    element: &Element,
+) -> Result<InheritedNameOptions, Stop> {
+    Ok(InheritedNameOptions {
+        name: options_of(alloc, element, "name-form", "name-delimiter")?,
+        names_delimiter: text(alloc, element, "names-delimiter")?,
     })
+}
+
+/// The options of names, where their form and their delimiter are attributes of these names.
+fn options_of(
+    alloc: Global,
+    element: &Element,
+    form: &'static str,
+    delimiter: &str,
+) -> Result<NameOptions, Stop> {
+    let and = named(alloc, element, "and", NAME_ANDS)?;
+    let form = named(alloc, element, form, NAME_FORMS)?;
+    let delimiters = precedence_of(alloc, element)?;
+    let limits = et_al_limits(alloc, element)?;
+    let order = order_of(alloc, element)?;
+    let (delimiter, initialize_with, sort_separator) = name_texts(alloc, element, delimiter)?;
+    Ok(NameOptions {
+        and,
+        delimiter,
+        delimiter_precedes_et_al: delimiters.et_al,
+        delimiter_precedes_last: delimiters.last,
+        et_al_min: limits.min,
+        et_al_use_first: limits.use_first,
+        et_al_subsequent_min: limits.subsequent_min,
+        et_al_subsequent_use_first: limits.subsequent_use_first,
+        et_al_use_last: limits.use_last,
+        form,
+        initialize: order.initialize,
+        initialize_with,
+        name_as_sort_order: order.sorted,
+        sort_separator,
+    })
+}
+
+/// Before what the delimiter of names stands.
+#[derive(Clone, Copy)]
+struct Precedence {
+    et_al: Option<DelimiterPrecedes>,
+    last: Option<DelimiterPrecedes>,
+}
+
+fn precedence_of(alloc: Global, element: &Element) -> Result<Precedence, Stop> {
+    Ok(Precedence {
+        et_al: named(
+            alloc,
+            element,
+            "delimiter-precedes-et-al",
+            DELIMITER_PRECEDES,
+        )?,
+        last: named(
+            alloc,
+            element,
+            "delimiter-precedes-last",
+            DELIMITER_PRECEDES,
+        )?,
+    })
+}
+
+/// How many names are written.
+#[derive(Clone, Copy)]
+struct EtAlLimits {
+    min: Option<u32>,
+    use_first: Option<u32>,
+    subsequent_min: Option<u32>,
+    subsequent_use_first: Option<u32>,
+    use_last: Option<bool>,
+}
+
+fn et_al_limits(alloc: Global, element: &Element) -> Result<EtAlLimits, Stop> {
+    Ok(EtAlLimits {
+        min: number(alloc, element, "et-al-min", 0)?,
+        use_first: number(alloc, element, "et-al-use-first", 0)?,
+        subsequent_min: number(alloc, element, "et-al-subsequent-min", 0)?,
+        subsequent_use_first: number(alloc, element, "et-al-subsequent-use-first", 0)?,
+        use_last: truth(alloc, element, "et-al-use-last")?,
+    })
+}
+
+/// How the parts of names follow each other.
+#[derive(Clone, Copy)]
+struct NameOrder {
+    initialize: Option<bool>,
+    sorted: Option<NameAsSortOrder>,
+}
+
+fn order_of(alloc: Global, element: &Element) -> Result<NameOrder, Stop> {
+    Ok(NameOrder {
+        initialize: truth(alloc, element, "initialize")?,
+        sorted: named(alloc, element, "name-as-sort-order", NAME_ORDERS)?,
+    })
+}
+
+/// The delimiter of names, by its attribute, their `initialize-with` and their `sort-separator`.
+fn name_texts(
+    alloc: Global,
+    element: &Element,
+    delimiter: &str,
+) -> Result<(Option<String>, Option<String>, Option<String>), Stop> {
+    let delimiter = text(alloc, element, delimiter)?;
+    let initialize_with = text(alloc, element, "initialize-with")?;
+    let sort_separator = text(alloc, element, "sort-separator")?;
+    Ok((delimiter, initialize_with, sort_separator))
 }

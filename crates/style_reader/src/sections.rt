@@ -1,6 +1,6 @@
 //! The citation and the bibliography.
 use crate::element::elements_of;
-use crate::formatting::{affixes_of, formatting_of};
+use crate::formatting::setting_of;
 use crate::names::inherited_options;
 use std::alloc::Global;
 use style_elements::attributes::{is_true, named, number, only, text, text_or_empty, truth};
@@ -12,44 +12,29 @@ use style_elements::tables::{
 };
 use style_elements::words::variable;
 use style_faults::stop::Stop;
+use style_file::element::RenderingElement;
+use style_file::names::InheritedNameOptions;
 use style_file::sections::{
     Bibliography, BibliographyOptions, Citation, CitationOptions, GivenNameRule, Layout, SortBy,
     SortDirection, SortKey, SubstituteRule,
 };
 use xml_reader::tree::{Attribute, Element};
 
-/// How many notes behind an earlier one a cite is near at most, where a style doesn't say it.
-const NEAR_NOTE_DISTANCE: u32 = 5;
-
 /// The citation that an element `citation` is.
 pub(crate) fn citation_of(element: &Element, reading: &mut Reading<'_>) -> Result<Citation, Stop> {
     check(element, &CITATION, reading)?;
+    let options = citation_options(reading.alloc, element)?;
+    let body = body_of(element, reading)?;
+    let Body {
+        names,
+        sort,
+        layout,
+    } = body;
     Ok(Citation {
-        options: citation_options(reading.alloc, element)?,
-        names: inherited_options(reading.alloc, element)?,
-        sort: sort_of(element, reading)?,
-        layout: layout_of(element, reading)?,
-    })
-}
-
-fn citation_options(alloc: Global, element: &Element) -> Result<CitationOptions, Stop> {
-    let rule = named(
-        alloc,
-        element,
-        "givenname-disambiguation-rule",
-        GIVEN_NAME_RULES,
-    )?;
-    let near = number(alloc, element, "near-note-distance", 0)?;
-    Ok(CitationOptions {
-        disambiguate_add_names: is_true(alloc, element, "disambiguate-add-names")?,
-        disambiguate_add_given_name: is_true(alloc, element, "disambiguate-add-givenname")?,
-        given_name_rule: rule.unwrap_or(GivenNameRule::ByCite),
-        disambiguate_add_year_suffix: is_true(alloc, element, "disambiguate-add-year-suffix")?,
-        cite_group_delimiter: text(alloc, element, "cite-group-delimiter")?,
-        collapse: named(alloc, element, "collapse", COLLAPSES)?,
-        year_suffix_delimiter: text(alloc, element, "year-suffix-delimiter")?,
-        after_collapse_delimiter: text(alloc, element, "after-collapse-delimiter")?,
-        near_note_distance: near.unwrap_or(NEAR_NOTE_DISTANCE),
+        options,
+        names,
+        sort,
+        layout,
     })
 }
 
@@ -59,39 +44,124 @@ pub(crate) fn bibliography_of(
     reading: &mut Reading<'_>,
 ) -> Result<Bibliography, Stop> {
     check(element, &BIBLIOGRAPHY, reading)?;
+    let options = bibliography_options(reading.alloc, element)?;
+    let body = body_of(element, reading)?;
+    let Body {
+        names,
+        sort,
+        layout,
+    } = body;
     Ok(Bibliography {
-        options: bibliography_options(reading.alloc, element)?,
-        names: inherited_options(reading.alloc, element)?,
-        sort: sort_of(element, reading)?,
-        layout: layout_of(element, reading)?,
+        options,
+        names,
+        sort,
+        layout,
     })
 }
 
+/// What both sections have.
+#[derive(Drop)]
+struct Body {
+    names: InheritedNameOptions,
+    sort: Vec<SortKey>,
+    layout: Layout,
+}
+
+fn body_of(section: &Element, reading: &mut Reading<'_>) -> Result<Body, Stop> {
+    let sort = sort_of(section, reading)?;
+    let layout = layout_of(section, reading)?;
+    Ok(Body {
+        names: inherited_options(reading.alloc, section)?,
+        sort,
+        layout,
+    })
+}
+
+/// How many notes behind an earlier one a cite is near at most, where a style doesn't say it.
+const NEAR_NOTE_DISTANCE: u32 = 5;
+
+fn citation_options(alloc: Global, element: &Element) -> Result<CitationOptions, Stop> {
+    let disambiguation = disambiguation_of(alloc, element)?;
+    let collapse = named(alloc, element, "collapse", COLLAPSES)?;
+    let near = number(alloc, element, "near-note-distance", 0)?;
+    let (group, suffix, behind) = delimiters_of(alloc, element)?;
+    Ok(CitationOptions {
+        disambiguate_add_names: disambiguation.names,
+        disambiguate_add_given_name: disambiguation.given_name,
+        given_name_rule: disambiguation.rule.unwrap_or(GivenNameRule::ByCite),
+        disambiguate_add_year_suffix: disambiguation.year_suffix,
+        cite_group_delimiter: group,
+        collapse,
+        year_suffix_delimiter: suffix,
+        after_collapse_delimiter: behind,
+        near_note_distance: near.unwrap_or(NEAR_NOTE_DISTANCE),
+    })
+}
+
+/// How cites that read alike are told apart.
+#[derive(Clone, Copy)]
+struct Disambiguation {
+    names: bool,
+    given_name: bool,
+    rule: Option<GivenNameRule>,
+    year_suffix: bool,
+}
+
+fn disambiguation_of(alloc: Global, element: &Element) -> Result<Disambiguation, Stop> {
+    let rule = "givenname-disambiguation-rule";
+    Ok(Disambiguation {
+        names: is_true(alloc, element, "disambiguate-add-names")?,
+        given_name: is_true(alloc, element, "disambiguate-add-givenname")?,
+        rule: named(alloc, element, rule, GIVEN_NAME_RULES)?,
+        year_suffix: is_true(alloc, element, "disambiguate-add-year-suffix")?,
+    })
+}
+
+/// What stands between the cites of a group, between year suffixes, and behind collapsed cites.
+fn delimiters_of(
+    alloc: Global,
+    element: &Element,
+) -> Result<(Option<String>, Option<String>, Option<String>), Stop> {
+    let group = text(alloc, element, "cite-group-delimiter")?;
+    let suffix = text(alloc, element, "year-suffix-delimiter")?;
+    let behind = text(alloc, element, "after-collapse-delimiter")?;
+    Ok((group, suffix, behind))
+}
+
 fn bibliography_options(alloc: Global, element: &Element) -> Result<BibliographyOptions, Stop> {
-    let rule = named(
-        alloc,
-        element,
-        "subsequent-author-substitute-rule",
-        SUBSTITUTE_RULES,
-    )?;
     let align = named(alloc, element, "second-field-align", SECOND_FIELD_ALIGNS)?;
+    let hanging_indent = is_true(alloc, element, "hanging-indent")?;
+    let (line_spacing, entry_spacing) = spacing_of(alloc, element)?;
+    let rule = "subsequent-author-substitute-rule";
+    let rule = named(alloc, element, rule, SUBSTITUTE_RULES)?;
     Ok(BibliographyOptions {
-        hanging_indent: is_true(alloc, element, "hanging-indent")?,
+        hanging_indent,
         second_field_align: align,
-        line_spacing: number(alloc, element, "line-spacing", 1)?.unwrap_or(1),
-        entry_spacing: number(alloc, element, "entry-spacing", 0)?.unwrap_or(1),
+        line_spacing,
+        entry_spacing,
         subsequent_author_substitute: text(alloc, element, "subsequent-author-substitute")?,
         substitute_rule: rule.unwrap_or(SubstituteRule::CompleteAll),
     })
 }
 
+/// The distances of lines and of items.
+fn spacing_of(alloc: Global, element: &Element) -> Result<(u32, u32), Stop> {
+    let line = number(alloc, element, "line-spacing", 1)?;
+    let entry = number(alloc, element, "entry-spacing", 0)?;
+    Ok((line.unwrap_or(1), entry.unwrap_or(1)))
+}
+
 /// The keys of the `sort` in a section, if any.
 fn sort_of(section: &Element, reading: &mut Reading<'_>) -> Result<Vec<SortKey>, Stop> {
-    let mut keys = Vec::new(reading.alloc);
-    let Some(sort) = only_child(reading.alloc, section, "sort")? else {
-        return Ok(keys);
-    };
+    match only_child(reading.alloc, section, "sort")? {
+        Some(sort) => keys_of(sort, reading),
+        None => Ok(Vec::new(reading.alloc)),
+    }
+}
+
+fn keys_of(sort: &Element, reading: &mut Reading<'_>) -> Result<Vec<SortKey>, Stop> {
     check(sort, &SORT, reading)?;
+    let mut keys = Vec::new(reading.alloc);
     for child in sort.children() {
         if csl_name(child) == "key" {
             if let Some(key) = key_of(child, reading)? {
@@ -107,20 +177,24 @@ const SORTED: &[&str] = &["variable", "macro"];
 
 /// The key that an element `key` is; none where its variable is unknown.
 fn key_of(element: &Element, reading: &mut Reading<'_>) -> Result<Option<SortKey>, Stop> {
-    let alloc = reading.alloc;
     check(element, &KEY, reading)?;
-    let attribute = only(alloc, element, SORTED)?;
+    let attribute = only(reading.alloc, element, SORTED)?;
+    match sort_by(attribute, reading)? {
+        Some(by) => Ok(Some(key_by(reading.alloc, element, by)?)),
+        None => Ok(None),
+    }
+}
+
+/// The key that sorts by this.
+fn key_by(alloc: Global, element: &Element, by: SortBy) -> Result<SortKey, Stop> {
     let direction = named(alloc, element, "sort", SORT_DIRECTIONS)?;
-    let Some(by) = sort_by(attribute, reading)? else {
-        return Ok(None);
-    };
-    Ok(Some(SortKey {
+    Ok(SortKey {
         by,
         direction: direction.unwrap_or(SortDirection::Ascending),
         names_min: number(alloc, element, "names-min", 0)?,
         names_use_first: number(alloc, element, "names-use-first", 0)?,
         names_use_last: truth(alloc, element, "names-use-last")?,
-    }))
+    })
 }
 
 /// What a key sorts by; none where its variable is unknown.
@@ -135,14 +209,24 @@ fn sort_by(attribute: &Attribute, reading: &mut Reading<'_>) -> Result<Option<So
 
 /// The `layout` in a section.
 fn layout_of(section: &Element, reading: &mut Reading<'_>) -> Result<Layout, Stop> {
-    let alloc = reading.alloc;
-    let layout = needed_child(alloc, section, "layout")?;
+    let layout = needed_child(reading.alloc, section, "layout")?;
     check(layout, &LAYOUT, reading)?;
-    reading.macros.check_layout(alloc, layout)?;
+    reading.macros.check_layout(reading.alloc, layout)?;
+    let elements = elements_of(layout, reading)?;
+    layout_with(reading.alloc, layout, elements)
+}
+
+/// A `layout` of these elements.
+fn layout_with(
+    alloc: Global,
+    layout: &Element,
+    elements: Vec<RenderingElement>,
+) -> Result<Layout, Stop> {
+    let (affixes, formatting) = setting_of(alloc, layout)?;
     Ok(Layout {
-        elements: elements_of(layout, reading)?,
         delimiter: text_or_empty(alloc, layout, "delimiter")?,
-        affixes: affixes_of(alloc, layout)?,
-        formatting: formatting_of(alloc, layout)?,
+        elements,
+        affixes,
+        formatting,
     })
 }

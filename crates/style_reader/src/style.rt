@@ -13,8 +13,8 @@ use style_elements::tables::{CLASSES, PAGE_RANGE_FORMATS, PARTICLE_DEMOTIONS};
 use style_faults::fault::Wanted;
 use style_faults::stop::Stop;
 use style_faults::warning::Oddity;
-use style_file::info::Info;
-use style_file::sections::Bibliography;
+use style_file::locale::StyleLocale;
+use style_file::sections::{Bibliography, Citation};
 use style_file::style::{
     CslStyle, DependentStyle, GlobalOptions, Macro, ParticleDemotion, StyleFile,
 };
@@ -23,94 +23,169 @@ use xml_reader::tree::{Attribute, Element};
 /// What a style says. One that has nothing but its `info` stands for another.
 pub(crate) fn style_of(root: &Element, reading: &mut Reading<'_>) -> Result<StyleFile, Stop> {
     check(root, &STYLE, reading)?;
-    let info = info_of(root, reading)?;
     let parent = parent_of(root);
     if is_independent(root) {
-        if let Some(parent) = parent {
-            reading.note(parent.offset, parent.value.as_str(), Oddity::UnusedParent)?;
-        }
-        return Ok(StyleFile::Independent(independent_of(root, info, reading)?));
+        note_parent(parent, reading)?;
+        return Ok(StyleFile::Independent(independent_of(root, reading)?));
     }
-    let Some(parent) = parent else {
-        return Err(reading.stop(root.offset, root.name.as_str(), Wanted::Parent));
-    };
-    Ok(StyleFile::Dependent(DependentStyle {
-        info,
-        default_locale: text(reading.alloc, root, "default-locale")?,
-        parent: parent.value.clone()?,
-    }))
+    match parent {
+        Some(parent) => Ok(StyleFile::Dependent(dependent_of(root, parent, reading)?)),
+        None => Err(reading.stop(root.offset, root.name.as_str(), Wanted::Parent)),
+    }
 }
 
 /// Whether a style has more than its `info`.
 fn is_independent(root: &Element) -> bool {
-    root.children().any(|child| matches!(
-        csl_name(child),
-        "locale" | "macro" | "citation" | "bibliography"
-    ))
+    for child in root.children() {
+        if matches!(
+            csl_name(child),
+            "locale" | "macro" | "citation" | "bibliography"
+        ) {
+            return true;
+        }
+    }
+    false
 }
 
 /// The identifier of the style for which a style stands, by the first link to it.
 fn parent_of(root: &Element) -> Option<&Attribute> {
-    let info = root.children().find(|child| csl_name(child) == "info")?;
-    let link = info.children().find(|child| {
-        csl_name(child) == "link" && child.attribute("rel") == Some("independent-parent")
-    })?;
-    attribute(link, "href")
+    for child in root.children() {
+        if csl_name(child) == "info" {
+            return attribute(parent_link(child)?, "href");
+        }
+    }
+    None
+}
+
+/// The first link of an `info` to the parent of its style.
+fn parent_link(info: &Element) -> Option<&Element> {
+    for child in info.children() {
+        if csl_name(child) == "link" && child.attribute("rel") == Some("independent-parent") {
+            return Some(child);
+        }
+    }
+    None
+}
+
+/// Notes that the parent of a style that stands for itself is not used.
+fn note_parent(parent: Option<&Attribute>, reading: &mut Reading<'_>) -> Result<(), Stop> {
+    match parent {
+        Some(parent) => {
+            let found = parent.value.as_str();
+            reading.note(parent.offset, found, Oddity::UnusedParent)
+        }
+        None => Ok(()),
+    }
+}
+
+/// What a style that stands for this parent says.
+fn dependent_of(
+    root: &Element,
+    parent: &Attribute,
+    reading: &mut Reading<'_>,
+) -> Result<DependentStyle, Stop> {
+    let info = info_of(root, reading)?;
+    let default_locale = text(reading.alloc, root, "default-locale")?;
+    Ok(DependentStyle {
+        info,
+        default_locale,
+        parent: parent.value.clone()?,
+    })
 }
 
 /// What a style that stands for itself says.
-fn independent_of(root: &Element, info: Info, reading: &mut Reading<'_>) -> Result<CslStyle, Stop> {
-    let alloc = reading.alloc;
-    let citation = needed_child(alloc, root, "citation")?;
+fn independent_of(root: &Element, reading: &mut Reading<'_>) -> Result<CslStyle, Stop> {
+    let class = needed_value(reading.alloc, root, "class", CLASSES)?;
+    let options = options_of(reading.alloc, root)?;
+    let info = info_of(root, reading)?;
+    let names = inherited_options(reading.alloc, root)?;
+    let parts = parts_of(root, reading)?;
+    let default_locale = text(reading.alloc, root, "default-locale")?;
+    let StyleParts {
+        locales,
+        macros,
+        citation,
+        bibliography,
+    } = parts;
     Ok(CslStyle {
         info,
-        class: needed_value(alloc, root, "class", CLASSES)?,
-        default_locale: text(alloc, root, "default-locale")?,
-        options: options_of(alloc, root)?,
-        names: inherited_options(alloc, root)?,
-        locales: style_locales(root, reading)?,
-        macros: macros_of(root, reading)?,
-        citation: citation_of(citation, reading)?,
-        bibliography: optional_bibliography(root, reading)?,
+        class,
+        default_locale,
+        options,
+        names,
+        locales,
+        macros,
+        citation,
+        bibliography,
     })
 }
 
 fn options_of(alloc: Global, root: &Element) -> Result<GlobalOptions, Stop> {
-    let demotion = named(
-        alloc,
-        root,
-        "demote-non-dropping-particle",
-        PARTICLE_DEMOTIONS,
-    )?;
+    let demotion = "demote-non-dropping-particle";
+    let demotion = named(alloc, root, demotion, PARTICLE_DEMOTIONS)?;
+    let hyphen = truth(alloc, root, "initialize-with-hyphen")?;
     Ok(GlobalOptions {
         particle_demotion: demotion.unwrap_or(ParticleDemotion::DisplayAndSort),
-        initialize_with_hyphen: truth(alloc, root, "initialize-with-hyphen")?.unwrap_or(true),
+        initialize_with_hyphen: hyphen.unwrap_or(true),
         page_range_format: named(alloc, root, "page-range-format", PAGE_RANGE_FORMATS)?,
+    })
+}
+
+/// The elements of a style, but for its `info`.
+#[derive(Drop)]
+struct StyleParts {
+    locales: Vec<StyleLocale>,
+    macros: Vec<Macro>,
+    citation: Citation,
+    bibliography: Option<Bibliography>,
+}
+
+fn parts_of(root: &Element, reading: &mut Reading<'_>) -> Result<StyleParts, Stop> {
+    let citation = needed_child(reading.alloc, root, "citation")?;
+    let locales = style_locales(root, reading)?;
+    let macros = macros_of(root, reading)?;
+    let citation = citation_of(citation, reading)?;
+    let bibliography = optional_bibliography(root, reading)?;
+    Ok(StyleParts {
+        locales,
+        macros,
+        citation,
+        bibliography,
     })
 }
 
 /// The macros of a style, each behind those that it calls.
 fn macros_of(root: &Element, reading: &mut Reading<'_>) -> Result<Vec<Macro>, Stop> {
-    let alloc = reading.alloc;
-    let mut numbered = Vec::new(alloc);
-    for child in root.children() {
-        if csl_name(child) == "macro" {
-            check(child, &MACRO, reading)?;
-            let name = needed(alloc, child, "name")?;
-            let index = reading.macros.index_of(alloc, name)?;
-            let each = Macro {
-                name: name.value.clone()?,
-                elements: elements_of(child, reading)?,
-            };
-            numbered.push((index.0, each))?;
-        }
-    }
+    let mut numbered = numbered_macros(root, reading)?;
     numbered.sort_by_key(|pair| pair.0)?;
-    let mut macros = Vec::new(alloc);
+    let mut macros = Vec::new(reading.alloc);
     for (_, each) in numbered {
         macros.push(each)?;
     }
     Ok(macros)
+}
+
+/// The macros of a style in the order of the file, each with its place behind those that it calls.
+fn numbered_macros(root: &Element, reading: &mut Reading<'_>) -> Result<Vec<(usize, Macro)>, Stop> {
+    let mut numbered = Vec::new(reading.alloc);
+    for child in root.children() {
+        if csl_name(child) == "macro" {
+            numbered.push(numbered_macro(child, reading)?)?;
+        }
+    }
+    Ok(numbered)
+}
+
+fn numbered_macro(element: &Element, reading: &mut Reading<'_>) -> Result<(usize, Macro), Stop> {
+    check(element, &MACRO, reading)?;
+    let name = needed(reading.alloc, element, "name")?;
+    let index = reading.macros.index_of(reading.alloc, name)?;
+    let elements = elements_of(element, reading)?;
+    let each = Macro {
+        name: name.value.clone()?,
+        elements,
+    };
+    Ok((index.0, each))
 }
 
 fn optional_bibliography(

@@ -1,8 +1,9 @@
 //! Texts, numbers and labels.
-use crate::formatting::{affixes_of, display_of, formatting_of, text_case_of};
+use crate::formatting::{display_of, setting_of, text_case_of, wording_of};
 use crate::names::label_options;
 use csl_vocabulary::term::{TERM_FORMS, TermForm};
-use csl_vocabulary::variable::Variable;
+use csl_vocabulary::variable::{NumberVariable, Variable};
+use std::alloc::Global;
 use style_elements::attributes::{is_true, named, needed, only};
 use style_elements::reading::Reading;
 use style_elements::shape::{LABEL, NUMBER, TEXT, check};
@@ -23,28 +24,53 @@ pub(crate) fn text_of(
     element: &Element,
     reading: &mut Reading<'_>,
 ) -> Result<Option<RenderingElement>, Stop> {
-    let alloc = reading.alloc;
     check(element, &TEXT, reading)?;
-    let attribute = only(alloc, element, SOURCES)?;
-    let source = match attribute.name.as_str() {
-        "variable" => variable_source(element, attribute, reading)?,
-        "term" => term_source(element, attribute, reading)?,
-        "macro" => Some(TextSource::Macro(reading.macros.index_of(alloc, attribute)?)),
-        _ => Some(TextSource::Value(attribute.value.clone()?)),
-    };
-    let Some(source) = source else {
-        let has_variable = attribute.name.as_str() == "variable";
-        return Ok(has_variable.then_some(RenderingElement::UnknownVariable));
-    };
+    let attribute = only(reading.alloc, element, SOURCES)?;
+    match source_of(element, attribute, reading)? {
+        Some(source) => text_with(reading.alloc, element, source),
+        None if attribute.name.as_str() == "variable" => {
+            Ok(Some(RenderingElement::UnknownVariable))
+        }
+        None => Ok(None),
+    }
+}
+
+/// A `text` that writes this.
+fn text_with(
+    alloc: Global,
+    element: &Element,
+    source: TextSource,
+) -> Result<Option<RenderingElement>, Stop> {
+    let display = display_of(alloc, element)?;
+    let quotes = is_true(alloc, element, "quotes")?;
+    let (text_case, strip_periods) = wording_of(alloc, element)?;
+    let (affixes, formatting) = setting_of(alloc, element)?;
     Ok(Some(RenderingElement::Text(Text {
         source,
-        affixes: affixes_of(alloc, element)?,
-        formatting: formatting_of(alloc, element)?,
-        display: display_of(alloc, element)?,
-        text_case: text_case_of(alloc, element)?,
-        quotes: is_true(alloc, element, "quotes")?,
-        strip_periods: is_true(alloc, element, "strip-periods")?,
+        affixes,
+        formatting,
+        display,
+        text_case,
+        quotes,
+        strip_periods,
     })))
+}
+
+/// What a text writes; none where it is unknown.
+fn source_of(
+    element: &Element,
+    attribute: &Attribute,
+    reading: &mut Reading<'_>,
+) -> Result<Option<TextSource>, Stop> {
+    match attribute.name.as_str() {
+        "variable" => variable_source(element, attribute, reading),
+        "term" => term_source(element, attribute, reading),
+        "macro" => {
+            let index = reading.macros.index_of(reading.alloc, attribute)?;
+            Ok(Some(TextSource::Macro(index)))
+        }
+        _ => Ok(Some(TextSource::Value(attribute.value.clone()?))),
+    }
 }
 
 /// The variable that a text writes; none where it is unknown.
@@ -74,12 +100,14 @@ fn term_source(
 ) -> Result<Option<TextSource>, Stop> {
     let form = named(reading.alloc, element, "form", TERM_FORMS)?;
     let plural = is_true(reading.alloc, element, "plural")?;
-    let name = term_name(reading, attribute.offset, attribute.value.as_str())?;
-    Ok(name.map(|name| TextSource::Term {
-        name,
-        form: form.unwrap_or(TermForm::Long),
-        plural,
-    }))
+    match term_name(reading, attribute.offset, attribute.value.as_str())? {
+        Some(name) => Ok(Some(TextSource::Term {
+            name,
+            form: form.unwrap_or(TermForm::Long),
+            plural,
+        })),
+        None => Ok(None),
+    }
 }
 
 /// The element that a `number` is.
@@ -87,21 +115,31 @@ pub(crate) fn number_of(
     element: &Element,
     reading: &mut Reading<'_>,
 ) -> Result<RenderingElement, Stop> {
-    let alloc = reading.alloc;
     check(element, &NUMBER, reading)?;
-    let name = needed(alloc, element, "variable")?;
+    let name = needed(reading.alloc, element, "variable")?;
+    match number_variable(reading, name.offset, name.value.as_str())? {
+        Some(variable) => number_with(reading.alloc, element, variable),
+        None => Ok(RenderingElement::UnknownVariable),
+    }
+}
+
+/// A `number` of this variable.
+fn number_with(
+    alloc: Global,
+    element: &Element,
+    variable: NumberVariable,
+) -> Result<RenderingElement, Stop> {
     let form = named(alloc, element, "form", NUMBER_FORMS)?;
-    let variable = number_variable(reading, name.offset, name.value.as_str())?;
-    let Some(variable) = variable else {
-        return Ok(RenderingElement::UnknownVariable);
-    };
+    let display = display_of(alloc, element)?;
+    let text_case = text_case_of(alloc, element)?;
+    let (affixes, formatting) = setting_of(alloc, element)?;
     Ok(RenderingElement::Number(Number {
         variable,
         form: form.unwrap_or(NumberForm::Numeric),
-        affixes: affixes_of(alloc, element)?,
-        formatting: formatting_of(alloc, element)?,
-        display: display_of(alloc, element)?,
-        text_case: text_case_of(alloc, element)?,
+        affixes,
+        formatting,
+        display,
+        text_case,
     }))
 }
 
@@ -112,10 +150,11 @@ pub(crate) fn label_of(
 ) -> Result<RenderingElement, Stop> {
     check(element, &LABEL, reading)?;
     let name = needed(reading.alloc, element, "variable")?;
-    let options = label_options(reading.alloc, element)?;
-    let variable = number_variable(reading, name.offset, name.value.as_str())?;
-    let Some(variable) = variable else {
-        return Ok(RenderingElement::UnknownVariable);
-    };
-    Ok(RenderingElement::Label(Label { variable, options }))
+    match number_variable(reading, name.offset, name.value.as_str())? {
+        Some(variable) => Ok(RenderingElement::Label(Label {
+            variable,
+            options: label_options(reading.alloc, element)?,
+        })),
+        None => Ok(RenderingElement::UnknownVariable),
+    }
 }
