@@ -103,8 +103,12 @@ impl<'d> Document<'d> {
         for entry in &items.entries {
             order.push(entry)?;
         }
-        let request =
-            BibliographyRequest::ordered(&usual, None, &[], Some(Order(order.as_slice())));
+        let request = BibliographyRequest::ordered(
+            &usual,
+            None,
+            &[],
+            Some(Order(order.as_slice())),
+        );
         let mut writer = TaskWriter {
             alloc,
             style: self.style,
@@ -145,11 +149,7 @@ impl<'d> Document<'d> {
         let mut listed = Vec::new(alloc);
         for item in bibliography.items.as_slice() {
             let first_field = match &item.first_field {
-                Some(field) => Some(punctuated(
-                    alloc,
-                    stream_of_child(alloc, field)?,
-                    in_quotes,
-                )?),
+                Some(field) => Some(punctuated(alloc, stream_of_child(alloc, field)?, in_quotes)?),
                 None => None,
             };
             let content = stream_of(alloc, &item.content)?;

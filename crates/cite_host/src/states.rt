@@ -146,9 +146,7 @@ impl ShownStates {
 }
 
 fn is_chosen_in(works: &[ToShow], place: usize) -> bool {
-    works
-        .iter()
-        .any(|work| work.place == place && work.state == DisambiguateState::Choose)
+    works.iter().any(|work| work.place == place && work.state == DisambiguateState::Choose)
 }
 
 /// Gives two works one group, where both have one.

@@ -19,8 +19,8 @@ use csl_base::seq::Seq;
 use csl_lookup::purpose::CitePurpose;
 use csl_lookup::state::{CollapseVerdict, DisambiguateState, IbidState, IdentifierUsage};
 use csl_references::rich_text::RichText;
-use csl_texts::cases::Language;
 use csl_table::key::{Standing, TaskKey, TaskPart};
+use csl_texts::cases::Language;
 use csl_writers::cite as driver;
 use indexmap::IndexSet;
 use std::alloc::{AllocError, Global};
@@ -99,8 +99,7 @@ impl<'d> TaskWriter<'d> {
             year_suffix: self.year_suffix(key.place.is_some(), place, standing),
             name_forms: names,
             given_names: self.given_names.as_ref(),
-            leaves_out_names: verdict.is_some()
-                || shown.is_some_and(|cite| cite.suppresses_author),
+            leaves_out_names: verdict.is_some() || shown.is_some_and(|cite| cite.suppresses_author),
             is_cut_to_suffix: verdict == Some(CollapseVerdict::YearSuffix),
             ..first
         };
@@ -176,9 +175,10 @@ impl<'d> TaskWriter<'d> {
         place: usize,
         standing: &Standing,
     ) -> Result<driver::Cite, AllocError> {
-        let (Some(first), Some(bibliography)) =
-            (self.items.first_cite(place), &self.programs.bibliography)
-        else {
+        let (Some(first), Some(bibliography)) = (
+            self.items.first_cite(place),
+            &self.programs.bibliography,
+        ) else {
             return Ok(nothing(self.alloc));
         };
         let facts = CiteFacts {
@@ -212,11 +212,7 @@ impl<'d> TaskWriter<'d> {
     }
 
     /// What the driver is told of a cite in text of this formatting.
-    fn told(
-        &self,
-        cite: WrittenCite,
-        around: TextFormatting,
-    ) -> Result<driver::Cite, AllocError> {
+    fn told(&self, cite: WrittenCite, around: TextFormatting) -> Result<driver::Cite, AllocError> {
         let first_name = match cite.first_forms {
             Some(forms) => Some(NameDisambiguationProperties {
                 forms: Seq::new(forms),

@@ -212,5 +212,9 @@ pub(crate) fn joined(
 
 /// Whether a part stands right before the next: a particle that ends in an apostrophe or a hyphen.
 fn ends_tight(text: &str, is_particle: bool) -> bool {
-    is_particle && matches!(text.chars().next_back(), Some('\'' | '’' | '-' | '‐' | '\u{a0}' | ' '))
+    is_particle
+        && matches!(
+            text.chars().next_back(),
+            Some('\'' | '’' | '-' | '‐' | '\u{a0}' | ' ')
+        )
 }

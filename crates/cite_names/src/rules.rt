@@ -57,8 +57,9 @@ impl<'s> NameRules<'s> {
         let own = name.map_or(section, |name| &name.options);
         let rules = NameRules {
             and: own.and.or(section.and).or(style.and),
-            delimiter: text_of(&own.delimiter, &section.delimiter, &style.delimiter)
-                .unwrap_or(", "),
+            delimiter: text_of(&own.delimiter, &section.delimiter, &style.delimiter).unwrap_or(
+                ", ",
+            ),
             precedes_et_al: own
                 .delimiter_precedes_et_al
                 .or(section.delimiter_precedes_et_al)
@@ -114,6 +115,8 @@ impl<'s> NameRules<'s> {
     /// The rules by which names are written for a key of sorting (CSL 1.0.2, "Sorting").
     fn for_sorting(self, key: SortKey, demotion: ParticleDemotion) -> NameRules<'s> {
         NameRules {
+            and: None,
+            delimiter: SORT_DELIMITER,
             cut: cut_by_key(self.cut, key),
             use_last: key.names_use_last.unwrap_or(self.use_last),
             sort_order: Some(NameAsSortOrder::All),
@@ -122,6 +125,9 @@ impl<'s> NameRules<'s> {
         }
     }
 }
+
+/// What stands between the names of a key: a character before all letters.
+pub const SORT_DELIMITER: &str = "\u{1}";
 
 /// The cut of a list of names. A list is cut where the least number of names is told; one name is
 /// kept where no other number is told.

@@ -66,7 +66,10 @@ enum Pending<'s> {
         choose_at: usize,
     },
     /// The end of the branch whose test stands at this place.
-    EndBranch { test_at: usize, choose_at: usize },
+    EndBranch {
+        test_at: usize,
+        choose_at: usize,
+    },
     /// The end of the names or of the choice at this place.
     End(usize),
 }

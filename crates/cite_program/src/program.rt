@@ -1,12 +1,11 @@
 //! Programs.
+use csl_vocabulary::variable::NameVariable;
 use std::alloc::{AllocError, AllocFailed};
 use style_file::choose::Branch;
 use style_file::date::Date;
 use style_file::element::{Group, Label, Number, Text};
 use style_file::formatting::{Affixes, Display, Formatting};
 use style_file::names::{EtAl, Name, NamesLabel};
-
-use csl_vocabulary::variable::NameVariable;
 
 /// A step. Where it leads is a place among the steps, always behind its own.
 #[derive(Clone, Copy)]
@@ -18,26 +17,35 @@ pub enum Step<'s> {
     Date(&'s Date),
     /// The names at this place of the program's names. Where they write something, what stands in
     /// for them is left out, and the walk goes on at `end`.
-    Names { names: usize, end: usize },
+    Names {
+        names: usize,
+        end: usize,
+    },
     /// An element begins that may stand in for names.
     OpenSubstitute,
     /// It ends. Where it has written something, the walk goes on at the `end` of the names at this
     /// place among the steps.
-    CloseSubstitute { names_at: usize },
+    CloseSubstitute {
+        names_at: usize,
+    },
     OpenGroup(&'s Group),
     CloseGroup,
     /// The elements of a macro begin, which this text calls.
     OpenMacro(&'s Text),
     CloseMacro,
     /// A choice begins, which ends before `end`.
-    Choose { end: usize },
+    Choose {
+        end: usize,
+    },
     /// Where the branch doesn't hold, the walk goes on at `otherwise`.
     Test {
         branch: &'s Branch,
         otherwise: usize,
     },
     /// The walk goes on at the `end` of the choice at this place among the steps.
-    Leave { choose_at: usize },
+    Leave {
+        choose_at: usize,
+    },
     /// A variable that is always empty.
     UnknownVariable,
 }

@@ -30,10 +30,11 @@ impl Walk<'_, '_> {
             }
             Test::IsNumeric(variable) => self.is_numeric(variable),
             Test::IsUncertainDate(variable) => Ok(is_uncertain(&self.cite, variable)),
-            Test::Locator(kind) => Ok(self
-                .cite
-                .locator
-                .is_some_and(|locator| locator.kind == kind)),
+            Test::Locator(kind) => Ok(
+                self.locator
+                    .as_ref()
+                    .is_some_and(|locator| locator.kind == kind),
+            ),
             Test::Position(position) => Ok(self.is_at(position)),
             Test::Type(item_type) => Ok(self.cite.reference.item_type == item_type),
             Test::Variable(variable) => {

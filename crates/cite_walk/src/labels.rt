@@ -7,9 +7,8 @@ use csl_references::rich_text::RichText;
 use csl_vocabulary::variable::{DateVariable, NameVariable, TextVariable};
 use std::alloc::{AllocError, Global};
 
-/// The label of an item: its own, or one made of its names and its year. That has the first four
-/// letters of a single family name, or the first letters of up to four of them, and the last two
-/// digits of the year: `Doe99`, `RN78`.
+/// The label of an item: its own, or one made of its names and its year. That has four
+/// letters of up to four family names, and the last two digits of the year: `Doe99`, `RoNo78`.
 ///
 /// # Errors
 ///
@@ -39,13 +38,15 @@ fn names_of(reference: &Reference) -> &[Name] {
     &[]
 }
 
-/// How many letters the names of a label have.
-const MOST_LETTERS: usize = 4;
+/// How many letters a label has of each of its names, by how many names there are: one to four.
+const LETTERS: [&[usize]; 4] = [&[4], &[2, 2], &[2, 1, 1], &[1, 1, 1, 1]];
 
 fn push_names(label: &mut String, names: &[Name]) -> Result<(), AllocError> {
-    let letters = if names.len() > 1 { 1 } else { MOST_LETTERS };
-    for name in names.iter().take(MOST_LETTERS) {
-        for letter in family_of(name).chars().take(letters) {
+    let Some(last) = names.len().min(LETTERS.len()).checked_sub(1) else {
+        return Ok(());
+    };
+    for (name, count) in names.iter().zip(LETTERS[last]) {
+        for letter in family_of(name).chars().take(*count) {
             label.push(letter)?;
         }
     }

@@ -6,11 +6,12 @@ mod conditions;
 mod dates;
 mod frames;
 mod labels;
+mod locators;
 mod names;
 mod numbers;
 pub mod sorted;
+#[cfg(test)]
+mod tests;
 pub mod texts;
 pub mod values;
 pub mod walk;
-#[cfg(test)]
-mod tests;

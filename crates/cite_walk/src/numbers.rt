@@ -21,7 +21,7 @@ impl<'s> Walk<'s, '_> {
             return Ok(());
         }
         let alloc = self.alloc();
-        let Some(value) = self.cite.number(alloc, variable)? else {
+        let Some(value) = self.number_value(variable)? else {
             self.call(false);
             return Ok(());
         };
@@ -49,7 +49,7 @@ impl<'s> Walk<'s, '_> {
 
     /// The term of what a variable counts.
     fn noun_of(&self, variable: NumberVariable) -> PlainTerm {
-        match (variable, self.cite.locator) {
+        match (variable, &self.locator) {
             (NumberVariable::Locator, Some(locator)) => locator.kind.term(),
             _ => variable.term(),
         }
@@ -63,11 +63,15 @@ impl<'s> Walk<'s, '_> {
             return Ok(());
         }
         let alloc = self.alloc();
-        let Some(value) = self.cite.number(alloc, variable)? else {
+        let Some(value) = self.number_value(variable)? else {
             return Ok(());
         };
         let plain = value.text().plain(alloc)?;
-        let is_plural = is_plural(label.options.plural, variable, plain.as_str());
+        let counted = match (variable, &self.locator) {
+            (NumberVariable::Locator, Some(locator)) => locator.counted.as_str(),
+            _ => plain.as_str(),
+        };
+        let is_plural = is_plural(label.options.plural, variable, counted);
         let term = self.noun_of(variable);
         let words = self
             .scene

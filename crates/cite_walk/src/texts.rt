@@ -176,8 +176,7 @@ impl<'s> Walk<'s, '_> {
             self.call(false);
             return Ok(());
         }
-        let alloc = self.alloc();
-        let Some(value) = self.cite.number(alloc, variable)? else {
+        let Some(value) = self.number_value(variable)? else {
             self.call(false);
             return Ok(());
         };

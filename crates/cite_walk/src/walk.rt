@@ -1,13 +1,15 @@
 //! The walk through a program.
 use crate::cite::{CiteFacts, Scene, WrittenCite};
 use crate::frames::Frame;
+use crate::locators::{ShownLocator, shown_locator};
+use crate::values::Value;
 use cite_pieces::output::{Element, Output, element_with};
 use cite_program::program::Step;
 use cite_trees::trees::NamedPersons;
 use csl_base::names::DisambiguatedNameForm;
 use csl_lookup::state::IdentifierUsage;
 use csl_texts::cases::Language;
-use csl_vocabulary::variable::{TextVariable, Variable};
+use csl_vocabulary::variable::{NumberVariable, TextVariable, Variable};
 use std::alloc::{AllocError, Global};
 use style_file::element::{Group, Text};
 
@@ -38,6 +40,10 @@ pub fn write_cite<'s>(
         leaves_out_names: cite.leaves_out_names,
         has_written_suffix: false,
         dates: 0,
+        locator: match cite.locator {
+            Some(locator) => Some(shown_locator(alloc, scene.locale, locator)?),
+            None => None,
+        },
     };
     let program = scene.program;
     for (place, step) in program.steps.iter().enumerate() {
@@ -90,9 +96,10 @@ pub(crate) struct Walk<'s, 'c> {
     pub has_written_suffix: bool,
     /// How many dates are marked.
     pub dates: usize,
+    pub locator: Option<ShownLocator>,
 }
 
-impl<'s> Walk<'s, '_> {
+impl<'s, 'c> Walk<'s, 'c> {
     pub(crate) fn alloc(&self) -> Global {
         self.output.alloc()
     }
@@ -134,6 +141,19 @@ impl<'s> Walk<'s, '_> {
                 self.call(false);
                 Ok(())
             }
+        }
+    }
+
+    /// The value of a number variable.
+    pub(crate) fn number_value(
+        &self,
+        variable: NumberVariable,
+    ) -> Result<Option<Value<'c>>, AllocError> {
+        match (variable, &self.locator) {
+            (NumberVariable::Locator, Some(locator)) => {
+                Ok(Some(Value::Made(locator.text.clone()?)))
+            }
+            _ => self.cite.number(self.alloc(), variable),
         }
     }
 

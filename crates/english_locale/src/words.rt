@@ -1,7 +1,8 @@
 //! The locale file.
 
 /// A locale file of American English (`en-US`), in CSL 1.0.2.
-pub const ENGLISH: &str = r#"<locale xmlns="http://purl.org/net/xbiblio/csl" version="1.0" xml:lang="en-US">
+pub const ENGLISH: &str =
+    r#"<locale xmlns="http://purl.org/net/xbiblio/csl" version="1.0" xml:lang="en-US">
 <style-options punctuation-in-quote="true" limit-day-ordinals-to-day-1="false"/>
 <date form="numeric">
 <date-part name="month" form="numeric-leading-zeros" suffix="/"/>

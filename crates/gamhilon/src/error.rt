@@ -1,8 +1,7 @@
 //! Why a command has no answer.
 use cite_host::error::AnswerError;
 use std::alloc::{AllocError, AllocFailed};
-use std::fmt;
-use std::io;
+use std::{fmt, io};
 
 /// Why a command has no answer.
 #[derive(Debug, Drop)]
@@ -10,10 +9,7 @@ pub(crate) enum CommandError {
     /// The command is wrong.
     Usage,
     /// A file is wrong, or can't be read.
-    File {
-        path: String,
-        why: String,
-    },
+    File { path: String, why: String },
     Answer(AnswerError),
     /// What is written can't be handed over.
     Output,

@@ -47,9 +47,7 @@ fn main(rt: HostRuntime) -> ExitCode {
 }
 
 /// Does what the words of the command say.
-fn run(
-    rt: &(impl Files + Env + Input + Print + Eprint + AllocGlobal),
-) -> Result<(), CommandError> {
+fn run(rt: &(impl Files + Env + Input + Print + Eprint + AllocGlobal)) -> Result<(), CommandError> {
     let mut words = Vec::new(rt.alloc());
     for word in env::args(rt)?.skip(1) {
         words.push(word)?;

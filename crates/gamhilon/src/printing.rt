@@ -79,7 +79,10 @@ pub(crate) fn print_bibliography(
             for item in items {
                 let mut members = Map::new(alloc);
                 let text = item_text(alloc, item, OutputFormat::Html, marks)?;
-                members.insert(String::from_str(alloc, "id")?, Value::String(item.id.clone()?))?;
+                members.insert(
+                    String::from_str(alloc, "id")?,
+                    Value::String(item.id.clone()?),
+                )?;
                 members.insert(String::from_str(alloc, "html")?, Value::String(text))?;
                 values.push(Value::Object(members))?;
             }
