@@ -8,6 +8,8 @@ use crate::requests::{DrivenStyles, Driver, filled_driver, locators_of};
 use crate::states::ShownStates;
 use crate::writer::TaskWriter;
 use cite_locale::chain::LocaleChain;
+use cite_pieces::formatting::NOTHING_ASKED;
+use cite_pieces::piece::Wrap;
 use cite_pieces::pieces::Pieces;
 use cite_pieces::punctuation::punctuated;
 use cite_trees::streams::{stream_of, stream_of_child, stream_of_citation};
@@ -126,8 +128,9 @@ impl<'d> Document<'d> {
     fn finished(&self, alloc: Global, rendered: &Rendered) -> Result<Answer, AnswerError> {
         let in_quotes = self.locale.has_punctuation_in_quotes();
         let mut citations = Vec::new(alloc);
-        for citation in rendered.citations.as_slice() {
+        for (citation, asked) in rendered.citations.as_slice().iter().zip(self.citations) {
             let stream = stream_of_citation(alloc, &citation.citation)?;
+            let stream = self.enclosed(alloc, stream, asked)?;
             citations.push(punctuated(alloc, stream, in_quotes)?)?;
         }
         let bibliography = match &rendered.bibliography {
@@ -138,6 +141,36 @@ impl<'d> Document<'d> {
             citations,
             bibliography,
         })
+    }
+
+    /// A citation between the affixes of the layout, where something of it shows and no cite of it is of
+    /// the author alone.
+    fn enclosed(
+        &self,
+        alloc: Global,
+        stream: Pieces,
+        asked: &Citation,
+    ) -> Result<Pieces, AllocError> {
+        if stream.has_no_text() || asked.cites.iter().any(|cite| cite.is_author_only) {
+            return Ok(stream);
+        }
+        let affixes = &self.style.citation.layout.affixes;
+        let mut out = self.affix(alloc, affixes.prefix.as_str())?;
+        out.push_pieces(stream)?;
+        out.push_pieces(self.affix(alloc, affixes.suffix.as_str())?)?;
+        Ok(out)
+    }
+
+    /// A text in the formatting of the layout of citations.
+    fn affix(&self, alloc: Global, text: &str) -> Result<Pieces, AllocError> {
+        let affix = Pieces::of_str(alloc, text)?;
+        let formatting = self.style.citation.layout.formatting;
+        if formatting == NOTHING_ASKED {
+            return Ok(affix);
+        }
+        let mut out = Pieces::new(alloc);
+        out.push_wrapped(Wrap::Formatting(formatting), affix)?;
+        Ok(out)
     }
 
     fn listed(

@@ -95,7 +95,10 @@ fn driven_citation(
     };
     let suffix_delimiter = match &options.year_suffix_delimiter {
         Some(delimiter) => Some(delimiter.as_str()),
-        None if draws_years => Some(citation.layout.delimiter.as_str()),
+        None if draws_years => Some(match &options.cite_group_delimiter {
+            Some(delimiter) => delimiter.as_str(),
+            None => citation.layout.delimiter.as_str(),
+        }),
         None => None,
     };
     Ok(driven::Citation {
@@ -113,13 +116,13 @@ fn driven_citation(
     })
 }
 
-/// The layout of a citation, of which the driver writes the affixes and the delimiter.
+/// The layout of a citation, of which the driver writes the delimiter.
 fn citation_layout(alloc: Global, layout: &Layout) -> Result<driven::Layout, AllocError> {
     Ok(driven::Layout {
         elements: named(alloc, "")?,
         formatting: tree_asked(layout.formatting),
-        prefix: copied(alloc, Some(layout.affixes.prefix.as_str()))?,
-        suffix: copied(alloc, Some(layout.affixes.suffix.as_str()))?,
+        prefix: None,
+        suffix: None,
         delimiter: copied(alloc, Some(layout.delimiter.as_str()))?,
     })
 }

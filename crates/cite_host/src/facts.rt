@@ -16,6 +16,7 @@ pub(crate) fn first_cite(reference: &Reference, number: usize) -> CiteFacts<'_> 
         year_suffix: None,
         name_forms: &[],
         given_names: None,
+        tells_shown_persons: false,
         leaves_out_names: false,
         is_cut_to_suffix: false,
     }

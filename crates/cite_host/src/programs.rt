@@ -3,10 +3,10 @@ use cite_program::build::program_of;
 use cite_program::program::{Program, ProgramError, Step};
 use cite_sorting::keys::Key;
 use cite_sorting::order::keys_of;
-use csl_vocabulary::variable::TextVariable;
+use csl_vocabulary::variable::{NumberVariable, TextVariable, Variable};
 use std::alloc::Global;
 use style_file::element::TextSource;
-use style_file::sections::Bibliography;
+use style_file::sections::{Bibliography, SortBy, SortDirection};
 use style_file::style::CslStyle;
 
 /// The programs of the layouts and the keys of a style.
@@ -23,17 +23,23 @@ pub(crate) struct BibliographyProgram<'s> {
     pub section: &'s Bibliography,
     pub layout: Program<'s>,
     pub keys: Vec<Key<'s>>,
+    /// Whether items stand in the descending order of their numbers.
+    pub counts_down: bool,
 }
 
 impl<'s> Programs<'s> {
     pub fn of_style(alloc: Global, style: &'s CslStyle) -> Result<Programs<'s>, ProgramError> {
         let macros = style.macros.as_slice();
         let bibliography = match &style.bibliography {
-            Some(section) => Some(BibliographyProgram {
-                section,
-                layout: program_of(alloc, macros, &section.layout.elements)?,
-                keys: keys_of(alloc, style, &section.sort)?,
-            }),
+            Some(section) => {
+                let keys = keys_of(alloc, style, &section.sort)?;
+                Some(BibliographyProgram {
+                    section,
+                    layout: program_of(alloc, macros, &section.layout.elements)?,
+                    counts_down: keys.first().is_some_and(is_by_descending_number),
+                    keys,
+                })
+            }
             None => None,
         };
         Ok(Programs {
@@ -52,6 +58,26 @@ impl<'s> Programs<'s> {
             None => false,
         };
         !has_place && !has_other
+    }
+}
+
+/// Whether a key sorts by the numbers of items, the last first.
+fn is_by_descending_number(key: &Key<'_>) -> bool {
+    if key.key.direction != SortDirection::Descending {
+        return false;
+    }
+    let number = NumberVariable::CitationNumber;
+    match (key.key.by, &key.program) {
+        (SortBy::Variable(variable), _) => variable == Variable::Number(number),
+        (SortBy::Macro(_), Some(program)) => match program.steps.first() {
+            Some(Step::Text(text)) => match &text.source {
+                TextSource::Number(variable) => *variable == number,
+                _ => false,
+            },
+            Some(Step::Number(first)) => first.variable == number,
+            _ => false,
+        },
+        (SortBy::Macro(_), None) => false,
     }
 }
 

@@ -2,7 +2,7 @@
 use crate::cites::Cite;
 use crate::entries::{Items, SortedCitation};
 use csl_base::entry::PlainEntry;
-use csl_base::style::IndependentStyle;
+use csl_base::style::{Collapse, IndependentStyle};
 use csl_base::taxonomy::Locator;
 use csl_driver::driver::BibliographyDriver;
 use csl_driver::item::CitationItem;
@@ -95,7 +95,7 @@ pub(crate) fn filled_driver<'e>(
                 cites.push(item_of(cite, entry, locator))?;
             }
         }
-        let style = if citation.cites.iter().all(|cite| cite.is_plain()) {
+        let style = if stands_together(citation, styles.usual) {
             styles.usual
         } else {
             styles.apart
@@ -106,6 +106,18 @@ pub(crate) fn filled_driver<'e>(
         }
     }
     Ok(driver)
+}
+
+/// Whether the style may group and collapse the cites of a citation. Numbers with locators are not drawn
+/// together.
+fn stands_together(citation: &SortedCitation<'_>, style: &IndependentStyle) -> bool {
+    let draws_numbers = style.citation.collapse == Some(Collapse::CitationNumber);
+    for cite in &citation.cites {
+        if !cite.is_plain() || (draws_numbers && cite.locator.is_some()) {
+            return false;
+        }
+    }
+    true
 }
 
 fn item_of<'e>(

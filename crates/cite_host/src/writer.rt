@@ -9,6 +9,7 @@ use cite_pieces::output::{AffixPlace, Element, Output, written};
 use cite_pieces::piece::{Mark, Piece, Wrap};
 use cite_pieces::pieces::Pieces;
 use cite_pieces::plain::plain_text;
+use cite_pieces::punctuation::punctuated;
 use cite_trees::trees::tree_of;
 use cite_walk::cite::{CiteFacts, GivenNames, Repetition, Scene, SceneKind, WrittenCite};
 use cite_walk::texts::TERM;
@@ -90,7 +91,7 @@ impl<'d> TaskWriter<'d> {
         let names = name_forms(&standing.disambiguation);
         let facts = CiteFacts {
             locator: shown.and_then(|cite| cite.locator.as_ref()),
-            number: standing.citation_number.saturating_add(1),
+            number: self.printed_number(standing.citation_number),
             is_first: standing.is_first,
             is_near_note: standing.is_near_note,
             repetition: self.repetition(key, standing),
@@ -99,6 +100,7 @@ impl<'d> TaskWriter<'d> {
             year_suffix: self.year_suffix(key.place.is_some(), place, standing),
             name_forms: names,
             given_names: self.given_names.as_ref(),
+            tells_shown_persons: self.tells_shown_persons(standing),
             leaves_out_names: verdict.is_some() || shown.is_some_and(|cite| cite.suppresses_author),
             is_cut_to_suffix: verdict == Some(CollapseVerdict::YearSuffix),
             ..first
@@ -129,6 +131,16 @@ impl<'d> TaskWriter<'d> {
         self.told(cite, TextFormatting::NORMAL.with(formatting))
     }
 
+    /// The number of an item, as it is printed.
+    fn printed_number(&self, number: usize) -> usize {
+        match &self.programs.bibliography {
+            Some(bibliography) if bibliography.counts_down => {
+                self.items.entries.len().saturating_sub(number)
+            }
+            _ => number.saturating_add(1),
+        }
+    }
+
     /// The cite at a place.
     fn cite_at(&self, place: (usize, usize)) -> Option<&'d Cite> {
         let (citation, cite) = place;
@@ -154,6 +166,14 @@ impl<'d> TaskWriter<'d> {
             IbidState::Ibid => Some(Repetition::Ibid),
             IbidState::IbidWithLocator => Some(Repetition::IbidWithLocator),
         }
+    }
+
+    /// Whether names can tell the item from others no more, so that cites which show the same names are
+    /// of one group.
+    fn tells_shown_persons(&self, standing: &Standing) -> bool {
+        let options = &self.style.citation.options;
+        let adds_names = options.disambiguate_add_names || options.disambiguate_add_given_name;
+        !adds_names || !standing.disambiguation.may_disambiguate_names()
     }
 
     fn disambiguates(&self, key: &TaskKey, place: usize, standing: &Standing) -> bool {
@@ -182,7 +202,7 @@ impl<'d> TaskWriter<'d> {
             return Ok(nothing(self.alloc));
         };
         let facts = CiteFacts {
-            number: standing.citation_number.saturating_add(1),
+            number: self.printed_number(standing.citation_number),
             disambiguates: standing.disambiguation == DisambiguateState::Choose
                 || self.states.is_chosen(place),
             year_suffix: self.year_suffix(true, place, standing),
@@ -219,8 +239,10 @@ impl<'d> TaskWriter<'d> {
             }),
             None => None,
         };
+        let in_quotes = self.locale.has_punctuation_in_quotes();
+        let pieces = punctuated(self.alloc, cite.pieces, in_quotes)?;
         Ok(driver::Cite {
-            children: tree_of(self.alloc, cite.pieces, around, cite.names.as_slice())?,
+            children: tree_of(self.alloc, pieces, around, cite.names.as_slice())?,
             checked_disambiguate: cite.has_tested_disambiguate,
             first_name,
             identifier_usage: cite.usage,
@@ -257,7 +279,7 @@ fn begins_sentence(cite: &Cite, own: usize) -> bool {
     if prefix.is_empty() {
         own == 0
     } else {
-        prefix.ends_with('.')
+        prefix.ends_with('.') && prefix.contains(' ')
     }
 }
 

@@ -69,6 +69,8 @@ pub struct CiteFacts<'c> {
     pub name_forms: &'c [DisambiguatedNameForm],
     /// How far names are written that share a family name with others.
     pub given_names: Option<&'c GivenNames>,
+    /// Whether the driver is told of the persons that are shown alone.
+    pub tells_shown_persons: bool,
     /// Whether its first names are left out.
     pub leaves_out_names: bool,
     /// Whether it is cut to the suffix of its year and its locator.

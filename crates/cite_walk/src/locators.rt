@@ -34,7 +34,7 @@ pub(crate) fn shown_locator(
         return Ok(ShownLocator {
             kind: locator.kind,
             text: locator.text.clone()?,
-            counted: plain,
+            counted: String::from_str(alloc, whole)?,
         });
     };
     let counted = String::from_str(alloc, first.text)?;

@@ -132,8 +132,8 @@ impl<'s, 'c> Walk<'s, 'c> {
         rules: NameRules<'s>,
         blocks: &[Block<'c>],
     ) -> Result<(), AllocError> {
-        let forms = self.forms_of(&rules, blocks)?;
-        let mark = Some(self.mark_of(blocks)?);
+        let forms = self.forms_of_blocks(&rules, blocks)?;
+        let mark = Some(self.mark_of(blocks, &forms)?);
         let is_one = blocks.len() == 1;
         let element = self.names_element(names);
         self.output.open(element)?;
@@ -142,13 +142,9 @@ impl<'s, 'c> Walk<'s, 'c> {
             delimiter: element.delimiter,
             ..Element::PLAIN
         })?;
-        let mut begin = 0usize;
-        for block in blocks {
-            let end = begin.saturating_add(block.names.len()).min(forms.len());
-            let own = forms.get(begin..end).unwrap_or(&[]);
-            begin = end;
+        for (block, own) in blocks.iter().zip(&forms) {
             let block_mark = if is_one { mark } else { None };
-            self.write_block(names, rules, *block, own, block_mark)?;
+            self.write_block(names, rules, *block, own.as_slice(), block_mark)?;
         }
         self.output.close()?;
         self.output.close()?;
@@ -166,8 +162,6 @@ impl<'s, 'c> Walk<'s, 'c> {
     ) -> Result<(), AllocError> {
         let alloc = self.alloc();
         let locale = self.scene.locale;
-        let mut forms = forms.to_vec(alloc)?;
-        fill_up(&mut forms);
         let et_al = match names.et_al.map(|et_al| et_al.term) {
             Some(EtAlTerm::AndOthers) => PlainTerm::AndOthers,
             Some(EtAlTerm::EtAl) | None => PlainTerm::EtAl,
@@ -195,7 +189,7 @@ impl<'s, 'c> Walk<'s, 'c> {
             Some(name) => element_with(&name.affixes, name.formatting),
             None => Element::PLAIN,
         })?;
-        list.push(alloc, &mut self.output, block.names, forms.as_slice())?;
+        list.push(alloc, &mut self.output, block.names, forms)?;
         self.output.close()?;
         self.output.close()?;
         self.write_names_label(names, block, LabelSide::Behind)?;
@@ -246,6 +240,26 @@ impl<'s, 'c> Walk<'s, 'c> {
         }
     }
 
+    /// The form of each name of each block. Names before one that is written are written too.
+    fn forms_of_blocks(
+        &mut self,
+        rules: &NameRules<'s>,
+        blocks: &[Block<'c>],
+    ) -> Result<Vec<Vec<DisambiguatedNameForm>>, AllocError> {
+        let alloc = self.alloc();
+        let forms = self.forms_of(rules, blocks)?;
+        let mut apart = Vec::new(alloc);
+        let mut begin = 0usize;
+        for block in blocks {
+            let end = begin.saturating_add(block.names.len()).min(forms.len());
+            let mut own = forms.get(begin..end).unwrap_or(&[]).to_vec(alloc)?;
+            begin = end;
+            fill_up(&mut own);
+            apart.push(own)?;
+        }
+        Ok(apart)
+    }
+
     /// The form of each name. Those of the first names of a cite are noted, and then raised to what
     /// tells the item from others.
     fn forms_of(
@@ -287,13 +301,22 @@ impl<'s, 'c> Walk<'s, 'c> {
     }
 
     /// A mark for these names, whose persons are kept.
-    fn mark_of(&mut self, blocks: &[Block<'c>]) -> Result<Mark, AllocError> {
+    fn mark_of(
+        &mut self,
+        blocks: &[Block<'c>],
+        forms: &[Vec<DisambiguatedNameForm>],
+    ) -> Result<Mark, AllocError> {
         let alloc = self.alloc();
         let mut named = Vec::new(alloc);
-        for block in blocks {
+        for (block, own) in blocks.iter().zip(forms) {
             let mut persons = Vec::new(alloc);
-            for name in block.names {
-                persons.push(person_of(alloc, name)?)?;
+            for (name, form) in block.names.iter().zip(own) {
+                let person = person_of(alloc, name)?;
+                if !self.cite.tells_shown_persons {
+                    persons.push(person)?;
+                } else if let Some(shown) = shown_person(person, *form) {
+                    persons.push(shown)?;
+                }
             }
             named.push((Seq::new(persons), tree_variable(block.variable)))?;
         }
@@ -301,6 +324,18 @@ impl<'s, 'c> Walk<'s, 'c> {
         let named: NamedPersons = Seq::new(named);
         self.names.push(named)?;
         Ok(Mark::Names(place))
+    }
+}
+
+/// What a name in this form shows of a person.
+fn shown_person(person: Person, form: DisambiguatedNameForm) -> Option<Person> {
+    match form {
+        DisambiguatedNameForm::Count => None,
+        DisambiguatedNameForm::Short => Some(Person {
+            name: person.name,
+            given_name: None,
+        }),
+        DisambiguatedNameForm::LongInitialized | DisambiguatedNameForm::LongFull => Some(person),
     }
 }
 

@@ -1,6 +1,8 @@
 //! Texts (CSL 1.0.2, "Text").
+use crate::cite::SceneKind;
 use crate::labels::label_of;
-use crate::values::Value;
+use crate::sorted::sorted_number;
+use crate::values::{Value, plain_value};
 use crate::walk::{Walk, text_element};
 use cite_pieces::output::Element;
 use cite_pieces::piece::Mark;
@@ -31,11 +33,10 @@ impl<'s> Walk<'s, '_> {
                     return Ok(());
                 }
                 let words = self.scene.locale.term(*name, *form, *plural).unwrap_or("");
-                self.write_words(text, words, Some(TERM))?;
                 if is_no_date {
-                    self.write_implicit_suffix()?;
+                    return self.write_no_date(text, words);
                 }
-                Ok(())
+                self.write_words(text, words, Some(TERM))
             }
             TextSource::Value(value) => {
                 if self.cite.is_cut_to_suffix {
@@ -58,6 +59,20 @@ impl<'s> Walk<'s, '_> {
             ..text_element(text)
         })?;
         self.output.push_str(words)?;
+        self.output.close()?;
+        Ok(())
+    }
+
+    /// Writes the words for no date, which stand for a date.
+    fn write_no_date(&mut self, text: &'s Text, words: &str) -> Result<(), AllocError> {
+        let mark = Mark::Date(self.dates);
+        self.dates = self.dates.saturating_add(1);
+        self.output.open(Element {
+            mark: Some(mark),
+            ..Element::PLAIN
+        })?;
+        self.write_words(text, words, None)?;
+        self.write_implicit_suffix()?;
         self.output.close()?;
         Ok(())
     }
@@ -107,7 +122,6 @@ impl<'s> Walk<'s, '_> {
     /// Writes the suffix of the year where the style has a place for it.
     fn write_suffix(&mut self, text: &'s Text) -> Result<(), AllocError> {
         let Some(suffix) = self.cite.year_suffix else {
-            self.call(false);
             return Ok(());
         };
         self.use_variable(Variable::Text(TextVariable::YearSuffix))?;
@@ -210,6 +224,12 @@ impl<'s> Walk<'s, '_> {
         variable: NumberVariable,
         value: &Value<'_>,
     ) -> Result<(), AllocError> {
+        if let SceneKind::Key(_) = self.scene.kind {
+            let alloc = self.alloc();
+            let plain = value.text().plain(alloc)?;
+            let sorted = sorted_number(alloc, plain.as_str())?;
+            return self.output.push_str(sorted.as_str());
+        }
         let is_page = match variable {
             NumberVariable::Page | NumberVariable::Locator => true,
             _ => false,
@@ -222,7 +242,7 @@ impl<'s> Walk<'s, '_> {
         let delimiter = self.scene.locale.page_range_delimiter();
         let plain = value.text().plain(alloc)?;
         let ranges = page_ranges(alloc, plain.as_str(), format, delimiter)?;
-        self.output.push_str(ranges.as_str())
+        self.output.push_rich(&plain_value(alloc, ranges.as_str())?)
     }
 }
 
