@@ -3,6 +3,7 @@ use crate::cites::Citation;
 use crate::driven::{Shrinking, driven_style};
 use crate::entries::{Items, SortedCitation, given_names_of, sorted_citations};
 use crate::error::AnswerError;
+use crate::joining::{ShownSuffix, joined};
 use crate::programs::Programs;
 use crate::requests::{DrivenStyles, Driver, filled_driver, locators_of};
 use crate::states::ShownStates;
@@ -12,7 +13,7 @@ use cite_pieces::formatting::NOTHING_ASKED;
 use cite_pieces::piece::Wrap;
 use cite_pieces::pieces::Pieces;
 use cite_pieces::punctuation::punctuated;
-use cite_trees::streams::{stream_of, stream_of_child, stream_of_citation};
+use cite_trees::streams::{cites_of, stream_of, stream_of_child};
 use csl_base::entry::PlainEntry;
 use csl_drive::drive::{Driven, drive_by};
 use csl_driver::mode::RoundMode;
@@ -21,6 +22,7 @@ use csl_driver::request::{BibliographyRequest, Order};
 use csl_references::reference::References;
 use indexmap::IndexMap;
 use std::alloc::{AllocError, Global};
+use style_file::sections::Collapse;
 use style_file::style::CslStyle;
 
 /// A document.
@@ -48,6 +50,13 @@ pub struct ListedItem {
     /// What stands in its first field, where that is set apart.
     pub first_field: Option<Pieces>,
     pub content: Pieces,
+}
+
+/// What the driver answers, and what the cites show of it.
+#[derive(Drop)]
+struct Written {
+    rendered: Rendered,
+    suffixes: Vec<Vec<Option<ShownSuffix>>>,
 }
 
 /// How often the driver is asked at most.
@@ -79,8 +88,10 @@ impl<'d> Document<'d> {
             &items,
             self.citations,
         )?;
-        let rendered = self.rendered(alloc, &programs, &items, citations.as_slice())?;
-        self.finished(alloc, &rendered)
+        self.finished(
+            alloc,
+            &self.rendered(alloc, &programs, &items, citations.as_slice())?,
+        )
     }
 
     fn rendered<'w>(
@@ -89,7 +100,7 @@ impl<'d> Document<'d> {
         programs: &'w Programs<'w>,
         items: &'w Items<'w>,
         citations: &'w [SortedCitation<'w>],
-    ) -> Result<Rendered, AnswerError>
+    ) -> Result<Written, AnswerError>
     where
         'd: 'w,
     {
@@ -111,6 +122,10 @@ impl<'d> Document<'d> {
             &[],
             Some(Order(order.as_slice())),
         );
+        let mut suffixes = Vec::new(alloc);
+        for citation in citations {
+            suffixes.push(vec![in alloc; None; citation.cites.len()]?)?;
+        }
         let mut writer = TaskWriter {
             alloc,
             style: self.style,
@@ -120,16 +135,32 @@ impl<'d> Document<'d> {
             citations,
             given_names: given_names_of(alloc, self.style, items.references.as_slice())?,
             states: ShownStates::new(alloc, items.entries.len())?,
+            suffixes,
         };
-        asked_often(alloc, &driver, &request, &mut writer)
+        let rendered = asked_often(alloc, &driver, &request, &mut writer)?;
+        Ok(Written {
+            rendered,
+            suffixes: writer.suffixes,
+        })
     }
 
     /// The answer as streams, with their punctuation in order.
-    fn finished(&self, alloc: Global, rendered: &Rendered) -> Result<Answer, AnswerError> {
+    fn finished(&self, alloc: Global, written: &Written) -> Result<Answer, AnswerError> {
+        let rendered = &written.rendered;
+        let collapse = self.style.citation.options.collapse;
+        let is_ranged = collapse == Some(Collapse::YearSuffixRanged);
         let in_quotes = self.locale.has_punctuation_in_quotes();
         let mut citations = Vec::new(alloc);
-        for (citation, asked) in rendered.citations.as_slice().iter().zip(self.citations) {
-            let stream = stream_of_citation(alloc, &citation.citation)?;
+        for (place, asked) in self.citations.iter().enumerate() {
+            let Some(citation) = rendered.citations.as_slice().get(place) else {
+                continue;
+            };
+            let suffixes = match written.suffixes.get(place) {
+                Some(suffixes) => suffixes.as_slice(),
+                None => &[],
+            };
+            let cites = cites_of(alloc, &citation.citation)?;
+            let stream = joined(alloc, cites, suffixes, is_ranged)?;
             let stream = self.enclosed(alloc, stream, asked)?;
             citations.push(punctuated(alloc, stream, in_quotes)?)?;
         }

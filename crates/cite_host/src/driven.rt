@@ -188,8 +188,8 @@ fn collapse_of(collapse: Collapse) -> driven::Collapse {
     match collapse {
         Collapse::CitationNumber => driven::Collapse::CitationNumber,
         Collapse::Year => driven::Collapse::Year,
-        Collapse::YearSuffix => driven::Collapse::YearSuffix,
-        Collapse::YearSuffixRanged => driven::Collapse::YearSuffixRanged,
+        // the ranges are the host's
+        Collapse::YearSuffix | Collapse::YearSuffixRanged => driven::Collapse::YearSuffix,
     }
 }
 

@@ -7,6 +7,7 @@ mod driven;
 mod entries;
 pub mod error;
 mod facts;
+mod joining;
 mod programs;
 mod requests;
 mod states;

@@ -1,6 +1,7 @@
 //! What the driver asks for is written.
 use crate::cites::Cite;
 use crate::entries::{Items, SortedCitation};
+use crate::joining::ShownSuffix;
 use crate::programs::Programs;
 use crate::states::{ShownStates, ToShow};
 use cite_locale::chain::LocaleChain;
@@ -39,6 +40,8 @@ pub(crate) struct TaskWriter<'d> {
     pub citations: &'d [SortedCitation<'d>],
     pub given_names: Option<GivenNames>,
     pub states: ShownStates,
+    /// The suffixes that the cites show, by their places.
+    pub suffixes: Vec<Vec<Option<ShownSuffix>>>,
 }
 
 impl<'d> TaskWriter<'d> {
@@ -89,6 +92,9 @@ impl<'d> TaskWriter<'d> {
         };
         let shown = key.place.and_then(|place| self.cite_at(place));
         let names = name_forms(&standing.disambiguation);
+        let year_suffix = self.year_suffix(key.place.is_some(), place, standing);
+        let is_cut = verdict == Some(CollapseVerdict::YearSuffix);
+        self.note_suffix(key, year_suffix, is_cut);
         let facts = CiteFacts {
             locator: shown.and_then(|cite| cite.locator.as_ref()),
             number: self.printed_number(standing.citation_number),
@@ -97,12 +103,12 @@ impl<'d> TaskWriter<'d> {
             repetition: self.repetition(key, standing),
             first_note_number: standing.first_note_number,
             disambiguates: self.disambiguates(key, place, standing),
-            year_suffix: self.year_suffix(key.place.is_some(), place, standing),
+            year_suffix,
             name_forms: names,
             given_names: self.given_names.as_ref(),
             tells_shown_persons: self.tells_shown_persons(standing),
             leaves_out_names: verdict.is_some() || shown.is_some_and(|cite| cite.suppresses_author),
-            is_cut_to_suffix: verdict == Some(CollapseVerdict::YearSuffix),
+            is_cut_to_suffix: is_cut,
             ..first
         };
         let scene = Scene {
@@ -129,6 +135,24 @@ impl<'d> TaskWriter<'d> {
         }
         let formatting = self.style.citation.layout.formatting;
         self.told(cite, TextFormatting::NORMAL.with(formatting))
+    }
+
+    /// Notes the suffix that a cite shows which is written for the last time, unless it has a locator.
+    fn note_suffix(&mut self, key: &TaskKey, suffix: Option<usize>, is_cut: bool) {
+        let (Some((citation, cite)), Some(suffix)) = (key.place, suffix) else {
+            return;
+        };
+        let has_locator = self
+            .cite_at((citation, cite))
+            .is_some_and(|cite| cite.locator.is_some());
+        if has_locator {
+            return;
+        }
+        if let Some(suffixes) = self.suffixes.get_mut(citation) {
+            if let Some(shown) = suffixes.get_mut(cite) {
+                *shown = Some(ShownSuffix { suffix, is_cut });
+            }
+        }
     }
 
     /// The number of an item, as it is printed.

@@ -31,50 +31,50 @@ pub fn stream_of_child(alloc: Global, child: &ElemChild) -> Result<Pieces, Alloc
     Ok(stream)
 }
 
-/// The stream of a citation, without the cites that are empty and what stands between them and the
-/// others, nor what stands before a cite that begins with a comma, a semicolon or a period.
+/// A cite of a citation.
+#[derive(Drop)]
+pub struct CiteStream {
+    /// Its place in the items of its request.
+    pub place: usize,
+    /// What stands between it and the cite before it; in front of the first, what stands before it.
+    pub before: Pieces,
+    pub cite: Pieces,
+}
+
+/// The cites of a citation in their order. What stands behind the last is left out: the affixes of a
+/// layout are written by the host.
 ///
 /// # Errors
 ///
 /// Where memory is refused.
-pub fn stream_of_citation(alloc: Global, citation: &ElemChildren) -> Result<Pieces, AllocError> {
-    let mut stream = Pieces::new(alloc);
-    let mut cites = 0usize;
-    let mut shown = 0usize;
-    // What stands before the next cite.
+pub fn cites_of(alloc: Global, citation: &ElemChildren) -> Result<Vec<CiteStream>, AllocError> {
+    let mut cites = Vec::new(alloc);
     let mut between = Pieces::new(alloc);
     for child in &citation.0 {
-        if !is_cite(child) {
-            push_child(alloc, &mut between, child)?;
-            continue;
-        }
-        let before = replace(&mut between, Pieces::new(alloc));
-        let cite = stream_of_child(alloc, child)?;
-        let is_first = cites == 0;
-        cites = cites.saturating_add(1);
-        if is_first {
-            // the prefix of the layout
-            stream.push_pieces(before)?;
-        } else if !cite.has_no_text() && shown > 0 && !begins_with_mark(&cite) {
-            stream.push_pieces(before)?;
-        }
-        if !cite.has_no_text() {
-            shown = shown.saturating_add(1);
-            stream.push_pieces(cite)?;
+        match cite_place(child) {
+            Some(place) => {
+                let before = replace(&mut between, Pieces::new(alloc));
+                let cite = stream_of_child(alloc, child)?;
+                cites.push(CiteStream {
+                    place,
+                    before,
+                    cite,
+                })?;
+            }
+            None => push_child(alloc, &mut between, child)?,
         }
     }
-    stream.push_pieces(between)?;
-    Ok(stream)
+    Ok(cites)
 }
 
-fn begins_with_mark(cite: &Pieces) -> bool {
-    matches!(cite.first_char(), Some(',' | ';' | '.'))
-}
-
-fn is_cite(child: &ElemChild) -> bool {
+/// The place of a cite in the items of its request, if a child is one.
+fn cite_place(child: &ElemChild) -> Option<usize> {
     match child {
-        ElemChild::Elem(elem) => matches!(&elem.meta, Some(ElemMeta::Entry(_))),
-        _ => false,
+        ElemChild::Elem(elem) => match &elem.meta {
+            Some(ElemMeta::Entry(place)) => Some(*place),
+            _ => None,
+        },
+        _ => None,
     }
 }
 

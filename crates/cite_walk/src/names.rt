@@ -17,6 +17,7 @@ use csl_vocabulary::term::{PlainTerm, TermForm};
 use csl_vocabulary::variable::{NameVariable, Variable};
 use std::alloc::AllocError;
 use style_file::names::{EtAlTerm, LabelOptions, LabelPlural, LabelSide, NameForm};
+use style_file::sections::SubstituteRule;
 
 /// The names of a variable, and the term of their role.
 #[derive(Clone, Copy)]
@@ -178,6 +179,7 @@ impl<'s, 'c> Walk<'s, 'c> {
             },
             et_al_formatting: names.et_al.map(|et_al| et_al.formatting),
             variable: block.variable,
+            is_one_name: self.replaces_all_names(),
         };
         self.output.open(Element::PLAIN)?;
         self.write_names_label(names, block, LabelSide::Before)?;
@@ -195,6 +197,16 @@ impl<'s, 'c> Walk<'s, 'c> {
         self.write_names_label(names, block, LabelSide::Behind)?;
         self.output.close()?;
         Ok(())
+    }
+
+    /// Whether repeated names are replaced at once, with what stands between them.
+    fn replaces_all_names(&self) -> bool {
+        match (self.scene.kind, &self.scene.style.bibliography) {
+            (SceneKind::Item, Some(bibliography)) => {
+                bibliography.options.substitute_rule == SubstituteRule::CompleteAll
+            }
+            _ => false,
+        }
     }
 
     /// Writes the label of names, if it stands on this side. Keys of sorting have none.

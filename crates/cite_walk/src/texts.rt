@@ -7,6 +7,7 @@ use crate::walk::{Walk, text_element};
 use cite_pieces::output::Element;
 use cite_pieces::piece::Mark;
 use csl_references::rich_text::RichText;
+use csl_texts::numbers::is_numeric;
 use csl_texts::pages::page_ranges;
 use csl_vocabulary::term::{PlainTerm, TermName};
 use csl_vocabulary::variable::{NumberVariable, TextVariable, Variable};
@@ -42,7 +43,11 @@ impl<'s> Walk<'s, '_> {
                 if self.cite.is_cut_to_suffix {
                     return Ok(());
                 }
-                self.write_words(text, value.as_str(), None)
+                let value = RichText::of_markup(self.alloc(), value.as_str())?;
+                self.output.open(text_element(text))?;
+                self.output.push_rich(&value)?;
+                self.output.close()?;
+                Ok(())
             }
         }
     }
@@ -230,17 +235,16 @@ impl<'s> Walk<'s, '_> {
             let sorted = sorted_number(alloc, plain.as_str())?;
             return self.output.push_str(sorted.as_str());
         }
-        let is_page = match variable {
-            NumberVariable::Page | NumberVariable::Locator => true,
-            _ => false,
-        };
-        if !is_page {
-            return self.output.push_rich(value.text());
-        }
         let alloc = self.alloc();
-        let format = self.scene.style.options.page_range_format;
-        let delimiter = self.scene.locale.page_range_delimiter();
         let plain = value.text().plain(alloc)?;
+        let format = match variable {
+            NumberVariable::Page | NumberVariable::Locator => {
+                self.scene.style.options.page_range_format
+            }
+            _ if is_numeric(plain.as_str()) => None,
+            _ => return self.output.push_rich(value.text()),
+        };
+        let delimiter = self.scene.locale.page_range_delimiter();
         let ranges = page_ranges(alloc, plain.as_str(), format, delimiter)?;
         self.output.push_rich(&plain_value(alloc, ranges.as_str())?)
     }

@@ -1,12 +1,14 @@
 //! The walk through a program.
-use crate::cite::{CiteFacts, Scene, WrittenCite};
+use crate::cite::{CiteFacts, Scene, SceneKind, WrittenCite};
 use crate::frames::Frame;
 use crate::locators::{ShownLocator, shown_locator};
 use crate::values::Value;
 use cite_pieces::output::{Element, Output, element_with};
+use cite_pieces::piece::Mark;
 use cite_program::program::Step;
 use cite_trees::trees::NamedPersons;
 use csl_base::names::DisambiguatedNameForm;
+use csl_base::seq::Seq;
 use csl_lookup::state::IdentifierUsage;
 use csl_texts::cases::Language;
 use csl_vocabulary::variable::{NumberVariable, TextVariable, Variable};
@@ -30,6 +32,7 @@ pub fn write_cite<'s>(
         output: Output::new(alloc, language),
         frames: Vec::new(alloc),
         outermost: Frame::NEW,
+        here: 0,
         next: 0,
         used: Vec::new(alloc),
         suppressed: Vec::new(alloc),
@@ -48,6 +51,7 @@ pub fn write_cite<'s>(
     let program = scene.program;
     for (place, step) in program.steps.iter().enumerate() {
         if place >= walk.next {
+            walk.here = place;
             walk.take(*step)?;
         }
     }
@@ -82,6 +86,8 @@ pub(crate) struct Walk<'s, 'c> {
     frames: Vec<Frame>,
     /// The same of the layout.
     outermost: Frame,
+    /// The place of the step that is taken.
+    here: usize,
     /// Where the walk goes on.
     next: usize,
     /// Variables with a value that were written, in their order.
@@ -120,7 +126,7 @@ impl<'s, 'c> Walk<'s, 'c> {
                 }
                 Ok(())
             }
-            Step::OpenSubstitute => self.open(Element::PLAIN),
+            Step::OpenSubstitute => self.open_substitute(),
             Step::CloseSubstitute { names_at } => self.close_substitute(names_at),
             Step::OpenGroup(group) => self.open(group_element(group)),
             Step::CloseGroup => self.close_group(),
@@ -211,6 +217,22 @@ impl<'s, 'c> Walk<'s, 'c> {
             self.output.close()?;
         }
         Ok(())
+    }
+
+    /// Opens an element that may stand in for names. In an item it counts as names, which are replaced
+    /// where they repeat those of the item before.
+    fn open_substitute(&mut self) -> Result<(), AllocError> {
+        let inside = self.scene.program.steps.get(self.here.saturating_add(1));
+        let is_names = matches!(inside, Some(Step::Names { .. }));
+        if is_names || !matches!(self.scene.kind, SceneKind::Item) {
+            return self.open(Element::PLAIN);
+        }
+        let mark = Mark::Names(self.names.len());
+        self.names.push(Seq::new(Vec::new(self.alloc())))?;
+        self.open(Element {
+            mark: Some(mark),
+            ..Element::PLAIN
+        })
     }
 
     /// Closes an element that may stand in for names. Where it has text, its variables are written
