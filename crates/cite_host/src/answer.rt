@@ -104,8 +104,12 @@ impl<'d> Document<'d> {
     where
         'd: 'w,
     {
-        let usual = driven_style(alloc, self.style, Shrinking::AsTheStyle)?;
-        let apart = driven_style(alloc, self.style, Shrinking::Never)?;
+        let has_notes = self
+            .citations
+            .iter()
+            .any(|citation| citation.note.is_some());
+        let usual = driven_style(alloc, self.style, Shrinking::AsTheStyle, has_notes)?;
+        let apart = driven_style(alloc, self.style, Shrinking::Never, has_notes)?;
         let locators = locators_of(alloc, citations)?;
         let styles = DrivenStyles {
             usual: &usual,

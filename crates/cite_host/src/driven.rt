@@ -21,11 +21,12 @@ pub(crate) enum Shrinking {
     Never,
 }
 
-/// What the driver has to know of a style. The name of the style is not looked at.
+/// What the driver has to know of a style, whose citations have numbers of notes if `has_notes`. The name of the style is not looked at.
 pub(crate) fn driven_style(
     alloc: Global,
     style: &CslStyle,
     shrinking: Shrinking,
+    has_notes: bool,
 ) -> Result<driven::IndependentStyle, AllocError> {
     let bibliography = match &style.bibliography {
         Some(bibliography) => Some(driven_bibliography(alloc, bibliography)?),
@@ -37,8 +38,8 @@ pub(crate) fn driven_style(
         },
         settings: driven::StyleSettings {
             class: match style.class {
-                StyleClass::InText => driven::StyleClass::InText,
-                StyleClass::Note => driven::StyleClass::Note,
+                StyleClass::InText if !has_notes => driven::StyleClass::InText,
+                StyleClass::InText | StyleClass::Note => driven::StyleClass::Note,
             },
             options: NO_OPTIONS,
         },

@@ -179,17 +179,33 @@ impl<'d> TaskWriter<'d> {
         if standing.is_first {
             return None;
         }
-        if cite == 0 {
-            let before = self.citations.get(citation.checked_sub(1)?)?;
-            if before.cites.len() != 1 {
-                return None;
-            }
+        if cite == 0 && !self.is_behind_one(citation) {
+            return None;
         }
         match standing.ibid {
             IbidState::Different => None,
             IbidState::Ibid => Some(Repetition::Ibid),
             IbidState::IbidWithLocator => Some(Repetition::IbidWithLocator),
         }
+    }
+
+    /// Whether the citation before has one cite, and stands in the same note or alone in its own.
+    fn is_behind_one(&self, citation: usize) -> bool {
+        let Some(place) = citation.checked_sub(1) else {
+            return false;
+        };
+        let (Some(before), Some(here)) = (self.citations.get(place), self.citations.get(citation))
+        else {
+            return false;
+        };
+        let is_second = match place
+            .checked_sub(1)
+            .and_then(|place| self.citations.get(place))
+        {
+            Some(other) => other.note == before.note,
+            None => false,
+        };
+        before.cites.len() == 1 && (before.note == here.note || !is_second)
     }
 
     /// Whether names can tell the item from others no more, so that cites which show the same names are

@@ -173,12 +173,15 @@ impl<'s, 'c> Walk<'s, 'c> {
                 and: locale
                     .plain_term(PlainTerm::And, TermForm::Long, false)
                     .unwrap_or(""),
-                et_al: locale
-                    .plain_term(et_al, TermForm::Long, false)
-                    .unwrap_or(""),
+                et_al: match self.scene.kind {
+                    SceneKind::Key(_) => "",
+                    SceneKind::Cite | SceneKind::Item => locale
+                        .plain_term(et_al, TermForm::Long, false)
+                        .unwrap_or(""),
+                },
             },
             et_al_formatting: names.et_al.map(|et_al| et_al.formatting),
-            variable: block.variable,
+            variable: self.told_variable(block.variable),
             is_one_name: self.replaces_all_names(),
         };
         self.output.open(Element::PLAIN)?;
@@ -197,6 +200,15 @@ impl<'s, 'c> Walk<'s, 'c> {
         self.write_names_label(names, block, LabelSide::Behind)?;
         self.output.close()?;
         Ok(())
+    }
+
+    /// The variable that the driver is told of: items of the bibliography are compared by their names
+    /// alone.
+    fn told_variable(&self, variable: NameVariable) -> NameVariable {
+        match self.scene.kind {
+            SceneKind::Item => NameVariable::Author,
+            SceneKind::Cite | SceneKind::Key(_) => variable,
+        }
     }
 
     /// Whether repeated names are replaced at once, with what stands between them.
@@ -330,7 +342,10 @@ impl<'s, 'c> Walk<'s, 'c> {
                     persons.push(shown)?;
                 }
             }
-            named.push((Seq::new(persons), tree_variable(block.variable)))?;
+            named.push((
+                Seq::new(persons),
+                tree_variable(self.told_variable(block.variable)),
+            ))?;
         }
         let place = self.names.len();
         let named: NamedPersons = Seq::new(named);

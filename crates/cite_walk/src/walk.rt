@@ -246,6 +246,7 @@ impl<'s, 'c> Walk<'s, 'c> {
         for variable in self.used.iter().skip(frame.used_before) {
             self.suppressed.push(*variable)?;
         }
+        self.call(true);
         self.next = self.scene.program.end_of(names_at);
         Ok(())
     }
