@@ -70,6 +70,7 @@ impl<'s> Walk<'s, '_> {
 
     /// Writes the words for no date, which stand for a date.
     fn write_no_date(&mut self, text: &'s Text, words: &str) -> Result<(), AllocError> {
+        self.call(true);
         let mark = Mark::Date(self.dates);
         self.dates = self.dates.saturating_add(1);
         self.output.open(Element {
