@@ -67,9 +67,9 @@ impl<'d> Document<'d> {
     ///
     /// # Errors
     ///
-    /// `NoReference` where an item is cited that isn't there; `StyleTooLong` where the macros of the
-    /// style make a layout too long; `TooManyItems`; `Unsettled` where the driver goes on asking;
-    /// `OutOfMemory`.
+    /// `NoReference` where an item is cited that isn't there; `StyleTooLong` where the macros of
+    /// the style make a layout too long; `TooManyItems`; `Unsettled` where the driver goes on
+    /// asking; `OutOfMemory`.
     pub fn answer(&self, alloc: Global) -> Result<Answer, AnswerError> {
         let programs = Programs::of_style(alloc, self.style)?;
         let items = Items::cited(
@@ -126,11 +126,30 @@ impl<'d> Document<'d> {
             &[],
             Some(Order(order.as_slice())),
         );
+        let mut writer = self.task_writer(alloc, programs, items, citations)?;
+        let rendered = asked_often(alloc, &driver, &request, &mut writer)?;
+        Ok(Written {
+            rendered,
+            suffixes: writer.suffixes,
+        })
+    }
+
+    /// What writes the tasks of the document.
+    fn task_writer<'w>(
+        &self,
+        alloc: Global,
+        programs: &'w Programs<'w>,
+        items: &'w Items<'w>,
+        citations: &'w [SortedCitation<'w>],
+    ) -> Result<TaskWriter<'w>, AllocError>
+    where
+        'd: 'w,
+    {
         let mut suffixes = Vec::new(alloc);
         for citation in citations {
             suffixes.push(vec![in alloc; None; citation.cites.len()]?)?;
         }
-        let mut writer = TaskWriter {
+        Ok(TaskWriter {
             alloc,
             style: self.style,
             locale: self.locale,
@@ -140,11 +159,6 @@ impl<'d> Document<'d> {
             given_names: given_names_of(alloc, self.style, items.references.as_slice())?,
             states: ShownStates::new(alloc, items.entries.len())?,
             suffixes,
-        };
-        let rendered = asked_often(alloc, &driver, &request, &mut writer)?;
-        Ok(Written {
-            rendered,
-            suffixes: writer.suffixes,
         })
     }
 
@@ -178,8 +192,8 @@ impl<'d> Document<'d> {
         })
     }
 
-    /// A citation between the affixes of the layout, where something of it shows and no cite of it is of
-    /// the author alone.
+    /// A citation between the affixes of the layout, where something of it shows and no cite of
+    /// it is of the author alone.
     fn enclosed(
         &self,
         alloc: Global,

@@ -21,7 +21,8 @@ pub(crate) enum Shrinking {
     Never,
 }
 
-/// What the driver has to know of a style, whose citations have numbers of notes if `has_notes`. The name of the style is not looked at.
+/// What the driver has to know of a style, whose citations have numbers of notes if `has_notes`.
+/// The name of the style is not looked at.
 pub(crate) fn driven_style(
     alloc: Global,
     style: &CslStyle,
@@ -71,7 +72,8 @@ const UNFORMATTED: StyleFormatting = StyleFormatting {
     vertical_align: None,
 };
 
-/// What stands between the cites of a group where a style draws their years together, and doesn't tell.
+/// What stands between the cites of a group where a style draws their years together, and doesn't
+/// tell.
 const GROUP_DELIMITER: &str = ", ";
 
 fn driven_citation(

@@ -5,7 +5,7 @@ use crate::facts::first_cite;
 use crate::programs::{BibliographyProgram, Programs};
 use cite_locale::chain::LocaleChain;
 use cite_names::person::person_of;
-use cite_sorting::keys::KeyScene;
+use cite_sorting::keys::{Key, KeyScene};
 use cite_sorting::order::sorted_places;
 use cite_walk::cite::{CiteFacts, GivenNames};
 use csl_base::entry::{Date, Person, PlainEntry};
@@ -173,38 +173,57 @@ pub(crate) fn sorted_citations<'d>(
     let keys = programs.citation_keys.as_slice();
     let mut sorted = Vec::new(alloc);
     for (number, citation) in citations.iter().enumerate() {
-        let mut cites = Vec::new(alloc);
-        let mut facts = Vec::new(alloc);
-        for cite in &citation.cites {
-            let place = items.place(cite.id.as_str()).unwrap_or(0);
-            if let Some(first) = items.first_cite(place) {
-                facts.push(CiteFacts {
-                    locator: cite.locator.as_ref(),
-                    ..first
-                })?;
-                cites.push(cite)?;
-            }
-        }
-        let mut ordered = Vec::new(alloc);
-        if keys.is_empty() {
-            ordered = cites;
+        let cites = if keys.is_empty() {
+            all_cites(alloc, citation)?
         } else {
-            for place in sorted_places(alloc, scene, keys, facts.as_slice())? {
-                if let Some(cite) = cites.get(place) {
-                    ordered.push(*cite)?;
-                }
-            }
-        }
+            cites_by_keys(alloc, scene, keys, items, citation)?
+        };
         sorted.push(SortedCitation {
-            cites: ordered,
+            cites,
             note: citation.note.unwrap_or(number.saturating_add(1)),
         })?;
     }
     Ok(sorted)
 }
 
-/// How far names are written that share a family name, where the style has a rule for it that holds for
-/// names.
+/// The cites of a citation, in their order.
+fn all_cites<'d>(alloc: Global, citation: &'d Citation) -> Result<Vec<&'d Cite>, AllocError> {
+    let mut cites = Vec::new(alloc);
+    for cite in &citation.cites {
+        cites.push(cite)?;
+    }
+    Ok(cites)
+}
+
+/// The cites of a citation, in the order of the keys.
+fn cites_by_keys<'d>(
+    alloc: Global,
+    scene: KeyScene<'d>,
+    keys: &'d [Key<'d>],
+    items: &Items<'d>,
+    citation: &'d Citation,
+) -> Result<Vec<&'d Cite>, AllocError> {
+    let mut facts = Vec::new(alloc);
+    for cite in &citation.cites {
+        let place = items.place(cite.id.as_str()).unwrap_or(0);
+        if let Some(first) = items.first_cite(place) {
+            facts.push(CiteFacts {
+                locator: cite.locator.as_ref(),
+                ..first
+            })?;
+        }
+    }
+    let mut ordered = Vec::new(alloc);
+    for place in sorted_places(alloc, scene, keys, facts.as_slice())? {
+        if let Some(cite) = citation.cites.get(place) {
+            ordered.push(cite)?;
+        }
+    }
+    Ok(ordered)
+}
+
+/// How far names are written that share a family name, where the style has a rule for it that
+/// holds for names.
 pub(crate) fn given_names_of(
     alloc: Global,
     style: &CslStyle,

@@ -13,10 +13,10 @@ pub(crate) struct ShownSuffix {
 /// What stands between the first and the last suffix of a range.
 const RANGE: &str = "–";
 
-/// The stream of a citation: its cites, without those that are empty, and what stands between them, but
-/// before one that begins with a comma, a semicolon or a period. `suffixes` has those of the cites at
-/// their places; where `is_ranged`, three or more that follow each other are a range (CSL 1.0.2,
-/// `year-suffix-ranged`).
+/// The stream of a citation: its cites, without those that are empty, and what stands between
+/// them, but before one that begins with a comma, a semicolon or a period. `suffixes` has those
+/// of the cites at their places; where `is_ranged`, three or more that follow each other are a
+/// range (CSL 1.0.2, `year-suffix-ranged`).
 ///
 /// # Errors
 ///

@@ -1,4 +1,5 @@
-//! Citations and a bibliography in a style: what the driver asks for is written by the style's layouts.
+//! Citations and a bibliography in a style: what the driver asks for is written by the style's
+//! layouts.
 #![tactic(auto)]
 
 pub mod answer;

@@ -108,8 +108,8 @@ pub(crate) fn filled_driver<'e>(
     Ok(driver)
 }
 
-/// Whether the style may group and collapse the cites of a citation. Numbers with locators are not drawn
-/// together.
+/// Whether the style may group and collapse the cites of a citation. Numbers with locators are
+/// not drawn together.
 fn stands_together(citation: &SortedCitation<'_>, style: &IndependentStyle) -> bool {
     let draws_numbers = style.citation.collapse == Some(Collapse::CitationNumber);
     for cite in &citation.cites {

@@ -1,8 +1,8 @@
 //! What disambiguates works where they are shown.
 //!
-//! The driver gives year suffixes in the order of cites, and leaves the first of some works as it is
-//! where the condition `disambiguate` tells the others from it. CSL gives them in the order of the
-//! bibliography, and has the condition hold for all of them. It is for the host to do so.
+//! The driver gives year suffixes in the order of cites, and leaves the first of some works as it
+//! is where the condition `disambiguate` tells the others from it. CSL gives them in the order of
+//! the bibliography, and has the condition hold for all of them. It is for the host to do so.
 use csl_lookup::state::DisambiguateState;
 use std::alloc::{AllocError, Global};
 

@@ -90,36 +90,18 @@ impl<'d> TaskWriter<'d> {
         let Some(first) = self.items.first_cite(place) else {
             return Ok(nothing(self.alloc));
         };
-        let shown = key.place.and_then(|place| self.cite_at(place));
-        let names = name_forms(&standing.disambiguation);
         let year_suffix = self.year_suffix(key.place.is_some(), place, standing);
         let is_cut = verdict == Some(CollapseVerdict::YearSuffix);
         self.note_suffix(key, year_suffix, is_cut);
         let facts = CiteFacts {
-            locator: shown.and_then(|cite| cite.locator.as_ref()),
-            number: self.printed_number(standing.citation_number),
-            is_first: standing.is_first,
-            is_near_note: standing.is_near_note,
-            repetition: self.repetition(key, standing),
-            first_note_number: standing.first_note_number,
-            disambiguates: self.disambiguates(key, place, standing),
             year_suffix,
-            name_forms: names,
-            given_names: self.given_names.as_ref(),
-            tells_shown_persons: self.tells_shown_persons(standing),
-            leaves_out_names: verdict.is_some() || shown.is_some_and(|cite| cite.suppresses_author),
+            leaves_out_names: verdict.is_some(),
             is_cut_to_suffix: is_cut,
             ..first
         };
-        let scene = Scene {
-            style: self.style,
-            locale: self.locale,
-            program: &self.programs.citation,
-            names: &self.style.citation.names,
-            kind: SceneKind::Cite,
-            adds_year_suffix: self.programs.adds_year_suffix(),
-        };
-        let mut cite = write_cite(self.alloc, scene, facts)?;
+        let facts = self.cite_facts(key, place, standing, facts);
+        let mut cite = write_cite(self.alloc, self.cite_scene(), facts)?;
+        let shown = key.place.and_then(|place| self.cite_at(place));
         if purpose == Some(CitePurpose::Author) {
             cite.pieces = names_alone(self.alloc, cite.pieces)?;
         }
@@ -137,7 +119,8 @@ impl<'d> TaskWriter<'d> {
         self.told(cite, TextFormatting::NORMAL.with(formatting))
     }
 
-    /// Notes the suffix that a cite shows which is written for the last time, unless it has a locator.
+    /// Notes the suffix that a cite shows which is written for the last time, unless it has a
+    /// locator.
     fn note_suffix(&mut self, key: &TaskKey, suffix: Option<usize>, is_cut: bool) {
         let (Some((citation, cite)), Some(suffix)) = (key.place, suffix) else {
             return;
@@ -165,15 +148,52 @@ impl<'d> TaskWriter<'d> {
         }
     }
 
+    /// What is known of a cite, beside what its verdict tells.
+    fn cite_facts<'f>(
+        &'f self,
+        key: &TaskKey,
+        place: usize,
+        standing: &'f Standing,
+        facts: CiteFacts<'f>,
+    ) -> CiteFacts<'f> {
+        let shown = key.place.and_then(|place| self.cite_at(place));
+        let is_suppressed = shown.is_some_and(|cite| cite.suppresses_author);
+        CiteFacts {
+            locator: shown.and_then(|cite| cite.locator.as_ref()),
+            number: self.printed_number(standing.citation_number),
+            is_first: standing.is_first,
+            is_near_note: standing.is_near_note,
+            repetition: self.repetition(key, standing),
+            first_note_number: standing.first_note_number,
+            disambiguates: self.disambiguates(key, place, standing),
+            name_forms: name_forms(&standing.disambiguation),
+            given_names: self.given_names.as_ref(),
+            tells_shown_persons: self.tells_shown_persons(standing),
+            leaves_out_names: facts.leaves_out_names || is_suppressed,
+            ..facts
+        }
+    }
+
+    fn cite_scene(&self) -> Scene<'d> {
+        Scene {
+            style: self.style,
+            locale: self.locale,
+            program: &self.programs.citation,
+            names: &self.style.citation.names,
+            kind: SceneKind::Cite,
+            adds_year_suffix: self.programs.adds_year_suffix(),
+        }
+    }
+
     /// The cite at a place.
     fn cite_at(&self, place: (usize, usize)) -> Option<&'d Cite> {
         let (citation, cite) = place;
         self.citations.get(citation)?.cites.get(cite).copied()
     }
 
-    /// How a cite that is shown repeats the one before it. The first cite of a citation repeats none
-    /// where the citation before has several; where cites are compared none repeats another, as what
-    /// reads `Ibid.` says nothing of its work.
+    /// How a cite that is shown repeats the one before it. The first cite of a citation repeats
+    /// none where the citation before has several; where cites are compared none repeats another,
+    /// as what reads `Ibid.` says nothing of its work.
     fn repetition(&self, key: &TaskKey, standing: &Standing) -> Option<Repetition> {
         let (citation, cite) = key.place?;
         if standing.is_first {
@@ -208,8 +228,8 @@ impl<'d> TaskWriter<'d> {
         before.cites.len() == 1 && (before.note == here.note || !is_second)
     }
 
-    /// Whether names can tell the item from others no more, so that cites which show the same names are
-    /// of one group.
+    /// Whether names can tell the item from others no more, so that cites which show the same
+    /// names are of one group.
     fn tells_shown_persons(&self, standing: &Standing) -> bool {
         let options = &self.style.citation.options;
         let adds_names = options.disambiguate_add_names || options.disambiguate_add_given_name;

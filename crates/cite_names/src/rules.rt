@@ -52,55 +52,23 @@ pub struct NameRules<'s> {
 impl<'s> NameRules<'s> {
     /// The rules of an element `name`, to which this is handed down.
     pub fn of_name(name: Option<&'s Name>, down: HandedDown<'s>) -> NameRules<'s> {
-        let section = down.section;
-        let style = down.style;
-        let own = name.map_or(section, |name| &name.options);
+        let layers = Layers {
+            own: name.map_or(down.section, |name| &name.options),
+            section: down.section,
+            style: down.style,
+        };
         let rules = NameRules {
-            and: own.and.or(section.and).or(style.and),
-            delimiter: text_of(&own.delimiter, &section.delimiter, &style.delimiter).unwrap_or(
-                ", ",
-            ),
-            precedes_et_al: own
-                .delimiter_precedes_et_al
-                .or(section.delimiter_precedes_et_al)
-                .or(style.delimiter_precedes_et_al)
-                .unwrap_or(DelimiterPrecedes::Contextual),
-            precedes_last: own
-                .delimiter_precedes_last
-                .or(section.delimiter_precedes_last)
-                .or(style.delimiter_precedes_last)
-                .unwrap_or(DelimiterPrecedes::Contextual),
-            cut: cut_of(own, down),
-            use_last: own
-                .et_al_use_last
-                .or(section.et_al_use_last)
-                .or(style.et_al_use_last)
-                .unwrap_or(false),
-            form: own
-                .form
-                .or(section.form)
-                .or(style.form)
-                .unwrap_or(NameForm::Long),
-            initialize: own
-                .initialize
-                .or(section.initialize)
-                .or(style.initialize)
-                .unwrap_or(true),
-            initialize_with: text_of(
-                &own.initialize_with,
-                &section.initialize_with,
-                &style.initialize_with,
-            ),
-            sort_order: own
-                .name_as_sort_order
-                .or(section.name_as_sort_order)
-                .or(style.name_as_sort_order),
-            sort_separator: text_of(
-                &own.sort_separator,
-                &section.sort_separator,
-                &style.sort_separator,
-            )
-            .unwrap_or(", "),
+            and: layers.and(),
+            delimiter: layers.delimiter(),
+            precedes_et_al: layers.precedes_et_al(),
+            precedes_last: layers.precedes_last(),
+            cut: layers.cut(down.is_subsequent),
+            use_last: layers.use_last(),
+            form: layers.form(),
+            initialize: layers.initialize(),
+            initialize_with: layers.initialize_with(),
+            sort_order: layers.sort_order(),
+            sort_separator: layers.sort_separator(),
             has_hyphens: down.options.initialize_with_hyphen,
             demotes_particle: down.options.particle_demotion == ParticleDemotion::DisplayAndSort,
             given: name.and_then(|name| name.given.as_ref()),
@@ -129,28 +97,119 @@ impl<'s> NameRules<'s> {
 /// What stands between the names of a key: a character before all letters.
 pub const SORT_DELIMITER: &str = "\u{1}";
 
-/// The cut of a list of names. A list is cut where the least number of names is told; one name is
-/// kept where no other number is told.
-fn cut_of(own: &NameOptions, down: HandedDown<'_>) -> Option<Cut> {
-    let section = down.section;
-    let style = down.style;
-    let min = own.et_al_min.or(section.et_al_min).or(style.et_al_min);
-    let use_first = own
-        .et_al_use_first
-        .or(section.et_al_use_first)
-        .or(style.et_al_use_first);
-    let later_min = own
-        .et_al_subsequent_min
-        .or(section.et_al_subsequent_min)
-        .or(style.et_al_subsequent_min);
-    let later_first = own
-        .et_al_subsequent_use_first
-        .or(section.et_al_subsequent_use_first)
-        .or(style.et_al_subsequent_use_first);
-    if down.is_subsequent {
+/// The options of names, from the nearest on.
+#[derive(Clone, Copy)]
+struct Layers<'s> {
+    own: &'s NameOptions,
+    section: &'s NameOptions,
+    style: &'s NameOptions,
+}
+
+impl<'s> Layers<'s> {
+    fn and(self) -> Option<NameAnd> {
+        self.own.and.or(self.section.and).or(self.style.and)
+    }
+
+    fn delimiter(self) -> &'s str {
+        text_of(
+            &self.own.delimiter,
+            &self.section.delimiter,
+            &self.style.delimiter,
+        )
+        .unwrap_or(", ")
+    }
+
+    fn precedes_et_al(self) -> DelimiterPrecedes {
+        self.own
+            .delimiter_precedes_et_al
+            .or(self.section.delimiter_precedes_et_al)
+            .or(self.style.delimiter_precedes_et_al)
+            .unwrap_or(DelimiterPrecedes::Contextual)
+    }
+
+    fn precedes_last(self) -> DelimiterPrecedes {
+        self.own
+            .delimiter_precedes_last
+            .or(self.section.delimiter_precedes_last)
+            .or(self.style.delimiter_precedes_last)
+            .unwrap_or(DelimiterPrecedes::Contextual)
+    }
+
+    /// The cut of a list of names. A list is cut where the least number of names is told; one name
+    /// is kept where no other number is told.
+    fn cut(self, is_subsequent: bool) -> Option<Cut> {
+        let min = self
+            .own
+            .et_al_min
+            .or(self.section.et_al_min)
+            .or(self.style.et_al_min);
+        let use_first = self
+            .own
+            .et_al_use_first
+            .or(self.section.et_al_use_first)
+            .or(self.style.et_al_use_first);
+        if !is_subsequent {
+            return cut_at(min, use_first);
+        }
+        let later_min = self
+            .own
+            .et_al_subsequent_min
+            .or(self.section.et_al_subsequent_min)
+            .or(self.style.et_al_subsequent_min);
+        let later_first = self
+            .own
+            .et_al_subsequent_use_first
+            .or(self.section.et_al_subsequent_use_first)
+            .or(self.style.et_al_subsequent_use_first);
         cut_at(later_min.or(min), later_first.or(use_first))
-    } else {
-        cut_at(min, use_first)
+    }
+
+    fn use_last(self) -> bool {
+        self.own
+            .et_al_use_last
+            .or(self.section.et_al_use_last)
+            .or(self.style.et_al_use_last)
+            .unwrap_or(false)
+    }
+
+    fn form(self) -> NameForm {
+        self.own
+            .form
+            .or(self.section.form)
+            .or(self.style.form)
+            .unwrap_or(NameForm::Long)
+    }
+
+    fn initialize(self) -> bool {
+        self.own
+            .initialize
+            .or(self.section.initialize)
+            .or(self.style.initialize)
+            .unwrap_or(true)
+    }
+
+    fn initialize_with(self) -> Option<&'s str> {
+        text_of(
+            &self.own.initialize_with,
+            &self.section.initialize_with,
+            &self.style.initialize_with,
+        )
+    }
+
+    fn sort_order(self) -> Option<NameAsSortOrder> {
+        self.own
+            .name_as_sort_order
+            .or(self.section.name_as_sort_order)
+            .or(self.style.name_as_sort_order)
+    }
+
+    fn sort_separator(self) -> &'s str {
+        text_of(
+            &self.own.sort_separator,
+            &self.section.sort_separator,
+            &self.style.sort_separator,
+        )
+        .unwrap_or(", ")
     }
 }
 

@@ -50,8 +50,8 @@ pub enum Step<'s> {
     UnknownVariable,
 }
 
-/// An element `names` with what holds for it. One that stands in for other names and has no children
-/// has those of these (CSL 1.0.2, "Substitute").
+/// An element `names` with what holds for it. One that stands in for other names and has no
+/// children has those of these (CSL 1.0.2, "Substitute").
 #[derive(Clone, Copy)]
 pub struct NamesInUse<'s> {
     pub variables: &'s [NameVariable],

@@ -33,8 +33,8 @@ pub fn keys_of<'s>(
     Ok(keys)
 }
 
-/// The places of cites in the order of the keys. Cites of which all keys are equal stay in their order;
-/// one without a value is behind those that have one.
+/// The places of cites in the order of the keys. Cites of which all keys are equal stay in their
+/// order; one without a value is behind those that have one.
 ///
 /// # Errors
 ///

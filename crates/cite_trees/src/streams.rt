@@ -41,8 +41,8 @@ pub struct CiteStream {
     pub cite: Pieces,
 }
 
-/// The cites of a citation in their order. What stands behind the last is left out: the affixes of a
-/// layout are written by the host.
+/// The cites of a citation in their order. What stands behind the last is left out: the affixes
+/// of a layout are written by the host.
 ///
 /// # Errors
 ///

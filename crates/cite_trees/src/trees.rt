@@ -24,8 +24,8 @@ pub fn tree_variable(variable: NameVariable) -> taxonomy::NameVariable {
     }
 }
 
-/// The tree of a stream that is written into text of this formatting; `names` has the persons of its
-/// marks of names.
+/// The tree of a stream that is written into text of this formatting; `names` has the persons of
+/// its marks of names.
 ///
 /// # Errors
 ///

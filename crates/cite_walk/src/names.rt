@@ -161,13 +161,38 @@ impl<'s, 'c> Walk<'s, 'c> {
         forms: &[DisambiguatedNameForm],
         mark: Option<Mark>,
     ) -> Result<(), AllocError> {
-        let alloc = self.alloc();
+        let list = self.list_of(names, rules, block);
+        self.output.open(Element::PLAIN)?;
+        self.write_names_label(names, block, LabelSide::Before)?;
+        self.output.open(Element {
+            mark,
+            ..Element::PLAIN
+        })?;
+        self.output.open(match names.name {
+            Some(name) => element_with(&name.affixes, name.formatting),
+            None => Element::PLAIN,
+        })?;
+        list.push(self.alloc(), &mut self.output, block.names, forms)?;
+        self.output.close()?;
+        self.output.close()?;
+        self.write_names_label(names, block, LabelSide::Behind)?;
+        self.output.close()?;
+        Ok(())
+    }
+
+    /// How the names of a variable are written.
+    fn list_of(
+        &self,
+        names: &NamesInUse<'s>,
+        rules: NameRules<'s>,
+        block: Block<'c>,
+    ) -> NameList<'s, 's> {
         let locale = self.scene.locale;
         let et_al = match names.et_al.map(|et_al| et_al.term) {
             Some(EtAlTerm::AndOthers) => PlainTerm::AndOthers,
             Some(EtAlTerm::EtAl) | None => PlainTerm::EtAl,
         };
-        let list = NameList {
+        NameList {
             rules,
             words: NameWords {
                 and: locale
@@ -183,27 +208,11 @@ impl<'s, 'c> Walk<'s, 'c> {
             et_al_formatting: names.et_al.map(|et_al| et_al.formatting),
             variable: self.told_variable(block.variable),
             is_one_name: self.replaces_all_names(),
-        };
-        self.output.open(Element::PLAIN)?;
-        self.write_names_label(names, block, LabelSide::Before)?;
-        self.output.open(Element {
-            mark,
-            ..Element::PLAIN
-        })?;
-        self.output.open(match names.name {
-            Some(name) => element_with(&name.affixes, name.formatting),
-            None => Element::PLAIN,
-        })?;
-        list.push(alloc, &mut self.output, block.names, forms)?;
-        self.output.close()?;
-        self.output.close()?;
-        self.write_names_label(names, block, LabelSide::Behind)?;
-        self.output.close()?;
-        Ok(())
+        }
     }
 
-    /// The variable that the driver is told of: items of the bibliography are compared by their names
-    /// alone.
+    /// The variable that the driver is told of: items of the bibliography are compared by their
+    /// names alone.
     fn told_variable(&self, variable: NameVariable) -> NameVariable {
         match self.scene.kind {
             SceneKind::Item => NameVariable::Author,

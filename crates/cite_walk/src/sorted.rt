@@ -2,8 +2,8 @@
 use csl_references::date::{Date, DateSpan, PartialDate, Season, YearPart};
 use std::alloc::{AllocError, Global};
 
-/// A date by so many of its parts: 1 for the year alone, 3 for year, month and day. Texts of dates are
-/// in the order of the dates; a range has its last date behind its first.
+/// A date by so many of its parts: 1 for the year alone, 3 for year, month and day. Texts of
+/// dates are in the order of the dates; a range has its last date behind its first.
 ///
 /// # Errors
 ///

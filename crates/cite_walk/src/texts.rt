@@ -155,8 +155,8 @@ impl<'s> Walk<'s, '_> {
         Ok(())
     }
 
-    /// The letters of the suffix that stands here, where the style has no place for it; each cite has
-    /// it once.
+    /// The letters of the suffix that stands here, where the style has no place for it; each cite
+    /// has it once.
     pub(crate) fn take_implicit_suffix(&mut self) -> Result<Option<String>, AllocError> {
         if self.has_written_suffix || !self.scene.adds_year_suffix {
             return Ok(None);

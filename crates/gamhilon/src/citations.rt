@@ -11,8 +11,8 @@ use std::alloc::{AllocError, Global};
 /// Why citations are not read.
 type Fault = &'static str;
 
-/// The citations of a JSON text: a list of lists of cites. A cite is an object; `label` is `page` where
-/// it tells none.
+/// The citations of a JSON text: a list of lists of cites. A cite is an object; `label` is `page`
+/// where it tells none.
 pub(crate) fn citations_of(
     alloc: Global,
     path: &str,

@@ -22,9 +22,9 @@ usage: gamhilon cite --style STYLE [OPTION].. REFERENCES CITATIONS
        gamhilon check FILE
        gamhilon --version
 
-STYLE is a file, or the name of one in the folder of styles. REFERENCES is CSL-JSON, and CITATIONS a list of
-lists of cites: objects with id, and maybe locator, label, prefix, suffix, suppress-author, author-only and
-note. The name - stands for the standard input.
+STYLE is a file, or the name of one in the folder of styles. REFERENCES is CSL-JSON, and CITATIONS a
+list of lists of cites: objects with id, and maybe locator, label, prefix, suffix, suppress-author,
+author-only and note. The name - stands for the standard input.
 
   --locale TAG      the language, in place of the style's
   --styles FOLDER   where styles are

@@ -128,7 +128,8 @@ fn item_text(
     let content = content.as_str();
     match format {
         OutputFormat::Html => format!(in alloc;
-            "<div class=\"csl-left-margin\">{field}</div><div class=\"csl-right-inline\">{content}</div>"
+            "<div class=\"csl-left-margin\">{field}</div>\
+             <div class=\"csl-right-inline\">{content}</div>"
         ),
         OutputFormat::Text | OutputFormat::Json => format!(in alloc; "{field}{content}"),
     }
