@@ -208,14 +208,13 @@ impl<'s, 'c> Walk<'s, 'c> {
         Ok(())
     }
 
+    /// Closes a macro. One that has called variables and has text counts as a variable with a value.
     fn close_macro(&mut self) -> Result<(), AllocError> {
-        let frame = self.frames.pop().unwrap_or(Frame::NEW);
-        self.frame_mut().add(frame);
-        if frame.is_in_vain() {
-            self.output.discard();
-        } else {
-            self.output.close()?;
+        let mut frame = self.frames.pop().unwrap_or(Frame::NEW);
+        if self.output.close()? && frame.has_called {
+            frame.has_value = true;
         }
+        self.frame_mut().add(frame);
         Ok(())
     }
 
