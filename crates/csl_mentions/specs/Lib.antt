@@ -1,0 +1,6 @@
+pub mod Groups
+pub mod Classes
+pub mod Suffixes
+pub mod Counts
+pub mod Written
+pub mod Tables
