@@ -1,7 +1,8 @@
 -- For the code: the mentions that were looked at, by their texts.
-use Rattle.std.specs.Prelude.{◌≡◌, ℕ, Bool, true, false, not, ◌&&◌, ◌||◌, List, Option, None, Some, bytes_eq, if◌then◌else◌, nat_eq, option_map, position}
+use Rattle.std.specs.Prelude.{◌≡◌, ℕ, Bool, true, false, not, ◌&&◌, ◌||◌, List, Option, None, Some, bytes_eq, if◌then◌else◌, nat_eq, option_map}
 use Rattle.std.specs.HashMap.{HashMap, get}
 use Rattle.std.specs.List.{list_any}
+use Rattle.csl_mentions.specs.Groups.{first_with}
 use Rattle.csl_mentions.specs.declared.classes.Class.{Class}
 use Rattle.csl_mentions.specs.declared.mention.Mention.{Mention}
 
@@ -18,7 +19,7 @@ module _ {S : Type 0} where
   -- of each text: the first mention, and whether there is one of another entry than any
   pub record AreClassesOf (classes : HashMap (List ℕ) Class S) (mentions : List Mention) : Type 0 where
     pub first : (t : List ℕ) → option_map (λ c. c.first) (get bytes_eq classes t)
-        ≡ position (λ m. bytes_eq t m.text) mentions
+        ≡ first_with mentions t
     pub other : (t : List ℕ) (entry : ℕ) → is_other entry (get bytes_eq classes t)
         ≡ list_any (λ m. bytes_eq t m.text && not (nat_eq entry m.entry)) mentions
 

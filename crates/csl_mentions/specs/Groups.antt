@@ -1,6 +1,6 @@
 -- Ambiguous groups: mentions that read alike, of several entries.
-use Rattle.std.specs.Prelude.{ℕ, Bool, not, ◌&&◌, ◌==◌, List, Option, None, bytes_eq, filter, if◌then◌else◌, length, nat_eq, position}
-use Rattle.std.specs.List.{list_any}
+use Rattle.std.specs.Prelude.{ℕ, Bool, not, ◌&&◌, ◌==◌, List, Option, None, bytes_eq, filter, find, if◌then◌else◌, length, nat_eq, option_map}
+use Rattle.std.specs.List.{enumerate_from, list_any}
 use Rattle.csl_mentions.specs.declared.mention.Mention.{Mention}
 
 abbrev pub same_text : Mention → Mention → Bool
@@ -18,9 +18,13 @@ module _ (mentions : List Mention) where
   abbrev pub is_ambiguous : Mention → Bool
   is_ambiguous m = has_text m && list_any (is_rival m) mentions
 
+  -- the index of the first mention with a text
+  abbrev pub first_with : List ℕ → Option ℕ
+  first_with text = option_map (λ p. p.0) (find (λ p. bytes_eq text p.1.text) (enumerate_from 0 mentions))
+
   -- the group of a mention, if it is in one, by the index of the group's first member
   abbrev pub group_of : Mention → Option ℕ
-  group_of m = if is_ambiguous m then position (same_text m) mentions else None
+  group_of m = if is_ambiguous m then first_with m.text else None
 
   -- the members of a group, in the order of the mentions
   abbrev pub members : Mention → List Mention

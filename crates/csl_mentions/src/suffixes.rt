@@ -1,9 +1,10 @@
 //! Year suffixes (CSL 1.0.2, disambiguation, step 4): of entries whose later mentions read alike.
-ghost use Rattle.std.specs.Prelude.{◌≡◌, ◌+◌, ◌<◌, ◌^◌, ◌&&◌, ℕ, IfOk, List, OnOk, Some, if◌then◌else◌, nat_eq};
+ghost use Rattle.std.specs.Prelude.{◌≡◌, ◌+◌, ◌<◌, ◌^◌, ◌&&◌, ◌||◌, ℕ, IfOk, OnOk, Some, if◌then◌else◌, nat_eq};
 ghost use Rattle.std.specs.List.{list_any};
 ghost use Rattle.csl_mentions.specs.Classes.{AreClassesOf};
-ghost use Rattle.csl_mentions.specs.Counts.{count};
+ghost use Rattle.csl_mentions.specs.Counts.{count, suffix_by};
 ghost use Rattle.csl_mentions.specs.Suffixes.{is_in_class, suffixes};
+ghost use Rattle.csl_telling.specs.Telling.{in_one_group};
 
 use crate::classes::Classes;
 use crate::groups::{classes_of, group_among};
@@ -11,6 +12,23 @@ use crate::mention::Mention;
 use indexmap::IndexSet;
 use std::alloc::{AllocError, Global};
 use std::collections::HashMap;
+
+/// Adds the class of a mention, if its style adds year suffixes.
+fn add_class(
+    adding: &mut IndexSet<usize>,
+    adds_suffix: bool,
+    class: Option<usize>,
+) -> Result<(), AllocError>
+    ensures { OnOk result ((n : ℕ) → list_any (nat_eq n) adding.new.keys
+        ≡ (list_any (nat_eq n) adding.old.keys || (adds_suffix && in_one_group (Some n) class))) }
+{
+    if adds_suffix {
+        if let Some(class) = class {
+            adding.insert(class)?;
+        }
+    }
+    Ok(())
+}
 
 /// The classes in which the style of some entry adds year suffixes.
 fn adding(
@@ -24,28 +42,42 @@ fn adding(
 {
     let mut adding = IndexSet::new(alloc);
     for later in laters {
-        if later.adds_suffix {
-            if let Some(class) = group_among(classes, later) {
-                adding.insert(class)?;
-            }
-        }
+        add_class(&mut adding, later.adds_suffix, group_among(classes, later))?;
     }
     Ok(adding)
 }
 
-/// The next number of a class.
-fn next_number(counts: &mut HashMap<usize, usize>, class: usize) -> Result<usize, AllocError>
-    requires { count counts.old class + 1 < 2 ^ 64 }
-    ensures number { IfOk result (λ n. n ≡ count counts.old class) }
-    ensures counted { OnOk result ((n : ℕ) → count counts.new n
-        ≡ (if nat_eq class n then count counts.old n + 1 else count counts.old n)) }
+/// How many of a class were counted.
+fn counted(counts: &HashMap<usize, usize>, class: usize) -> usize
+    ensures { result ≡ count counts.now class }
 {
-    let number = match counts.get(&class) {
+    match counts.get(&class) {
         Some(count) => *count,
         None => 0,
+    }
+}
+
+/// The suffix of the next one of a class, if the class gets suffixes. It is counted.
+fn next_suffix(
+    counts: &mut HashMap<usize, usize>,
+    adding: &IndexSet<usize>,
+    class: Option<usize>,
+) -> Result<Option<usize>, AllocError>
+    requires { (n : ℕ) → count counts.old n + 1 < 2 ^ 64 }
+    ensures suffix { IfOk result (λ s. s ≡ suffix_by adding.now.keys counts.old class) }
+    ensures counted { OnOk result ((n : ℕ) → count counts.new n
+        ≡ (if in_one_group (Some n) class then count counts.old n + 1 else count counts.old n)) }
+{
+    let Some(class) = class else {
+        return Ok(None);
     };
+    let number = counted(counts, class);
     counts.insert(class, number + 1)?;
-    Ok(number)
+    if adding.contains(&class) {
+        Ok(Some(number))
+    } else {
+        Ok(None)
+    }
 }
 
 /// The year suffixes of the entries of these later mentions, which stand in the order of the
@@ -63,14 +95,11 @@ pub fn suffixes_of(alloc: Global, laters: &[Mention]) -> Result<Vec<Option<usize
     let mut counts = HashMap::new(alloc);
     let mut found = Vec::with_capacity(alloc, laters.len())?;
     for later in laters {
-        let mut suffix = None;
-        if let Some(class) = group_among(&classes, later) {
-            let number = next_number(&mut counts, class)?;
-            if adding.contains(&class) {
-                suffix = Some(number);
-            }
-        }
-        found.push(suffix)?;
+        found.push(next_suffix(
+            &mut counts,
+            &adding,
+            group_among(&classes, later),
+        )?)?;
     }
     Ok(found)
 }

@@ -7,16 +7,11 @@ use Rattle.std.specs.Map.{lookup}
 use Rattle.std.proofs.lemmas.List.{append-nil, append_assoc}
 use Rattle.std.proofs.lemmas.List.Folds.{list_any-append}
 use Rattle.csl_telling.specs.Looks.{same_look}
-use Rattle.csl_telling.specs.Rivals.{AreRivals, Shown, TellsMore, is_other, is_other_held, is_other_shown, is_shown, joined, same_name}
+use Rattle.csl_telling.specs.Rivals.{AreRivals, Shown, TellsMore, held_with, is_other, is_other_held, is_other_shown, is_shown, same_name}
 use Rattle.csl_telling.specs.declared.look.Look.{Look}
 use Rattle.csl_telling.specs.declared.rivals.Held.{Held}
 use Rattle.csl_telling.specs.declared.rivals.SharedName.{SharedName}
 use Rattle.csl_telling.proofs.Deciding.{looks_find, names_find}
-
--- what is held for a name once a look was added
-abbrev pub held_with : Look → Option Held → Held
-held_with a None = Held.One a
-held_with a (Some h) = joined a h
 
 both-alike : (r s a : Look) → same_look a s ≡ false → (not (same_look r s) || not (same_look r a)) ≡ true
 both-alike r s a e = by (same_look r s) (same_look r a) refl refl

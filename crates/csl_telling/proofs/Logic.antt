@@ -1,9 +1,9 @@
 -- Tests of some member of a list.
 use mathlib.Core.Bool.{or-false}
-use Rattle.std.proofs.Common.{◌≡◌, ℕ, ◌+◌, ◌<◌, ◌≤◌, zero, suc, Bool, true, false, cond, not, ◌&&◌, ◌||◌, List, [], ◌∷◌, ◌++◌, map, refl, ap, sym, ◌∙◌, arith}
+use Rattle.std.proofs.Common.{◌≡◌, ◌≢◌, ℕ, ◌+◌, ◌<◌, ◌≤◌, zero, suc, Bool, true, false, cond, not, ◌&&◌, ◌||◌, List, [], ◌∷◌, ◌++◌, map, refl, ap, sym, ◌∙◌, arith}
 use Rattle.std.specs.Prelude.{filter, nat_eq}
 use Rattle.std.specs.List.{flat_map, list_any, range_with_len}
-use Rattle.std.proofs.lemmas.Bool.{eqb-true}
+use Rattle.std.proofs.lemmas.Bool.{eqb-false, eqb-true, ne_eqb}
 use Rattle.std.proofs.lemmas.List.Folds.{list_any-append}
 
 pub and-assoc : (a b c : Bool) → ((a && b) && c) ≡ (a && (b && c))
@@ -25,11 +25,12 @@ module _ {X : Type 0} where
 
   pub any-filter : (p q : X → Bool) (xs : List X) → list_any p (filter q xs) ≡ list_any (λ x. q x && p x) xs
   any-filter p q [] = refl
-  any-filter p q (x ∷ xs) = by (q x)
+  any-filter p q (x ∷ xs) = by (q x) (any-filter p q xs)
     where
-      by : (b : Bool) → list_any p (cond b (x ∷ filter q xs) (filter q xs)) ≡ ((b && p x) || list_any (λ y. q y && p y) xs)
-      by true = ap (λ c. p x || c) (any-filter p q xs)
-      by false = any-filter p q xs
+      by : (b : Bool) → list_any p (filter q xs) ≡ list_any (λ y. q y && p y) xs
+          → list_any p (cond b (x ∷ filter q xs) (filter q xs)) ≡ ((b && p x) || list_any (λ y. q y && p y) xs)
+      by true rest = ap (λ c. p x || c) rest
+      by false rest = rest
 
   pub any-map : {Y : Type 0} (p : X → Bool) (f : Y → X) (ys : List Y) → list_any p (map f ys) ≡ list_any (λ y. p (f y)) ys
   any-map p f [] = refl
@@ -48,19 +49,18 @@ nowhere p a (suc n) h = λ i. h a (omega arith) (omega arith) i || nowhere p (a 
 pub only-at : (p : ℕ → Bool) (i a n : ℕ) → a ≤ i → i < a + n → ((j : ℕ) → a ≤ j → j < a + n → nat_eq i j ≡ false → p j ≡ false)
     → list_any p (range_with_len a n) ≡ p i
 only-at p i a zero l u h = absurd (omega arith)
-only-at p i a (suc n) l u h = by (nat_eq i a) refl
+only-at p i a (suc n) l u h = by (nat_eq i a) refl (λ k. only-at p i (a + 1) n k (omega arith) (λ j v m f. h j (omega arith) (omega arith) f))
   where
-    by : (b : Bool) → nat_eq i a ≡ b → (p a || list_any p (range_with_len (a + 1) n)) ≡ p i
-    by true e =
+    by : (b : Bool) → nat_eq i a ≡ b → (a + 1 ≤ i → list_any p (range_with_len (a + 1) n) ≡ p i) → (p a || list_any p (range_with_len (a + 1) n)) ≡ p i
+    by true e rest =
         let same : i ≡ a = eqb-true i a e in
         ap (λ c. p a || c) (nowhere p (a + 1) n (λ j k m. h j (omega arith) (omega arith) (apart same j k))) ∙ or-false (p a) ∙ ap p (sym same)
       where
         apart : i ≡ a → (j : ℕ) → a + 1 ≤ j → nat_eq i j ≡ false
-        apart same j k = grind arith
-    by false e =
+        apart same j k = ne_eqb i j (λ e. omega (arith, e, same))
+    by false e rest =
         let off : p a ≡ false = h a (omega arith) (omega arith) e in
-        ap (λ c. c || list_any p (range_with_len (a + 1) n)) off
-        ∙ only-at p i (a + 1) n (after e) (omega arith) (λ j k m f. h j (omega arith) (omega arith) f)
+        ap (λ c. c || list_any p (range_with_len (a + 1) n)) off ∙ rest (after e)
       where
         after : nat_eq i a ≡ false → a + 1 ≤ i
-        after e = grind arith
+        after e = let ne : i ≢ a = eqb-false i a e in omega (arith, ne)

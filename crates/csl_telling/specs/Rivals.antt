@@ -31,6 +31,11 @@ is_other r Held.Several = true
 abbrev pub joined : Look → Held → Held
 joined r held = if is_other r held then Held.Several else held
 
+-- also where nothing was held
+abbrev pub held_with : Look → Option Held → Held
+held_with r None = Held.One r
+held_with r (Some held) = joined r held
+
 abbrev pub is_other_held : Look → Option Held → Bool
 is_other_held r None = false
 is_other_held r (Some held) = is_other r held

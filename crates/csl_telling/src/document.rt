@@ -4,9 +4,8 @@ ghost use Rattle.std.specs.Prelude.{◌≡◌, IfOk, OnOk, take};
 ghost use Rattle.std.specs.List.{flat_map};
 ghost use Rattle.csl_telling.specs.ByDocument.{form_by_rule, without_full};
 ghost use Rattle.csl_telling.specs.Looks.{full_look};
-ghost use Rattle.csl_telling.specs.Persons.{all_persons, first_persons, full_looks};
-ghost use Rattle.csl_telling.specs.Known.{KnowsDocument, everywhere, rival_form};
-ghost use Rattle.csl_telling.specs.Rivals.{AreRivals, TellsMore, named_keys};
+ghost use Rattle.csl_telling.specs.Known.{KnowsDocument, everywhere, person_keys, rival_form};
+ghost use Rattle.csl_telling.specs.Rivals.{AreRivals, TellsMore};
 
 use crate::look::shown_as;
 use crate::mention::{MentionedName, NamedMention};
@@ -30,10 +29,11 @@ fn add_person(
     rivals: &mut Rivals,
     name: &MentionedName,
 ) -> Result<(), AllocError>
-    ensures { OnOk result (TellsMore rivals.old rivals.new (named_keys everywhere (full_look name.now.person))) }
+    ensures { OnOk result (TellsMore rivals.old rivals.new (person_keys name.now)) }
 {
     let look = shown_as(alloc, DisambiguatedNameForm::LongFull, &name.person)?;
-    add_named(alloc, rivals, Node::Start(0), &look)
+    add_named(alloc, rivals, Node::Start(0), &look)?;
+    Ok(())
 }
 
 fn add_names(
@@ -41,8 +41,7 @@ fn add_names(
     rivals: &mut Rivals,
     names: &[MentionedName],
 ) -> Result<(), AllocError>
-    ensures { OnOk result (TellsMore rivals.old rivals.new
-        (flat_map (named_keys everywhere) (full_looks names.now))) }
+    ensures { OnOk result (TellsMore rivals.old rivals.new (flat_map person_keys names.now)) }
 {
     for name in names {
         add_person(alloc, rivals, name)?;
@@ -55,8 +54,7 @@ fn add_first(
     rivals: &mut Rivals,
     names: &[MentionedName],
 ) -> Result<(), AllocError>
-    ensures { OnOk result (TellsMore rivals.old rivals.new
-        (flat_map (named_keys everywhere) (full_looks (take 1 names.now)))) }
+    ensures { OnOk result (TellsMore rivals.old rivals.new (flat_map person_keys (take 1 names.now))) }
 {
     match names.first() {
         Some(name) => add_person(alloc, rivals, name),
@@ -65,7 +63,8 @@ fn add_first(
 }
 
 fn all_rivals(alloc: Global, mentions: &[NamedMention]) -> Result<Rivals, AllocError>
-    ensures { IfOk result (λ r. AreRivals r (flat_map (named_keys everywhere) (all_persons mentions.now))) }
+    ensures { IfOk result (λ r. AreRivals r
+        (flat_map (λ m. flat_map person_keys m.names) mentions.now)) }
 {
     let mut rivals = HashMap::new(alloc);
     for mention in mentions {
@@ -75,7 +74,8 @@ fn all_rivals(alloc: Global, mentions: &[NamedMention]) -> Result<Rivals, AllocE
 }
 
 fn first_rivals(alloc: Global, mentions: &[NamedMention]) -> Result<Rivals, AllocError>
-    ensures { IfOk result (λ r. AreRivals r (flat_map (named_keys everywhere) (first_persons mentions.now))) }
+    ensures { IfOk result (λ r. AreRivals r
+        (flat_map (λ m. flat_map person_keys (take 1 m.names)) mentions.now)) }
 {
     let mut rivals = HashMap::new(alloc);
     for mention in mentions {

@@ -1,7 +1,7 @@
 //! Who is named beside others, by what they share.
 ghost use Rattle.std.specs.Prelude.{◌≡◌, ◌∷◌, [], None, Some, OnOk, IfOk, is_some};
 ghost use Rattle.std.specs.HashMap.{get};
-ghost use Rattle.csl_telling.specs.Rivals.{TellsMore, at_node, by_family, by_initials, form_by, is_other, is_other_held, joined, keys_at, named_keys, same_name};
+ghost use Rattle.csl_telling.specs.Rivals.{TellsMore, at_node, by_family, by_initials, form_by, held_with, is_other, is_other_held, joined, keys_at, named_keys, same_name};
 ghost use Rattle.csl_telling.specs.Looks.{has_given};
 
 use crate::look::Look;
@@ -47,24 +47,38 @@ fn is_other(held: &Held, look: &Look) -> bool
     }
 }
 
-/// Adds a look to what is held.
-fn join(held: &mut Held, look: &Look)
-    ensures { held.new ≡ joined look.now held.old }
+/// What is held once this look was added.
+fn joined(held: &Held, look: &Look) -> Result<Held, AllocError>
+    ensures { IfOk result (λ h. h ≡ joined look.now held.now) }
 {
-    if is_other(held, look) {
-        *held = Held::Several;
+    match held {
+        Held::One(one) => {
+            if *look == *one {
+                Ok(Held::One(one.clone()?))
+            } else {
+                Ok(Held::Several)
+            }
+        }
+        Held::Several => Ok(Held::Several),
+    }
+}
+
+/// What is held for a name once this look was added.
+fn held_with(rivals: &Rivals, name: &SharedName, look: &Look) -> Result<Held, AllocError>
+    ensures { IfOk result (λ h. h ≡ held_with look.now (get same_name rivals.now name.now)) }
+{
+    match rivals.get(name) {
+        Some(held) => joined(held, look),
+        None => Ok(Held::One(look.clone()?)),
     }
 }
 
 /// Adds a look under a shared name.
-pub(crate) fn add(rivals: &mut Rivals, name: SharedName, look: &Look) -> Result<(), AllocError>
+fn add(rivals: &mut Rivals, name: SharedName, look: &Look) -> Result<(), AllocError>
     ensures { OnOk result (TellsMore rivals.old rivals.new ((name, look.now) ∷ [])) }
 {
-    if let Some(held) = rivals.get_mut(&name) {
-        join(held, look);
-        return Ok(());
-    }
-    rivals.insert(name, Held::One(look.clone()?))?;
+    let held = held_with(rivals, &name, look)?;
+    rivals.insert(name, held)?;
     Ok(())
 }
 
@@ -110,8 +124,11 @@ pub(crate) fn add_named(
 ) -> Result<(), AllocError>
     ensures { OnOk result (TellsMore rivals.old rivals.new (named_keys node look.now)) }
 {
-    add(rivals, by_family(node, look)?, look)?;
-    add(rivals, by_initials(alloc, node, look)?, look)
+    let family = by_family(node, look)?;
+    add(rivals, family, look)?;
+    let both = by_initials(alloc, node, look)?;
+    add(rivals, both, look)?;
+    Ok(())
 }
 
 /// Adds a look that goes on from a node; where given names are added cite by cite also by its names.
@@ -124,10 +141,12 @@ pub(crate) fn add_at(
 ) -> Result<(), AllocError>
     ensures { OnOk result (TellsMore rivals.old rivals.new (keys_at by_cite node look.now)) }
 {
-    add(rivals, at_node(node), look)?;
-    if by_cite {
-        add_named(alloc, rivals, node, look)?;
+    let any = at_node(node);
+    add(rivals, any, look)?;
+    if !by_cite {
+        return Ok(());
     }
+    add_named(alloc, rivals, node, look)?;
     Ok(())
 }
 

@@ -1,0 +1,18 @@
+use Rattle.std.proofs.Common.{refl, arith}
+use Rattle.csl_telling.proofs.Numbered.{extends-same}
+use Rattle.csl_telling.proofs.Walking.{last-stop, one-more-copied}
+use Rattle.csl_telling.proofs.ways.stops_of.Goals as goal
+
+pub loop-look-init : goal.loop-look-init
+loop-look-init c = record {
+  node = refl;
+  stops = c.new-stops.ensures.items;
+  made = λ i r h e. absurd (omega arith);
+  extends = extends-same c.args.steps.now.keys;
+}
+
+pub loop-look-preserved : goal.loop-look-preserved
+loop-look-preserved c =
+    one-more-copied c.args.steps.now.keys c.loop-look.steps.keys c.insert_full.new.self.keys c.args.group c.args.looks.now c.loop-look.look-index c.look-item.result ? ? c.loop-look.node
+    c.in_ok-made.made.0 c.loop-look.stops.items c.push.new.self.items c.loop-look-test.true c.look-item.is c.loop-look.invariant ? ? c.in_ok-made.ensures.keys c.in_ok-made.ensures.index
+    c.in_ok-push.ensures.items
