@@ -1,5 +1,5 @@
 -- What is known of the mentions of a text, as one more comes in.
-use mathlib.Core.Bool.{or-false}
+use mathlib.Core.Bool.{or-false, or-true}
 use Rattle.std.proofs.Common.{◌≡◌, ℕ, ◌+◌, zero, suc, Bool, true, false, cond, not, ◌&&◌, ◌||◌, Some, None, Option, List, [], ◌∷◌, ◌++◌, length, map, refl, ap, sym, subst, ◌∙◌, true≢false, arith}
 use Rattle.std.specs.Prelude.{bytes_eq, find, nat_eq, option_map}
 use Rattle.std.specs.HashMap.{HashMap, get}
@@ -10,7 +10,7 @@ use Rattle.std.specs.Cmp.{nat_eq_equiv}
 use Rattle.std.proofs.lemmas.Bool.{eqb-true}
 use Rattle.std.proofs.lemmas.List.Folds.{find-append, list_any-append}
 use Rattle.csl_values.specs.Finds.{texts_find}
-use Rattle.csl_mentions.specs.Classes.{AreClassesOf, group_found, is_other, joined}
+use Rattle.csl_mentions.specs.Classes.{AreClassesOf, class_with, group_found, is_other, joined}
 use Rattle.csl_mentions.specs.Groups.{first_with, group_of, has_text}
 use Rattle.csl_mentions.specs.declared.classes.Class.{Class}
 use Rattle.csl_mentions.specs.declared.mention.Mention.{Mention}
@@ -43,50 +43,22 @@ texts-differ s t e = by (bytes_eq t s) refl
         let same : t ≡ s = texts_find.equal t s p in
         absurd (true≢false (sym (texts_find.self s) ∙ ap (bytes_eq s) (sym same) ∙ e))
 
--- what is known of a text once a mention at index k of this entry was added
-abbrev pub class_with : ℕ → ℕ → Option Class → Class
-class_with k entry None = record { first = k; entry = entry; several = false }
-class_with k entry (Some c) = joined entry c
-
 first-kept : (k entry : ℕ) (o : Option Class) → Some (class_with k entry o).first ≡ option_or (option_map (λ c. c.first) o) (Some k)
 first-kept k entry None = refl
-first-kept k entry (Some c) = by (nat_eq c.entry entry)
-  where
-    by : (b : Bool) → Some (cond b c (record c { several = true })).first ≡ Some c.first
-    by true = refl
-    by false = refl
+first-kept k entry (Some c) = refl
 
 other-grows : (k e entry : ℕ) (o : Option Class) → is_other e (Some (class_with k entry o)) ≡ (is_other e o || not (nat_eq e entry))
 other-grows k e entry None = ap not (nat_eq_equiv.symm entry e)
-other-grows k e entry (Some c) = by (nat_eq c.entry entry) refl c.several
+other-grows k e entry (Some c) = by c.several (nat_eq c.entry e) refl
   where
-    swap : (b d : Bool) → ((b || d) || true) ≡ true
-    swap true d = refl
-    swap false true = refl
-    swap false false = refl
-
-    twice : (s d : Bool) → (s || d) ≡ ((s || d) || d)
-    twice true d = refl
-    twice false true = refl
-    twice false false = refl
-
-    by : (b : Bool) → nat_eq c.entry entry ≡ b → (s : Bool) → is_other e (Some (cond b c (record c { several = true }))) ≡ ((c.several || not (nat_eq c.entry e)) || not (nat_eq e entry))
-    by true p s =
-        let same : c.entry ≡ entry = eqb-true c.entry entry p in
-        twice c.several (not (nat_eq c.entry e))
-        ∙ ap (λ d. (c.several || not (nat_eq c.entry e)) || not d) (nat_eq_equiv.symm c.entry e ∙ ap (nat_eq e) same)
-    by false p s = sym (apart (nat_eq c.entry e) (nat_eq e entry) refl refl)
-      where
-        apart : (x y : Bool) → nat_eq c.entry e ≡ x → nat_eq e entry ≡ y → ((c.several || not x) || not y) ≡ true
-        apart false y f g = first c.several (not y)
-          where
-            first : (a b : Bool) → ((a || true) || b) ≡ true
-            first true b = refl
-            first false b = refl
-        apart true false f g = swap c.several false
-        apart true true f g =
-            let same : c.entry ≡ entry = eqb-true c.entry e f ∙ eqb-true e entry g in
-            absurd (true≢false (sym (nat_eq_equiv.refl c.entry) ∙ ap (nat_eq c.entry) same ∙ p))
+    by : (s b : Bool) → nat_eq c.entry e ≡ b → ((s || not (nat_eq c.entry entry)) || not (nat_eq c.entry e)) ≡ ((s || not (nat_eq c.entry e)) || not (nat_eq e entry))
+    by true b p = refl
+    by false false p =
+        ap (λ d. not (nat_eq c.entry entry) || not d) p ∙ or-true (not (nat_eq c.entry entry)) ∙ sym (ap (λ d. not d || not (nat_eq e entry)) p)
+    by false true p =
+        let same : c.entry ≡ e = eqb-true c.entry e p in
+        ap (λ d. not (nat_eq c.entry entry) || not d) p ∙ or-false (not (nat_eq c.entry entry)) ∙ ap (λ x. not (nat_eq x entry)) same
+        ∙ sym (ap (λ d. not d || not (nat_eq e entry)) p)
 
 module _ {S : Type 0} (old new : HashMap (List ℕ) Class S) (k : ℕ) (m : Mention)
     (at : (t : List ℕ) → get bytes_eq new t ≡ cond (bytes_eq m.text t) (Some (class_with k m.entry (get bytes_eq old m.text))) (get bytes_eq old t)) where

@@ -1,1 +1,3 @@
 pub mod Classing
+pub mod Stepping
+pub mod Numbering

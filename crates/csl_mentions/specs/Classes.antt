@@ -8,7 +8,12 @@ use Rattle.csl_mentions.specs.declared.mention.Mention.{Mention}
 
 -- once one that mentions this entry was added
 abbrev pub joined : ℕ → Class → Class
-joined entry c = if nat_eq c.entry entry then c else record c { several = true }
+joined entry c = record c { several = c.several || not (nat_eq c.entry entry) }
+
+-- the same of a mention at this index, also where it is the first
+abbrev pub class_with : ℕ → ℕ → Option Class → Class
+class_with k entry None = record { first = k; entry = entry; several = false }
+class_with k entry (Some c) = joined entry c
 
 -- another entry than this one is mentioned
 abbrev pub is_other : ℕ → Option Class → Bool

@@ -1,6 +1,7 @@
 //! What is known of the mentions that have a text.
-ghost use Rattle.std.specs.Prelude.{◌≡◌, ◌++◌, ◌∷◌, [], List, OnOk, length};
-ghost use Rattle.csl_mentions.specs.Classes.{AreClassesOf, group_found, joined};
+ghost use Rattle.std.specs.Prelude.{◌≡◌, ◌++◌, ◌∷◌, [], List, OnOk, bytes_eq, length};
+ghost use Rattle.std.specs.HashMap.{get};
+ghost use Rattle.csl_mentions.specs.Classes.{AreClassesOf, class_with, group_found, joined};
 ghost use Rattle.csl_mentions.specs.declared.mention.Mention.{Mention as MentionValue};
 
 use crate::mention::Mention;
@@ -9,6 +10,7 @@ use std::alloc::AllocError;
 use std::collections::HashMap;
 
 /// The mentions of a text.
+#[derive(Clone, Copy)]
 pub(crate) struct Class {
     /// The index of the first of them.
     pub(crate) first: usize,
@@ -21,12 +23,28 @@ pub(crate) struct Class {
 /// The mentions that were looked at, by their texts.
 pub(crate) type Classes = HashMap<Text, Class>;
 
-/// Adds one that mentions this entry.
-fn join(class: &mut Class, entry: usize)
-    ensures { class.new ≡ joined entry class.old }
+/// What is known once one that mentions this entry was added.
+fn joined(class: &Class, entry: usize) -> Class
+    ensures { result ≡ joined entry class.now }
 {
-    if class.entry != entry {
-        class.several = true;
+    Class {
+        first: class.first,
+        entry: class.entry,
+        several: class.several || class.entry != entry,
+    }
+}
+
+/// What is known of a mention's text once the mention was added, at index `k`.
+fn class_with(classes: &Classes, k: usize, mention: &Mention) -> Class
+    ensures { result ≡ class_with k mention.now.entry (get bytes_eq classes.now mention.now.text) }
+{
+    match classes.get(&mention.text) {
+        Some(class) => joined(class, mention.entry),
+        None => Class {
+            first: k,
+            entry: mention.entry,
+            several: false,
+        },
     }
 }
 
@@ -35,18 +53,8 @@ pub(crate) fn add(classes: &mut Classes, k: usize, mention: &Mention) -> Result<
     ensures { OnOk result ((before : List MentionValue) → length before ≡ k → AreClassesOf classes.old before
         → AreClassesOf classes.new (before ++ mention.now ∷ [])) }
 {
-    if let Some(class) = classes.get_mut(&mention.text) {
-        join(class, mention.entry);
-        return Ok(());
-    }
-    classes.insert(
-        mention.text.clone()?,
-        Class {
-            first: k,
-            entry: mention.entry,
-            several: false,
-        },
-    )?;
+    let class = class_with(classes, k, mention);
+    classes.insert(mention.text.clone()?, class)?;
     Ok(())
 }
 

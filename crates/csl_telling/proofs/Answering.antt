@@ -1,6 +1,6 @@
 -- What is found for a mention is what tells it apart.
 use Rattle.std.proofs.Common.{◌≡◌, ℕ, ◌+◌, ◌<◌, ◌≤◌, zero, suc, Bool, true, false, cond, ◌&&◌, Some, None, Option, List, [], ◌∷◌, ◌++◌, get_or, length, map, take, refl, ap, sym, subst, ◌∙◌, arith, inl, inr, ◌⊎◌}
-use Rattle.std.specs.Prelude.{All, filter, nat_eq, option_map, slice_get, unwrap_or}
+use Rattle.std.specs.Prelude.{All, filter, option_map, slice_get, unwrap_or}
 use Rattle.std.specs.List.{enumerate_from, range_with_len}
 use Rattle.std.specs.Option.{option_and_then}
 use Rattle.std.proofs.lemmas.Bool.{cases_lt, eqb-true, false≢true}
@@ -19,10 +19,9 @@ use Rattle.csl_telling.specs.Raising.{form_needed_by, raised_by, raised_names}
 use Rattle.csl_telling.specs.Reaches.{first_member, is_by_cite, reach, reach_by}
 use Rattle.csl_telling.specs.Telling.{first_difference, form_against, form_beside, form_needed, greatest, group_of, in_one_group, names_against, names_needed}
 use Rattle.csl_telling.specs.Told.{least_form, told_by_names}
-use Rattle.csl_telling.specs.Ways.{AllMade, AllMadeBy, AreMade, way_of}
+use Rattle.csl_telling.specs.Ways.{AllMade, AllMadeBy, way_of}
 use Rattle.csl_telling.specs.declared.gathered.Gathered.{Gathered}
 use Rattle.csl_telling.specs.declared.gathered.Needs.{Needs}
-use Rattle.csl_telling.specs.declared.mention.MentionedName.{MentionedName}
 use Rattle.csl_telling.specs.declared.mention.NamedMention.{NamedMention}
 use Rattle.csl_telling.specs.declared.reach.Reach.{Reach}
 use Rattle.csl_telling.specs.declared.ways.Step.{Step}
@@ -144,8 +143,8 @@ module _ (ms : List NamedMention) where
                 ∙ sym (by-first m (first_member ms m))
 
             each : (xs : List NamedMention) → All (λ x. in_one_group (Some h) (reach ms x).group ≡ true → (reach ms x).by_cite ≡ a.by_cite) xs
-            each [] = All-nil _
-            each (x ∷ xs) = All-cons _ x xs (one x) (each xs)
+            each [] = All-nil (λ x. in_one_group (Some h) (reach ms x).group ≡ true → (reach ms x).by_cite ≡ a.by_cite)
+            each (x ∷ xs) = All-cons (λ y. in_one_group (Some h) (reach ms y).group ≡ true → (reach ms y).by_cite ≡ a.by_cite) x xs (one x) (each xs)
 
     pub needs-of : needs_on g (way_of steps a) ≡ needs reaches a
     needs-of = by m.group refl

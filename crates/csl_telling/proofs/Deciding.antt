@@ -1,5 +1,5 @@
 -- The tests of equality on looks and steps decide equality.
-use Rattle.std.specs.Prelude.{◌≡◌, Bool, true, refl}
+use Rattle.std.specs.Prelude.{◌≡◌, true, refl}
 use Rattle.std.specs.Cmp.{unsigned_Decides}
 use Rattle.std.proofs.Common.{ap, sym, true≢false}
 use Rattle.csl_values.specs.Finds.{Finds, both, and-true, texts_find, options_find}

@@ -1,5 +1,5 @@
 -- The first place at which two lists of looks differ, and what stands there.
-use Rattle.std.proofs.Common.{◌≡◌, ℕ, ◌+◌, ◌<◌, ◌≤◌, zero, suc, Bool, true, false, cond, not, ◌&&◌, Some, None, Option, List, [], ◌∷◌, length, min, take, refl, ap, sym, ◌∙◌, arith, add-one, length-take}
+use Rattle.std.proofs.Common.{◌≡◌, ℕ, ◌+◌, ◌<◌, ◌≤◌, zero, suc, Bool, true, false, cond, not, ◌&&◌, Some, None, Option, List, [], ◌∷◌, length, take, refl, ap, sym, ◌∙◌, arith, add-one, length-take}
 use Rattle.std.specs.Prelude.{nat_eq, slice_get}
 use Rattle.std.specs.Option.{option_eq, option_map}
 use Rattle.std.proofs.Math.Dec.{eqb-suc-suc, eqb-suc-zero, eqb-zero-suc}

@@ -1,6 +1,6 @@
 -- The form that a person needs among those of a document, as their names tell it.
 use mathlib.Core.Bool.{or-false}
-use Rattle.std.proofs.Common.{◌≡◌, ℕ, Bool, true, false, cond, not, ◌&&◌, ◌||◌, List, Option, [], ◌∷◌, map, take, refl, ap, sym, ◌∙◌}
+use Rattle.std.proofs.Common.{◌≡◌, ℕ, Bool, true, false, cond, not, ◌&&◌, ◌||◌, List, Option, [], ◌∷◌, take, refl, sym, ◌∙◌}
 use Rattle.std.specs.Prelude.{bytes_eq, filter}
 use Rattle.std.specs.HashMap.{HashMap}
 use Rattle.std.specs.List.{flat_map, list_any}
@@ -11,7 +11,7 @@ use Rattle.csl_telling.specs.Known.{KnowsDocument, everywhere, person_keys, riva
 use Rattle.csl_telling.specs.declared.document.Document.{Document}
 use Rattle.csl_telling.specs.Looks.{full_look, has_given, is_namesake, needed, needed_beside, same_initials, same_look}
 use Rattle.csl_telling.specs.Persons.{full_looks}
-use Rattle.csl_telling.specs.Rivals.{AreRivals, Shown, by_family, by_initials, form_by, is_other_shown, named_keys}
+use Rattle.csl_telling.specs.Rivals.{AreRivals, by_family, by_initials, form_by, is_other_shown, named_keys}
 use Rattle.csl_telling.specs.declared.look.Look.{Look}
 use Rattle.csl_telling.specs.declared.mention.MentionedName.{MentionedName}
 use Rattle.csl_telling.specs.declared.mention.NamedMention.{NamedMention}
@@ -39,11 +39,12 @@ module _ (r : Look) where
 
   some-left : (ps : List Look) → list_any (is_namesake r) ps ≡ list_any (λ s. true) (filter (is_namesake r) ps)
   some-left [] = refl
-  some-left (s ∷ ss) = by (is_namesake r s)
+  some-left (s ∷ ss) = by (is_namesake r s) (some-left ss)
     where
-      by : (b : Bool) → (b || list_any (is_namesake r) ss) ≡ list_any (λ t. true) (cond b (s ∷ filter (is_namesake r) ss) (filter (is_namesake r) ss))
-      by true = refl
-      by false = some-left ss
+      by : (b : Bool) → list_any (is_namesake r) ss ≡ list_any (λ t. true) (filter (is_namesake r) ss)
+          → (b || list_any (is_namesake r) ss) ≡ list_any (λ t. true) (cond b (s ∷ filter (is_namesake r) ss) (filter (is_namesake r) ss))
+      by true rest = refl
+      by false rest = rest
 
   beside-these : (qs : List Look) → form_by true (list_any (λ s. true) qs) (list_any (same_initials r) qs) ≡ needed_beside r qs
   beside-these [] = refl

@@ -1,14 +1,13 @@
 -- Where names lead: two ways meet exactly where they have led by the same looks from one group.
-use Rattle.std.proofs.Common.{◌≡◌, ℕ, ◌+◌, ◌<◌, ◌≤◌, zero, suc, Bool, true, false, not, ◌&&◌, Some, None, Option, List, [], ◌∷◌, ◌++◌, length, map, take, refl, ap, sym, subst, ◌∙◌, arith, add-one}
-use Rattle.std.specs.Prelude.{nat_eq, slice_get, fold}
-use Rattle.std.specs.List.{list_any, range_with_len}
-use Rattle.std.specs.Cmp.{nat_eq_equiv}
+use Rattle.std.proofs.Common.{◌≡◌, ℕ, ◌<◌, ◌≤◌, zero, suc, Bool, ◌&&◌, Some, List, [], ◌∷◌, ◌++◌, length, take, refl, ap, sym, ◌∙◌, arith}
+use Rattle.std.specs.Prelude.{nat_eq, slice_get}
+use Rattle.std.specs.List.{list_any}
 use Rattle.std.specs.Cmp.Lexicographic.{pointwise}
 use Rattle.std.proofs.Math.Dec.{eqb-suc-suc, eqb-suc-zero, eqb-zero-suc}
 use Rattle.std.proofs.lemmas.List.Sums.{fold-append}
 use Rattle.csl_telling.specs.Gathered.{same_node}
 use Rattle.csl_telling.specs.Looks.{same_look}
-use Rattle.csl_telling.specs.Ways.{AreMade, Extends, lead, next, same_step, step, stop_at}
+use Rattle.csl_telling.specs.Ways.{AreMade, Extends, lead, next, same_step, step}
 use Rattle.csl_telling.specs.declared.look.Look.{Look}
 use Rattle.csl_telling.specs.declared.rivals.Node.{Node}
 use Rattle.csl_telling.specs.declared.ways.Step.{Step}

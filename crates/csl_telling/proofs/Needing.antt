@@ -1,6 +1,6 @@
 -- What is asked at the stops of a way is what its mention needs against those of its group.
 use mathlib.Core.Bool.{or-false}
-use Rattle.std.proofs.Common.{◌≡◌, ℕ, ◌+◌, ◌<◌, ◌≤◌, zero, suc, Bool, true, false, cond, not, ◌&&◌, ◌||◌, Some, None, Option, List, [], ◌∷◌, ◌++◌, length, map, take, refl, ap, sym, subst, ◌∙◌, arith, add-one, inl, inr, ◌⊎◌}
+use Rattle.std.proofs.Common.{◌≡◌, ℕ, ◌+◌, ◌<◌, ◌≤◌, zero, suc, Bool, true, false, cond, not, ◌&&◌, ◌||◌, Some, None, Option, List, [], ◌∷◌, ◌++◌, length, map, take, refl, ap, sym, ◌∙◌, arith, add-one, inl, inr, ◌⊎◌}
 use Rattle.std.specs.Prelude.{All, bytes_eq, filter, is_none, is_some, nat_eq, nat_lt, slice_get}
 use Rattle.std.specs.HashMap.{get}
 use Rattle.std.specs.List.{enumerate_from, flat_map, list_any, range_with_len}
@@ -24,8 +24,6 @@ use Rattle.csl_telling.specs.declared.reach.Reach.{Reach}
 use Rattle.csl_telling.specs.declared.rivals.Node.{Node}
 use Rattle.csl_telling.specs.declared.rivals.SharedName.{SharedName}
 use Rattle.csl_telling.specs.declared.ways.Step.{Step}
-use Rattle.csl_telling.specs.declared.ways.Stop.{Stop}
-use Rattle.csl_telling.specs.declared.ways.Way.{Way}
 use Rattle.csl_telling.proofs.Counting.{greatest-asked, greatest-at, greatest-ended, greatest-form-asked, greatest-same, greatest-short, greatest-swap, greatest-zero}
 use Rattle.csl_telling.proofs.Deciding.{looks_find}
 use Rattle.csl_telling.proofs.Differing.{as-far, differs-at, is_place, within-both}

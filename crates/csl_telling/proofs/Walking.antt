@@ -1,5 +1,5 @@
 -- The stops of a mention, as one step more is made.
-use Rattle.std.proofs.Common.{◌≡◌, ℕ, ◌+◌, ◌<◌, ◌≤◌, zero, suc, true, Some, None, Option, List, [], ◌∷◌, ◌++◌, get_or, length, map, take, refl, ap, sym, subst, ◌∙◌, arith, add-one, inl, inr, ◌⊎◌}
+use Rattle.std.proofs.Common.{◌≡◌, ℕ, ◌+◌, ◌<◌, ◌≤◌, true, Some, None, Option, List, [], ◌∷◌, ◌++◌, get_or, length, map, take, refl, ap, sym, subst, ◌∙◌, arith, inl, inr, ◌⊎◌}
 use Rattle.std.specs.Prelude.{All, slice_get}
 use Rattle.std.specs.List.{list_any, range_with_len}
 use Rattle.std.proofs.lemmas.Bool.{cases_eq}
@@ -22,8 +22,8 @@ use Rattle.csl_telling.proofs.Numbered.{extends-then, extends-with, listed-own, 
 
 -- the stops so far, and where they lead
 pub record AreSoFar (start steps : List Step) (g : ℕ) (looks : List Look) (k : ℕ) (node : Node) (stops : List Stop) : Type 0 where
-  pub node : node ≡ lead steps (Node.Start g) (take k looks)
-  pub stops : stops ≡ map (stop_at steps g looks) (range_with_len 0 k)
+  pub leads : node ≡ lead steps (Node.Start g) (take k looks)
+  pub are_stops : stops ≡ map (stop_at steps g looks) (range_with_len 0 k)
   pub made : AreMade steps g looks k
   pub extends : Extends start steps
 
@@ -41,7 +41,7 @@ module _ (start old new : List Step) (g : ℕ) (looks : List Look) (k : ℕ) (x 
   there = slice_get-get_or looks k x within ∙ ap Some (sym here)
 
   at-k : lead new (Node.Start g) (take k looks) ≡ n
-  at-k = stays k (omega arith) ∙ sym so_far.node
+  at-k = stays k (omega arith) ∙ sym so_far.leads
 
   listed : list_any (same_step (step n x)) new ≡ true
   listed = ap (list_any (same_step (step n x))) keys ∙ listed-own same_step steps_find old (step n x)
@@ -58,14 +58,14 @@ module _ (start old new : List Step) (g : ℕ) (looks : List Look) (k : ℕ) (x 
 
   pub one-more-stop : AreSoFar start new g looks (k + 1) (Node.Step index) all
   one-more-stop = record {
-    node =
+    leads =
         ap Node.Step (numbered ∙ sym (number-own same_step steps_find old (step n x)) ∙ ap (λ s. number same_step s (step n x)) (sym keys))
         ∙ ap (λ m. next new m x) (sym at-k) ∙ sym (lead-push new (Node.Start g) (take k looks) x)
         ∙ ap (lead new (Node.Start g)) (sym (take_more looks k x within ∙ ap (λ y. take k looks ++ y ∷ []) (sym here)));
-    stops =
+    are_stops =
         pushed
         ∙ ap (λ l. l ++ record { node = n; look = Some x } ∷ [])
-        (so_far.stops ∙ map-range-same (stop_at old g looks) (stop_at new g looks) 0 k (λ j l u. λ t. record { node = sym (stays j (omega arith)) t; look = slice_get looks j }))
+        (so_far.are_stops ∙ map-range-same (stop_at old g looks) (stop_at new g looks) 0 k (λ j l u. λ t. record { node = sym (stays j (omega arith)) t; look = slice_get looks j }))
         ∙ ap (λ s. map (stop_at new g looks) (range_with_len 0 k) ++ s ∷ []) (λ t. record { node = sym at-k t; look = sym there t })
         ∙ sym (map-range_with_len_more (stop_at new g looks) 0 k k (omega arith));
     made = made;
@@ -76,8 +76,8 @@ module _ (start old new : List Step) (g : ℕ) (looks : List Look) (k : ℕ) (x 
 pub last-stop : (start steps : List Step) (g : ℕ) (looks : List Look) (k : ℕ) (n : Node) (stops all : List Stop) → k ≡ length looks
     → AreSoFar start steps g looks k n stops → all ≡ stops ++ record { node = n; look = None } ∷ [] → all ≡ stops_of steps (Some g) looks
 last-stop start steps g looks k n stops all end h pushed =
-    pushed ∙ ap (λ l. l ++ record { node = n; look = None } ∷ []) h.stops
-    ∙ ap (λ s. map (stop_at steps g looks) (range_with_len 0 k) ++ s ∷ []) (λ t. record { node = h.node t; look = sym (slice_get_past looks k (omega arith)) t })
+    pushed ∙ ap (λ l. l ++ record { node = n; look = None } ∷ []) h.are_stops
+    ∙ ap (λ s. map (stop_at steps g looks) (range_with_len 0 k) ++ s ∷ []) (λ t. record { node = h.leads t; look = sym (slice_get_past looks k (omega arith)) t })
     ∙ sym (map-range_with_len_more (stop_at steps g looks) 0 k k (omega arith))
     ∙ ap (λ m. map (stop_at steps g looks) (range_with_len 0 (m + 1))) end
 

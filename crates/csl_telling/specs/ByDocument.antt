@@ -4,7 +4,6 @@ use Rattle.csl_values.specs.declared.names.DisambiguatedNameForm.{DisambiguatedN
 use Rattle.csl_style_values.specs.declared.style.DisambiguationRule.{DisambiguationRule}
 use Rattle.csl_telling.specs.Looks.{full_look, needed}
 use Rattle.csl_telling.specs.Persons.{all_persons, first_persons}
-use Rattle.csl_telling.specs.declared.look.Look.{Look}
 use Rattle.csl_telling.specs.declared.mention.MentionedName.{MentionedName}
 use Rattle.csl_telling.specs.declared.mention.NamedMention.{NamedMention}
 

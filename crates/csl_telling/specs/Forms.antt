@@ -1,5 +1,5 @@
 -- The forms of the names of a mention, and these raised.
-use Rattle.std.specs.Prelude.{ℕ, Bool, true, false, List, Option, None, Some, if◌then◌else◌, map, nat_lt}
+use Rattle.std.specs.Prelude.{ℕ, Bool, true, false, Option, None, Some, if◌then◌else◌, map, nat_lt}
 use Rattle.std.specs.Cmp.Lexicographic.{pointwise}
 use Rattle.std.specs.List.{enumerate_from, fold, position_or_len}
 use Rattle.std.specs.Ordering.{ord_max}

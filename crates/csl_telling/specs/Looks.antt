@@ -1,5 +1,5 @@
 -- What a form shows of a person, and how much has to be shown.
-use Rattle.std.specs.Prelude.{ℕ, Bool, true, false, not, ◌&&◌, ◌||◌, ◌==◌, List, [], ◌∷◌, Option, None, Some, bytes_eq, filter, if◌then◌else◌, length}
+use Rattle.std.specs.Prelude.{ℕ, Bool, true, false, not, ◌&&◌, ◌==◌, List, [], ◌∷◌, Option, None, Some, bytes_eq, filter, if◌then◌else◌, length}
 use Rattle.std.specs.List.{list_any}
 use Rattle.csl_values.specs.Initials.{given_initials}
 use Rattle.csl_values.specs.declared.entry.Person.{Person}

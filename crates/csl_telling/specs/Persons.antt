@@ -1,5 +1,5 @@
 -- The persons of mentions, and the forms in which their styles write them.
-use Rattle.std.specs.Prelude.{List, Option, map, take}
+use Rattle.std.specs.Prelude.{List, map, take}
 use Rattle.std.specs.List.{flat_map}
 use Rattle.csl_values.specs.Forms.{Forms}
 use Rattle.csl_telling.specs.Looks.{full_look}

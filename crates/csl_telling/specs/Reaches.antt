@@ -1,5 +1,5 @@
 -- What names can tell at most of the mentions of an ambiguous group.
-use Rattle.std.specs.Prelude.{ℕ, Bool, true, false, List, [], Option, None, Some, if◌then◌else◌, map, slice_get, take}
+use Rattle.std.specs.Prelude.{Bool, true, false, List, [], Option, None, Some, if◌then◌else◌, map, slice_get, take}
 use Rattle.std.specs.List.{enumerate_from}
 use Rattle.std.specs.Option.{option_and_then}
 use Rattle.csl_values.specs.declared.names.DisambiguatedNameForm.{DisambiguatedNameForm}
@@ -40,7 +40,7 @@ module _ (mentions : List NamedMention) where
   abbrev pub looks_in : Bool → Bool → NamedMention → List Look
   looks_in adds_names by_cite m =
       map (λ p. look (reach_form by_cite (base (own_forms m.names)) (document_form mentions m.rule p.0 p.1)
-          p.1.own) p.1.person)
+      p.1.own) p.1.person)
       (enumerate_from 0 (can_be_shown adds_names m.names))
 
   -- that of a mention whose group begins with this one; of one that is in no group there is nothing to tell

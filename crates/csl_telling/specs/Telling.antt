@@ -1,5 +1,5 @@
 -- Names that tell mentions of a group apart, by pairs.
-use Rattle.std.specs.Prelude.{ℕ, ◌+◌, Bool, true, false, ◌&&◌, ◌∷◌, [], List, Option, None, Some, filter, if◌then◌else◌, length, map, max, nat_eq, nat_lt, slice_get}
+use Rattle.std.specs.Prelude.{ℕ, ◌+◌, Bool, false, ◌&&◌, ◌∷◌, [], List, Option, None, Some, filter, if◌then◌else◌, length, map, max, nat_eq, nat_lt, slice_get}
 use Rattle.std.specs.Option.{option_eq, option_map, option_map_or}
 use Rattle.csl_values.specs.declared.names.DisambiguatedNameForm.{DisambiguatedNameForm}
 use Rattle.csl_telling.specs.Forms.{greatest_form}

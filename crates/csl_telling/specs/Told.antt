@@ -1,5 +1,5 @@
 -- What tells mentions apart by their names.
-use Rattle.std.specs.Prelude.{ℕ, List, None, Option, map, option_map, slice_get, unwrap_or}
+use Rattle.std.specs.Prelude.{ℕ, List, Option, map, option_map, slice_get, unwrap_or}
 use Rattle.csl_values.specs.declared.names.DisambiguatedNameForm.{DisambiguatedNameForm}
 use Rattle.csl_values.specs.declared.names.NameDisambiguationProperties.{NameDisambiguationProperties}
 use Rattle.csl_telling.specs.ByDocument.{document_form}

@@ -24,11 +24,7 @@ pub(crate) struct Document {
     first: Rivals,
 }
 
-fn add_person(
-    alloc: Global,
-    rivals: &mut Rivals,
-    name: &MentionedName,
-) -> Result<(), AllocError>
+fn add_person(alloc: Global, rivals: &mut Rivals, name: &MentionedName) -> Result<(), AllocError>
     ensures { OnOk result (TellsMore rivals.old rivals.new (person_keys name.now)) }
 {
     let look = shown_as(alloc, DisambiguatedNameForm::LongFull, &name.person)?;
@@ -36,11 +32,7 @@ fn add_person(
     Ok(())
 }
 
-fn add_names(
-    alloc: Global,
-    rivals: &mut Rivals,
-    names: &[MentionedName],
-) -> Result<(), AllocError>
+fn add_names(alloc: Global, rivals: &mut Rivals, names: &[MentionedName]) -> Result<(), AllocError>
     ensures { OnOk result (TellsMore rivals.old rivals.new (flat_map person_keys names.now)) }
 {
     for name in names {
@@ -49,11 +41,7 @@ fn add_names(
     Ok(())
 }
 
-fn add_first(
-    alloc: Global,
-    rivals: &mut Rivals,
-    names: &[MentionedName],
-) -> Result<(), AllocError>
+fn add_first(alloc: Global, rivals: &mut Rivals, names: &[MentionedName]) -> Result<(), AllocError>
     ensures { OnOk result (TellsMore rivals.old rivals.new (flat_map person_keys (take 1 names.now))) }
 {
     match names.first() {

@@ -7,10 +7,7 @@ use crate::mention::MentionedName;
 use csl_values::names::DisambiguatedNameForm;
 
 /// The form that writes more of a name.
-pub(crate) fn greater(
-    a: DisambiguatedNameForm,
-    b: DisambiguatedNameForm,
-) -> DisambiguatedNameForm
+pub(crate) fn greater(a: DisambiguatedNameForm, b: DisambiguatedNameForm) -> DisambiguatedNameForm
     ensures { result ≡ greater a b }
 {
     a.max(b)

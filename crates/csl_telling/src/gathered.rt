@@ -154,11 +154,7 @@ fn add_form(
 }
 
 /// What the mention of a way needs against those of all ways that are gathered.
-pub(crate) fn needs_on(
-    alloc: Global,
-    gathered: &Gathered,
-    way: &Way,
-) -> Result<Needs, AllocError>
+pub(crate) fn needs_on(alloc: Global, gathered: &Gathered, way: &Way) -> Result<Needs, AllocError>
     ensures { IfOk result (λ n. n ≡ needs_on gathered.now way.now) }
 {
     let mut forms = Vec::new(alloc);

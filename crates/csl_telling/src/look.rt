@@ -63,6 +63,13 @@ pub(crate) fn shown_as(
 }
 
 impl Look {
+    /// A copy.
+    pub(crate) fn copied(&self) -> Result<Look, AllocError>
+        ensures { IfOk result (λ r. r ≡ self.now) }
+    {
+        self.clone()
+    }
+
     /// Whether it has a given name.
     pub(crate) fn has_given(&self) -> bool
         ensures { result ≡ has_given self.now }

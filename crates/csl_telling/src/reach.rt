@@ -96,9 +96,7 @@ fn looks_in(
     let names = can_be_shown(adds_names, mention.names.as_slice());
     let mut looks = Vec::new(alloc);
     for (i, name) in names.iter().enumerate() {
-        looks.push(look_of(
-            alloc, mentions, document, mention, by_cite, base, i, name,
-        )?)?;
+        looks.push(look_of(alloc, mentions, document, mention, by_cite, base, i, name)?)?;
     }
     Ok(looks)
 }
@@ -126,7 +124,14 @@ pub(crate) fn reach_of(
     match first_member(mentions, mention) {
         Some(first) => {
             let by_cite = is_by_cite(first.rule);
-            let looks = looks_in(alloc, mentions, document, first.adds_names, by_cite, mention)?;
+            let looks = looks_in(
+                alloc,
+                mentions,
+                document,
+                first.adds_names,
+                by_cite,
+                mention,
+            )?;
             Ok(Reach {
                 group: mention.group,
                 by_cite,

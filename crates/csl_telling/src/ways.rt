@@ -53,11 +53,11 @@ fn stops_of(
     for look in looks {
         stops.push(Stop {
             node,
-            look: Some(look.clone()?),
+            look: Some(look.copied()?),
         })?;
         let made = steps.insert_full(Step {
             from: node,
-            look: look.clone()?,
+            look: look.copied()?,
         })?;
         node = Node::Step(made.0);
     }
@@ -66,11 +66,7 @@ fn stops_of(
 }
 
 /// The way of a mention.
-fn way_of(
-    alloc: Global,
-    steps: &mut IndexSet<Step>,
-    reach: &Reach,
-) -> Result<Way, AllocError>
+fn way_of(alloc: Global, steps: &mut IndexSet<Step>, reach: &Reach) -> Result<Way, AllocError>
     ensures way { IfOk result (λ w. w ≡ way_of steps.new.keys reach.now) }
     ensures made { OnOk result (AllMade steps.new.keys reach.now) }
     ensures extends { OnOk result (Extends steps.old.keys steps.new.keys) }

@@ -1,4 +1,4 @@
-use Rattle.std.proofs.Common.{ap, subst, take}
+use Rattle.std.proofs.Common.{subst, take}
 use Rattle.std.specs.List.{flat_map}
 use Rattle.csl_telling.specs.Known.{person_keys}
 use Rattle.csl_telling.specs.Rivals.{TellsMore}

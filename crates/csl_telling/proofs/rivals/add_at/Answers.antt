@@ -1,5 +1,5 @@
 use Rattle.std.proofs.Common.{[], ◌∷◌, cond, subst, sym}
-use Rattle.csl_telling.specs.Rivals.{TellsMore, at_node, keys_at, named_keys}
+use Rattle.csl_telling.specs.Rivals.{TellsMore, at_node, named_keys}
 use Rattle.csl_telling.proofs.Beside.{then-more}
 use Rattle.csl_telling.proofs.rivals.add_at.Goals as goal
 

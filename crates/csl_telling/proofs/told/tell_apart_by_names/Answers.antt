@@ -1,5 +1,5 @@
-use Rattle.std.proofs.Common.{ap, subst, ◌∙◌}
-use Rattle.csl_telling.specs.Gathered.{IsGathered, needs_on}
+use Rattle.std.proofs.Common.{subst}
+use Rattle.csl_telling.specs.Gathered.{IsGathered}
 use Rattle.csl_telling.proofs.Answering.{found-next}
 use Rattle.csl_telling.proofs.told.tell_apart_by_names.Goals as goal
 

@@ -1,4 +1,4 @@
-use Rattle.std.proofs.Common.{ap, subst, sym, ◌∙◌}
+use Rattle.std.proofs.Common.{ap, subst, ◌∙◌}
 use Rattle.csl_telling.specs.Reaches.{reach}
 use Rattle.csl_telling.specs.Ways.{AllMade, way_of}
 use Rattle.csl_telling.proofs.Walking.{next-made, next-ways}
