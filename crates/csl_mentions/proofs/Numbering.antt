@@ -14,11 +14,11 @@ use Rattle.csl_mentions.specs.Suffixes.{gets_suffixes, is_in_class, suffix_of}
 use Rattle.csl_mentions.specs.declared.mention.Mention.{Mention}
 use Rattle.csl_mentions.proofs.Stepping.{made-next, next}
 
-module _ {S : Type 0} (laters : List Mention) (k : ℕ) (m : Mention) (within : k < length laters) (here : m ≡ get_or laters k m) where
-  pub counts-next : (old new : HashMap ℕ ℕ S) → ((n : ℕ) → count old n ≡ length (filter (is_in_class laters (Some n)) (take k laters)))
+module _ (laters : List Mention) (k : ℕ) (m : Mention) (within : k < length laters) (here : m ≡ get_or laters k m) where
+  pub counts-next : {S : Type 0} (old new : HashMap ℕ ℕ S) → ((n : ℕ) → count old n ≡ length (filter (is_in_class laters (Some n)) (take k laters)))
       → ((n : ℕ) → count new n ≡ cond (in_one_group (Some n) (group_of laters m)) (count old n + 1) (count old n))
       → (n : ℕ) → count new n ≡ length (filter (is_in_class laters (Some n)) (take (k + 1) laters))
-  counts-next old new so_far counted n =
+  counts-next {S = S} old new so_far counted n =
       counted n ∙ by (in_one_group (Some n) (group_of laters m))
       ∙ ap length (sym (filter-append (is_in_class laters (Some n)) (take k laters) (m ∷ [])) ∙ ap (filter (is_in_class laters (Some n))) (sym (next laters k m within here)))
     where
@@ -39,9 +39,9 @@ module _ {S : Type 0} (laters : List Mention) (k : ℕ) (m : Mention) (within : 
       by true e = e
       by false e = e
 
-  pub suffix-is : (adding : List ℕ) (counts : HashMap ℕ ℕ S) → ((n : ℕ) → list_any (nat_eq n) adding ≡ list_any (λ x. x.adds_suffix && is_in_class laters (Some n) x) laters)
+  pub suffix-is : {S : Type 0} (adding : List ℕ) (counts : HashMap ℕ ℕ S) → ((n : ℕ) → list_any (nat_eq n) adding ≡ list_any (λ x. x.adds_suffix && is_in_class laters (Some n) x) laters)
       → ((n : ℕ) → count counts n ≡ length (filter (is_in_class laters (Some n)) (take k laters))) → suffix_by adding counts (group_of laters m) ≡ suffix_of laters (k, m)
-  suffix-is adding counts adds counted = by (group_of laters m)
+  suffix-is {S = S} adding counts adds counted = by (group_of laters m)
     where
       by : (o : Option ℕ) → suffix_by adding counts o ≡ cond (gets_suffixes laters o) (Some (length (filter (is_in_class laters o) (take k laters)))) None
       by None = sym (ap (λ b. cond b (Some (length (filter (is_in_class laters None) (take k laters)))) None) (none-adds laters))

@@ -20,6 +20,10 @@ abbrev pub is_other : ℕ → Option Class → Bool
 is_other entry None = false
 is_other entry (Some c) = c.several || not (nat_eq c.entry entry)
 
+-- the index of the first mention, where another entry is mentioned
+abbrev pub first_if : Bool → Option Class → Option ℕ
+first_if other c = if other then option_map (λ c. c.first) c else None
+
 module _ {S : Type 0} where
   -- of each text: the first mention, and whether there is one of another entry than any
   pub record AreClassesOf (classes : HashMap (List ℕ) Class S) (mentions : List Mention) : Type 0 where
@@ -27,9 +31,6 @@ module _ {S : Type 0} where
         ≡ first_with mentions t
     pub other : (t : List ℕ) (entry : ℕ) → is_other entry (get bytes_eq classes t)
         ≡ list_any (λ m. bytes_eq t m.text && not (nat_eq entry m.entry)) mentions
-
-  abbrev pub first_if : Bool → Option Class → Option ℕ
-  first_if other c = if other then option_map (λ c. c.first) c else None
 
   abbrev pub group_found : HashMap (List ℕ) Class S → Mention → Option ℕ
   group_found classes m = first_if (is_other m.entry (get bytes_eq classes m.text))

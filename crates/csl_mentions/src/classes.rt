@@ -1,7 +1,7 @@
 //! What is known of the mentions that have a text.
-ghost use Rattle.std.specs.Prelude.{◌≡◌, ◌++◌, ◌∷◌, [], List, OnOk, bytes_eq, length};
+ghost use Rattle.std.specs.Prelude.{◌≡◌, ◌++◌, ◌∷◌, [], List, OnOk, Some, bytes_eq, length};
 ghost use Rattle.std.specs.HashMap.{get};
-ghost use Rattle.csl_mentions.specs.Classes.{AreClassesOf, class_with, group_found, joined};
+ghost use Rattle.csl_mentions.specs.Classes.{AreClassesOf, class_with, first_if, group_found, is_other, joined};
 ghost use Rattle.csl_mentions.specs.declared.mention.Mention.{Mention as MentionValue};
 
 use crate::mention::Mention;
@@ -62,8 +62,17 @@ pub(crate) fn add(classes: &mut Classes, k: usize, mention: &Mention) -> Result<
 pub(crate) fn group_found(classes: &Classes, mention: &Mention) -> Option<usize>
     ensures { result ≡ group_found classes.now mention.now }
 {
-    let class = classes.get(&mention.text)?;
-    if class.several || class.entry != mention.entry {
+    match classes.get(&mention.text) {
+        Some(class) => first_if_other(class, mention.entry),
+        None => None,
+    }
+}
+
+/// The index of the first mention of a class, where another entry than this one is mentioned.
+fn first_if_other(class: &Class, entry: usize) -> Option<usize>
+    ensures { result ≡ first_if (is_other entry (Some class.now)) (Some class.now) }
+{
+    if class.several || class.entry != entry {
         Some(class.first)
     } else {
         None
