@@ -1,7 +1,7 @@
 -- What walks over lists have made so far, one member more.
-use Rattle.std.proofs.Common.{◌≡◌, ℕ, ◌+◌, ◌<◌, List, [], ◌∷◌, ◌++◌, length, map, take, get_or, ap, sym, subst, ◌∙◌, zero-add}
+use Rattle.std.proofs.Common.{◌≡◌, ℕ, ◌+◌, ◌<◌, ◌≤◌, List, [], ◌∷◌, ◌++◌, length, map, take, get_or, ap, sym, subst, ◌∙◌, zero-add}
 use Rattle.std.specs.List.{enumerate_from}
-use Rattle.std.proofs.lemmas.List.{map-append, take_more}
+use Rattle.std.proofs.lemmas.List.{map-append, take_all, take_more}
 use Rattle.std.proofs.lemmas.List.FromFn.{get_or-enumerate_from, length-enumerate_from}
 
 module _ {X : Type 0} (xs : List X) (k : ℕ) (x : X) (within : k < length xs) (here : x ≡ get_or xs k x) where
@@ -17,3 +17,6 @@ module _ {X : Type 0} (xs : List X) (k : ℕ) (x : X) (within : k < length xs) (
 
   pub made-next : {Y : Type 0} (f : ℕ × X → Y) → map f (take (k + 1) (enumerate_from 0 xs)) ≡ map f (take k (enumerate_from 0 xs)) ++ f (k, x) ∷ []
   made-next f = ap (map f) enumerate-next ∙ map-append f (take k (enumerate_from 0 xs)) ((k, x) ∷ [])
+
+pub enumerate-all : {X : Type 0} (xs : List X) (k : ℕ) → length xs ≤ k → take k (enumerate_from 0 xs) ≡ enumerate_from 0 xs
+enumerate-all xs k all = take_all k (enumerate_from 0 xs) (subst (λ n. n ≤ k) (sym (length-enumerate_from 0 xs)) all)

@@ -1,6 +1,8 @@
-use Rattle.std.proofs.Common.{Some, ap, cond, ◌+◌, ◌∙◌}
+use Rattle.std.proofs.Common.{Some, ap, cond, map, ◌+◌, ◌∙◌}
 use Rattle.csl_telling.specs.Telling.{in_one_group}
 use Rattle.csl_mentions.specs.Counts.{count, suffix_by}
+use Rattle.csl_mentions.specs.Suffixes.{suffix_of}
+use Rattle.csl_mentions.proofs.Stepping.{enumerate-all}
 use Rattle.csl_mentions.proofs.Numbering.{counts-next, suffix-is, suffixes-next}
 use Rattle.csl_mentions.proofs.suffixes.suffixes_of.Goals as goal
 
@@ -18,3 +20,8 @@ loop-later-preserved c =
           ∙ suffix-is laters k m c.loop-later-test.true c.later-item.is c.in_ok-adding.adding.keys c.loop-later.counts c.in_ok-adding.ensures c.loop-later.invariant.counts)
           c.in_ok-push.ensures.items;
     }
+
+pub returns : goal.returns
+returns c =
+    let laters = c.args.laters.now in
+    c.loop-later.invariant.found ∙ ap (map (suffix_of laters)) (enumerate-all laters c.loop-later.later-index c.loop-later-test.false)
