@@ -36,6 +36,18 @@ pub fn page_ranges(
     Ok(out)
 }
 
+/// Whether a text has several pages or other numbers: with a dash between them, which is not written `\-`,
+/// or with other marks or words.
+pub fn has_several_pages(text: &str) -> bool {
+    let mut count = 0usize;
+    for part in text.split(|c| kind_of(c) != Kind::Word) {
+        if is_page(part) && !part.ends_with('\\') {
+            count = count.saturating_add(1);
+        }
+    }
+    count > 1
+}
+
 #[derive(Clone, Copy, PartialEq, Eq)]
 enum Kind {
     Word,
