@@ -2,6 +2,7 @@
 use crate::formatting::TextFormatting;
 use crate::piece::{Piece, Wrap};
 use crate::pieces::Pieces;
+use crate::superscripts::base_of;
 use crate::tags::{Tag, Tags, opening_of_display};
 use csl_texts::quotes::QuoteMarks;
 use std::alloc::{AllocError, Global};
@@ -194,12 +195,12 @@ fn push_tags(wanted: &mut Vec<Tag>, open: &[Tag], tags: Tags) -> Result<(), Allo
 
 /// How many tags both lists begin with.
 fn common(open: &[Tag], wanted: &[Tag]) -> usize {
-    let mut shared = 0;
+    let mut shared = 0usize;
     for (a, b) in open.iter().zip(wanted.iter()) {
         if a != b {
             break;
         }
-        shared += 1;
+        shared = shared.saturating_add(1);
     }
     shared
 }
@@ -217,7 +218,10 @@ fn push_attribute(out: &mut String, text: &str) -> Result<(), AllocError> {
     for c in text.chars() {
         match c {
             '"' => out.push_str("&#34;")?,
-            _ => push_character(out, c)?,
+            '&' => out.push_str("&#38;")?,
+            '<' => out.push_str("&#60;")?,
+            '>' => out.push_str("&#62;")?,
+            _ => out.push(c)?,
         }
     }
     Ok(())
@@ -228,6 +232,15 @@ fn push_character(out: &mut String, c: char) -> Result<(), AllocError> {
         '&' => out.push_str("&#38;"),
         '<' => out.push_str("&#60;"),
         '>' => out.push_str("&#62;"),
-        _ => out.push(c),
+        _ => match base_of(c) {
+            Some(base) => push_superscript(out, base),
+            None => out.push(c),
+        },
     }
+}
+
+fn push_superscript(out: &mut String, base: char) -> Result<(), AllocError> {
+    out.push_str("<sup>")?;
+    out.push(base)?;
+    out.push_str("</sup>")
 }

@@ -14,6 +14,7 @@ pub mod pieces;
 pub mod plain;
 pub mod punctuation;
 mod rich;
+mod superscripts;
 mod tags;
 #[cfg(test)]
 mod tests;

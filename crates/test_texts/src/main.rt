@@ -9,6 +9,7 @@ mod ended;
 mod locales;
 mod streams;
 mod texts;
+mod worded;
 
 use ended::Ended;
 use std::alloc::{AllocError, Global};
@@ -37,6 +38,20 @@ fn given(alloc: Global, function: &str, args: &[&str]) -> Result<Option<String>,
         "rich" => streams::rich(alloc, args),
         "plain" => streams::plain(alloc, args),
         "written" => streams::written(alloc, args),
+        _ => in_words(alloc, function, args),
+    }
+}
+
+/// What a function over the words of locales gives.
+fn in_words(alloc: Global, function: &str, args: &[&str]) -> Result<Option<String>, AllocError> {
+    match function {
+        "term" => worded::term(alloc, args),
+        "number" => worded::number(alloc, args),
+        "page" => worded::page(alloc, args),
+        "plural" => worded::plural(alloc, args),
+        "locator" => worded::locator(alloc, args),
+        "date" => worded::date(alloc, args),
+        "sorted" => worded::sorted(alloc, args),
         _ => Ok(None),
     }
 }

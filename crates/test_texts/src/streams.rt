@@ -1,6 +1,7 @@
 //! Functions over streams.
-use crate::locales::locale_of;
+use crate::locales::files;
 use crate::texts::case_of;
+use cite_locale::chain::LocaleChain;
 use cite_pieces::html::html;
 use cite_pieces::output::{AffixPlace, Element, Output};
 use cite_pieces::plain::plain_text;
@@ -16,11 +17,12 @@ pub fn rich(alloc: Global, args: &[&str]) -> Result<Option<String>, AllocError> 
     let [tag, text] = args else {
         return Ok(None);
     };
-    let locale = locale_of(*tag);
-    let mut output: Output<'_> = Output::new(alloc, locale.language);
+    let files = files(alloc)?;
+    let locales = LocaleChain::new(alloc, *tag, &[], &files)?;
+    let mut output = Output::new(alloc, locales.language());
     output.push_rich(&RichText::of_markup(alloc, *text)?)?;
     let pieces = output.finish()?;
-    Ok(Some(html(alloc, &pieces, locale.marks)?))
+    Ok(Some(html(alloc, &pieces, locales.quote_marks())?))
 }
 
 /// LOCALE TEXT: a text with markup, as plain text.
@@ -28,11 +30,12 @@ pub fn plain(alloc: Global, args: &[&str]) -> Result<Option<String>, AllocError>
     let [tag, text] = args else {
         return Ok(None);
     };
-    let locale = locale_of(*tag);
-    let mut output: Output<'_> = Output::new(alloc, locale.language);
+    let files = files(alloc)?;
+    let locales = LocaleChain::new(alloc, *tag, &[], &files)?;
+    let mut output = Output::new(alloc, locales.language());
     output.push_rich(&RichText::of_markup(alloc, *text)?)?;
     let pieces = output.finish()?;
-    Ok(Some(plain_text(alloc, &pieces, locale.marks)?))
+    Ok(Some(plain_text(alloc, &pieces, locales.quote_marks())?))
 }
 
 /// LOCALE STEP..: what is written step by step, with its punctuation in order, as HTML. A step
@@ -42,17 +45,18 @@ pub fn written(alloc: Global, args: &[&str]) -> Result<Option<String>, AllocErro
     let [tag, steps @ ..] = args else {
         return Ok(None);
     };
-    let locale = locale_of(*tag);
-    let mut output: Output<'_> = Output::new(alloc, locale.language);
+    let files = files(alloc)?;
+    let locales = LocaleChain::new(alloc, *tag, &[], &files)?;
+    let mut output = Output::new(alloc, locales.language());
     for step in steps {
         if !push_step(&mut output, *step)? {
             return Ok(None);
         }
     }
-    let pieces = punctuated(alloc, output.finish()?, locale.in_quotes)?;
-    Ok(Some(html(alloc, &pieces, locale.marks)?))
+    let in_quotes = locales.has_punctuation_in_quotes();
+    let pieces = punctuated(alloc, output.finish()?, in_quotes)?;
+    Ok(Some(html(alloc, &pieces, locales.quote_marks())?))
 }
-
 /// Does a step. Tells whether it is one.
 fn push_step<'s>(output: &mut Output<'s>, step: &'s str) -> Result<bool, AllocError> {
     if let Some(attributes) = step.strip_prefix('{') {
