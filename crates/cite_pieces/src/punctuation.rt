@@ -7,7 +7,8 @@ use std::mem::replace;
 /// The stream with its punctuation in order. Where two texts meet, doubled punctuation is written
 /// once, as `..` and `?.` are `.` and `?`, and doubled spaces are one space. No space is before a
 /// period or a comma. If `in_quotes`, as locales ask for by punctuation-in-quote, a period or a comma
-/// behind a quote stands inside it, and inside the innermost one where several end there.
+/// behind a quote stands inside it, and inside the innermost one where several end there; but not one
+/// of the same field.
 ///
 /// # Errors
 ///
@@ -81,12 +82,9 @@ impl Joints {
     }
 
     fn push_text(&mut self, text: String) -> Result<(), AllocError> {
-        let is_behind_quote = self
-            .behind
-            .iter()
-            .any(|edge| matches!(edge, Edge::CloseQuotes));
+        let is_behind_quote = self.is_behind_quote();
         let rest = self.joined(text.as_str(), is_behind_quote)?;
-        let rest = if is_behind_quote && self.in_quotes {
+        let rest = if is_behind_quote && self.in_quotes && !self.is_in_markup() {
             self.moved_into_quotes(rest)?
         } else {
             rest
@@ -98,6 +96,26 @@ impl Joints {
         self.write_last()?;
         self.last = next;
         Ok(())
+    }
+
+    /// Whether a quote ends behind the last text.
+    fn is_behind_quote(&self) -> bool {
+        for edge in &self.behind {
+            if matches!(edge, Edge::CloseQuotes) {
+                return true;
+            }
+        }
+        false
+    }
+
+    /// Whether markup begins behind the last text: what is in it stays behind the quote of its field.
+    fn is_in_markup(&self) -> bool {
+        for edge in &self.behind {
+            if matches!(edge, Edge::Open(Wrap::Markup(_))) {
+                return true;
+            }
+        }
+        false
     }
 
     /// What is left of a text when its period or comma has moved into the quotes before it.

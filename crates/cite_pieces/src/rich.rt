@@ -21,6 +21,7 @@ pub(crate) fn rich_pieces(alloc: Global, text: &RichText) -> Result<Pieces, Allo
         out: Pieces::new(alloc),
         run: String::new(alloc),
         style: RunStyle::PLAIN,
+        is_behind_quote: false,
     };
     for (letter, role) in letters.iter().zip(roles.iter()) {
         writer.push_letter(*letter, *role)?;
@@ -57,6 +58,8 @@ struct Writer {
     /// The letters of one style that are not written yet.
     run: String,
     style: RunStyle,
+    /// Whether a quote ends before them.
+    is_behind_quote: bool,
 }
 
 impl Writer {
@@ -68,6 +71,7 @@ impl Writer {
             }
             Role::Closes => {
                 self.flush()?;
+                self.is_behind_quote = true;
                 self.out.close()
             }
             Role::Text => self.push_char(letter.c, letter.style),
@@ -83,15 +87,17 @@ impl Writer {
         self.run.push(c)
     }
 
-    /// Writes the letters that wait.
+    /// Writes the letters that wait. Those behind a quote are markup in any style: their punctuation
+    /// doesn't move into it.
     fn flush(&mut self) -> Result<(), AllocError> {
         if self.run.is_empty() {
             return Ok(());
         }
         let run = replace(&mut self.run, String::new(self.alloc));
-        if self.style == RunStyle::PLAIN {
+        if self.style == RunStyle::PLAIN && !self.is_behind_quote {
             return self.out.push_text(run);
         }
+        self.is_behind_quote = false;
         self.out.open(Wrap::Markup(self.style))?;
         self.out.push_text(run)?;
         self.out.close()
