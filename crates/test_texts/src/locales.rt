@@ -49,6 +49,12 @@ close-quote|||||\u{a0}»
 open-inner-quote|||||“
 close-inner-quote|||||”";
 
+/// The quotation marks of British English.
+const BRITISH: &str = "open-quote|||||‘
+close-quote|||||’
+open-inner-quote|||||“
+close-inner-quote|||||”";
+
 /// Formatting of which nothing is asked for.
 pub const PLAIN: Formatting = Formatting {
     font_style: None,
@@ -61,17 +67,8 @@ pub const PLAIN: Formatting = Formatting {
 /// The locale files of en-US, fr-FR and en-GB.
 pub fn files(alloc: Global) -> Result<Vec<LocaleFile>, AllocError> {
     let american = file(alloc, "en-US", ENGLISH, Some(true), None)?;
-    let french = file(alloc, "fr-FR", FRENCH, None, Some(true))?;
-    let british = file(
-        alloc,
-        "en-GB",
-        "open-quote|||||‘
-close-quote|||||’
-open-inner-quote|||||“
-close-inner-quote|||||”",
-        None,
-        None,
-    )?;
+    let french = file(alloc, "fr-FR", FRENCH, Some(false), Some(true))?;
+    let british = file(alloc, "en-GB", BRITISH, Some(false), None)?;
     let mut files = Vec::new(alloc);
     push(&mut files, american)?;
     push(&mut files, french)?;
