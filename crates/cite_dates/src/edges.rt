@@ -17,6 +17,26 @@ pub(crate) struct Ends<'o> {
     pub year_suffix: Option<&'o str>,
 }
 
+impl Ends<'_> {
+    /// With this first end.
+    pub fn with_first(self, first: Edge) -> Self {
+        Ends { first, ..self }
+    }
+
+    /// With this last end.
+    pub fn with_last(self, last: Edge) -> Self {
+        Ends { last, ..self }
+    }
+
+    /// With nothing behind the year.
+    pub fn without_suffix(self) -> Self {
+        Ends {
+            year_suffix: None,
+            ..self
+        }
+    }
+}
+
 impl Edge {
     /// What is left of the prefix of the first part.
     pub fn prefix(self, prefix: &str) -> &str {

@@ -2,24 +2,22 @@
 use crate::layout::{PartLayout, Unit};
 use csl_references::date::{Day, Month, PartialDate, YearPart};
 
-/// The parts of a range of dates: those that both dates share stand before and behind the others.
+/// The parts that both dates of a range write: those before `begin` and from `end` on they share.
 #[derive(Clone, Copy)]
-pub(crate) struct Differing<'p, 's> {
-    pub before: &'p [PartLayout<'s>],
-    /// What both dates write.
-    pub both: &'p [PartLayout<'s>],
-    pub behind: &'p [PartLayout<'s>],
+pub(crate) struct Differing<'s> {
+    pub begin: usize,
+    pub end: usize,
     /// What stands between the two dates.
     pub delimiter: &'s str,
 }
 
 /// Where two dates differ in this layout: from the first to the last of its parts that are no greater than the
 /// greatest in which they do. `None` where they are written alike.
-pub(crate) fn parted<'p, 's>(
-    parts: &'p [PartLayout<'s>],
+pub(crate) fn parted<'s>(
+    parts: &[PartLayout<'s>],
     first: &PartialDate,
     last: &PartialDate,
-) -> Option<Differing<'p, 's>> {
+) -> Option<Differing<'s>> {
     let greatest = greatest_differing(parts, first, last)?;
     let mut begin = parts.len();
     let mut end = 0;
@@ -30,9 +28,8 @@ pub(crate) fn parted<'p, 's>(
         }
     }
     Some(Differing {
-        before: parts.get(..begin).unwrap_or(&[]),
-        both: parts.get(begin..end).unwrap_or(&[]),
-        behind: parts.get(end..).unwrap_or(&[]),
+        begin,
+        end,
         delimiter: greatest.range_delimiter,
     })
 }

@@ -111,33 +111,23 @@ fn push_range<'s>(
     last: &PartialDate,
     ends: Ends<'_>,
 ) -> Result<(), AllocError> {
-    let Some(parts) = parted(&layout.parts, first, last) else {
+    let Some(range) = parted(&layout.parts, first, last) else {
         return push_parts(output, locales, &layout.parts, last, ends);
     };
-    let around = Ends {
-        first: if parts.before.is_empty() {
-            ends.first
-        } else {
-            Edge::Kept
-        },
-        last: if parts.behind.is_empty() {
-            ends.last
-        } else {
-            Edge::Kept
-        },
-        year_suffix: ends.year_suffix,
-    };
-    let shared_before = Ends {
-        last: Edge::Kept,
-        ..ends
-    };
-    push_parts(output, locales, parts.before, last, shared_before)?;
-    push_both(output, locales, layout, parts, first, last, around)?;
-    let shared_behind = Ends {
-        first: Edge::Kept,
-        ..ends
-    };
-    push_parts(output, locales, parts.behind, last, shared_behind)
+    let before = layout.parts.get(..range.begin).unwrap_or(&[]);
+    let behind = layout.parts.get(range.end..).unwrap_or(&[]);
+    push_parts(output, locales, before, last, ends.with_last(Edge::Kept))?;
+    let mut around = ends;
+    if !before.is_empty() {
+        around.first = Edge::Kept;
+    }
+    if !behind.is_empty() {
+        around.last = Edge::Kept;
+    }
+    output.open(Element::PLAIN)?;
+    push_both(output, locales, layout, range, first, last, around)?;
+    output.close()?;
+    push_parts(output, locales, behind, last, ends.with_first(Edge::Kept))
 }
 
 /// Writes the parts of both dates of a range.
@@ -145,26 +135,17 @@ fn push_both<'s>(
     output: &mut Output<'s>,
     locales: &LocaleChain<'s>,
     layout: &DateLayout<'s>,
-    parts: Differing<'_, 's>,
+    range: Differing<'s>,
     first: &PartialDate,
     last: &PartialDate,
-    around: Ends<'_>,
+    ends: Ends<'_>,
 ) -> Result<(), AllocError> {
-    let of_first = Ends {
-        last: Edge::Dropped,
-        year_suffix: None,
-        ..around
-    };
-    let of_last = Ends {
-        first: Edge::Dropped,
-        ..around
-    };
-    output.open(Element::PLAIN)?;
-    push_block(output, locales, layout, parts.both, first, of_first)?;
-    output.push_str(parts.delimiter)?;
-    push_block(output, locales, layout, parts.both, last, of_last)?;
-    output.close()?;
-    Ok(())
+    let both = layout.parts.get(range.begin..range.end).unwrap_or(&[]);
+    let of_first = ends.with_last(Edge::Dropped).without_suffix();
+    push_block(output, locales, layout, both, first, of_first)?;
+    output.push_str(range.delimiter)?;
+    let of_last = ends.with_first(Edge::Dropped);
+    push_block(output, locales, layout, both, last, of_last)
 }
 
 /// Writes parts as one element.
