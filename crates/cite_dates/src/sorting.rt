@@ -25,7 +25,7 @@ pub fn sort_text(alloc: Global, span: &DateSpan) -> Result<String, AllocError> {
 }
 
 fn date_text(alloc: Global, date: &PartialDate) -> Result<String, AllocError> {
-    let year = YEAR_OFFSET + i64::from(date.year);
+    let year = i64::from(date.year).saturating_add(YEAR_OFFSET);
     let (month, day) = match &date.part {
         Some(YearPart::Month(month)) => (month.number(), 0),
         Some(YearPart::Day(month, day)) => (month.number(), day.number()),

@@ -25,11 +25,14 @@ impl<'a> LocaleChain<'a> {
     /// The word for an ordinal from 1 to 10, for a noun of this gender; `None` for other numbers, and where
     /// no locale has it.
     pub fn long_ordinal(&self, number: u32, gender: Option<Gender>) -> Option<&'a str> {
+        let Ok(number) = u8::try_from(number) else {
+            return None;
+        };
         if !matches!(number, 1..=10) {
             return None;
         }
         let term = self.find(Wanted {
-            name: TermName::LongOrdinal(number as u8),
+            name: TermName::LongOrdinal(number),
             form: TermForm::Long,
             gender,
         })?;
