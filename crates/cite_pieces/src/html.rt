@@ -76,7 +76,8 @@ impl Page<'_> {
                 OpenWrap::Formatting(Tags::between(around, inside), inside)
             }
             Wrap::Quotes => {
-                self.push_text(self.marks.open)?;
+                let mark = self.marks.open;
+                self.push_text(mark)?;
                 self.marks = self.marks.inside();
                 OpenWrap::Quotes
             }
@@ -110,7 +111,8 @@ impl Page<'_> {
             Some(OpenWrap::Quotes) => {
                 self.open.pop();
                 self.marks = self.marks.inside();
-                self.push_text(self.marks.close)
+                let mark = self.marks.close;
+                self.push_text(mark)
             }
             Some(OpenWrap::Link | OpenWrap::Display) => {
                 self.open_tags()?;

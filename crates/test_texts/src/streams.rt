@@ -68,7 +68,8 @@ fn push_step<'s>(output: &mut Output<'s>, step: &'s str) -> Result<bool, AllocEr
     } else if let Some(text) = step.strip_prefix('=') {
         output.push_str(text)?;
     } else if let Some(text) = step.strip_prefix('~') {
-        output.push_rich(&RichText::of_markup(output.alloc(), text)?)?;
+        let alloc = output.alloc();
+        output.push_rich(&RichText::of_markup(alloc, text)?)?;
     } else {
         return Ok(false);
     }
