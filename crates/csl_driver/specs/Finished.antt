@@ -18,7 +18,8 @@ module _ {E P : Type 0} (eq : E → E → Bool) (job : Job E P) where
     pub no_ring : NoRingAtAll job.requests job.wanted.style
     pub fits : job.offset + length (distinct eq (cited job.requests)) < 2 ^ 64
 
-  -- the driver's refusals have their reasons; a writer may refuse where there might have been an answer
+  -- the driver's refusals have their reasons; a writer may refuse where there might have been an
+  -- answer
   abbrev pub RefusesWith : {X : Type 0} → FinishError X → Type 0
   RefusesWith (errors.Driver e) = Refuses eq job.requests job.wanted.style job.offset e
   RefusesWith (errors.Writer x) = CanBeAnswered

@@ -17,11 +17,12 @@ module _ {E P : Type 0} (eq : E → E → Bool) (payload_eq : P → P → Bool) 
   -- the answer to what is asked, with its account
   pub record IsExactly : Type 0 where
     pub ok : r.0 ≡ rendered eq payload_eq writing mode job
-    -- the renderings and the rounds that marked; counts stand still at the greatest number of 128 bits
+    -- the renderings and the rounds that marked; counts stand still at the greatest number of 128
+    -- bits
     pub renders : r.1.renders ≡ min (cost eq payload_eq writing mode job) (2 ^ 128 - 1)
     pub rounds : r.1.rounds ≡ min (marking eq payload_eq writing mode job) (2 ^ 128 - 1)
-    -- the distinct entries, in the order of their first cites; and at the same places their states and
-    -- numbers
+    -- the distinct entries, in the order of their first cites; and at the same places their states
+    -- and numbers
     pub entries : map (λ e. e.now) r.1.entries.items ≡ distinct eq (cited job.requests)
     pub states : r.1.states.items
         ≡ map (final_state eq payload_eq writing mode job) (distinct eq (cited job.requests))
@@ -33,8 +34,8 @@ module _ {E P : Type 0} (eq : E → E → Bool) (payload_eq : P → P → Bool) 
     pub exact : IsExactly
     pub laws : KeepsLaws eq payload_eq writing mode job r
 
--- how a driver finishes: what is to hold of its answer holds; it answers only where no style has a ring and
--- the numbers fit; and each refusal has its reason
+-- how a driver finishes: what is to hold of its answer holds; it answers only where no style has a
+-- ring and the numbers fit; and each refusal has its reason
 pub record Finishes {E P R : Type 0} (holds : R → Type 0) (eq : E → E → Bool) (job : Job E P)
     (result : Result R DriverError) : Type 0 where
   pub answer : IfOk result holds

@@ -29,7 +29,8 @@ Keeps n m = (p : NameDisambiguationProperties) → n.first_name ≡ Some p → m
 
 -- a call gives nothing and notes nothing, and counts so
 abbrev pub GivesNothing : (NodeValue → Notes → Picked) → Called → Notes → Type 0
-GivesNothing call c n = (node : NodeValue) → call node n ≡ record { parts = []; called = c; noted = n }
+GivesNothing call c n = (node : NodeValue)
+    → call node n ≡ record { parts = []; called = c; noted = n }
 
 -- what the call of a macro at a depth counts as, where it is known
 abbrev pub told : QuietMacros → Name → ℕ → Option Called
@@ -40,7 +41,7 @@ abbrev pub IsQuiet : (ℕ → Call) → QuietMacros → Notes → Type 0
 IsQuiet call q now =
     (n : Notes) × (q.at ≡ seen n) × Keeps n now
     × ((name : Name) (depth : ℕ) (c : Called) → told q name depth ≡ Some c
-    → GivesNothing (call depth name) c n)
+        → GivesNothing (call depth name) c n)
 
 -- an open macro: what is held is what its children give, behind what was held where it was called
 pub record IsOpened (call : ℕ

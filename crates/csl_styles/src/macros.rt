@@ -16,7 +16,8 @@ use std::collections::HashMap;
 pub(crate) struct MacroTable<'a> {
     pub(crate) style: &'a IndependentStyle,
     places: HashMap<&'a str, usize>,
-    ghost table: { (name : Name) → place_named places name ≡ place_of_macro name (style_view style.now).macros },
+    ghost table: { (name : Name)
+        → place_named places name ≡ place_of_macro name (style_view style.now).macros },
 }
 
 impl<'a> MacroTable<'a> {
@@ -39,7 +40,8 @@ impl<'a> MacroTable<'a> {
 
     /// The children of the first macro of a name; none without such a macro.
     pub(crate) fn body_of(&self, name: &str) -> Option<&'a [LayoutRenderingElement]>
-        ensures { option_map (λ v. elements_view v.now) result ≡ body_of name.now (macros_of self.now) }
+        ensures { option_map (λ v. elements_view v.now) result
+            ≡ body_of name.now (macros_of self.now) }
     {
         let place = self.places.get(&name)?;
         Some(&self.style.macros[*place].children)

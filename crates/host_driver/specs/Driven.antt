@@ -28,8 +28,8 @@ module _ {E P : Type 0} (eq : E → E → Bool) (payload_eq : P → P → Bool) 
     pub answer : IsAnswer eq payload_eq (table_writing table answers) mode job r
     pub there : All (λ task. IsSome (table (task_key answers task))) asked_for_all
 
-  -- these are asked for, and the table lacks them; they are of the earliest stage of all such keys, and all
-  -- such keys of that stage
+  -- these are asked for, and the table lacks them; they are of the earliest stage of all such keys,
+  -- and all such keys of that stage
   pub record IsLacking (missing : List TaskKey) : Type 0 where
     pub possible : CanBeAnswered eq job
     pub each : All (IsMissingOf table answers asked_for_all) missing
