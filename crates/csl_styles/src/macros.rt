@@ -6,7 +6,7 @@ ghost use Rattle.csl_style_values.specs.Ring.{place_of_macro};
 ghost use Rattle.csl_style_values.specs.StyleView.{style_view};
 
 use csl_base::element::LayoutRenderingElement;
-use csl_base::ring::first_places;
+use csl_base::ring::first_indices;
 use csl_base::style::IndependentStyle;
 use std::alloc::{AllocError, Global};
 use std::collections::HashMap;
@@ -34,7 +34,7 @@ impl<'a> MacroTable<'a> {
     {
         Ok(MacroTable {
             style,
-            places: first_places(alloc, &style.macros)?,
+            places: first_indices(alloc, &style.macros)?,
         })
     }
 
