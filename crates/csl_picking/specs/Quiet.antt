@@ -41,7 +41,7 @@ abbrev pub IsQuiet : (ℕ → Call) → QuietMacros → Notes → Type 0
 IsQuiet call q now =
     (n : Notes) × (q.at ≡ seen n) × Keeps n now
     × ((name : Name) (depth : ℕ) (c : Called) → told q name depth ≡ Some c
-        → GivesNothing (call depth name) c n)
+    → GivesNothing (call depth name) c n)
 
 -- an open macro: what is held is what its children give, behind what was held where it was called
 pub record IsOpened (call : ℕ
