@@ -1,5 +1,5 @@
 -- What a run prints, and why it prints nothing.
-use Rattle.std.specs.Prelude.{◌≡◌, ℕ, ◌+◌, ◌<◌, ◌^◌, Bool, List, length, map, Option, Some, None, Result, Ok, Err, String, string_bytes}
+use Rattle.std.specs.Prelude.{◌≡◌, ℕ, Bool, List, map, Option, Some, None, Result, Ok, Err, String, string_bytes}
 use Rattle.std.specs.declared.alloc.Global.{Global}
 use Rattle.std.specs.declared.convert.Infallible.{Infallible}
 use Rattle.csl_values.specs.PlainEntry.{plain_answers}
@@ -7,9 +7,9 @@ use Rattle.csl_values.specs.declared.entry.PlainEntry.{PlainEntry}
 use Rattle.csl_values.specs.contracts.entry.PlainEntryPartialEq.TheImpl as plain_entry_eq
 use Rattle.std.specs.contracts.prelude.InfalliblePartialEq.TheImpl as infallible_eq
 use Rattle.csl_driver.specs.Answer.{Job, rendered}
-use Rattle.csl_entries.specs.Entries.{distinct}
 use Rattle.csl_writing.specs.LayoutWriting.{layout_writing}
-use Rattle.csl_passes.specs.Request.{Request, Wanted, cited, with_places}
+use Rattle.csl_passes.specs.Request.{Request, Wanted, with_places}
+use Rattle.csl_driver.specs.Promised.{CanBeAnswered}
 use Rattle.csl_driver.specs.Rings.{NoRingAtAll, IsFirstRingOf, Overflows}
 use Rattle.csl_driver.specs.declared.error.RingLocation.{RingLocation}
 use Rattle.csl_assembly.specs.declared.rendered.Rendered.{Rendered}
@@ -48,8 +48,7 @@ HasFirstRing place i d = IsFirstRingOf (accepted d.requests) d.style place i
 
 -- no style of a document has a ring, and its numbers are not above the greatest usize
 abbrev pub HasAnswer : Document → Type 0
-HasAnswer d = NoRingAtAll (accepted d.requests) d.style
-    × (d.offset + length (distinct same_plain_entry (cited (accepted d.requests))) < 2 ^ 64)
+HasAnswer d = CanBeAnswered same_plain_entry (document_job d)
 
 -- no style of a document has a ring, and its numbers are above the greatest usize
 abbrev pub HasTooLargeNumbers : Document → Type 0

@@ -11,8 +11,7 @@ ghost use Rattle.csl_driver.specs.Answer.{
 ghost use Rattle.csl_driver.specs.AreCitesOf.{AreCitesOf};
 ghost use Rattle.csl_driver.specs.JobView.{job_of};
 ghost use Rattle.csl_driver.specs.DraftView.{job_in, table_in};
-ghost use Rattle.csl_driver.specs.Finished.{FinishesWith, WhereDriverRefuses};
-ghost use Rattle.csl_driver.specs.Promised.{Finishes, IsAnswer};
+ghost use Rattle.csl_driver.specs.Promised.{Finishes, FinishesWith, IsAnswer, WhereDriverRefuses};
 ghost use Rattle.csl_driver.specs.WriterTasks.{begun_tasks, last_tasks, tasks};
 ghost use Rattle.csl_entries.specs.Entries.{number};
 ghost use Rattle.csl_grouping.specs.Blocks.{grouped};

@@ -2,8 +2,7 @@
 use Rattle.std.specs.Prelude.{◌≡◌, ◌≤◌, Bool, List, [], Option, All, Contains, IsSome}
 use Rattle.csl_values.specs.Answers.{Answers}
 use Rattle.csl_driver.specs.Answer.{Job}
-use Rattle.csl_driver.specs.Finished.{CanBeAnswered}
-use Rattle.csl_driver.specs.Promised.{IsAnswer}
+use Rattle.csl_driver.specs.Promised.{CanBeAnswered, IsAnswer}
 use Rattle.csl_driver.specs.WriterTasks.{tasks}
 use Rattle.csl_driver.specs.declared.account.Account.{Account}
 use Rattle.csl_assembly.specs.declared.rendered.Rendered.{Rendered}
