@@ -1,5 +1,5 @@
 -- Lists of entries up to their own equality, and the order and the numbers that they get.
-use Rattle.std.specs.Prelude.{ℕ, ◌+◌, Bool, not, List, [], ◌∷◌, ◌++◌, filter, fold, Option, Some, None}
+use Rattle.std.specs.Prelude.{ℕ, ◌+◌, Bool, not, List, [], ◌∷◌, ◌++◌, filter, fold, if◌then◌else◌, Option, Some, None}
 use Rattle.std.specs.List.{list_any, position_or_len}
 
 module _ {E : Type 0} (eq : E → E → Bool) where
