@@ -1,4 +1,4 @@
-//! Small locales for tests, with some terms of CSL's locale files.
+//! Small locales for tests, with the dates and some terms of CSL's locale files.
 use csl_vocabulary::term::{Gender, OrdinalMatch, TermForm, TermName};
 use std::alloc::{AllocError, Global};
 use style_file::date::{DateForm, DatePart, DatePartName, DayForm, MonthForm};
@@ -144,7 +144,7 @@ fn term_of(alloc: Global, line: &str) -> Result<Option<Term>, AllocError> {
     }))
 }
 
-/// The dates of en-US, and of the others day, month and year.
+/// The dates of en-US, of fr-FR and of en-GB.
 fn dates(alloc: Global, language: &str) -> Result<Vec<LocaleDate>, AllocError> {
     let day = DatePartName::Day(None);
     let month = DatePartName::Month(None);
@@ -155,12 +155,6 @@ fn dates(alloc: Global, language: &str) -> Result<Vec<LocaleDate>, AllocError> {
         (
             [(month, " "), (day, ", "), (year, "")],
             [(number, "/"), (two_digits, "/"), (year, "")],
-        )
-    } else if language == "fr-FR" {
-        let ordinal = DatePartName::Day(Some(DayForm::Ordinal));
-        (
-            [(ordinal, " "), (month, " "), (year, "")],
-            [(two_digits, "/"), (number, "/"), (year, "")],
         )
     } else {
         (
