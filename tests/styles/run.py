@@ -4,7 +4,8 @@ crates/test_style_files, on styles and locales.
 
 Each file of documents/, and of Debian's packages citation-style-language-styles and citation-style-language-locales, is read,
 with no warning but those of EXPLAINED, and says what it says by xml.etree (said.py: each element with all its values); packages
-that aren't installed are named. The files of broken.py are refused, or warned of, at their places and in their words. N files
+that aren't installed are named. So do files with all names of CSL 1.0.2 (tests/csl_names.py). The files of broken.py are refused, or
+warned of, at their places and in their words, or just allowed. N files
 (3000, if not said) are made by changes of others, drawn by the seed: each is refused at a place of the text, or read; with no
 warning it says what it says by xml.etree. Each growth of memory is refused in turn (tests/documents/refuse.c, for which a C
 compiler must be there). Four times as much takes about four times as long, and the packages' files take at most 1.5 times as
@@ -26,8 +27,9 @@ import xml.etree.ElementTree
 HERE = os.path.dirname(os.path.abspath(__file__))
 sys.path.append(os.path.dirname(HERE))
 
+import csl_names
 import runs
-from broken import REFUSED, WARNED, placed
+from broken import ALLOWED, REFUSED, WARNED, placed
 from mutated import mutated_documents
 from runs import ATTEMPTS, Failed, processor_time, read
 from said import said_of
@@ -156,6 +158,21 @@ def warned(programs):
             wrong.append('%s: %s %s, and not %s' % (name, answer.fault, answer.warnings, (*place[1:], words)))
     if wrong:
         raise Failed('\n'.join(wrong))
+
+
+def allowed(programs):
+    """What the limits just allow is read, with no warning."""
+    for (name, document), answer in zip(ALLOWED.items(), answers(programs, [it.encode() for it in ALLOWED.values()])):
+        if answer.fault or answer.warnings:
+            raise Failed('%s: %s %s' % (name, answer.fault, answer.warnings))
+
+
+def names_of_csl(programs):
+    """Each name of CSL 1.0.2 is known where it stands for a variable, a type, a locator type, a term, and a form of one."""
+    documents = [csl_names.style_of_names(), csl_names.locale_of_names()]
+    for document, answer in zip(documents, answers(programs, documents)):
+        if answer.fault or answer.warnings or answer.digest != digest(document):
+            raise Failed('%s %s, or %s' % (answer.fault, answer.warnings, difference(programs, document)))
 
 
 # The program
@@ -327,6 +344,8 @@ def tests_of(given):
             print('not installed, and left out: citation-style-language-' + package)
     tests.append(('files that are refused', broken))
     tests.append(('files with warnings', warned))
+    tests.append(('files that the limits just allow', allowed))
+    tests.append(('names of CSL', names_of_csl))
     tests.append(('style_check', program))
     tests.append(('mutated files', mutations, given.mutate, given.seed))
     for path in own_documents():

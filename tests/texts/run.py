@@ -3,7 +3,8 @@
 
 A line of a table is a function, its arguments and what it has to give, apart by tabs;
 crates/test_texts has the functions. What is wanted comes from outside: the comment before the lines
-tells from where. What is said to be pandoc's is asked of pandoc, where it is installed. A line with
+tells from where. The terms of variables and types are called as these are (tests/csl_names.py).
+What is said to be pandoc's is asked of pandoc, where it is installed. A line with
 another answer fails, and so does one of a function that isn't there. Over one line of each function
 each growth of memory is refused in turn (tests/documents/refuse.c, for which a C compiler must be
 there), and four times as long a text takes about four times as long.
@@ -19,6 +20,7 @@ import sys
 HERE = os.path.dirname(os.path.abspath(__file__))
 sys.path.insert(0, os.path.dirname(HERE))
 
+import csl_names
 import pandoc
 from runs import Failed, at_most, count, ended, grows_evenly, processor_time, refused_in_turn
 
@@ -42,6 +44,14 @@ def sections_of(path):
 
 def lines_of(path):
     return [line for _, lines in sections_of(path) for line in lines]
+
+
+def lines_of_terms():
+    """A line for each variable and type that has a term: its name."""
+    kinds = {'number': csl_names.NUMBERS, 'names': csl_names.NAMES, 'locator': csl_names.LOCATORS,
+             'type': csl_names.TYPES}
+    return ['term-of\t%s\t%s\t%s' % (kind, name, name) for kind, names in kinds.items()
+            for name in names]
 
 
 def run(program, lines, **how):
@@ -143,7 +153,7 @@ def time(program, name, small, large):
 def tests_of(program):
     """Each test: its name, the call, and what it is called with."""
     paths = sorted(glob.glob(HERE + '/*.tsv'))
-    every = [line for path in paths for line in lines_of(path)]
+    every = [line for path in paths for line in lines_of(path)] + lines_of_terms()
     tests = [(line, holds, program, line) for line in every]
     for function, line in one_of_each(every).items():
         tests.append(('what is told: ' + function, notices, program, line))

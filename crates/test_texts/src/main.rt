@@ -46,6 +46,7 @@ fn given(alloc: Global, function: &str, args: &[&str]) -> Result<Option<String>,
 fn in_words(alloc: Global, function: &str, args: &[&str]) -> Result<Option<String>, AllocError> {
     match function {
         "term" => worded::term(alloc, args),
+        "term-of" => worded::term_of(alloc, args),
         "number" => worded::number(alloc, args),
         "page" => worded::page(alloc, args),
         "plural" => worded::plural(alloc, args),

@@ -9,9 +9,10 @@ use cite_numbers::plurals::is_plural;
 use cite_pieces::output::Output;
 use cite_pieces::plain::plain_text;
 use csl_references::date::Date;
+use csl_vocabulary::item_type::ItemType;
 use csl_vocabulary::locator::LocatorType;
-use csl_vocabulary::term::{Gender, TermForm, TermName};
-use csl_vocabulary::variable::{DateVariable, NumberVariable};
+use csl_vocabulary::term::{Gender, PlainTerm, TermForm, TermName};
+use csl_vocabulary::variable::{DateVariable, NameVariable, NumberVariable};
 use std::alloc::{AllocError, Global};
 use style_file::date;
 use style_file::date::{
@@ -32,6 +33,27 @@ pub fn term(alloc: Global, args: &[&str]) -> Result<Option<String>, AllocError> 
     let locales = LocaleChain::new(alloc, *tag, &[], &files)?;
     let words = locales.term(name, form, *count == "many");
     Ok(Some(String::from_str(alloc, words.unwrap_or("none"))?))
+}
+
+/// KIND NAME: the term of a variable or a type.
+pub fn term_of(alloc: Global, args: &[&str]) -> Result<Option<String>, AllocError> {
+    let [kind, name] = args else {
+        return Ok(None);
+    };
+    match plain_term_of(*kind, *name) {
+        Some(term) => Ok(Some(String::from_str(alloc, term.name())?)),
+        None => Ok(None),
+    }
+}
+
+fn plain_term_of(kind: &str, name: &str) -> Option<PlainTerm> {
+    match kind {
+        "number" => Some(NumberVariable::of_name(name)?.term()),
+        "names" => Some(NameVariable::of_name(name)?.term()),
+        "locator" => Some(LocatorType::of_name(name)?.term()),
+        "type" => Some(ItemType::of_name(name)?.term()),
+        _ => None,
+    }
 }
 
 /// LOCALE FORM GENDER TEXT

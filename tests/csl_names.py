@@ -37,8 +37,6 @@ audio-recording'''.split() + [
     *('season-0%d' % n for n in range(1, 5)), *('month-%02d' % n for n in range(1, 13)),
     *('ordinal-%02d' % n for n in range(100)), *('long-ordinal-%02d' % n for n in range(1, 11)),
 ]
-# Variables and types that have no term.
-WITHOUT_TERM = {'article-locator': (), 'personal_communication': (), 'first-reference-note-number': ()}
 
 
 def terms():
