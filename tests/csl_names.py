@@ -2,10 +2,11 @@
 
 TEXTS = '''DOI ISBN ISSN PMCID PMID URL abstract annote archive archive-place archive_collection
 archive_location authority call-number citation-key citation-label collection-title container-title
-container-title-short dimensions division event-place event-title genre jurisdiction keyword language
-license medium note original-publisher original-publisher-place original-title part-title publisher
+container-title-short dimensions division event-place event-title genre jurisdiction keyword
+language license medium note original-publisher original-publisher-place original-title part-title publisher
 publisher-place references reviewed-genre reviewed-title scale source status title title-short
 volume-title year-suffix'''.split()
+OLDER_TEXTS = 'event journalAbbreviation shortTitle'.split()
 NUMBERS = '''chapter-number citation-number collection-number edition first-reference-note-number
 issue locator number number-of-pages number-of-volumes page page-first part-number printing-number
 section supplement-number version volume'''.split()
@@ -26,8 +27,8 @@ FORMS = 'long short symbol verb verb-short'.split()
 GENDERS = 'feminine masculine neuter'.split()
 MATCHES = 'last-digit last-two-digits whole-number'.split()
 # Terms that aren't called as a variable, a type or a locator.
-OTHER_TERMS = '''ad and anonymous at bc bce by ce circa cited colon comma editortranslator et-al film
-forthcoming from henceforth ibid in internet letter loc-cit no-place no-publisher on online op-cit
+OTHER_TERMS = '''ad and anonymous at bc bce by ce circa cited colon comma editortranslator et-al
+film forthcoming from henceforth ibid in internet letter loc-cit no-place no-publisher on online op-cit
 open-quote close-quote open-inner-quote close-inner-quote ordinal original-work-published
 page-range-delimiter personal-communication podcast podcast-episode preprint radio-broadcast
 radio-series radio-series-episode reference retrieved review-of semicolon special-issue
@@ -46,7 +47,7 @@ def terms():
 def style_of_names():
     """A style with each variable, type and locator type, and each term."""
     elements = [
-        *('<text variable="%s"/>' % it for it in TEXTS),
+        *('<text variable="%s"/>' % it for it in [*TEXTS, *OLDER_TEXTS]),
         *('<number variable="%s"/><label variable="%s"/>' % (it, it) for it in NUMBERS),
         *('<date variable="%s" form="text"/>' % it for it in DATES),
         *('<names variable="%s"/>' % it for it in NAMES),

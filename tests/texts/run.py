@@ -4,10 +4,10 @@
 A line of a table is a function, its arguments and what it has to give, apart by tabs;
 crates/test_texts has the functions. What is wanted comes from outside: the comment before the lines
 tells from where. The terms of variables and types are called as these are (tests/csl_names.py).
-What is said to be pandoc's is asked of pandoc, where it is installed. A line with
-another answer fails, and so does one of a function that isn't there. Over one line of each function
-each growth of memory is refused in turn (tests/documents/refuse.c, for which a C compiler must be
-there), and four times as long a text takes about four times as long.
+What is said to be pandoc's is asked of pandoc, where it is installed. A line with another answer is
+told, and so is one of a function that isn't there. Over one line of each function each growth of
+memory is refused in turn (tests/documents/refuse.c, for which a C compiler must be there), and four
+times as long a text takes about four times as long.
 The last line is 'N passed, M failed', and the exit status is 1 where a test failed."""
 import argparse
 import glob
@@ -73,6 +73,14 @@ def notices(program, line):
         told = COUNTED.fullmatch(out.decode())
         if status != 1 or error or not told or told.groups() != ('1', '1'):
             raise Failed('%s: status %d, %r, %r' % (other, status, out[-200:], error[-200:]))
+
+
+def unknown(program, name):
+    """No variable and no type has this name."""
+    for kind in ('number', 'names', 'locator', 'type'):
+        status, out, error = run(program, ['term-of\t%s\t%s\t%s' % (kind, name, name)])
+        if status != 1 or error or not out.endswith(b'0 passed, 1 failed\n'):
+            raise Failed('%s: status %d, %r, %r' % (kind, status, out, error))
 
 
 def as_pandoc(path, command):
@@ -158,6 +166,7 @@ def tests_of(program):
     for function, line in one_of_each(every).items():
         tests.append(('what is told: ' + function, notices, program, line))
         tests.append(('growths of memory: ' + function, growths, program, line))
+    tests += [('no name: ' + it, unknown, program, it) for it in ('', 'doi', 'Page', 'page ')]
     small, large = shapes(1 << 18), shapes(1 << 20)
     for name in small:
         tests.append(('time: ' + name, time, program, name, small[name], large[name]))
