@@ -3,9 +3,9 @@
 TEXTS = '''DOI ISBN ISSN PMCID PMID URL abstract annote archive archive-place archive_collection
 archive_location authority call-number citation-key citation-label collection-title container-title
 container-title-short dimensions division event-place event-title genre jurisdiction keyword
-language license medium note original-publisher original-publisher-place original-title part-title publisher
-publisher-place references reviewed-genre reviewed-title scale source status title title-short
-volume-title year-suffix'''.split()
+language license medium note original-publisher original-publisher-place original-title part-title
+publisher publisher-place references reviewed-genre reviewed-title scale source status title
+title-short volume-title year-suffix'''.split()
 OLDER_TEXTS = 'event journalAbbreviation shortTitle'.split()
 NUMBERS = '''chapter-number citation-number collection-number edition first-reference-note-number
 issue locator number number-of-pages number-of-volumes page page-first part-number printing-number
@@ -28,12 +28,11 @@ GENDERS = 'feminine masculine neuter'.split()
 MATCHES = 'last-digit last-two-digits whole-number'.split()
 # Terms that aren't called as a variable, a type or a locator.
 OTHER_TERMS = '''ad and anonymous at bc bce by ce circa cited colon comma editortranslator et-al
-film forthcoming from henceforth ibid in internet letter loc-cit no-place no-publisher on online op-cit
-open-quote close-quote open-inner-quote close-inner-quote ordinal original-work-published
+film forthcoming from henceforth ibid in internet letter loc-cit no-place no-publisher on online
+op-cit open-quote close-quote open-inner-quote close-inner-quote ordinal original-work-published
 page-range-delimiter personal-communication podcast podcast-episode preprint radio-broadcast
 radio-series radio-series-episode reference retrieved review-of semicolon special-issue
-special-section television-broadcast television-series video working-paper album
-audio-recording'''.split() + [
+special-section television-broadcast television-series video working-paper album audio-recording'''.split() + [
     'and others', 'available at', 'in press', 'no date', 'presented at', 'sub verbo',
     *('season-0%d' % n for n in range(1, 5)), *('month-%02d' % n for n in range(1, 13)),
     *('ordinal-%02d' % n for n in range(100)), *('long-ordinal-%02d' % n for n in range(1, 11)),
