@@ -32,7 +32,8 @@ film forthcoming from henceforth ibid in internet letter loc-cit no-place no-pub
 op-cit open-quote close-quote open-inner-quote close-inner-quote ordinal original-work-published
 page-range-delimiter personal-communication podcast podcast-episode preprint radio-broadcast
 radio-series radio-series-episode reference retrieved review-of semicolon special-issue
-special-section television-broadcast television-series video working-paper album audio-recording'''.split() + [
+special-section television-broadcast television-series video working-paper album
+audio-recording'''.split() + [
     'and others', 'available at', 'in press', 'no date', 'presented at', 'sub verbo',
     *('season-0%d' % n for n in range(1, 5)), *('month-%02d' % n for n in range(1, 13)),
     *('ordinal-%02d' % n for n in range(100)), *('long-ordinal-%02d' % n for n in range(1, 11)),
