@@ -105,8 +105,8 @@ def one_of_each(lines):
 def growths(program, line):
     """Each growth of memory that is refused ends the run with status 5, or with the answer."""
     refused, _ = refused_in_turn(lambda environment: run(program, [line], env=environment))
-    if refused < 10:
-        raise Failed('only %d growths were refused' % refused)
+    if not refused:
+        raise Failed('no growth was refused')
 
 
 # Time
@@ -122,6 +122,7 @@ def shapes(size):
         return text * (size // len(text.encode()))
 
     count = size // len('\t{\t=A.\t}')
+    few = many('1, ')[: 3 * (size // 128)] + '2'
     return {
         'words': line('case', 'title', 'en', many('a word ') + 'x',
                       'A' + many(' Word a')[:-1] + 'X'),
@@ -137,7 +138,7 @@ def shapes(size):
                          many('1, ').replace('1', '1st') + '2nd'),
         'a number': line('numeric', many('1'), 'yes'),
         'initials': line('initials', '.', 'short', many('Ab '), many('A. ').replace(' ', '')),
-        'parts': line('locator', 'en-US', 'page', many('1, ')[:-2], 'page:' + many('1, ')[:-2]),
+        'parts': line('locator', 'en-US', 'page', few, 'page:' + few),
     }
 
 
