@@ -5,7 +5,5 @@ mod edges;
 pub mod layout;
 pub mod sorting;
 mod span;
-#[cfg(test)]
-mod tests;
 mod text;
 pub mod write;
