@@ -121,24 +121,36 @@ pub fn date(alloc: Global, args: &[&str]) -> Result<Option<String>, AllocError> 
     let [tag, element, suffix, text] = args else {
         return Ok(None);
     };
-    let files = files(alloc)?;
-    let locales = LocaleChain::new(alloc, *tag, &[], &files)?;
     let Some(element) = date_element(alloc, *element)? else {
         return Ok(None);
     };
-    let date = Date::of_text(alloc, *text)?.date;
+    let reading = Date::of_text(alloc, *text)?;
+    let files = files(alloc)?;
+    let locales = LocaleChain::new(alloc, *tag, &[], &files)?;
+    let text = written_date(alloc, &locales, &element, &reading.date, *suffix)?;
+    Ok(Some(text))
+}
+
+/// A date as its element has it, in plain text.
+fn written_date<'s>(
+    alloc: Global,
+    locales: &LocaleChain<'s>,
+    element: &'s date::Date,
+    date: &Date,
+    suffix: &str,
+) -> Result<String, AllocError> {
     let options = DateOptions {
         mark: None,
         year_suffix: if suffix.is_empty() {
             None
         } else {
-            Some(*suffix)
+            Some(suffix)
         },
     };
     let mut output = Output::new(alloc, locales.language());
-    push_date(&mut output, &locales, &element, &date, options)?;
+    push_date(&mut output, locales, element, date, options)?;
     let pieces = output.finish()?;
-    Ok(Some(plain_text(alloc, &pieces, locales.quote_marks())?))
+    plain_text(alloc, &pieces, locales.quote_marks())
 }
 
 /// DATE: the text by which it is sorted.
@@ -146,8 +158,9 @@ pub fn sorted(alloc: Global, args: &[&str]) -> Result<Option<String>, AllocError
     let [text] = args else {
         return Ok(None);
     };
-    match Date::of_text(alloc, *text)?.date.span {
-        Some(span) => Ok(Some(sort_text(alloc, &span)?)),
+    let reading = Date::of_text(alloc, *text)?;
+    match &reading.date.span {
+        Some(span) => Ok(Some(sort_text(alloc, span)?)),
         None => Ok(None),
     }
 }
