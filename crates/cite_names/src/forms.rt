@@ -1,0 +1,90 @@
+//! How far each name of a list is written.
+use crate::rules::NameRules;
+use csl_base::names::DisambiguatedNameForm;
+use std::alloc::{AllocError, Global};
+use style_file::names::NameForm;
+
+/// The form of each of so many names by the rules alone: those behind the cut are only counted.
+///
+/// # Errors
+///
+/// Where memory is refused.
+pub fn own_forms(
+    alloc: Global,
+    rules: &NameRules<'_>,
+    count: usize,
+) -> Result<Vec<DisambiguatedNameForm>, AllocError> {
+    let kept = kept_names(rules, count);
+    let form = form_of(rules);
+    let mut forms = Vec::new(alloc);
+    for place in 0..count {
+        let form = if place < kept {
+            form
+        } else {
+            DisambiguatedNameForm::Count
+        };
+        forms.push(form)?;
+    }
+    Ok(forms)
+}
+
+/// How many of the names stand before the cut.
+fn kept_names(rules: &NameRules<'_>, count: usize) -> usize {
+    match rules.cut {
+        Some(cut) if count >= cut.min as usize => count.min(cut.use_first as usize),
+        _ => count,
+    }
+}
+
+/// The form of a name that is written.
+pub fn form_of(rules: &NameRules<'_>) -> DisambiguatedNameForm {
+    match rules.form {
+        NameForm::Short => DisambiguatedNameForm::Short,
+        NameForm::Long | NameForm::Count => {
+            if rules.initialize_with.is_some() && rules.initialize {
+                DisambiguatedNameForm::LongInitialized
+            } else {
+                DisambiguatedNameForm::LongFull
+            }
+        }
+    }
+}
+
+/// Raises each form to the one that is wanted at its place. A form stays where none is wanted.
+pub fn raise(forms: &mut Vec<DisambiguatedNameForm>, wanted: &[DisambiguatedNameForm]) {
+    for (form, other) in forms.iter_mut().zip(wanted) {
+        if *form < *other {
+            *form = *other;
+        }
+    }
+}
+
+/// Raises the forms of names that are written, while those that are counted stay so.
+pub fn raise_written(forms: &mut Vec<DisambiguatedNameForm>, wanted: &[DisambiguatedNameForm]) {
+    for (form, other) in forms.iter_mut().zip(wanted) {
+        if *form != DisambiguatedNameForm::Count && *form < *other {
+            *form = *other;
+        }
+    }
+}
+
+/// Names before one that is written are written too.
+pub fn fill_up(forms: &mut Vec<DisambiguatedNameForm>) {
+    let written = written_names(forms.as_slice());
+    for (place, form) in forms.iter_mut().enumerate() {
+        if place < written && *form == DisambiguatedNameForm::Count {
+            *form = DisambiguatedNameForm::Short;
+        }
+    }
+}
+
+/// How many names there are up to the last one that is written.
+pub fn written_names(forms: &[DisambiguatedNameForm]) -> usize {
+    let mut written = 0;
+    for (place, form) in forms.iter().enumerate() {
+        if *form != DisambiguatedNameForm::Count {
+            written = place.saturating_add(1);
+        }
+    }
+    written
+}

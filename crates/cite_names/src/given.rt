@@ -1,0 +1,115 @@
+//! Given names by the rules that hold for names, and not for cites: all names of a document that
+//! share a family name show their given names, whether their cites are ambiguous or not (CSL 1.0.2,
+//! "givenname-disambiguation-rule", but for `by-cite`).
+use csl_base::entry::Person;
+use csl_base::names::DisambiguatedNameForm;
+use std::alloc::{AllocError, Global};
+use style_file::sections::GivenNameRule;
+
+/// The persons of a document, and the rule that tells them from each other.
+#[derive(Drop)]
+pub struct GivenNames {
+    rule: GivenNameRule,
+    persons: Vec<Person>,
+}
+
+impl GivenNames {
+    /// No persons.
+    pub fn new(alloc: Global, rule: GivenNameRule) -> GivenNames {
+        GivenNames {
+            rule,
+            persons: Vec::new(alloc),
+        }
+    }
+
+    /// Adds the persons by whom a work is cited; by some rules the first of them alone.
+    ///
+    /// # Errors
+    ///
+    /// Where memory is refused.
+    pub fn add(&mut self, persons: &[Person]) -> Result<(), AllocError> {
+        for person in persons.iter().take(self.most()) {
+            if !self.persons.contains(person) {
+                self.persons.push(person.clone()?)?;
+            }
+        }
+        Ok(())
+    }
+
+    /// The least form of each of some persons: `Count` where the rule asks for nothing.
+    ///
+    /// # Errors
+    ///
+    /// Where memory is refused.
+    pub fn forms(
+        &self,
+        alloc: Global,
+        persons: &[Person],
+    ) -> Result<Vec<DisambiguatedNameForm>, AllocError> {
+        let mut forms = Vec::new(alloc);
+        for person in persons.iter().take(self.most()) {
+            forms.push(self.form(person))?;
+        }
+        Ok(forms)
+    }
+
+    /// How many names of a work the rule is for.
+    fn most(&self) -> usize {
+        match self.rule {
+            GivenNameRule::PrimaryName | GivenNameRule::PrimaryNameWithInitials => 1,
+            GivenNameRule::AllNames | GivenNameRule::AllNamesWithInitials => usize::MAX,
+            GivenNameRule::ByCite => 0,
+        }
+    }
+
+    fn form(&self, person: &Person) -> DisambiguatedNameForm {
+        let mut is_shared = false;
+        let mut has_own_initials = true;
+        for other in &self.persons {
+            if other.name == person.name && other != person {
+                is_shared = true;
+                has_own_initials = has_own_initials && !has_same_initials(other, person);
+            }
+        }
+        let takes_initials = match self.rule {
+            GivenNameRule::AllNamesWithInitials | GivenNameRule::PrimaryNameWithInitials => true,
+            GivenNameRule::AllNames | GivenNameRule::PrimaryName | GivenNameRule::ByCite => false,
+        };
+        if !is_shared || person.given_name.is_none() {
+            DisambiguatedNameForm::Count
+        } else if has_own_initials {
+            DisambiguatedNameForm::LongInitialized
+        } else if takes_initials {
+            DisambiguatedNameForm::Count
+        } else {
+            DisambiguatedNameForm::LongFull
+        }
+    }
+}
+
+fn has_same_initials(one: &Person, other: &Person) -> bool {
+    let mut first = given_name(one).split(is_gap);
+    let mut second = given_name(other).split(is_gap);
+    for _ in 0..MOST_GIVEN_NAMES {
+        match (first.next(), second.next()) {
+            (None, None) => return true,
+            (Some(one), Some(other)) if one.chars().next() == other.chars().next() => {}
+            _ => return false,
+        }
+    }
+    true
+}
+
+/// Of how many given names the initials are compared.
+const MOST_GIVEN_NAMES: usize = 64;
+
+fn given_name(person: &Person) -> &str {
+    match &person.given_name {
+        Some(given) => given.as_str(),
+        None => "",
+    }
+}
+
+fn is_gap(c: char) -> bool {
+    c.is_whitespace() || c == '-'
+}

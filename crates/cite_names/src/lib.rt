@@ -1,0 +1,12 @@
+//! Names as cites write them (CSL 1.0.2, "Names" and "Name").
+#![tactic(auto)]
+
+pub mod forms;
+pub mod given;
+pub mod list;
+pub mod parts;
+pub mod person;
+pub mod rules;
+pub mod scripts;
+#[cfg(test)]
+mod tests;

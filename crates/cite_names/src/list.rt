@@ -1,0 +1,210 @@
+//! Lists of names (CSL 1.0.2, "Name" and "Et-al").
+use crate::forms::{form_of, written_names};
+use crate::parts::{PartRole, WrittenPart, may_be_inverted, parts_of};
+use crate::rules::NameRules;
+use crate::scripts::is_spaced;
+use cite_pieces::formatting::NOTHING_ASKED;
+use cite_pieces::output::{Element, Output, element_with};
+use cite_pieces::piece::Mark;
+use csl_base::names::DisambiguatedNameForm;
+use csl_references::name::Name;
+use csl_references::rich_text::RichText;
+use csl_vocabulary::variable::NameVariable;
+use std::alloc::{AllocError, Global};
+use style_file::formatting::Formatting;
+use style_file::names::{DelimiterPrecedes, NameAnd, NameAsSortOrder, NamePart};
+
+/// The words of a locale between names.
+#[derive(Clone, Copy)]
+pub struct NameWords<'l> {
+    /// The term `and`.
+    pub and: &'l str,
+    /// What stands for names that are cut.
+    pub et_al: &'l str,
+}
+
+/// How a list of names is written.
+#[derive(Clone, Copy)]
+pub struct NameList<'s, 'l> {
+    pub rules: NameRules<'s>,
+    pub words: NameWords<'l>,
+    /// The formatting of what stands for names that are cut.
+    pub et_al_formatting: Option<Formatting>,
+    pub variable: NameVariable,
+    /// Whether all names with what stands between them are marked as one.
+    pub is_one_name: bool,
+}
+
+impl<'s> NameList<'s, '_> {
+    /// Writes names, each in its form.
+    ///
+    /// # Errors
+    ///
+    /// Where memory is refused.
+    pub fn push(
+        &self,
+        alloc: Global,
+        output: &mut Output<'s>,
+        names: &[Name],
+        forms: &[DisambiguatedNameForm],
+    ) -> Result<(), AllocError> {
+        let written = written_names(forms);
+        output.open(self.name_element(self.is_one_name, 0))?;
+        for (place, name) in names.iter().take(written).enumerate() {
+            if place > 0 {
+                self.push_between(output, names, place)?;
+            }
+            let form = forms.get(place).copied().unwrap_or(form_of(&self.rules));
+            self.push_name(alloc, output, name, place, form)?;
+        }
+        if written > 0 && written < names.len() {
+            self.push_cut(alloc, output, names, written)?;
+        }
+        output.close()?;
+        Ok(())
+    }
+
+    /// An element that marks a name, if it is to.
+    fn name_element(&self, is_marked: bool, place: usize) -> Element<'static> {
+        Element {
+            mark: if is_marked {
+                Some(Mark::Name(self.variable, place))
+            } else {
+                None
+            },
+            ..Element::PLAIN
+        }
+    }
+
+    /// Writes what stands before the name at this place, which isn't the first.
+    fn push_between(
+        &self,
+        output: &mut Output<'s>,
+        names: &[Name],
+        place: usize,
+    ) -> Result<(), AllocError> {
+        let is_last = place.saturating_add(1) == names.len();
+        let word = match self.rules.and {
+            Some(NameAnd::Text) => self.words.and,
+            Some(NameAnd::Symbol) => "&",
+            None => "",
+        };
+        if !is_last || word.is_empty() {
+            return output.push_str(self.rules.delimiter);
+        }
+        let precedes = match self.rules.precedes_last {
+            DelimiterPrecedes::Contextual => names.len() > 2,
+            DelimiterPrecedes::AfterInvertedName => self.is_inverted_at(names, place - 1),
+            DelimiterPrecedes::Always => true,
+            DelimiterPrecedes::Never => false,
+        };
+        if precedes {
+            output.push_str(self.rules.delimiter.trim_end())?;
+        }
+        if word.ends_with(|c: char| c.is_whitespace()) {
+            return output.push_str(word);
+        }
+        output.push_str(" ")?;
+        output.push_str(word)?;
+        output.push_str(" ")
+    }
+
+    /// Writes what stands for the names behind the first ones.
+    fn push_cut(
+        &self,
+        alloc: Global,
+        output: &mut Output<'s>,
+        names: &[Name],
+        written: usize,
+    ) -> Result<(), AllocError> {
+        if self.rules.use_last && written.saturating_add(2) <= names.len() {
+            let last = names.len() - 1;
+            output.push_str(self.rules.delimiter)?;
+            output.push_str("… ")?;
+            return self.push_name(alloc, output, &names[last], last, form_of(&self.rules));
+        }
+        if self.words.et_al.is_empty() {
+            return Ok(());
+        }
+        let precedes = match self.rules.precedes_et_al {
+            DelimiterPrecedes::Contextual => written > 1,
+            DelimiterPrecedes::AfterInvertedName => self.is_inverted_at(names, written - 1),
+            DelimiterPrecedes::Always => true,
+            DelimiterPrecedes::Never => false,
+        };
+        if precedes {
+            output.push_str(self.rules.delimiter)?;
+        } else if is_spaced(self.words.et_al) {
+            output.push_str(" ")?;
+        }
+        let element = Element {
+            formatting: self.et_al_formatting.unwrap_or(NOTHING_ASKED),
+            ..Element::PLAIN
+        };
+        output.open(element)?;
+        output.push_str(self.words.et_al)?;
+        output.close()?;
+        Ok(())
+    }
+
+    /// Whether the name at this place begins with the family name.
+    fn is_inverted_at(&self, names: &[Name], place: usize) -> bool {
+        let is_asked = match self.rules.sort_order {
+            Some(NameAsSortOrder::All) => true,
+            Some(NameAsSortOrder::First) => place == 0,
+            None => false,
+        };
+        is_asked && names.get(place).is_some_and(may_be_inverted)
+    }
+
+    /// Writes the name at this place.
+    fn push_name(
+        &self,
+        alloc: Global,
+        output: &mut Output<'s>,
+        name: &Name,
+        place: usize,
+        form: DisambiguatedNameForm,
+    ) -> Result<(), AllocError> {
+        let is_inverted = match self.rules.sort_order {
+            Some(NameAsSortOrder::All) => may_be_inverted(name),
+            Some(NameAsSortOrder::First) => place == 0 && may_be_inverted(name),
+            None => false,
+        };
+        output.open(self.name_element(!self.is_one_name, place))?;
+        for part in parts_of(alloc, &self.rules, name, form, is_inverted)? {
+            self.push_part(alloc, output, &part)?;
+        }
+        output.close()?;
+        Ok(())
+    }
+
+    fn push_part(
+        &self,
+        alloc: Global,
+        output: &mut Output<'s>,
+        part: &WrittenPart,
+    ) -> Result<(), AllocError> {
+        let setting = match part.role {
+            PartRole::Family => self.rules.family,
+            PartRole::Given => self.rules.given,
+            PartRole::Between => None,
+        };
+        let text = RichText::of_markup(alloc, part.text.as_str())?;
+        let Some(setting) = setting else {
+            return output.push_rich(&text);
+        };
+        output.open(part_element(setting))?;
+        output.push_rich(&text)?;
+        output.close()?;
+        Ok(())
+    }
+}
+
+/// The element of a part of a name.
+fn part_element(part: &NamePart) -> Element<'_> {
+    Element {
+        text_case: part.text_case,
+        ..element_with(&part.affixes, part.formatting)
+    }
+}

@@ -1,0 +1,8 @@
+//! Streams of pieces as trees of the driver, and trees as streams.
+//!
+//! In a tree an element without a meta and without a display stands for quotes: which marks it gets
+//! is told only where all that stands around it is known.
+#![tactic(auto)]
+
+pub mod streams;
+pub mod trees;

@@ -1,0 +1,211 @@
+//! Trees of streams.
+use cite_pieces::formatting::TextFormatting;
+use cite_pieces::piece::{Mark, Piece, Wrap};
+use cite_pieces::pieces::Pieces;
+use csl_base::elem::{Elem, ElemChild, ElemChildren, ElemMeta};
+use csl_base::entry::Person;
+use csl_base::seq::Seq;
+use csl_base::text::Text;
+use csl_base::{formatting as tree, taxonomy};
+use csl_vocabulary::variable::NameVariable;
+use std::alloc::{AllocError, Global};
+use std::mem::replace;
+use style_file::formatting as file;
+
+/// The persons of the names of an element, by their variables.
+pub type NamedPersons = Seq<(Seq<Person>, taxonomy::NameVariable)>;
+
+/// The variable that trees have for this one: they know three.
+pub fn tree_variable(variable: NameVariable) -> taxonomy::NameVariable {
+    match variable {
+        NameVariable::Editor => taxonomy::NameVariable::Editor,
+        NameVariable::Translator => taxonomy::NameVariable::Translator,
+        _ => taxonomy::NameVariable::Author,
+    }
+}
+
+/// The tree of a stream that is written into text of this formatting; `names` has the persons of
+/// its marks of names.
+///
+/// # Errors
+///
+/// Where memory is refused.
+pub fn tree_of(
+    alloc: Global,
+    stream: Pieces,
+    around: TextFormatting,
+    names: &[NamedPersons],
+) -> Result<ElemChildren, AllocError> {
+    let mut builder = Builder {
+        alloc,
+        names,
+        formatting: around,
+        url: None,
+        children: ElemChildren::new(alloc),
+        open: Vec::new(alloc),
+    };
+    for piece in stream.into_vec() {
+        match piece {
+            Piece::Text(text) => builder.push_text(text)?,
+            Piece::Open(wrap) => builder.open(wrap)?,
+            Piece::Close => builder.close()?,
+        }
+    }
+    while !builder.open.is_empty() {
+        builder.close()?;
+    }
+    Ok(builder.children)
+}
+
+/// A tree that is being built.
+#[derive(Drop)]
+struct Builder<'n> {
+    alloc: Global,
+    names: &'n [NamedPersons],
+    formatting: TextFormatting,
+    /// Where texts lead to.
+    url: Option<Text>,
+    /// The children of the innermost element that is open.
+    children: ElemChildren,
+    open: Vec<Opened>,
+}
+
+/// What ends with a wrap.
+#[derive(Drop)]
+enum Opened {
+    /// A formatting, and the one around it.
+    Formatting(TextFormatting),
+    Link,
+    Nothing,
+    /// An element, and the children before it.
+    Element {
+        display: Option<tree::Display>,
+        meta: Option<ElemMeta>,
+        before: ElemChildren,
+    },
+}
+
+impl Builder<'_> {
+    fn push_text(&mut self, text: String) -> Result<(), AllocError> {
+        let formatted = tree_formatting(self.formatting).add_text(text);
+        let child = match &self.url {
+            Some(url) => ElemChild::Link {
+                text: formatted,
+                url: url.clone()?,
+            },
+            None => ElemChild::Text(formatted),
+        };
+        self.children.push(child)
+    }
+
+    fn open(&mut self, wrap: Wrap) -> Result<(), AllocError> {
+        let opened = match wrap {
+            Wrap::Formatting(asked) => {
+                let around = self.formatting;
+                self.formatting = around.with(asked);
+                Opened::Formatting(around)
+            }
+            Wrap::Markup(style) => {
+                let around = self.formatting;
+                self.formatting = around.with_markup(style);
+                Opened::Formatting(around)
+            }
+            Wrap::Link(url) => {
+                self.url = Some(Text::new(url));
+                Opened::Link
+            }
+            Wrap::Quotes => self.opened(None, None),
+            Wrap::Display(display) => self.opened(Some(tree_display(display)), None),
+            Wrap::Mark(mark) => match self.meta_of(mark)? {
+                Some(meta) => self.opened(None, Some(meta)),
+                None => Opened::Nothing,
+            },
+        };
+        self.open.push(opened)?;
+        Ok(())
+    }
+
+    /// What the driver is told of a mark.
+    fn meta_of(&self, mark: Mark) -> Result<Option<ElemMeta>, AllocError> {
+        let meta = match mark {
+            Mark::Names(place) => match self.names.get(place) {
+                Some(names) => ElemMeta::Names(names.clone()?),
+                None => return Ok(None),
+            },
+            Mark::Name(variable, place) => ElemMeta::Name(tree_variable(variable), place),
+            Mark::Date(_) => ElemMeta::Date,
+            Mark::CitationNumber => ElemMeta::CitationNumber,
+            Mark::CitationLabel => ElemMeta::CitationLabel,
+            Mark::YearSuffix | Mark::Locator | Mark::Entry(_) | Mark::Other(_) => return Ok(None),
+        };
+        Ok(Some(meta))
+    }
+
+    fn opened(&mut self, display: Option<tree::Display>, meta: Option<ElemMeta>) -> Opened {
+        let before = replace(&mut self.children, ElemChildren::new(self.alloc));
+        Opened::Element {
+            display,
+            meta,
+            before,
+        }
+    }
+
+    fn close(&mut self) -> Result<(), AllocError> {
+        match self.open.pop() {
+            Some(Opened::Formatting(around)) => self.formatting = around,
+            Some(Opened::Link) => self.url = None,
+            Some(
+                Opened::Element {
+                    display,
+                    meta,
+                    before,
+                },
+            ) => {
+                let children = replace(&mut self.children, before);
+                self.children.push(ElemChild::Elem(Elem {
+                    children,
+                    display,
+                    meta,
+                }))?;
+            }
+            Some(Opened::Nothing) | None => {}
+        }
+        Ok(())
+    }
+}
+
+fn tree_display(display: file::Display) -> tree::Display {
+    match display {
+        file::Display::Block => tree::Display::Block,
+        file::Display::LeftMargin => tree::Display::LeftMargin,
+        file::Display::RightInline => tree::Display::RightInline,
+        file::Display::Indent => tree::Display::Indent,
+    }
+}
+
+/// A formatting, as trees have it: oblique letters are italics, and light ones are normal.
+pub fn tree_formatting(formatting: TextFormatting) -> tree::Formatting {
+    tree::Formatting {
+        font_style: match formatting.font_style {
+            file::FontStyle::Normal => tree::FontStyle::Normal,
+            file::FontStyle::Italic | file::FontStyle::Oblique => tree::FontStyle::Italic,
+        },
+        font_variant: match formatting.font_variant {
+            file::FontVariant::Normal => tree::FontVariant::Normal,
+            file::FontVariant::SmallCaps => tree::FontVariant::SmallCaps,
+        },
+        font_weight: match formatting.font_weight {
+            file::FontWeight::Bold => tree::FontWeight::Bold,
+            file::FontWeight::Normal | file::FontWeight::Light => tree::FontWeight::Normal,
+        },
+        text_decoration: match formatting.text_decoration {
+            file::TextDecoration::None => tree::TextDecoration::None,
+            file::TextDecoration::Underline => tree::TextDecoration::Underline,
+        },
+        vertical_align: match formatting.vertical_align {
+            file::VerticalAlign::Baseline => tree::VerticalAlign::None,
+            file::VerticalAlign::Superscript => tree::VerticalAlign::Superscript,
+            file::VerticalAlign::Subscript => tree::VerticalAlign::Subscript,
+        },
+    }
+}

@@ -1,0 +1,93 @@
+//! What is known of a cite, and what comes of it.
+use cite_locale::chain::LocaleChain;
+use cite_pieces::pieces::Pieces;
+use cite_program::program::Program;
+use cite_trees::trees::NamedPersons;
+use csl_base::names::DisambiguatedNameForm;
+use csl_lookup::state::IdentifierUsage;
+use csl_references::reference::Reference;
+use csl_references::rich_text::RichText;
+use csl_vocabulary::locator::LocatorType;
+use style_file::names::InheritedNameOptions;
+use style_file::sections::SortKey;
+use style_file::style::CslStyle;
+
+/// A layout, or a macro that is written for a key of sorting.
+#[derive(Clone, Copy)]
+pub struct Scene<'s> {
+    pub style: &'s CslStyle,
+    pub locale: &'s LocaleChain<'s>,
+    pub program: &'s Program<'s>,
+    /// The options of names of the citation or the bibliography.
+    pub names: &'s InheritedNameOptions,
+    pub kind: SceneKind,
+    /// Whether a year suffix stands behind the first date.
+    pub adds_year_suffix: bool,
+}
+
+/// What is written.
+#[derive(Clone, Copy)]
+pub enum SceneKind {
+    Cite,
+    Item,
+    /// The value of a key by which items are sorted.
+    Key(SortKey),
+}
+
+/// How a cite repeats the one before it.
+#[derive(Clone, Copy, PartialEq, Eq)]
+pub enum Repetition {
+    Ibid,
+    IbidWithLocator,
+}
+
+/// A locator.
+#[derive(Drop)]
+pub struct CiteLocator {
+    pub kind: LocatorType,
+    pub text: RichText,
+}
+
+/// What is known of a cite.
+#[derive(Clone, Copy)]
+pub struct CiteFacts<'c> {
+    pub reference: &'c Reference,
+    pub locator: Option<&'c CiteLocator>,
+    /// The number of its item, as it is printed.
+    pub number: usize,
+    /// Whether no cite before cites its item.
+    pub is_first: bool,
+    pub is_near_note: bool,
+    pub repetition: Option<Repetition>,
+    /// The number of the first note that cites its item.
+    pub first_note_number: Option<usize>,
+    /// Whether the condition `disambiguate` holds.
+    pub disambiguates: bool,
+    /// The number of the suffix of its year, from 0.
+    pub year_suffix: Option<usize>,
+    /// How far its first names are to be written at least.
+    pub name_forms: &'c [DisambiguatedNameForm],
+    /// How far names are written that share a family name with others.
+    pub given_names: Option<&'c GivenNames>,
+    /// Whether the driver is told of the persons that are shown alone.
+    pub tells_shown_persons: bool,
+    /// Whether its first names are left out.
+    pub leaves_out_names: bool,
+    /// Whether it is cut to the suffix of its year and its locator.
+    pub is_cut_to_suffix: bool,
+}
+
+/// What comes of a cite.
+#[derive(Drop)]
+pub struct WrittenCite {
+    pub pieces: Pieces,
+    /// The persons of its marks of names.
+    pub names: Vec<NamedPersons>,
+    /// The forms of the names of its first names element, if it has one.
+    pub first_forms: Option<Vec<DisambiguatedNameForm>>,
+    /// Whether a condition `disambiguate` was tested.
+    pub has_tested_disambiguate: bool,
+    pub usage: IdentifierUsage,
+}
+
+pub use cite_names::given::GivenNames;

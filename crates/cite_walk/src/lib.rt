@@ -1,0 +1,17 @@
+//! A cite or an item of a bibliography, written by the program of its layout.
+#![tactic(auto)]
+
+pub mod cite;
+mod conditions;
+mod dates;
+mod frames;
+mod labels;
+mod locators;
+mod names;
+mod numbers;
+pub mod sorted;
+#[cfg(test)]
+mod tests;
+pub mod texts;
+pub mod values;
+pub mod walk;

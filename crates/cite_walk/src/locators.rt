@@ -1,0 +1,50 @@
+//! The locator of a cite, which may begin with a label of its own, as `vol. 1, fol. 2`.
+use crate::cite::CiteLocator;
+use crate::values::plain_value;
+use cite_locale::chain::LocaleChain;
+use cite_numbers::locators::locator_parts;
+use csl_references::rich_text::RichText;
+use csl_vocabulary::locator::LocatorType;
+use std::alloc::{AllocError, Global};
+
+/// A locator as it is written.
+#[derive(Drop)]
+pub(crate) struct ShownLocator {
+    pub kind: LocatorType,
+    /// What stands behind its label.
+    pub text: RichText,
+    /// What its label counts.
+    pub counted: String,
+}
+
+/// A locator as it is written. Where its text begins with a label, that is its kind.
+///
+/// # Errors
+///
+/// Where memory is refused.
+pub(crate) fn shown_locator(
+    alloc: Global,
+    locale: &LocaleChain<'_>,
+    locator: &CiteLocator,
+) -> Result<ShownLocator, AllocError> {
+    let plain = locator.text.plain(alloc)?;
+    let whole = plain.as_str().trim();
+    let parts = locator_parts(alloc, locale, whole, locator.kind)?;
+    let Some(first) = parts.first() else {
+        return Ok(ShownLocator {
+            kind: locator.kind,
+            text: locator.text.clone()?,
+            counted: String::from_str(alloc, whole)?,
+        });
+    };
+    let counted = String::from_str(alloc, first.text)?;
+    let text = match whole.find(first.text) {
+        Some(place) if place > 0 => plain_value(alloc, whole.get(place..).unwrap_or(whole))?,
+        _ => locator.text.clone()?,
+    };
+    Ok(ShownLocator {
+        kind: first.label,
+        text,
+        counted,
+    })
+}

@@ -1,0 +1,394 @@
+//! Names (CSL 1.0.2, "Names").
+use crate::cite::SceneKind;
+use crate::walk::Walk;
+use cite_names::forms::{fill_up, own_forms, raise, raise_written, written_names};
+use cite_names::list::{NameList, NameWords};
+use cite_names::person::person_of;
+use cite_names::rules::{HandedDown, NameRules};
+use cite_pieces::output::{Element, element_with};
+use cite_pieces::piece::Mark;
+use cite_program::program::NamesInUse;
+use cite_trees::trees::{NamedPersons, tree_variable};
+use csl_base::entry::Person;
+use csl_base::names::DisambiguatedNameForm;
+use csl_base::seq::Seq;
+use csl_references::name::Name;
+use csl_vocabulary::term::{PlainTerm, TermForm};
+use csl_vocabulary::variable::{NameVariable, Variable};
+use std::alloc::AllocError;
+use style_file::names::{EtAlTerm, LabelOptions, LabelPlural, LabelSide, NameForm};
+use style_file::sections::SubstituteRule;
+
+/// The names of a variable, and the term of their role.
+#[derive(Clone, Copy)]
+struct Block<'c> {
+    variable: NameVariable,
+    names: &'c [Name],
+    term: PlainTerm,
+}
+
+impl<'s, 'c> Walk<'s, 'c> {
+    /// Writes names. Tells whether there are some, or they are left out.
+    pub(crate) fn write_names(&mut self, names: &NamesInUse<'s>) -> Result<bool, AllocError> {
+        if self.leaves_out_names {
+            self.leaves_out_names = false;
+            self.call(false);
+            return Ok(true);
+        }
+        let blocks = self.blocks_of(names)?;
+        if blocks.is_empty() || self.cite.is_cut_to_suffix {
+            self.call(false);
+            return Ok(false);
+        }
+        for block in &blocks {
+            self.use_variable(Variable::Name(block.variable))?;
+        }
+        let rules = NameRules::of_name(names.name, self.handed_down());
+        if rules.form == NameForm::Count {
+            return self.write_count(names, &rules, &blocks);
+        }
+        self.write_blocks(names, rules, &blocks)?;
+        Ok(true)
+    }
+
+    /// The names of the variables that have some. The same persons as editors and translators are
+    /// written once.
+    fn blocks_of(&self, names: &NamesInUse<'s>) -> Result<Vec<Block<'c>>, AllocError> {
+        let reference = self.cite.reference;
+        let mut blocks: Vec<Block<'c>> = Vec::new(self.alloc());
+        for variable in names.variables {
+            if self.is_suppressed(Variable::Name(*variable)) {
+                continue;
+            }
+            let Some(persons) = reference.names(*variable) else {
+                continue;
+            };
+            if persons.is_empty() {
+                continue;
+            }
+            if let Some(before) = blocks.last_mut() {
+                if are_editor_and_translator(before.variable, *variable)
+                    && before.names == persons
+                    && self.has_common_term()
+                {
+                    before.term = PlainTerm::EditorTranslator;
+                    continue;
+                }
+            }
+            blocks.push(Block {
+                variable: *variable,
+                names: persons,
+                term: variable.term(),
+            })?;
+        }
+        Ok(blocks)
+    }
+
+    /// Whether the locale has a term for editors who are translators too.
+    fn has_common_term(&self) -> bool {
+        let term = PlainTerm::EditorTranslator;
+        self.scene
+            .locale
+            .plain_term(term, TermForm::Long, false)
+            .is_some()
+    }
+
+    fn handed_down(&self) -> HandedDown<'s> {
+        let style = self.scene.style;
+        HandedDown {
+            section: &self.scene.names.name,
+            style: &style.names.name,
+            options: style.options,
+            sort_key: match self.scene.kind {
+                SceneKind::Key(key) => Some(key),
+                SceneKind::Cite | SceneKind::Item => None,
+            },
+            is_subsequent: matches!(self.scene.kind, SceneKind::Cite) && !self.cite.is_first,
+        }
+    }
+
+    /// Writes the number of names that would be written.
+    fn write_count(
+        &mut self,
+        names: &NamesInUse<'s>,
+        rules: &NameRules<'s>,
+        blocks: &[Block<'c>],
+    ) -> Result<bool, AllocError> {
+        let alloc = self.alloc();
+        let mut count = 0usize;
+        for block in blocks {
+            let forms = own_forms(alloc, rules, block.names.len())?;
+            count = count.saturating_add(written_names(forms.as_slice()));
+        }
+        let digits = format!(in alloc; "{count}")?;
+        self.output.open(self.names_element(names))?;
+        self.output.push_str(digits.as_str())?;
+        self.output.close()?;
+        Ok(true)
+    }
+
+    fn write_blocks(
+        &mut self,
+        names: &NamesInUse<'s>,
+        rules: NameRules<'s>,
+        blocks: &[Block<'c>],
+    ) -> Result<(), AllocError> {
+        let forms = self.forms_of_blocks(&rules, blocks)?;
+        let mark = Some(self.mark_of(blocks, &forms)?);
+        let is_one = blocks.len() == 1;
+        let element = self.names_element(names);
+        self.output.open(element)?;
+        self.output.open(Element {
+            mark: if is_one { None } else { mark },
+            delimiter: element.delimiter,
+            ..Element::PLAIN
+        })?;
+        for (block, own) in blocks.iter().zip(&forms) {
+            let block_mark = if is_one { mark } else { None };
+            self.write_block(names, rules, *block, own.as_slice(), block_mark)?;
+        }
+        self.output.close()?;
+        self.output.close()?;
+        Ok(())
+    }
+
+    /// Writes the names of a variable, and the label beside them.
+    fn write_block(
+        &mut self,
+        names: &NamesInUse<'s>,
+        rules: NameRules<'s>,
+        block: Block<'c>,
+        forms: &[DisambiguatedNameForm],
+        mark: Option<Mark>,
+    ) -> Result<(), AllocError> {
+        let list = self.list_of(names, rules, block);
+        self.output.open(Element::PLAIN)?;
+        self.write_names_label(names, block, LabelSide::Before)?;
+        self.output.open(Element {
+            mark,
+            ..Element::PLAIN
+        })?;
+        self.output.open(match names.name {
+            Some(name) => element_with(&name.affixes, name.formatting),
+            None => Element::PLAIN,
+        })?;
+        list.push(self.alloc(), &mut self.output, block.names, forms)?;
+        self.output.close()?;
+        self.output.close()?;
+        self.write_names_label(names, block, LabelSide::Behind)?;
+        self.output.close()?;
+        Ok(())
+    }
+
+    /// How the names of a variable are written.
+    fn list_of(
+        &self,
+        names: &NamesInUse<'s>,
+        rules: NameRules<'s>,
+        block: Block<'c>,
+    ) -> NameList<'s, 's> {
+        let locale = self.scene.locale;
+        let et_al = match names.et_al.map(|et_al| et_al.term) {
+            Some(EtAlTerm::AndOthers) => PlainTerm::AndOthers,
+            Some(EtAlTerm::EtAl) | None => PlainTerm::EtAl,
+        };
+        NameList {
+            rules,
+            words: NameWords {
+                and: locale
+                    .plain_term(PlainTerm::And, TermForm::Long, false)
+                    .unwrap_or(""),
+                et_al: match self.scene.kind {
+                    SceneKind::Key(_) => "",
+                    SceneKind::Cite | SceneKind::Item => locale
+                        .plain_term(et_al, TermForm::Long, false)
+                        .unwrap_or(""),
+                },
+            },
+            et_al_formatting: names.et_al.map(|et_al| et_al.formatting),
+            variable: self.told_variable(block.variable),
+            is_one_name: self.replaces_all_names(),
+        }
+    }
+
+    /// The variable that the driver is told of: items of the bibliography are compared by their
+    /// names alone.
+    fn told_variable(&self, variable: NameVariable) -> NameVariable {
+        match self.scene.kind {
+            SceneKind::Item => NameVariable::Author,
+            SceneKind::Cite | SceneKind::Key(_) => variable,
+        }
+    }
+
+    /// Whether repeated names are replaced at once, with what stands between them.
+    fn replaces_all_names(&self) -> bool {
+        match (self.scene.kind, &self.scene.style.bibliography) {
+            (SceneKind::Item, Some(bibliography)) => {
+                bibliography.options.substitute_rule == SubstituteRule::CompleteAll
+            }
+            _ => false,
+        }
+    }
+
+    /// Writes the label of names, if it stands on this side. Keys of sorting have none.
+    fn write_names_label(
+        &mut self,
+        names: &NamesInUse<'s>,
+        block: Block<'c>,
+        side: LabelSide,
+    ) -> Result<(), AllocError> {
+        let Some(label) = names.label else {
+            return Ok(());
+        };
+        if label.side != side || matches!(self.scene.kind, SceneKind::Key(_)) {
+            return Ok(());
+        }
+        let is_plural = match label.options.plural {
+            LabelPlural::Contextual => block.names.len() > 1,
+            LabelPlural::Always => true,
+            LabelPlural::Never => false,
+        };
+        let words = self
+            .scene
+            .locale
+            .plain_term(block.term, label.options.form, is_plural)
+            .unwrap_or("");
+        self.output.open(label_element(&label.options))?;
+        self.output.push_str(words)?;
+        self.output.close()?;
+        Ok(())
+    }
+
+    fn names_element(&self, names: &NamesInUse<'s>) -> Element<'s> {
+        let handed_down = self
+            .scene
+            .names
+            .names_delimiter
+            .as_deref()
+            .or(self.scene.style.names.names_delimiter.as_deref());
+        Element {
+            delimiter: names.delimiter.or(handed_down).unwrap_or(""),
+            display: names.display,
+            ..element_with(names.affixes, names.formatting)
+        }
+    }
+
+    /// The form of each name of each block. Names before one that is written are written too.
+    fn forms_of_blocks(
+        &mut self,
+        rules: &NameRules<'s>,
+        blocks: &[Block<'c>],
+    ) -> Result<Vec<Vec<DisambiguatedNameForm>>, AllocError> {
+        let alloc = self.alloc();
+        let forms = self.forms_of(rules, blocks)?;
+        let mut apart = Vec::new(alloc);
+        let mut begin = 0usize;
+        for block in blocks {
+            let end = begin.saturating_add(block.names.len()).min(forms.len());
+            let mut own = forms.get(begin..end).unwrap_or(&[]).to_vec(alloc)?;
+            begin = end;
+            fill_up(&mut own);
+            apart.push(own)?;
+        }
+        Ok(apart)
+    }
+
+    /// The form of each name. Those of the first names of a cite are noted, and then raised to what
+    /// tells the item from others.
+    fn forms_of(
+        &mut self,
+        rules: &NameRules<'s>,
+        blocks: &[Block<'c>],
+    ) -> Result<Vec<DisambiguatedNameForm>, AllocError> {
+        let alloc = self.alloc();
+        let mut forms = Vec::new(alloc);
+        for block in blocks {
+            for form in own_forms(alloc, rules, block.names.len())? {
+                forms.push(form)?;
+            }
+        }
+        if self.first_forms.is_some() {
+            return Ok(forms);
+        }
+        let least = self.least_forms(blocks)?;
+        raise_written(&mut forms, least.as_slice());
+        self.first_forms = Some(forms.clone()?);
+        raise(&mut forms, self.cite.name_forms);
+        raise_written(&mut forms, least.as_slice());
+        Ok(forms)
+    }
+
+    /// The forms that tell the persons from others of the same family name.
+    fn least_forms(&self, blocks: &[Block<'c>]) -> Result<Vec<DisambiguatedNameForm>, AllocError> {
+        let alloc = self.alloc();
+        let Some(given_names) = self.cite.given_names else {
+            return Ok(Vec::new(alloc));
+        };
+        let mut persons: Vec<Person> = Vec::new(alloc);
+        for block in blocks {
+            for name in block.names {
+                persons.push(person_of(alloc, name)?)?;
+            }
+        }
+        given_names.forms(alloc, persons.as_slice())
+    }
+
+    /// A mark for these names, whose persons are kept.
+    fn mark_of(
+        &mut self,
+        blocks: &[Block<'c>],
+        forms: &[Vec<DisambiguatedNameForm>],
+    ) -> Result<Mark, AllocError> {
+        let alloc = self.alloc();
+        let mut named = Vec::new(alloc);
+        for (block, own) in blocks.iter().zip(forms) {
+            let mut persons = Vec::new(alloc);
+            for (name, form) in block.names.iter().zip(own) {
+                let person = person_of(alloc, name)?;
+                if !self.cite.tells_shown_persons {
+                    persons.push(person)?;
+                } else if let Some(shown) = shown_person(person, *form) {
+                    persons.push(shown)?;
+                }
+            }
+            named.push((
+                Seq::new(persons),
+                tree_variable(self.told_variable(block.variable)),
+            ))?;
+        }
+        let place = self.names.len();
+        let named: NamedPersons = Seq::new(named);
+        self.names.push(named)?;
+        Ok(Mark::Names(place))
+    }
+}
+
+/// What a name in this form shows of a person.
+fn shown_person(person: Person, form: DisambiguatedNameForm) -> Option<Person> {
+    match form {
+        DisambiguatedNameForm::Count => None,
+        DisambiguatedNameForm::Short => Some(Person {
+            name: person.name,
+            given_name: None,
+        }),
+        DisambiguatedNameForm::LongInitialized | DisambiguatedNameForm::LongFull => Some(person),
+    }
+}
+
+/// Whether these are the editors and the translators, in either order.
+fn are_editor_and_translator(one: NameVariable, other: NameVariable) -> bool {
+    match (one, other) {
+        (NameVariable::Editor, NameVariable::Translator)
+        | (NameVariable::Translator, NameVariable::Editor) => true,
+        _ => false,
+    }
+}
+
+/// The element of a label.
+pub(crate) fn label_element(label: &LabelOptions) -> Element<'_> {
+    Element {
+        text_case: label.text_case,
+        strips_periods: label.strip_periods,
+        ..element_with(&label.affixes, label.formatting)
+    }
+}

@@ -1,0 +1,99 @@
+//! Dates and numbers, as they are sorted (CSL 1.0.2, "Sorting").
+use csl_references::date::{Date, DateSpan, PartialDate, Season, YearPart};
+use std::alloc::{AllocError, Global};
+
+/// A date by so many of its parts: 1 for the year alone, 3 for year, month and day. Texts of
+/// dates are in the order of the dates; a range has its last date behind its first.
+///
+/// # Errors
+///
+/// Where memory is refused.
+pub fn sorted_date(alloc: Global, date: &Date, parts: usize) -> Result<String, AllocError> {
+    let mut text = String::new(alloc);
+    match &date.span {
+        Some(DateSpan::On(on)) => push_date(alloc, &mut text, on, parts)?,
+        Some(DateSpan::Since(on) | DateSpan::Until(on)) => {
+            push_date(alloc, &mut text, on, parts)?;
+        }
+        Some(DateSpan::Between(first, last)) => {
+            push_date(alloc, &mut text, first, parts)?;
+            text.push_str(" ")?;
+            push_date(alloc, &mut text, last, parts)?;
+        }
+        None => {
+            if let Some(literal) = &date.literal {
+                text.push_str(literal.as_str())?;
+            }
+        }
+    }
+    Ok(text)
+}
+
+/// What is added to years, so that those before Christ come first.
+const EPOCH: i64 = 10_000_000_000;
+
+fn push_date(
+    alloc: Global,
+    text: &mut String,
+    date: &PartialDate,
+    parts: usize,
+) -> Result<(), AllocError> {
+    let year = i64::from(date.year) + EPOCH;
+    text.push_str(format!(in alloc; "{year:011}")?.as_str())?;
+    let (month, day) = numbers_of(&date.part);
+    if parts > 1 {
+        text.push_str(format!(in alloc; "{month:02}")?.as_str())?;
+    }
+    if parts > 2 {
+        text.push_str(format!(in alloc; "{day:02}")?.as_str())?;
+    }
+    Ok(())
+}
+
+/// The month and the day, 0 where there is none. A season comes behind the months.
+fn numbers_of(part: &Option<YearPart>) -> (u8, u8) {
+    match part {
+        Some(YearPart::Month(month)) => (month.number(), 0),
+        Some(YearPart::Day(month, day)) => (month.number(), day.number()),
+        Some(YearPart::Season(Season::Spring)) => (13, 0),
+        Some(YearPart::Season(Season::Summer)) => (14, 0),
+        Some(YearPart::Season(Season::Autumn)) => (15, 0),
+        Some(YearPart::Season(Season::Winter)) => (16, 0),
+        Some(YearPart::Named(_)) | None => (0, 0),
+    }
+}
+
+/// As many digits as a number is filled up to.
+const DIGITS: usize = 10;
+
+/// A text in which each number has as many digits, so that numbers are in their order.
+///
+/// # Errors
+///
+/// Where memory is refused.
+pub fn sorted_number(alloc: Global, text: &str) -> Result<String, AllocError> {
+    let mut out = String::new(alloc);
+    let mut digits = String::new(alloc);
+    for c in text.chars() {
+        if c.is_ascii_digit() {
+            digits.push(c)?;
+            continue;
+        }
+        push_digits(&mut out, digits.as_str())?;
+        digits = String::new(alloc);
+        out.push(c)?;
+    }
+    push_digits(&mut out, digits.as_str())?;
+    Ok(out)
+}
+
+/// Adds digits behind the zeros that they lack.
+fn push_digits(out: &mut String, digits: &str) -> Result<(), AllocError> {
+    if digits.is_empty() {
+        return Ok(());
+    }
+    for _ in digits.len()..DIGITS {
+        out.push('0')?;
+    }
+    out.push_str(digits)
+}

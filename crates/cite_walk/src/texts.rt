@@ -1,0 +1,289 @@
+//! Texts (CSL 1.0.2, "Text").
+use crate::cite::SceneKind;
+use crate::labels::label_of;
+use crate::sorted::sorted_number;
+use crate::values::{Value, plain_value};
+use crate::walk::{Walk, text_element};
+use cite_pieces::output::Element;
+use cite_pieces::piece::Mark;
+use csl_references::rich_text::RichText;
+use csl_texts::numbers::is_numeric;
+use csl_texts::pages::page_ranges;
+use csl_vocabulary::term::{PlainTerm, TermName};
+use csl_vocabulary::variable::{NumberVariable, TextVariable, Variable};
+use std::alloc::{AllocError, Global};
+use style_file::element::{Text, TextSource, VariableForm};
+
+/// What terms are marked as.
+pub const TERM: Mark = Mark::Other(0);
+
+impl<'s> Walk<'s, '_> {
+    /// Writes a text that is no macro. Of a cite that is cut to its suffix, the suffix, the locator
+    /// and the words for no date stay.
+    pub(crate) fn write_text(&mut self, text: &'s Text) -> Result<(), AllocError> {
+        match &text.source {
+            TextSource::Variable { variable, form } => {
+                let is_short = *form == VariableForm::Short;
+                self.write_text_variable(text, *variable, is_short)
+            }
+            TextSource::Number(variable) => self.write_number_as_text(text, *variable),
+            TextSource::Macro(_) => Ok(()),
+            TextSource::Term { name, form, plural } => {
+                let is_no_date = *name == TermName::Plain(PlainTerm::NoDate);
+                if self.cite.is_cut_to_suffix && !is_no_date {
+                    return Ok(());
+                }
+                let words = self.scene.locale.term(*name, *form, *plural).unwrap_or("");
+                if is_no_date {
+                    return self.write_no_date(text, words);
+                }
+                self.write_words(text, words, Some(TERM))
+            }
+            TextSource::Value(value) => {
+                if self.cite.is_cut_to_suffix {
+                    return Ok(());
+                }
+                let value = RichText::of_markup(self.alloc(), value.as_str())?;
+                self.output.open(text_element(text))?;
+                self.output.push_rich(&value)?;
+                self.output.close()?;
+                Ok(())
+            }
+        }
+    }
+
+    /// Writes words of a style or a locale.
+    fn write_words(
+        &mut self,
+        text: &'s Text,
+        words: &str,
+        mark: Option<Mark>,
+    ) -> Result<(), AllocError> {
+        self.output.open(Element {
+            mark,
+            ..text_element(text)
+        })?;
+        self.output.push_str(words)?;
+        self.output.close()?;
+        Ok(())
+    }
+
+    /// Writes the words for no date, which stand for a date.
+    fn write_no_date(&mut self, text: &'s Text, words: &str) -> Result<(), AllocError> {
+        self.call(true);
+        let mark = Mark::Date(self.dates);
+        self.dates = self.dates.saturating_add(1);
+        self.output.open(Element {
+            mark: Some(mark),
+            ..Element::PLAIN
+        })?;
+        self.write_words(text, words, None)?;
+        self.write_implicit_suffix()?;
+        self.output.close()?;
+        Ok(())
+    }
+
+    fn write_text_variable(
+        &mut self,
+        text: &'s Text,
+        variable: TextVariable,
+        is_short: bool,
+    ) -> Result<(), AllocError> {
+        if variable == TextVariable::YearSuffix {
+            return self.write_suffix(text);
+        }
+        if self.cite.is_cut_to_suffix || self.is_suppressed(Variable::Text(variable)) {
+            self.call(false);
+            return Ok(());
+        }
+        if variable == TextVariable::CitationLabel {
+            return self.write_citation_label(text);
+        }
+        let Some(value) = self.cite.text(variable, is_short) else {
+            self.call(false);
+            return Ok(());
+        };
+        self.use_variable(Variable::Text(variable))?;
+        self.output.open(text_element(text))?;
+        match base_of_link(variable) {
+            Some(base) => self.push_link(value, base)?,
+            None => self.output.push_rich(value)?,
+        }
+        self.output.close()?;
+        Ok(())
+    }
+
+    /// Writes a text that leads to itself, behind this base where it is no URL.
+    fn push_link(&mut self, value: &RichText, base: &str) -> Result<(), AllocError> {
+        let alloc = self.alloc();
+        let text = value.plain(alloc)?;
+        let mut url = String::new(alloc);
+        if !text.as_str().starts_with("http://") && !text.as_str().starts_with("https://") {
+            url.push_str(base)?;
+        }
+        url.push_str(text.as_str())?;
+        self.output.push_link(text.as_str(), url.as_str())
+    }
+
+    /// Writes the suffix of the year where the style has a place for it.
+    fn write_suffix(&mut self, text: &'s Text) -> Result<(), AllocError> {
+        let Some(suffix) = self.cite.year_suffix else {
+            return Ok(());
+        };
+        self.use_variable(Variable::Text(TextVariable::YearSuffix))?;
+        let letters = suffix_letters(self.alloc(), suffix)?;
+        self.output.open(Element {
+            mark: Some(Mark::YearSuffix),
+            ..text_element(text)
+        })?;
+        self.output.push_str(letters.as_str())?;
+        self.output.close()?;
+        Ok(())
+    }
+
+    /// Writes the suffix of the year behind the first date, where the style has no place for it.
+    pub(crate) fn write_implicit_suffix(&mut self) -> Result<(), AllocError> {
+        let Some(letters) = self.take_implicit_suffix()? else {
+            return Ok(());
+        };
+        self.output.open(Element {
+            mark: Some(Mark::YearSuffix),
+            ..Element::PLAIN
+        })?;
+        self.output.push_str(letters.as_str())?;
+        self.output.close()?;
+        Ok(())
+    }
+
+    /// The letters of the suffix that stands here, where the style has no place for it; each cite
+    /// has it once.
+    pub(crate) fn take_implicit_suffix(&mut self) -> Result<Option<String>, AllocError> {
+        if self.has_written_suffix || !self.scene.adds_year_suffix {
+            return Ok(None);
+        }
+        let Some(suffix) = self.cite.year_suffix else {
+            return Ok(None);
+        };
+        self.has_written_suffix = true;
+        Ok(Some(suffix_letters(self.alloc(), suffix)?))
+    }
+
+    /// Writes the label of the item, with the suffix of its year.
+    fn write_citation_label(&mut self, text: &'s Text) -> Result<(), AllocError> {
+        let alloc = self.alloc();
+        let label = label_of(alloc, self.cite.reference)?;
+        self.use_variable(Variable::Text(TextVariable::CitationLabel))?;
+        self.usage = self.usage.label();
+        self.output.open(Element {
+            mark: Some(Mark::CitationLabel),
+            ..Element::PLAIN
+        })?;
+        self.output.open(text_element(text))?;
+        self.output.push_rich(&label)?;
+        self.write_implicit_suffix()?;
+        self.output.close()?;
+        self.output.close()?;
+        Ok(())
+    }
+
+    fn write_number_as_text(
+        &mut self,
+        text: &'s Text,
+        variable: NumberVariable,
+    ) -> Result<(), AllocError> {
+        let is_cut = self.cite.is_cut_to_suffix && variable != NumberVariable::Locator;
+        if is_cut || self.is_suppressed(Variable::Number(variable)) {
+            self.call(false);
+            return Ok(());
+        }
+        let Some(value) = self.number_value(variable)? else {
+            self.call(false);
+            return Ok(());
+        };
+        self.use_variable(Variable::Number(variable))?;
+        self.open_number(variable)?;
+        self.output.open(text_element(text))?;
+        self.push_number_text(variable, &value)?;
+        self.output.close()?;
+        self.output.close()?;
+        Ok(())
+    }
+
+    /// Opens the element that marks a number with its affixes.
+    pub(crate) fn open_number(&mut self, variable: NumberVariable) -> Result<(), AllocError> {
+        if variable == NumberVariable::CitationNumber {
+            self.usage = self.usage.number();
+        }
+        self.output.open(Element {
+            mark: match variable {
+                NumberVariable::CitationNumber => Some(Mark::CitationNumber),
+                NumberVariable::Locator => Some(Mark::Locator),
+                _ => None,
+            },
+            ..Element::PLAIN
+        })
+    }
+
+    /// Writes the value of a number variable as it stands; ranges of pages in the style's form.
+    pub(crate) fn push_number_text(
+        &mut self,
+        variable: NumberVariable,
+        value: &Value<'_>,
+    ) -> Result<(), AllocError> {
+        if let SceneKind::Key(_) = self.scene.kind {
+            let alloc = self.alloc();
+            let plain = value.text().plain(alloc)?;
+            let sorted = sorted_number(alloc, plain.as_str())?;
+            return self.output.push_str(sorted.as_str());
+        }
+        let alloc = self.alloc();
+        let plain = value.text().plain(alloc)?;
+        let format = match variable {
+            NumberVariable::Page | NumberVariable::Locator => {
+                self.scene.style.options.page_range_format
+            }
+            _ if is_numeric(plain.as_str()) => None,
+            _ => return self.output.push_rich(value.text()),
+        };
+        let delimiter = self.scene.locale.page_range_delimiter();
+        let ranges = page_ranges(alloc, plain.as_str(), format, delimiter)?;
+        self.output.push_rich(&plain_value(alloc, ranges.as_str())?)
+    }
+}
+
+/// The letters of a suffix: `a` to `z`, and then `aa`.
+///
+/// # Errors
+///
+/// Where memory is refused.
+pub(crate) fn suffix_letters(alloc: Global, suffix: usize) -> Result<String, AllocError> {
+    let mut reversed = String::new(alloc);
+    let mut left = suffix;
+    for _ in 0..MOST_LETTERS {
+        let letter = b'a'.saturating_add((left % 26) as u8);
+        reversed.push(char::from(letter))?;
+        if left < 26 {
+            break;
+        }
+        left = left / 26 - 1;
+    }
+    let mut letters = String::new(alloc);
+    for letter in reversed.as_str().chars().rev() {
+        letters.push(letter)?;
+    }
+    Ok(letters)
+}
+
+/// As many letters as the suffix of the greatest number has.
+const MOST_LETTERS: usize = 14;
+
+/// What stands before the value of a variable in the URL to which it leads.
+fn base_of_link(variable: TextVariable) -> Option<&'static str> {
+    match variable {
+        TextVariable::Url => Some(""),
+        TextVariable::Doi => Some("https://doi.org/"),
+        TextVariable::Pmid => Some("https://www.ncbi.nlm.nih.gov/pubmed/"),
+        TextVariable::Pmcid => Some("https://www.ncbi.nlm.nih.gov/pmc/articles/"),
+        _ => None,
+    }
+}

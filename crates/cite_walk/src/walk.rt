@@ -1,0 +1,271 @@
+//! The walk through a program.
+use crate::cite::{CiteFacts, Scene, SceneKind, WrittenCite};
+use crate::frames::Frame;
+use crate::locators::{ShownLocator, shown_locator};
+use crate::values::Value;
+use cite_pieces::output::{Element, Output, element_with};
+use cite_pieces::piece::Mark;
+use cite_program::program::Step;
+use cite_trees::trees::NamedPersons;
+use csl_base::names::DisambiguatedNameForm;
+use csl_base::seq::Seq;
+use csl_lookup::state::IdentifierUsage;
+use csl_texts::cases::Language;
+use csl_vocabulary::variable::{NumberVariable, TextVariable, Variable};
+use std::alloc::{AllocError, Global};
+use style_file::element::{Group, Text};
+
+/// Writes a cite, an item or a key.
+///
+/// # Errors
+///
+/// Where memory is refused.
+pub fn write_cite<'s>(
+    alloc: Global,
+    scene: Scene<'s>,
+    cite: CiteFacts<'_>,
+) -> Result<WrittenCite, AllocError> {
+    let language = language_of(alloc, &scene, &cite)?;
+    let mut walk = Walk {
+        scene,
+        cite,
+        output: Output::new(alloc, language),
+        frames: Vec::new(alloc),
+        outermost: Frame::NEW,
+        here: 0,
+        next: 0,
+        used: Vec::new(alloc),
+        suppressed: Vec::new(alloc),
+        names: Vec::new(alloc),
+        first_forms: None,
+        has_tested_disambiguate: false,
+        usage: IdentifierUsage::None,
+        leaves_out_names: cite.leaves_out_names,
+        has_written_suffix: false,
+        dates: 0,
+        locator: match cite.locator {
+            Some(locator) => Some(shown_locator(alloc, scene.locale, locator)?),
+            None => None,
+        },
+    };
+    let program = scene.program;
+    for (place, step) in program.steps.iter().enumerate() {
+        if place >= walk.next {
+            walk.here = place;
+            walk.take(*step)?;
+        }
+    }
+    Ok(WrittenCite {
+        pieces: walk.output.finish()?,
+        names: walk.names,
+        first_forms: walk.first_forms,
+        has_tested_disambiguate: walk.has_tested_disambiguate,
+        usage: walk.usage,
+    })
+}
+
+/// The language of text cases: that of the item, if it tells one, else that of the locale.
+fn language_of(
+    alloc: Global,
+    scene: &Scene<'_>,
+    cite: &CiteFacts<'_>,
+) -> Result<Language, AllocError> {
+    match cite.reference.text(TextVariable::Language) {
+        Some(language) => Ok(Language::of_tag(language.plain(alloc)?.as_str())),
+        None => Ok(scene.locale.language()),
+    }
+}
+
+/// A walk through a program.
+#[derive(Drop)]
+pub(crate) struct Walk<'s, 'c> {
+    pub scene: Scene<'s>,
+    pub cite: CiteFacts<'c>,
+    pub output: Output<'s>,
+    /// What was called in the groups, macros and substitutes that are open.
+    frames: Vec<Frame>,
+    /// The same of the layout.
+    outermost: Frame,
+    /// The place of the step that is taken.
+    here: usize,
+    /// Where the walk goes on.
+    next: usize,
+    /// Variables with a value that were written, in their order.
+    used: Vec<Variable>,
+    /// Variables that stood in for names.
+    suppressed: Vec<Variable>,
+    pub names: Vec<NamedPersons>,
+    pub first_forms: Option<Vec<DisambiguatedNameForm>>,
+    pub has_tested_disambiguate: bool,
+    pub usage: IdentifierUsage,
+    pub leaves_out_names: bool,
+    pub has_written_suffix: bool,
+    /// How many dates are marked.
+    pub dates: usize,
+    pub locator: Option<ShownLocator>,
+}
+
+impl<'s, 'c> Walk<'s, 'c> {
+    pub(crate) fn alloc(&self) -> Global {
+        self.output.alloc()
+    }
+
+    /// Takes a step.
+    fn take(&mut self, step: Step<'s>) -> Result<(), AllocError> {
+        match step {
+            Step::Text(text) => self.write_text(text),
+            Step::Number(number) => self.write_number(number),
+            Step::Label(label) => self.write_label(label),
+            Step::Date(date) => self.write_date(date),
+            Step::Names { names, end } => {
+                let Some(in_use) = self.scene.program.names.get(names).copied() else {
+                    return Ok(());
+                };
+                if self.write_names(&in_use)? {
+                    self.next = end;
+                }
+                Ok(())
+            }
+            Step::OpenSubstitute => self.open_substitute(),
+            Step::CloseSubstitute { names_at } => self.close_substitute(names_at),
+            Step::OpenGroup(group) => self.open(group_element(group)),
+            Step::CloseGroup => self.close_group(),
+            Step::OpenMacro(text) => self.open(text_element(text)),
+            Step::CloseMacro => self.close_macro(),
+            Step::Choose { .. } => Ok(()),
+            Step::Test { branch, otherwise } => {
+                if !self.holds(branch)? {
+                    self.next = otherwise;
+                }
+                Ok(())
+            }
+            Step::Leave { choose_at } => {
+                self.next = self.scene.program.end_of(choose_at);
+                Ok(())
+            }
+            Step::UnknownVariable => {
+                self.call(false);
+                Ok(())
+            }
+        }
+    }
+
+    /// The value of a number variable.
+    pub(crate) fn number_value(
+        &self,
+        variable: NumberVariable,
+    ) -> Result<Option<Value<'c>>, AllocError> {
+        match (variable, &self.locator) {
+            (NumberVariable::Locator, Some(locator)) => {
+                Ok(Some(Value::Made(locator.text.clone()?)))
+            }
+            _ => self.cite.number(self.alloc(), variable),
+        }
+    }
+
+    fn open(&mut self, element: Element<'s>) -> Result<(), AllocError> {
+        self.frames.push(Frame {
+            used_before: self.used.len(),
+            ..Frame::NEW
+        })?;
+        self.output.open(element)
+    }
+
+    /// What was called in the innermost element that is open.
+    fn frame_mut(&mut self) -> &mut Frame {
+        match self.frames.last_mut() {
+            Some(frame) => frame,
+            None => &mut self.outermost,
+        }
+    }
+
+    /// A variable is called.
+    pub(crate) fn call(&mut self, has_value: bool) {
+        self.frame_mut().call(has_value);
+    }
+
+    /// A variable is called that has a value.
+    pub(crate) fn use_variable(&mut self, variable: Variable) -> Result<(), AllocError> {
+        self.call(true);
+        self.used.push(variable)?;
+        Ok(())
+    }
+
+    /// Whether a variable has stood in for names.
+    pub(crate) fn is_suppressed(&self, variable: Variable) -> bool {
+        self.suppressed.contains(&variable)
+    }
+
+    /// Closes a group. One that has text counts as a variable with a value.
+    fn close_group(&mut self) -> Result<(), AllocError> {
+        let frame = self.frames.pop().unwrap_or(Frame::NEW);
+        if frame.is_in_vain() {
+            self.output.discard();
+            self.call(false);
+        } else if self.output.close()? {
+            self.call(true);
+        }
+        Ok(())
+    }
+
+    /// Closes a macro. One that has called variables and has text counts as a variable with a value.
+    fn close_macro(&mut self) -> Result<(), AllocError> {
+        let mut frame = self.frames.pop().unwrap_or(Frame::NEW);
+        if self.output.close()? && frame.has_called {
+            frame.has_value = true;
+        }
+        self.frame_mut().add(frame);
+        Ok(())
+    }
+
+    /// Opens an element that may stand in for names. In an item it counts as names, which are
+    /// replaced where they repeat those of the item before.
+    fn open_substitute(&mut self) -> Result<(), AllocError> {
+        let inside = self.scene.program.steps.get(self.here.saturating_add(1));
+        let is_names = matches!(inside, Some(Step::Names { .. }));
+        if is_names || !matches!(self.scene.kind, SceneKind::Item) {
+            return self.open(Element::PLAIN);
+        }
+        let mark = Mark::Names(self.names.len());
+        self.names.push(Seq::new(Vec::new(self.alloc())))?;
+        self.open(Element {
+            mark: Some(mark),
+            ..Element::PLAIN
+        })
+    }
+
+    /// Closes an element that may stand in for names. Where it has text, its variables are written
+    /// nowhere else, and the elements behind it don't stand in.
+    fn close_substitute(&mut self, names_at: usize) -> Result<(), AllocError> {
+        let frame = self.frames.pop().unwrap_or(Frame::NEW);
+        self.frame_mut().add(frame);
+        if !self.output.close()? {
+            return Ok(());
+        }
+        for variable in self.used.iter().skip(frame.used_before) {
+            self.suppressed.push(*variable)?;
+        }
+        self.call(true);
+        self.next = self.scene.program.end_of(names_at);
+        Ok(())
+    }
+}
+
+fn group_element(group: &Group) -> Element<'_> {
+    Element {
+        delimiter: group.delimiter.as_str(),
+        display: group.display,
+        ..element_with(&group.affixes, group.formatting)
+    }
+}
+
+/// The element of a text.
+pub(crate) fn text_element(text: &Text) -> Element<'_> {
+    Element {
+        has_quotes: text.quotes,
+        display: text.display,
+        text_case: text.text_case,
+        strips_periods: text.strip_periods,
+        ..element_with(&text.affixes, text.formatting)
+    }
+}
