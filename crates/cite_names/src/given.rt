@@ -88,20 +88,13 @@ impl GivenNames {
 }
 
 fn has_same_initials(one: &Person, other: &Person) -> bool {
-    let mut first = given_name(one).split(is_gap);
-    let mut second = given_name(other).split(is_gap);
-    for _ in 0..MOST_GIVEN_NAMES {
-        match (first.next(), second.next()) {
-            (None, None) => return true,
-            (Some(one), Some(other)) if one.chars().next() == other.chars().next() => {}
-            _ => return false,
-        }
-    }
-    true
+    let initials = given_name(one).split(is_gap).map(first_letter);
+    initials.eq(given_name(other).split(is_gap).map(first_letter))
 }
 
-/// Of how many given names the initials are compared.
-const MOST_GIVEN_NAMES: usize = 64;
+fn first_letter(name: &str) -> Option<char> {
+    name.chars().next()
+}
 
 fn given_name(person: &Person) -> &str {
     match &person.given_name {

@@ -94,7 +94,9 @@ impl<'s> NameList<'s, '_> {
         }
         let precedes = match self.rules.precedes_last {
             DelimiterPrecedes::Contextual => names.len() > 2,
-            DelimiterPrecedes::AfterInvertedName => self.is_inverted_at(names, place - 1),
+            DelimiterPrecedes::AfterInvertedName => {
+                self.is_inverted_at(names, place.saturating_sub(1))
+            },
             DelimiterPrecedes::Always => true,
             DelimiterPrecedes::Never => false,
         };
@@ -118,17 +120,16 @@ impl<'s> NameList<'s, '_> {
         written: usize,
     ) -> Result<(), AllocError> {
         if self.rules.use_last && written.saturating_add(2) <= names.len() {
-            let last = names.len() - 1;
-            output.push_str(self.rules.delimiter)?;
-            output.push_str("… ")?;
-            return self.push_name(alloc, output, &names[last], last, form_of(&self.rules));
+            return self.push_last(alloc, output, names);
         }
         if self.words.et_al.is_empty() {
             return Ok(());
         }
         let precedes = match self.rules.precedes_et_al {
             DelimiterPrecedes::Contextual => written > 1,
-            DelimiterPrecedes::AfterInvertedName => self.is_inverted_at(names, written - 1),
+            DelimiterPrecedes::AfterInvertedName => {
+                self.is_inverted_at(names, written.saturating_sub(1))
+            },
             DelimiterPrecedes::Always => true,
             DelimiterPrecedes::Never => false,
         };
@@ -145,6 +146,21 @@ impl<'s> NameList<'s, '_> {
         output.push_str(self.words.et_al)?;
         output.close()?;
         Ok(())
+    }
+
+    /// Writes the last name behind a gap.
+    fn push_last(
+        &self,
+        alloc: Global,
+        output: &mut Output<'s>,
+        names: &[Name],
+    ) -> Result<(), AllocError> {
+        let Some((last, before)) = names.split_last() else {
+            return Ok(());
+        };
+        output.push_str(self.rules.delimiter)?;
+        output.push_str("… ")?;
+        self.push_name(alloc, output, last, before.len(), form_of(&self.rules))
     }
 
     /// Whether the name at this place begins with the family name.

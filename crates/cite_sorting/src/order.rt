@@ -5,7 +5,7 @@ use cite_program::build::program_of;
 use cite_program::program::ProgramError;
 use cite_walk::cite::CiteFacts;
 use std::alloc::{AllocError, Global};
-use std::cmp::Ordering;
+use std::cmp::Reverse;
 use style_file::sections::{SortBy, SortDirection, SortKey};
 use style_file::style::CslStyle;
 
@@ -49,14 +49,12 @@ pub fn sorted_places<'s>(
     for (place, cite) in cites.iter().enumerate() {
         let mut values = Vec::new(alloc);
         for key in keys {
-            values.push(Value {
-                key: scene.value(alloc, key, *cite)?,
-                direction: key.key.direction,
-            })?;
+            let value = scene.value(alloc, key, *cite)?;
+            values.push(Value::of_key(value, key.key.direction))?;
         }
-        rows.push(Row { place, values })?;
+        rows.push(Row { values, place })?;
     }
-    rows.sort_by(compared)?;
+    rows.sort()?;
     let mut places = Vec::new(alloc);
     for row in &rows {
         places.push(row.place)?;
@@ -64,38 +62,30 @@ pub fn sorted_places<'s>(
     Ok(places)
 }
 
-/// A cite with the values of its keys.
-#[derive(Drop)]
+/// A cite with the values of its keys. Where these are equal, cites are in the order of their
+/// places.
+#[derive(PartialEq, Eq, PartialOrd, Ord, Drop)]
 struct Row {
-    place: usize,
     values: Vec<Value>,
+    place: usize,
 }
 
-/// The value of a key.
-#[derive(Drop)]
-struct Value {
-    key: Option<CollationKey>,
-    direction: SortDirection,
+/// The value of a key, all of which have one direction. One that is missing is behind the others.
+#[derive(PartialEq, Eq, PartialOrd, Ord, Drop)]
+enum Value {
+    Ascending(CollationKey),
+    Descending(Reverse<CollationKey>),
+    Missing,
 }
 
-fn compared(one: &Row, other: &Row) -> Ordering {
-    for (one, other) in one.values.iter().zip(&other.values) {
-        let order = compared_values(one, other);
-        if order != Ordering::Equal {
-            return order;
+impl Value {
+    fn of_key(key: Option<CollationKey>, direction: SortDirection) -> Value {
+        let Some(key) = key else {
+            return Value::Missing;
+        };
+        match direction {
+            SortDirection::Ascending => Value::Ascending(key),
+            SortDirection::Descending => Value::Descending(Reverse(key)),
         }
-    }
-    one.place.cmp(&other.place)
-}
-
-fn compared_values(one: &Value, other: &Value) -> Ordering {
-    match (&one.key, &other.key) {
-        (None, None) => Ordering::Equal,
-        (None, Some(_)) => Ordering::Greater,
-        (Some(_), None) => Ordering::Less,
-        (Some(first), Some(second)) => match one.direction {
-            SortDirection::Ascending => first.cmp(second),
-            SortDirection::Descending => second.cmp(first),
-        },
     }
 }

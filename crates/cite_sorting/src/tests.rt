@@ -6,9 +6,9 @@ use std::test::Fail;
 fn order(rt: HostRuntime) -> Result<(), Fail> {
     let alloc = rt.alloc();
     let words = ["role", "Role", "rôle", "roles", "Smith Zed", "Smithson Al"];
-    for pair in words.windows(2) {
-        let first = CollationKey::of_text(alloc, pair[0])?;
-        let second = CollationKey::of_text(alloc, pair[1])?;
+    for (first, second) in words.iter().zip(words.iter().skip(1)) {
+        let first = CollationKey::of_text(alloc, *first)?;
+        let second = CollationKey::of_text(alloc, *second)?;
         assert!(rt; first < second);
     }
     Ok(())
