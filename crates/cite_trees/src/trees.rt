@@ -51,10 +51,11 @@ pub fn tree_of(
             Piece::Close => builder.close()?,
         }
     }
-    while !builder.open.is_empty() {
+    for _ in 0..builder.open.len() {
         builder.close()?;
     }
-    Ok(builder.children)
+    let Builder { children, .. } = builder;
+    Ok(children)
 }
 
 /// A tree that is being built.

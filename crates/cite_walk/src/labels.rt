@@ -38,19 +38,25 @@ fn names_of(reference: &Reference) -> &[Name] {
     &[]
 }
 
-/// How many letters a label has of each of its names, by how many names there are: one to four.
-const LETTERS: [&[usize]; 4] = [&[4], &[2, 2], &[2, 1, 1], &[1, 1, 1, 1]];
-
 fn push_names(label: &mut String, names: &[Name]) -> Result<(), AllocError> {
-    let Some(last) = names.len().min(LETTERS.len()).checked_sub(1) else {
-        return Ok(());
-    };
-    for (name, count) in names.iter().zip(LETTERS[last]) {
+    for (name, count) in names.iter().zip(letters_of_names(names.len())) {
         for letter in family_of(name).chars().take(*count) {
             label.push(letter)?;
         }
     }
     Ok(())
+}
+
+/// How many letters a label has of each of its names, of which there are so many. Those behind the
+/// fourth have none.
+fn letters_of_names(names: usize) -> &'static [usize] {
+    match names {
+        0 => &[],
+        1 => &[4],
+        2 => &[2, 2],
+        3 => &[2, 1, 1],
+        _ => &[1, 1, 1, 1],
+    }
 }
 
 fn family_of(name: &Name) -> &str {

@@ -10,8 +10,6 @@ mod locators;
 mod names;
 mod numbers;
 pub mod sorted;
-#[cfg(test)]
-mod tests;
 pub mod texts;
 pub mod values;
 pub mod walk;

@@ -66,20 +66,12 @@ impl<'s, 'c> Walk<'s, 'c> {
             if persons.is_empty() {
                 continue;
             }
-            if let Some(before) = blocks.last_mut() {
-                if are_editor_and_translator(before.variable, *variable)
-                    && before.names == persons
-                    && self.has_common_term()
-                {
-                    before.term = PlainTerm::EditorTranslator;
-                    continue;
-                }
-            }
-            blocks.push(Block {
+            let block = Block {
                 variable: *variable,
                 names: persons,
                 term: variable.term(),
-            })?;
+            };
+            push_block(&mut blocks, block, self.has_common_term())?;
         }
         Ok(blocks)
     }
@@ -121,7 +113,8 @@ impl<'s, 'c> Walk<'s, 'c> {
             count = count.saturating_add(written_names(forms.as_slice()));
         }
         let digits = format!(in alloc; "{count}")?;
-        self.output.open(self.names_element(names))?;
+        let element = self.names_element(names);
+        self.output.open(element)?;
         self.output.push_str(digits.as_str())?;
         self.output.close()?;
         Ok(true)
@@ -168,10 +161,11 @@ impl<'s, 'c> Walk<'s, 'c> {
             mark,
             ..Element::PLAIN
         })?;
-        self.output.open(match names.name {
+        let name_element = match names.name {
             Some(name) => element_with(&name.affixes, name.formatting),
             None => Element::PLAIN,
-        })?;
+        };
+        self.output.open(name_element)?;
         list.push(self.alloc(), &mut self.output, block.names, forms)?;
         self.output.close()?;
         self.output.close()?;
@@ -363,14 +357,44 @@ impl<'s, 'c> Walk<'s, 'c> {
     }
 }
 
+/// Adds a block. Where there is a common term for editors who are translators too, and these are the
+/// persons of the last block, that gets the term.
+fn push_block<'c>(
+    blocks: &mut Vec<Block<'c>>,
+    block: Block<'c>,
+    has_common_term: bool,
+) -> Result<(), AllocError> {
+    let last = blocks.last().copied();
+    let block = match last {
+        Some(last) if has_common_term && are_same_persons(last, block) => {
+            blocks.pop();
+            Block {
+                term: PlainTerm::EditorTranslator,
+                ..last
+            }
+        }
+        _ => block,
+    };
+    blocks.push(block)?;
+    Ok(())
+}
+
+/// Whether these are the same persons as editors and as translators.
+fn are_same_persons(one: Block<'_>, other: Block<'_>) -> bool {
+    are_editor_and_translator(one.variable, other.variable) && one.names == other.names
+}
+
 /// What a name in this form shows of a person.
 fn shown_person(person: Person, form: DisambiguatedNameForm) -> Option<Person> {
     match form {
         DisambiguatedNameForm::Count => None,
-        DisambiguatedNameForm::Short => Some(Person {
-            name: person.name,
-            given_name: None,
-        }),
+        DisambiguatedNameForm::Short => {
+            let Person { name, .. } = person;
+            Some(Person {
+                name,
+                given_name: None,
+            })
+        }
         DisambiguatedNameForm::LongInitialized | DisambiguatedNameForm::LongFull => Some(person),
     }
 }

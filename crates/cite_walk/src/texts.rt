@@ -6,12 +6,13 @@ use crate::values::{Value, plain_value};
 use crate::walk::{Walk, text_element};
 use cite_pieces::output::Element;
 use cite_pieces::piece::Mark;
+use csl_lookup::year::letters_of_suffix;
 use csl_references::rich_text::RichText;
 use csl_texts::numbers::is_numeric;
 use csl_texts::pages::page_ranges;
 use csl_vocabulary::term::{PlainTerm, TermName};
 use csl_vocabulary::variable::{NumberVariable, TextVariable, Variable};
-use std::alloc::{AllocError, Global};
+use std::alloc::AllocError;
 use style_file::element::{Text, TextSource, VariableForm};
 
 /// What terms are marked as.
@@ -131,7 +132,7 @@ impl<'s> Walk<'s, '_> {
             return Ok(());
         };
         self.use_variable(Variable::Text(TextVariable::YearSuffix))?;
-        let letters = suffix_letters(self.alloc(), suffix)?;
+        let letters = letters_of_suffix(self.alloc(), suffix)?;
         self.output.open(Element {
             mark: Some(Mark::YearSuffix),
             ..text_element(text)
@@ -165,7 +166,7 @@ impl<'s> Walk<'s, '_> {
             return Ok(None);
         };
         self.has_written_suffix = true;
-        Ok(Some(suffix_letters(self.alloc(), suffix)?))
+        Ok(Some(letters_of_suffix(self.alloc(), suffix)?))
     }
 
     /// Writes the label of the item, with the suffix of its year.
@@ -250,32 +251,6 @@ impl<'s> Walk<'s, '_> {
         self.output.push_rich(&plain_value(alloc, ranges.as_str())?)
     }
 }
-
-/// The letters of a suffix: `a` to `z`, and then `aa`.
-///
-/// # Errors
-///
-/// Where memory is refused.
-pub(crate) fn suffix_letters(alloc: Global, suffix: usize) -> Result<String, AllocError> {
-    let mut reversed = String::new(alloc);
-    let mut left = suffix;
-    for _ in 0..MOST_LETTERS {
-        let letter = b'a'.saturating_add((left % 26) as u8);
-        reversed.push(char::from(letter))?;
-        if left < 26 {
-            break;
-        }
-        left = left / 26 - 1;
-    }
-    let mut letters = String::new(alloc);
-    for letter in reversed.as_str().chars().rev() {
-        letters.push(letter)?;
-    }
-    Ok(letters)
-}
-
-/// As many letters as the suffix of the greatest number has.
-const MOST_LETTERS: usize = 14;
 
 /// What stands before the value of a variable in the URL to which it leads.
 fn base_of_link(variable: TextVariable) -> Option<&'static str> {

@@ -5,7 +5,7 @@ use crate::locators::{ShownLocator, shown_locator};
 use crate::values::Value;
 use cite_pieces::output::{Element, Output, element_with};
 use cite_pieces::piece::Mark;
-use cite_program::program::Step;
+use cite_program::program::{Program, Step};
 use cite_trees::trees::NamedPersons;
 use csl_base::names::DisambiguatedNameForm;
 use csl_base::seq::Seq;
@@ -26,6 +26,10 @@ pub fn write_cite<'s>(
     cite: CiteFacts<'_>,
 ) -> Result<WrittenCite, AllocError> {
     let language = language_of(alloc, &scene, &cite)?;
+    let locator = match cite.locator {
+        Some(locator) => Some(shown_locator(alloc, scene.locale, locator)?),
+        None => None,
+    };
     let mut walk = Walk {
         scene,
         cite,
@@ -43,25 +47,10 @@ pub fn write_cite<'s>(
         leaves_out_names: cite.leaves_out_names,
         has_written_suffix: false,
         dates: 0,
-        locator: match cite.locator {
-            Some(locator) => Some(shown_locator(alloc, scene.locale, locator)?),
-            None => None,
-        },
+        locator,
     };
-    let program = scene.program;
-    for (place, step) in program.steps.iter().enumerate() {
-        if place >= walk.next {
-            walk.here = place;
-            walk.take(*step)?;
-        }
-    }
-    Ok(WrittenCite {
-        pieces: walk.output.finish()?,
-        names: walk.names,
-        first_forms: walk.first_forms,
-        has_tested_disambiguate: walk.has_tested_disambiguate,
-        usage: walk.usage,
-    })
+    walk.take_all(scene.program)?;
+    walk.written()
 }
 
 /// The language of text cases: that of the item, if it tells one, else that of the locale.
@@ -108,6 +97,36 @@ pub(crate) struct Walk<'s, 'c> {
 impl<'s, 'c> Walk<'s, 'c> {
     pub(crate) fn alloc(&self) -> Global {
         self.output.alloc()
+    }
+
+    /// Takes the steps of a program, but for those that are left out.
+    fn take_all(&mut self, program: &Program<'s>) -> Result<(), AllocError> {
+        for (place, step) in program.steps.iter().enumerate() {
+            if place >= self.next {
+                self.here = place;
+                self.take(*step)?;
+            }
+        }
+        Ok(())
+    }
+
+    /// What comes of the walk.
+    fn written(self) -> Result<WrittenCite, AllocError> {
+        let Walk {
+            output,
+            names,
+            first_forms,
+            has_tested_disambiguate,
+            usage,
+            ..
+        } = self;
+        Ok(WrittenCite {
+            pieces: output.finish()?,
+            names,
+            first_forms,
+            has_tested_disambiguate,
+            usage,
+        })
     }
 
     /// Takes a step.
@@ -171,17 +190,20 @@ impl<'s, 'c> Walk<'s, 'c> {
         self.output.open(element)
     }
 
-    /// What was called in the innermost element that is open.
-    fn frame_mut(&mut self) -> &mut Frame {
+    /// A variable is called in the innermost element that is open.
+    pub(crate) fn call(&mut self, has_value: bool) {
         match self.frames.last_mut() {
-            Some(frame) => frame,
-            None => &mut self.outermost,
+            Some(frame) => frame.call(has_value),
+            None => self.outermost.call(has_value),
         }
     }
 
-    /// A variable is called.
-    pub(crate) fn call(&mut self, has_value: bool) {
-        self.frame_mut().call(has_value);
+    /// Adds what was called in an element that is closed now.
+    fn add(&mut self, inner: Frame) {
+        match self.frames.last_mut() {
+            Some(frame) => frame.add(inner),
+            None => self.outermost.add(inner),
+        }
     }
 
     /// A variable is called that has a value.
@@ -214,7 +236,7 @@ impl<'s, 'c> Walk<'s, 'c> {
         if self.output.close()? && frame.has_called {
             frame.has_value = true;
         }
-        self.frame_mut().add(frame);
+        self.add(frame);
         Ok(())
     }
 
@@ -226,8 +248,9 @@ impl<'s, 'c> Walk<'s, 'c> {
         if is_names || !matches!(self.scene.kind, SceneKind::Item) {
             return self.open(Element::PLAIN);
         }
+        let alloc = self.alloc();
         let mark = Mark::Names(self.names.len());
-        self.names.push(Seq::new(Vec::new(self.alloc())))?;
+        self.names.push(Seq::new(Vec::new(alloc)))?;
         self.open(Element {
             mark: Some(mark),
             ..Element::PLAIN
@@ -238,7 +261,7 @@ impl<'s, 'c> Walk<'s, 'c> {
     /// nowhere else, and the elements behind it don't stand in.
     fn close_substitute(&mut self, names_at: usize) -> Result<(), AllocError> {
         let frame = self.frames.pop().unwrap_or(Frame::NEW);
-        self.frame_mut().add(frame);
+        self.add(frame);
         if !self.output.close()? {
             return Ok(());
         }
