@@ -15,7 +15,7 @@ use csl_base::text::Text;
 use csl_references::date::DateSpan;
 use csl_references::reference::{Reference, References};
 use csl_vocabulary::variable::{DateVariable, NameVariable};
-use indexmap::IndexMap;
+use indexmap::{IndexMap, IndexSet};
 use std::alloc::{AllocError, Global};
 use style_file::sections::GivenNameRule;
 use style_file::style::CslStyle;
@@ -83,25 +83,18 @@ fn cited_references<'d>(
     references: &'d References,
     citations: &[Citation],
 ) -> Result<Vec<&'d Reference>, AnswerError> {
-    let mut cited: IndexMap<&'d str, &'d Reference> = IndexMap::new(alloc);
-    for (number, citation) in citations.iter().enumerate() {
-        for cite in &citation.cites {
-            match references.get(cite.id.as_str()) {
-                Some(reference) => {
-                    cited.insert(reference.id.as_str(), reference)?;
-                }
-                None => {
-                    return Err(AnswerError::NoReference {
-                        citation: number,
-                        id: cite.id.clone()?,
-                    });
-                }
+    let mut seen = IndexSet::new(alloc);
+    let mut found = Vec::new(alloc);
+    for (citation, cited) in citations.iter().enumerate() {
+        for cite in &cited.cites {
+            let id = cite.id.clone()?;
+            let Some(reference) = references.get(cite.id.as_str()) else {
+                return Err(AnswerError::NoReference { citation, id });
+            };
+            if seen.insert(id)? {
+                found.push(reference)?;
             }
         }
-    }
-    let mut found = Vec::new(alloc);
-    for (_, reference) in cited.iter() {
-        found.push(*reference)?;
     }
     Ok(found)
 }
