@@ -90,7 +90,10 @@ impl fmt::Display for CitationFault {
         match self {
             CitationFault::NoList => f.write_str("wanted a list of citations"),
             CitationFault::NoCites(citation) => {
-                write!(f, "/{citation}: wanted a citation, which is a list of cites")
+                write!(
+                    f,
+                    "/{citation}: wanted a citation, which is a list of cites"
+                )
             }
             CitationFault::NoObject(index) => {
                 write!(f, "{index}: wanted a cite, which is an object")

@@ -12,7 +12,10 @@ pub(crate) enum CommandError {
     /// The command line is wrong.
     Usage(UsageError),
     /// A file can't be read.
-    Unreadable { path: String, why: String },
+    Unreadable {
+        path: String,
+        why: String,
+    },
     /// A file is wrong, at a place of it if that has a line.
     Refused {
         path: String,

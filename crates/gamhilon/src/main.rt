@@ -1,7 +1,7 @@
 //! `gamhilon` writes citations and bibliographies in styles of CSL 1.0.2.
 //!
 //! Where there is no answer, standard error gets one line that says why, and the exit status tells
-//! it too (`CommandError::status`). What is odd in a file that is read gets a line of its own there.
+//! it too (`CommandError::status`). What is odd in a file that is read gets a line there as well.
 #![tactic(auto)]
 
 mod arguments;

@@ -195,24 +195,29 @@ impl Found {
         if let Some(option) = self.before {
             return Err(CommandError::Usage(UsageError::NoValue(option.name())));
         }
-        let Some(style) = self.style else {
+        let (references, citations) = files_of(self.alloc, &self.files, &self.references)?;
+        let Found {
+            style,
+            locale,
+            styles,
+            locales,
+            format,
+            is_standalone,
+            ..
+        } = self;
+        let Some(style) = style else {
             return Err(CommandError::Usage(UsageError::NoStyle));
         };
-        let (references, citations) = files_of(self.alloc, &self.files, &self.references)?;
-        let options = Options {
+        one_input(Options {
             style,
-            locale: self.locale,
-            styles: self.styles,
-            locales: self.locales,
-            format: self.format,
-            is_standalone: self.is_standalone,
+            locale,
+            styles,
+            locales,
+            format,
+            is_standalone,
             references,
             citations,
-        };
-        if inputs(&options) > 1 {
-            return Err(CommandError::Usage(UsageError::TwoInputs));
-        }
-        Ok(options)
+        })
     }
 }
 
@@ -234,6 +239,15 @@ fn files_of(
         references.push(other.clone()?)?;
     }
     Ok((references, citations))
+}
+
+/// Options of which one file at most is the standard input.
+fn one_input(options: Options) -> Result<Options, CommandError> {
+    if inputs(&options) > 1 {
+        Err(CommandError::Usage(UsageError::TwoInputs))
+    } else {
+        Ok(options)
+    }
 }
 
 /// How many files are the standard input.

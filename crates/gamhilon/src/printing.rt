@@ -67,7 +67,7 @@ fn print_lines(rt: &impl Print, texts: &[String]) -> Result<(), CommandError> {
     Ok(())
 }
 
-/// Prints the bibliography of an answer. Where its style has none, a line on standard error says so.
+/// Prints the bibliography of an answer. Where its style has none, standard error says so.
 ///
 /// # Errors
 ///
@@ -137,11 +137,7 @@ fn json_items(
     Ok(values)
 }
 
-fn json_item(
-    alloc: Global,
-    item: &ListedItem,
-    marks: QuoteMarks<'_>,
-) -> Result<Value, AllocError> {
+fn json_item(alloc: Global, item: &ListedItem, marks: QuoteMarks<'_>) -> Result<Value, AllocError> {
     let id = Value::String(item.id.clone()?);
     let text = Value::String(item_text(alloc, item, OutputFormat::Html, marks)?);
     let mut members = Map::new(alloc);

@@ -42,8 +42,8 @@ impl FoundStyle {
 ///
 /// # Errors
 ///
-/// Those of `text_of`; `Refused` where it is no style, or depends on one that isn't there or depends
-/// on another one itself.
+/// Those of `text_of`; `Refused` where it is no style, or depends on one that depends on another
+/// itself.
 pub(crate) fn style_of(
     rt: &(impl Files + Input + Eprint + AllocGlobal),
     options: &Options,
@@ -101,12 +101,17 @@ fn parent_of(
     folder: &str,
     dependent: DependentStyle,
 ) -> Result<FoundStyle, CommandError> {
-    let name = last_part(dependent.parent.as_str());
+    let DependentStyle {
+        info: _,
+        default_locale,
+        parent,
+    } = dependent;
+    let name = last_part(parent.as_str());
     let path = format!(in rt.alloc(); "{folder}/{name}.csl")?;
     match style_at(rt, path.as_str())? {
         StyleFile::Independent(style) => Ok(FoundStyle {
             style,
-            language: dependent.default_locale,
+            language: default_locale,
         }),
         StyleFile::Dependent(_) => {
             let why = "it depends on a style itself";
