@@ -181,7 +181,7 @@ CASES = [
          '<group delimiter=", "><text variable="publisher"/><text variable="title"/><text variable="URL"/></group>', [PAGE],
          ['Nobody, https://example.org/nobody']),
     cite('a type', 'Choose: `type`, `match="any"`',
-         '<choose><if type="book report"><text value="b"/></if><else-if type="webpage"><text value="w"/></else-if><else>'
+         '<choose><if type="book report" match="any"><text value="b"/></if><else-if type="webpage"><text value="w"/></else-if><else>'
          '<text value="o"/></else></choose>', [BOOK, PAGE, PAPER], ['bwo']),
     cite('none of two', 'Choose: `match="none"`',
          '<choose><if variable="DOI URL" match="none"><text value="n"/></if><else><text value="s"/></else></choose>', [BOOK, PAGE, PAPER],
@@ -259,9 +259,9 @@ CASES = [
          [cites('book'), cites('book'), cites({'id': 'book', 'locator': '7'}), cites('page'), cites('book')], class_='note'),
     cite('near notes', 'Choose: `position="near-note"`, `near-note-distance`',
          '<choose><if position="near-note"><text value="near"/></if><else-if position="subsequent"><text value="far"/></else-if><else>'
-         '<text value="first"/></else></choose>', [BOOK, PAGE], ['first', 'first', 'near', 'near', 'far'],
+         '<text value="first"/></else></choose>', [BOOK, PAGE], ['first', 'first', 'near', 'near', 'near', 'far'],
          [[{'id': 'book', 'note': 1}], [{'id': 'page', 'note': 2}], [{'id': 'book', 'note': 3}], [{'id': 'page', 'note': 4}],
-          [{'id': 'book', 'note': 9}]], class_='note', in_citation='near-note-distance="2"'),
+          [{'id': 'page', 'note': 5}], [{'id': 'book', 'note': 6}]], class_='note', in_citation='near-note-distance="2"'),
     cite('the first note', 'Standard Variables: `first-reference-note-number`',
          '<choose><if position="subsequent"><text variable="first-reference-note-number" prefix="n. "/></if><else>'
          '<text value="first"/></else></choose>', [BOOK, PAGE], ['first', 'first', 'n. 4'],

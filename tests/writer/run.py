@@ -5,7 +5,7 @@ The cases of cases.py, small styles of which the rules of CSL 1.0.2 tell the tex
 their exit statuses and lines on standard error; the styles of examples/styles, which `gamhilon check` finds nothing in, and whose
 citations and bibliographies of documents/ read as pandoc 2.17 writes them (pandoc.json; --record writes that file anew, by the pandoc
 that is installed); and runs of which each growth of memory is refused in turn (tests/documents/refuse.c, for which a C compiler must be
-there). The last line is 'N passed, M failed', and the exit status is 1 where a test failed."""
+there, and a program that brings no memory of its own, as that of `rt try` does). The last line is 'N passed, M failed', and the exit status is 1 where a test failed."""
 import argparse
 import json
 import os
@@ -22,6 +22,7 @@ HERE = os.path.dirname(os.path.abspath(__file__))
 ROOT = os.path.dirname(os.path.dirname(HERE))
 SECONDS = 120
 MOST_GROWTHS = 20000
+LEAST_GROWTHS = 100
 
 
 class Failed(Exception):
@@ -51,7 +52,8 @@ def texts_of(program, folder, case):
     status, out, error = ended(program, verb, '--style', 's.csl', '--to', case.to, *files, cwd=folder)
     if status or error:
         raise Failed('status %d, %s' % (status, error.strip()))
-    return out.splitlines()
+    # Two ways to write a character in HTML.
+    return out.replace('&#38;', '&amp;').replace('&#60;', '&lt;').splitlines()
 
 
 def try_case(program, case):
@@ -145,6 +147,8 @@ def refused_in_turn(program, verb):
             is_told = status in (1, 5) and not out and error.count('\n') == 1
             if not is_told and (status, out) != (0, answer):
                 raise Failed('growth %d: status %d, %r, %r' % (n, status, out, error))
+    if n <= LEAST_GROWTHS:
+        raise Failed('only %d growths were refused' % (n - 1))
     print('%s: %d growths refused in turn' % (verb, n - 1))
 
 
