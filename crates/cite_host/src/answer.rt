@@ -1,11 +1,13 @@
 //! The citations and the bibliography of a document.
 use crate::cites::Citation;
 use crate::driven::{Shrinking, driven_style};
-use crate::entries::{Items, SortedCitation, given_names_of, sorted_citations};
+use crate::entries::{Items, given_names_of};
 use crate::error::AnswerError;
 use crate::joining::{ShownSuffix, joined};
 use crate::programs::Programs;
-use crate::requests::{DrivenStyles, Driver, filled_driver, locators_of};
+use crate::requests::{DrivenStyles, Driver, bibliography_request, filled_driver, locators_of};
+use crate::setting::Setting;
+use crate::sorting::{SortedCitation, sorted_citations};
 use crate::states::ShownStates;
 use crate::writer::TaskWriter;
 use cite_locale::chain::LocaleChain;
@@ -15,12 +17,16 @@ use cite_pieces::pieces::Pieces;
 use cite_pieces::punctuation::punctuated;
 use cite_trees::streams::{cites_of, stream_of, stream_of_child};
 use csl_base::entry::PlainEntry;
+use csl_base::style::IndependentStyle;
 use csl_driver::mode::RoundMode;
-use csl_driver::rendered::{Rendered, RenderedBibliography};
-use csl_driver::request::{BibliographyRequest, Order};
+use csl_driver::rendered::{BibliographyItem, Rendered, RenderedBibliography, RenderedCitation};
+use csl_driver::request::BibliographyRequest;
 use csl_references::reference::References;
+use csl_writers::cite::Cite as DriverCite;
 use host_driver::drive::{Driven, drive_by};
-use indexmap::IndexMap;
+use host_table::key::TaskKey;
+use host_table::table::Table;
+use indexmap::{IndexMap, IndexSet};
 use std::alloc::{AllocError, Global};
 use style_file::sections::Collapse;
 use style_file::style::CslStyle;
@@ -72,115 +78,49 @@ impl<'d> Document<'d> {
     /// asking; `OutOfMemory`.
     pub fn answer(&self, alloc: Global) -> Result<Answer, AnswerError> {
         let programs = Programs::of_style(alloc, self.style)?;
-        let items = Items::cited(
-            alloc,
-            self.style,
-            self.locale,
-            &programs,
-            self.references,
-            self.citations,
-        )?;
-        let citations = sorted_citations(
-            alloc,
-            self.style,
-            self.locale,
-            &programs,
-            &items,
-            self.citations,
-        )?;
-        self.finished(
-            alloc,
-            &self.rendered(alloc, &programs, &items, citations.as_slice())?,
-        )
-    }
-
-    fn rendered<'w>(
-        &self,
-        alloc: Global,
-        programs: &'w Programs<'w>,
-        items: &'w Items<'w>,
-        citations: &'w [SortedCitation<'w>],
-    ) -> Result<Written, AnswerError>
-    where
-        'd: 'w,
-    {
-        let has_notes = self
-            .citations
-            .iter()
-            .any(|citation| citation.note.is_some());
-        let usual = driven_style(alloc, self.style, Shrinking::AsTheStyle, has_notes)?;
-        let apart = driven_style(alloc, self.style, Shrinking::Never, has_notes)?;
-        let locators = locators_of(alloc, citations)?;
-        let styles = DrivenStyles {
-            usual: &usual,
-            apart: &apart,
-        };
-        let driver = filled_driver(alloc, styles, items, citations, &locators)?;
-        let mut order = Vec::new(alloc);
-        for entry in &items.entries {
-            order.push(entry)?;
-        }
-        let request = BibliographyRequest::ordered(
-            &usual,
-            None,
-            &[],
-            Some(Order(order.as_slice())),
-        );
-        let mut writer = self.task_writer(alloc, programs, items, citations)?;
-        let rendered = asked_often(alloc, &driver, &request, &mut writer)?;
-        Ok(Written {
-            rendered,
-            suffixes: writer.suffixes,
-        })
-    }
-
-    /// What writes the tasks of the document.
-    fn task_writer<'w>(
-        &self,
-        alloc: Global,
-        programs: &'w Programs<'w>,
-        items: &'w Items<'w>,
-        citations: &'w [SortedCitation<'w>],
-    ) -> Result<TaskWriter<'w>, AllocError>
-    where
-        'd: 'w,
-    {
-        let mut suffixes = Vec::new(alloc);
-        for citation in citations {
-            suffixes.push(vec![in alloc; None; citation.cites.len()]?)?;
-        }
-        Ok(TaskWriter {
-            alloc,
+        let setting = Setting {
             style: self.style,
             locale: self.locale,
-            programs,
-            items,
-            citations,
-            given_names: given_names_of(alloc, self.style, items.references.as_slice())?,
-            states: ShownStates::new(alloc, items.entries.len())?,
-            suffixes,
-        })
+            programs: &programs,
+        };
+        let items = Items::cited(alloc, setting, self.references, self.citations)?;
+        let citations = sorted_citations(alloc, setting, &items, self.citations)?;
+        let written = self.written(alloc, setting, &items, &citations)?;
+        self.finished(alloc, &written)
+    }
+
+    /// What the driver answers, in styles of its own.
+    fn written(
+        &self,
+        alloc: Global,
+        setting: Setting<'_>,
+        items: &Items<'d>,
+        citations: &[SortedCitation<'d>],
+    ) -> Result<Written, AnswerError> {
+        let has_notes = self.has_notes();
+        let usual = driven_style(alloc, self.style, Shrinking::AsTheStyle, has_notes)?;
+        let apart = driven_style(alloc, self.style, Shrinking::Never, has_notes)?;
+        let mut writer = task_writer(alloc, setting, items, citations)?;
+        let rendered = rendered_in(alloc, &usual, &apart, &mut writer)?;
+        let TaskWriter { suffixes, .. } = writer;
+        Ok(Written { rendered, suffixes })
+    }
+
+    fn has_notes(&self) -> bool {
+        self.citations
+            .iter()
+            .any(|citation| citation.note.is_some())
     }
 
     /// The answer as streams, with their punctuation in order.
     fn finished(&self, alloc: Global, written: &Written) -> Result<Answer, AnswerError> {
         let rendered = &written.rendered;
-        let collapse = self.style.citation.options.collapse;
-        let is_ranged = collapse == Some(Collapse::YearSuffixRanged);
-        let in_quotes = self.locale.has_punctuation_in_quotes();
         let mut citations = Vec::new(alloc);
         for (place, asked) in self.citations.iter().enumerate() {
-            let Some(citation) = rendered.citations.as_slice().get(place) else {
-                continue;
-            };
-            let suffixes = match written.suffixes.get(place) {
-                Some(suffixes) => suffixes.as_slice(),
-                None => &[],
-            };
-            let cites = cites_of(alloc, &citation.citation)?;
-            let stream = joined(alloc, cites, suffixes, is_ranged)?;
-            let stream = self.enclosed(alloc, stream, asked)?;
-            citations.push(punctuated(alloc, stream, in_quotes)?)?;
+            if let Some(citation) = rendered.citations.as_slice().get(place) {
+                let suffixes = suffixes_at(written, place);
+                citations.push(self.citation(alloc, citation, suffixes, asked)?)?;
+            }
         }
         let bibliography = match &rendered.bibliography {
             Some(bibliography) => Some(self.listed(alloc, bibliography)?),
@@ -190,6 +130,22 @@ impl<'d> Document<'d> {
             citations,
             bibliography,
         })
+    }
+
+    /// A citation as a stream.
+    fn citation(
+        &self,
+        alloc: Global,
+        citation: &RenderedCitation,
+        suffixes: &[Option<ShownSuffix>],
+        asked: &Citation,
+    ) -> Result<Pieces, AllocError> {
+        let collapse = self.style.citation.options.collapse;
+        let is_ranged = collapse == Some(Collapse::YearSuffixRanged);
+        let cites = cites_of(alloc, &citation.citation)?;
+        let stream = joined(alloc, cites, suffixes, is_ranged)?;
+        let stream = self.enclosed(alloc, stream, asked)?;
+        punctuated(alloc, stream, self.locale.has_punctuation_in_quotes())
     }
 
     /// A citation between the affixes of the layout, where something of it shows and no cite of
@@ -230,19 +186,91 @@ impl<'d> Document<'d> {
         let in_quotes = self.locale.has_punctuation_in_quotes();
         let mut listed = Vec::new(alloc);
         for item in bibliography.items.as_slice() {
-            let first_field = match &item.first_field {
-                Some(field) => Some(punctuated(alloc, stream_of_child(alloc, field)?, in_quotes)?),
-                None => None,
-            };
-            let content = stream_of(alloc, &item.content)?;
-            listed.push(ListedItem {
-                id: String::from_str(alloc, item.key.as_str())?,
-                first_field,
-                content: punctuated(alloc, content, in_quotes)?,
-            })?;
+            listed.push(listed_item(alloc, item, in_quotes)?)?;
         }
         Ok(listed)
     }
+}
+
+/// An item as streams.
+fn listed_item(
+    alloc: Global,
+    item: &BibliographyItem,
+    in_quotes: bool,
+) -> Result<ListedItem, AllocError> {
+    let first_field = match &item.first_field {
+        Some(field) => {
+            let stream = stream_of_child(alloc, field)?;
+            Some(punctuated(alloc, stream, in_quotes)?)
+        }
+        None => None,
+    };
+    let content = stream_of(alloc, &item.content)?;
+    Ok(ListedItem {
+        id: String::from_str(alloc, item.key.as_str())?,
+        first_field,
+        content: punctuated(alloc, content, in_quotes)?,
+    })
+}
+
+/// The suffixes that the cites of a citation show.
+fn suffixes_at(written: &Written, place: usize) -> &[Option<ShownSuffix>] {
+    match written.suffixes.get(place) {
+        Some(suffixes) => suffixes.as_slice(),
+        None => &[],
+    }
+}
+
+/// What writes the tasks of a document.
+fn task_writer<'s, 'i, 'd>(
+    alloc: Global,
+    setting: Setting<'s>,
+    items: &'i Items<'d>,
+    citations: &'i [SortedCitation<'d>],
+) -> Result<TaskWriter<'s, 'i, 'd>, AllocError> {
+    let mut suffixes = Vec::new(alloc);
+    for citation in citations {
+        suffixes.push(vec![in alloc; None; citation.cites.len()]?)?;
+    }
+    Ok(TaskWriter {
+        alloc,
+        setting,
+        items,
+        citations,
+        given_names: given_names_of(alloc, setting.style, items.references.as_slice())?,
+        states: ShownStates::new(alloc, items.entries.len())?,
+        suffixes,
+    })
+}
+
+/// What the driver answers in these styles.
+fn rendered_in(
+    alloc: Global,
+    usual: &IndependentStyle,
+    apart: &IndependentStyle,
+    writer: &mut TaskWriter<'_, '_, '_>,
+) -> Result<Rendered, AnswerError> {
+    let items = writer.items;
+    let locators = locators_of(alloc, writer.citations)?;
+    let styles = DrivenStyles { usual, apart };
+    let driver = filled_driver(alloc, styles, items, writer.citations, &locators)?;
+    let mut order = Vec::new(alloc);
+    for entry in &items.entries {
+        order.push(entry)?;
+    }
+    rendered_by(alloc, &driver, usual, &order, writer)
+}
+
+/// What the driver answers, with the entries of the bibliography in this order.
+fn rendered_by<'e>(
+    alloc: Global,
+    driver: &Driver<'e>,
+    style: &IndependentStyle,
+    order: &[&'e PlainEntry],
+    writer: &mut TaskWriter<'_, '_, '_>,
+) -> Result<Rendered, AnswerError> {
+    let request = bibliography_request(style, order);
+    asked_often(alloc, driver, &request, writer)
 }
 
 /// Asks the driver, and writes what it lacks, until there is an answer.
@@ -250,20 +278,35 @@ fn asked_often<'e>(
     alloc: Global,
     driver: &Driver<'e>,
     request: &BibliographyRequest<'_, 'e, PlainEntry>,
-    writer: &mut TaskWriter<'_>,
+    writer: &mut TaskWriter<'_, '_, '_>,
 ) -> Result<Rendered, AnswerError> {
     let mut table = IndexMap::new(alloc);
     for _ in 0..MOST_CALLS {
-        match drive_by(alloc, driver, request, RoundMode::Full, &table)? {
-            Driven::Answer(rendered, _) => return Ok(rendered),
-            Driven::Missing(missing) => {
-                writer.settle(&missing)?;
-                for key in missing {
-                    let cite = writer.write(&key)?;
-                    table.insert(key, cite)?;
-                }
-            }
+        match drive_by(alloc, driver, request, RoundMode::Full, &table) {
+            Ok(Driven::Answer(rendered, _account)) => return Ok(rendered),
+            Ok(Driven::Missing(missing)) => fill(writer, missing, &mut table)?,
+            Err(error) => return Err(AnswerError::from(error)),
         }
     }
     Err(AnswerError::Unsettled)
+}
+
+/// Writes what is missing into the table.
+fn fill(
+    writer: &mut TaskWriter<'_, '_, '_>,
+    missing: IndexSet<TaskKey>,
+    table: &mut Table,
+) -> Result<(), AllocError> {
+    writer.settle(&missing)?;
+    for key in missing {
+        let cite = writer.write(&key)?;
+        put(table, key, cite)?;
+    }
+    Ok(())
+}
+
+/// Puts what was written into the table.
+fn put(table: &mut Table, key: TaskKey, cite: DriverCite) -> Result<(), AllocError> {
+    table.insert(key, cite)?;
+    Ok(())
 }

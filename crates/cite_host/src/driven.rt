@@ -9,11 +9,12 @@ use std::alloc::{AllocError, Global};
 use std::num::NonZeroI16;
 use style_file::formatting::Formatting;
 use style_file::sections::{
-    Bibliography, Citation, Collapse, GivenNameRule, Layout, SecondFieldAlign, SubstituteRule,
+    Bibliography, Citation, CitationOptions, Collapse, GivenNameRule, Layout, SecondFieldAlign,
+    SubstituteRule,
 };
 use style_file::style::{CslStyle, StyleClass};
 
-/// How the driver draws cites together.
+/// How the driver collapses cites.
 #[derive(Clone, Copy, PartialEq, Eq)]
 pub(crate) enum Shrinking {
     AsTheStyle,
@@ -72,8 +73,7 @@ const UNFORMATTED: StyleFormatting = StyleFormatting {
     vertical_align: None,
 };
 
-/// What stands between the cites of a group where a style draws their years together, and doesn't
-/// tell.
+/// What stands between the cites of a group where a style collapses their years, and doesn't tell.
 const GROUP_DELIMITER: &str = ", ";
 
 fn driven_citation(
@@ -86,24 +86,12 @@ fn driven_citation(
         Shrinking::AsTheStyle => options.collapse,
         Shrinking::Never => None,
     };
-    let draws_years = match collapse {
+    let collapses_years = match collapse {
         Some(Collapse::Year | Collapse::YearSuffix | Collapse::YearSuffixRanged) => true,
         Some(Collapse::CitationNumber) | None => false,
     };
-    let group_delimiter = match (shrinking, &options.cite_group_delimiter) {
-        (Shrinking::Never, _) => None,
-        (Shrinking::AsTheStyle, Some(delimiter)) => Some(delimiter.as_str()),
-        (Shrinking::AsTheStyle, None) if draws_years => Some(GROUP_DELIMITER),
-        (Shrinking::AsTheStyle, None) => None,
-    };
-    let suffix_delimiter = match &options.year_suffix_delimiter {
-        Some(delimiter) => Some(delimiter.as_str()),
-        None if draws_years => Some(match &options.cite_group_delimiter {
-            Some(delimiter) => delimiter.as_str(),
-            None => citation.layout.delimiter.as_str(),
-        }),
-        None => None,
-    };
+    let group_delimiter = group_delimiter(options, shrinking, collapses_years);
+    let suffix_delimiter = suffix_delimiter(citation, collapses_years);
     Ok(driven::Citation {
         layout: citation_layout(alloc, &citation.layout)?,
         disambiguate_add_givenname: options.disambiguate_add_given_name,
@@ -117,6 +105,36 @@ fn driven_citation(
         near_note_distance: options.near_note_distance as usize,
         name_options: NO_OPTIONS,
     })
+}
+
+/// What stands between the cites of a group.
+fn group_delimiter(
+    options: &CitationOptions,
+    shrinking: Shrinking,
+    collapses_years: bool,
+) -> Option<&str> {
+    if shrinking == Shrinking::Never {
+        return None;
+    }
+    match &options.cite_group_delimiter {
+        Some(delimiter) => Some(delimiter.as_str()),
+        None if collapses_years => Some(GROUP_DELIMITER),
+        None => None,
+    }
+}
+
+/// What stands between the suffixes of a year.
+fn suffix_delimiter(citation: &Citation, collapses_years: bool) -> Option<&str> {
+    if let Some(delimiter) = &citation.options.year_suffix_delimiter {
+        return Some(delimiter.as_str());
+    }
+    if !collapses_years {
+        return None;
+    }
+    match &citation.options.cite_group_delimiter {
+        Some(delimiter) => Some(delimiter.as_str()),
+        None => Some(citation.layout.delimiter.as_str()),
+    }
 }
 
 /// The layout of a citation, of which the driver writes the delimiter.

@@ -1,13 +1,12 @@
 //! The items of a document, as the driver knows them.
-use crate::cites::{Citation, Cite};
+use crate::cites::Citation;
 use crate::error::AnswerError;
 use crate::facts::first_cite;
-use crate::programs::{BibliographyProgram, Programs};
-use cite_locale::chain::LocaleChain;
+use crate::programs::BibliographyProgram;
+use crate::setting::Setting;
 use cite_names::person::person_of;
-use cite_sorting::keys::{Key, KeyScene};
 use cite_sorting::order::sorted_places;
-use cite_walk::cite::{CiteFacts, GivenNames};
+use cite_walk::cite::GivenNames;
 use csl_base::entry::{Date, Person, PlainEntry};
 use csl_base::seq::Seq;
 use csl_base::taxonomy;
@@ -15,7 +14,7 @@ use csl_base::text::Text;
 use csl_references::date::DateSpan;
 use csl_references::reference::{Reference, References};
 use csl_vocabulary::variable::{DateVariable, NameVariable};
-use indexmap::IndexMap;
+use indexmap::{IndexMap, IndexSet};
 use std::alloc::{AllocError, Global};
 use style_file::sections::GivenNameRule;
 use style_file::style::CslStyle;
@@ -27,42 +26,40 @@ pub(crate) struct Items<'d> {
     /// At the same places, what the driver knows of them.
     pub entries: Vec<PlainEntry>,
     /// The places, by the ids.
-    pub places: IndexMap<String, usize>,
-}
-
-/// A citation with its cites in the order of the style.
-#[derive(Drop)]
-pub(crate) struct SortedCitation<'d> {
-    pub cites: Vec<&'d Cite>,
-    pub note: usize,
+    places: IndexMap<String, usize>,
 }
 
 impl<'d> Items<'d> {
     /// The items that these citations cite.
     pub fn cited(
         alloc: Global,
-        style: &'d CslStyle,
-        locale: &'d LocaleChain<'d>,
-        programs: &'d Programs<'d>,
+        setting: Setting<'_>,
         references: &'d References,
         citations: &[Citation],
     ) -> Result<Items<'d>, AnswerError> {
         let cited = cited_references(alloc, references, citations)?;
-        let ordered = match &programs.bibliography {
-            Some(bibliography) => in_order(alloc, style, locale, bibliography, cited)?,
+        let ordered = match setting.bibliography() {
+            Some(bibliography) => in_order(alloc, setting, bibliography, cited)?,
             None => cited,
         };
-        let mut items = Items {
-            references: Vec::new(alloc),
-            entries: Vec::new(alloc),
-            places: IndexMap::new(alloc),
-        };
-        for (place, reference) in ordered.iter().enumerate() {
-            items.references.push(*reference)?;
-            items.entries.push(entry_of(alloc, reference)?)?;
-            items.places.insert(reference.id.clone()?, place)?;
+        Ok(Items::of_references(alloc, ordered)?)
+    }
+
+    fn of_references(
+        alloc: Global,
+        references: Vec<&'d Reference>,
+    ) -> Result<Items<'d>, AllocError> {
+        let mut entries = Vec::new(alloc);
+        let mut places = IndexMap::new(alloc);
+        for (place, reference) in references.iter().enumerate() {
+            entries.push(entry_of(alloc, *reference)?)?;
+            places.insert(reference.id.clone()?, place)?;
         }
-        Ok(items)
+        Ok(Items {
+            references,
+            entries,
+            places,
+        })
     }
 
     /// The place of the item with this id.
@@ -70,10 +67,9 @@ impl<'d> Items<'d> {
         self.places.get(id).copied()
     }
 
-    /// A first cite of the item at this place.
-    pub fn first_cite(&self, place: usize) -> Option<CiteFacts<'d>> {
-        let reference = self.references.get(place).copied()?;
-        Some(first_cite(reference, place.saturating_add(1)))
+    /// The item at this place.
+    pub fn reference(&self, place: usize) -> Option<&'d Reference> {
+        self.references.get(place).copied()
     }
 }
 
@@ -83,51 +79,40 @@ fn cited_references<'d>(
     references: &'d References,
     citations: &[Citation],
 ) -> Result<Vec<&'d Reference>, AnswerError> {
-    let mut cited: IndexMap<&'d str, &'d Reference> = IndexMap::new(alloc);
-    for (number, citation) in citations.iter().enumerate() {
-        for cite in &citation.cites {
-            match references.get(cite.id.as_str()) {
-                Some(reference) => {
-                    cited.insert(reference.id.as_str(), reference)?;
-                }
-                None => {
-                    return Err(AnswerError::NoReference {
-                        citation: number,
-                        id: cite.id.clone()?,
-                    });
-                }
+    let mut seen = IndexSet::new(alloc);
+    let mut found = Vec::new(alloc);
+    for (citation, cited) in citations.iter().enumerate() {
+        for cite in &cited.cites {
+            let id = cite.id.clone()?;
+            let Some(reference) = references.get(cite.id.as_str()) else {
+                return Err(AnswerError::NoReference { citation, id });
+            };
+            if seen.insert(id)? {
+                found.push(reference)?;
             }
         }
-    }
-    let mut found = Vec::new(alloc);
-    for (_, reference) in cited.iter() {
-        found.push(*reference)?;
     }
     Ok(found)
 }
 
 /// The items in the order of the bibliography.
-fn in_order<'d>(
+fn in_order<'s, 'd>(
     alloc: Global,
-    style: &'d CslStyle,
-    locale: &'d LocaleChain<'d>,
-    bibliography: &'d BibliographyProgram<'d>,
+    setting: Setting<'s>,
+    bibliography: &'s BibliographyProgram<'s>,
     cited: Vec<&'d Reference>,
 ) -> Result<Vec<&'d Reference>, AllocError> {
     if bibliography.keys.is_empty() {
         return Ok(cited);
     }
-    let scene = KeyScene {
-        style,
-        locale,
-        names: &bibliography.section.names,
-    };
     let mut cites = Vec::new(alloc);
     for (place, reference) in cited.iter().enumerate() {
-        cites.push(first_cite(reference, place.saturating_add(1)))?;
+        cites.push(first_cite(*reference, None, place.saturating_add(1)))?;
     }
+    let scene = setting.item_keys(bibliography);
+    let places = sorted_places(alloc, scene, bibliography.keys.as_slice(), cites.as_slice())?;
     let mut ordered = Vec::new(alloc);
-    for place in sorted_places(alloc, scene, &bibliography.keys, cites.as_slice())? {
+    for place in places {
         if let Some(reference) = cited.get(place) {
             ordered.push(*reference)?;
         }
@@ -138,12 +123,7 @@ fn in_order<'d>(
 /// What the driver knows of an item: its id, and the year in which it was issued.
 fn entry_of(alloc: Global, reference: &Reference) -> Result<PlainEntry, AllocError> {
     let mut dates = Vec::new(alloc);
-    if let Some(date) = reference.date(DateVariable::Issued) {
-        let year = match &date.span {
-            Some(DateSpan::On(on) | DateSpan::Since(on) | DateSpan::Until(on)) => on.year,
-            Some(DateSpan::Between(first, _)) => first.year,
-            None => 0,
-        };
+    if let Some(year) = issued_year(reference) {
         dates.push((taxonomy::DateVariable::Issued, Date { year }))?;
     }
     Ok(PlainEntry {
@@ -156,70 +136,14 @@ fn entry_of(alloc: Global, reference: &Reference) -> Result<PlainEntry, AllocErr
     })
 }
 
-/// The citations with their cites in the order of the style.
-pub(crate) fn sorted_citations<'d>(
-    alloc: Global,
-    style: &'d CslStyle,
-    locale: &'d LocaleChain<'d>,
-    programs: &'d Programs<'d>,
-    items: &Items<'d>,
-    citations: &'d [Citation],
-) -> Result<Vec<SortedCitation<'d>>, AllocError> {
-    let scene = KeyScene {
-        style,
-        locale,
-        names: &style.citation.names,
-    };
-    let keys = programs.citation_keys.as_slice();
-    let mut sorted = Vec::new(alloc);
-    for (number, citation) in citations.iter().enumerate() {
-        let cites = if keys.is_empty() {
-            all_cites(alloc, citation)?
-        } else {
-            cites_by_keys(alloc, scene, keys, items, citation)?
-        };
-        sorted.push(SortedCitation {
-            cites,
-            note: citation.note.unwrap_or(number.saturating_add(1)),
-        })?;
-    }
-    Ok(sorted)
-}
-
-/// The cites of a citation, in their order.
-fn all_cites<'d>(alloc: Global, citation: &'d Citation) -> Result<Vec<&'d Cite>, AllocError> {
-    let mut cites = Vec::new(alloc);
-    for cite in &citation.cites {
-        cites.push(cite)?;
-    }
-    Ok(cites)
-}
-
-/// The cites of a citation, in the order of the keys.
-fn cites_by_keys<'d>(
-    alloc: Global,
-    scene: KeyScene<'d>,
-    keys: &'d [Key<'d>],
-    items: &Items<'d>,
-    citation: &'d Citation,
-) -> Result<Vec<&'d Cite>, AllocError> {
-    let mut facts = Vec::new(alloc);
-    for cite in &citation.cites {
-        let place = items.place(cite.id.as_str()).unwrap_or(0);
-        if let Some(first) = items.first_cite(place) {
-            facts.push(CiteFacts {
-                locator: cite.locator.as_ref(),
-                ..first
-            })?;
-        }
-    }
-    let mut ordered = Vec::new(alloc);
-    for place in sorted_places(alloc, scene, keys, facts.as_slice())? {
-        if let Some(cite) = citation.cites.get(place) {
-            ordered.push(cite)?;
-        }
-    }
-    Ok(ordered)
+/// The year in which an item was issued; 0 of a date that is a text.
+fn issued_year(reference: &Reference) -> Option<i32> {
+    let date = reference.date(DateVariable::Issued)?;
+    Some(match &date.span {
+        Some(DateSpan::On(on) | DateSpan::Since(on) | DateSpan::Until(on)) => on.year,
+        Some(DateSpan::Between(first, _)) => first.year,
+        None => 0,
+    })
 }
 
 /// How far names are written that share a family name, where the style has a rule for it that
@@ -235,20 +159,23 @@ pub(crate) fn given_names_of(
     }
     let mut given_names = GivenNames::new(alloc, options.given_name_rule);
     for reference in references {
-        given_names.add(persons_of(alloc, reference)?.as_slice())?;
+        let persons = persons_of(alloc, *reference)?;
+        given_names.add(persons.as_slice())?;
     }
     Ok(Some(given_names))
 }
 
+/// The roles of those by whom an item is cited: the first that it has.
+const CITED_ROLES: [NameVariable; 3] = [
+    NameVariable::Author,
+    NameVariable::Editor,
+    NameVariable::Translator,
+];
+
 /// The persons by whom an item is cited: its authors, or else its editors or translators.
 fn persons_of(alloc: Global, reference: &Reference) -> Result<Vec<Person>, AllocError> {
-    let roles = [
-        NameVariable::Author,
-        NameVariable::Editor,
-        NameVariable::Translator,
-    ];
     let mut persons = Vec::new(alloc);
-    for role in roles {
+    for role in CITED_ROLES {
         if let Some(names) = reference.names(role) {
             for name in names {
                 persons.push(person_of(alloc, name)?)?;

@@ -1,12 +1,16 @@
 //! What is known of a cite before the driver tells more.
-use cite_walk::cite::CiteFacts;
+use cite_walk::cite::{CiteFacts, CiteLocator};
 use csl_references::reference::Reference;
 
 /// A first cite of this item, whose number is printed so.
-pub(crate) fn first_cite(reference: &Reference, number: usize) -> CiteFacts<'_> {
+pub(crate) fn first_cite<'c>(
+    reference: &'c Reference,
+    locator: Option<&'c CiteLocator>,
+    number: usize,
+) -> CiteFacts<'c> {
     CiteFacts {
         reference,
-        locator: None,
+        locator,
         number,
         is_first: true,
         is_near_note: false,

@@ -33,20 +33,25 @@ pub(crate) fn joined(
     }
     let mut stream = Pieces::new(alloc);
     for (number, cite) in cites.into_iter().enumerate() {
+        let CiteStream {
+            place: _,
+            before,
+            cite,
+        } = cite;
         let (rises, goes_on) = if is_ranged {
             around(places.as_slice(), number)
         } else {
             (Rises::Not, false)
         };
-        if cite.cite.has_no_text() || (rises != Rises::Not && goes_on) {
+        if cite.has_no_text() || (rises != Rises::Not && goes_on) {
             continue;
         }
         if rises == Rises::Twice {
             stream.push_str(alloc, RANGE)?;
-        } else if !stream.has_no_text() && !begins_with_mark(&cite.cite) {
-            stream.push_pieces(cite.before)?;
+        } else if !stream.has_no_text() && !begins_with_mark(&cite) {
+            stream.push_pieces(before)?;
         }
-        stream.push_pieces(cite.cite)?;
+        stream.push_pieces(cite)?;
     }
     Ok(stream)
 }

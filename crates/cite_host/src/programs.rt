@@ -36,7 +36,7 @@ impl<'s> Programs<'s> {
                 Some(BibliographyProgram {
                     section,
                     layout: program_of(alloc, macros, &section.layout.elements)?,
-                    counts_down: keys.first().is_some_and(is_by_descending_number),
+                    counts_down: counts_down(&keys),
                     keys,
                 })
             }
@@ -58,6 +58,14 @@ impl<'s> Programs<'s> {
             None => false,
         };
         !has_place && !has_other
+    }
+}
+
+/// Whether the first of some keys sorts by the numbers of items, the last first.
+fn counts_down(keys: &[Key<'_>]) -> bool {
+    match keys.first() {
+        Some(key) => is_by_descending_number(key),
+        None => false,
     }
 }
 

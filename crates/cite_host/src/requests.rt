@@ -1,6 +1,7 @@
 //! What the driver is asked.
 use crate::cites::Cite;
-use crate::entries::{Items, SortedCitation};
+use crate::entries::Items;
+use crate::sorting::SortedCitation;
 use csl_base::entry::PlainEntry;
 use csl_base::style::{Collapse, IndependentStyle};
 use csl_base::taxonomy::Locator;
@@ -8,7 +9,7 @@ use csl_driver::driver::BibliographyDriver;
 use csl_driver::item::CitationItem;
 use csl_driver::locator::{LocatorPayload, SpecificLocator};
 use csl_driver::purpose::CitePurpose;
-use csl_driver::request::CitationRequest;
+use csl_driver::request::{BibliographyRequest, CitationRequest, Order};
 use csl_vocabulary::locator::LocatorType;
 use std::alloc::{AllocError, Global};
 use std::convert::Infallible;
@@ -88,18 +89,8 @@ pub(crate) fn filled_driver<'e>(
 ) -> Result<Driver<'e>, AllocError> {
     let mut driver = BibliographyDriver::new(alloc);
     for (citation, locators) in citations.iter().zip(locators) {
-        let mut cites = Vec::new(alloc);
-        for (cite, locator) in citation.cites.iter().zip(locators) {
-            let place = items.place(cite.id.as_str()).unwrap_or(0);
-            if let Some(entry) = items.entries.get(place) {
-                cites.push(item_of(cite, entry, locator))?;
-            }
-        }
-        let style = if stands_together(citation, styles.usual) {
-            styles.usual
-        } else {
-            styles.apart
-        };
+        let cites = cites_of(alloc, items, citation, locators)?;
+        let style = style_for(styles, citation);
         let request = CitationRequest::new(cites, style, None, &[], Some(citation.note));
         if driver.citation(request).is_err() {
             return Err(AllocError);
@@ -108,12 +99,50 @@ pub(crate) fn filled_driver<'e>(
     Ok(driver)
 }
 
+/// The cites of a citation.
+fn cites_of<'e>(
+    alloc: Global,
+    items: &'e Items<'_>,
+    citation: &SortedCitation<'_>,
+    locators: &'e [Option<(Locator, String)>],
+) -> Result<Vec<CitationItem<'e, PlainEntry, Infallible>>, AllocError> {
+    let mut cites = Vec::new(alloc);
+    for (cite, locator) in citation.cites.iter().zip(locators) {
+        let place = items.place(cite.id.as_str()).unwrap_or(0);
+        if let Some(entry) = items.entries.get(place) {
+            cites.push(item_of(*cite, entry, locator))?;
+        }
+    }
+    Ok(cites)
+}
+
+/// The style of a citation.
+fn style_for<'e>(styles: DrivenStyles<'e>, citation: &SortedCitation<'_>) -> &'e IndependentStyle {
+    if stands_together(citation, styles.usual) {
+        styles.usual
+    } else {
+        styles.apart
+    }
+}
+
+/// A request for a bibliography in the order of these entries.
+pub(crate) fn bibliography_request<'o, 'e>(
+    style: &'o IndependentStyle,
+    order: &'o [&'e PlainEntry],
+) -> BibliographyRequest<'o, 'e, PlainEntry> {
+    BibliographyRequest::ordered(style, None, &[], order_of(order))
+}
+
+fn order_of<'o, 'e>(entries: &'o [&'e PlainEntry]) -> Option<Order<'o, 'e, PlainEntry>> {
+    Some(Order(entries))
+}
+
 /// Whether the style may group and collapse the cites of a citation. Numbers with locators are
-/// not drawn together.
+/// not collapsed.
 fn stands_together(citation: &SortedCitation<'_>, style: &IndependentStyle) -> bool {
-    let draws_numbers = style.citation.collapse == Some(Collapse::CitationNumber);
+    let collapses_numbers = style.citation.collapse == Some(Collapse::CitationNumber);
     for cite in &citation.cites {
-        if !cite.is_plain() || (draws_numbers && cite.locator.is_some()) {
+        if !cite.is_plain() || (collapses_numbers && cite.locator.is_some()) {
             return false;
         }
     }

@@ -9,42 +9,6 @@ use csl_texts::quotes::QuoteMarks;
 use serde_json::{Map, Value};
 use std::alloc::{AllocError, Global};
 
-/// Prints the citations of an answer, each on a line.
-pub(crate) fn print_citations(
-    rt: &(impl Print + AllocGlobal),
-    options: &Options,
-    answer: &Answer,
-    marks: QuoteMarks<'_>,
-) -> Result<(), CommandError> {
-    let alloc = rt.alloc();
-    let mut texts = Vec::new(alloc);
-    for citation in &answer.citations {
-        texts.push(shown(alloc, citation, options.format, marks)?)?;
-    }
-    match options.format {
-        OutputFormat::Json => {
-            let mut values = Vec::new(alloc);
-            for text in texts {
-                values.push(Value::String(text))?;
-            }
-            print_json(rt, &Value::Array(values))
-        }
-        OutputFormat::Html if options.is_standalone => {
-            println!(rt; "{PAGE}<body>")?;
-            for text in &texts {
-                println!(rt; "<p>{}</p>", text.as_str())?;
-            }
-            Ok(println!(rt; "</body>\n</html>")?)
-        }
-        OutputFormat::Html | OutputFormat::Text => {
-            for text in &texts {
-                println!(rt; "{}", text.as_str())?;
-            }
-            Ok(())
-        }
-    }
-}
-
 /// The head of a page.
 const PAGE: &str = "<!DOCTYPE html>
 <html>
@@ -52,64 +16,134 @@ const PAGE: &str = "<!DOCTYPE html>
 <meta charset=\"utf-8\">
 <title>References</title>
 </head>
-";
+<body>";
 
-/// Prints the bibliography of an answer, if its style has one.
-pub(crate) fn print_bibliography(
+/// The end of a page.
+const PAGE_END: &str = "</body>
+</html>";
+
+/// Prints the citations of an answer, each on a line.
+///
+/// # Errors
+///
+/// `Output`; `OutOfMemory`.
+pub(crate) fn print_citations(
     rt: &(impl Print + AllocGlobal),
     options: &Options,
     answer: &Answer,
     marks: QuoteMarks<'_>,
 ) -> Result<(), CommandError> {
+    let mut texts = Vec::new(rt.alloc());
+    for citation in &answer.citations {
+        texts.push(shown(rt.alloc(), citation, options.format, marks)?)?;
+    }
+    match options.format {
+        OutputFormat::Json => print_json(rt, &Value::Array(json_texts(rt.alloc(), texts)?)),
+        OutputFormat::Html if options.is_standalone => print_page(rt, &texts),
+        OutputFormat::Html | OutputFormat::Text => print_lines(rt, &texts),
+    }
+}
+
+fn json_texts(alloc: Global, texts: Vec<String>) -> Result<Vec<Value>, AllocError> {
+    let mut values = Vec::new(alloc);
+    for text in texts {
+        values.push(Value::String(text))?;
+    }
+    Ok(values)
+}
+
+fn print_page(rt: &impl Print, texts: &[String]) -> Result<(), CommandError> {
+    println!(rt; "{PAGE}")?;
+    for text in texts {
+        println!(rt; "<p>{}</p>", text.as_str())?;
+    }
+    Ok(println!(rt; "{PAGE_END}")?)
+}
+
+fn print_lines(rt: &impl Print, texts: &[String]) -> Result<(), CommandError> {
+    for text in texts {
+        println!(rt; "{}", text.as_str())?;
+    }
+    Ok(())
+}
+
+/// Prints the bibliography of an answer. Where its style has none, standard error says so.
+///
+/// # Errors
+///
+/// `Output`; `OutOfMemory`.
+pub(crate) fn print_bibliography(
+    rt: &(impl Print + Eprint + AllocGlobal),
+    options: &Options,
+    answer: &Answer,
+    marks: QuoteMarks<'_>,
+) -> Result<(), CommandError> {
     let Some(items) = &answer.bibliography else {
+        let _ = eprintln!(rt; "gamhilon: warning: the style has no bibliography");
         return Ok(());
     };
     match options.format {
-        OutputFormat::Text => {
-            for item in items {
-                let text = item_text(rt.alloc(), item, OutputFormat::Text, marks)?;
-                println!(rt; "{}", text.as_str())?;
-            }
-            Ok(())
+        OutputFormat::Text => print_items(rt, items, marks),
+        OutputFormat::Html if options.is_standalone => {
+            println!(rt; "{PAGE}")?;
+            print_list(rt, items, marks)?;
+            Ok(println!(rt; "{PAGE_END}")?)
         }
-        OutputFormat::Html => print_page(rt, options, items, marks),
+        OutputFormat::Html => print_list(rt, items, marks),
         OutputFormat::Json => {
-            let alloc = rt.alloc();
-            let mut values = Vec::new(alloc);
-            for item in items {
-                let mut members = Map::new(alloc);
-                let text = item_text(alloc, item, OutputFormat::Html, marks)?;
-                members.insert(
-                    String::from_str(alloc, "id")?,
-                    Value::String(item.id.clone()?),
-                )?;
-                members.insert(String::from_str(alloc, "html")?, Value::String(text))?;
-                values.push(Value::Object(members))?;
-            }
+            let values = json_items(rt.alloc(), items, marks)?;
             print_json(rt, &Value::Array(values))
         }
     }
 }
 
-fn print_page(
+/// Prints the texts of items, each on a line.
+fn print_items(
     rt: &(impl Print + AllocGlobal),
-    options: &Options,
     items: &[ListedItem],
     marks: QuoteMarks<'_>,
 ) -> Result<(), CommandError> {
-    if options.is_standalone {
-        println!(rt; "{PAGE}<body>")?;
+    for item in items {
+        let text = item_text(rt.alloc(), item, OutputFormat::Text, marks)?;
+        println!(rt; "{}", text.as_str())?;
     }
+    Ok(())
+}
+
+/// Prints items as HTML.
+fn print_list(
+    rt: &(impl Print + AllocGlobal),
+    items: &[ListedItem],
+    marks: QuoteMarks<'_>,
+) -> Result<(), CommandError> {
     println!(rt; "<div class=\"csl-bib-body\">")?;
     for item in items {
         let text = item_text(rt.alloc(), item, OutputFormat::Html, marks)?;
         println!(rt; "<div class=\"csl-entry\">{}</div>", text.as_str())?;
     }
-    println!(rt; "</div>")?;
-    if options.is_standalone {
-        println!(rt; "</body>\n</html>")?;
+    Ok(println!(rt; "</div>")?)
+}
+
+/// The items as JSON: an object for each, with its id and its HTML.
+fn json_items(
+    alloc: Global,
+    items: &[ListedItem],
+    marks: QuoteMarks<'_>,
+) -> Result<Vec<Value>, AllocError> {
+    let mut values = Vec::new(alloc);
+    for item in items {
+        values.push(json_item(alloc, item, marks)?)?;
     }
-    Ok(())
+    Ok(values)
+}
+
+fn json_item(alloc: Global, item: &ListedItem, marks: QuoteMarks<'_>) -> Result<Value, AllocError> {
+    let id = Value::String(item.id.clone()?);
+    let text = Value::String(item_text(alloc, item, OutputFormat::Html, marks)?);
+    let mut members = Map::new(alloc);
+    members.insert(String::from_str(alloc, "id")?, id)?;
+    members.insert(String::from_str(alloc, "html")?, text)?;
+    Ok(Value::Object(members))
 }
 
 /// An item, with its first field in front.
