@@ -338,11 +338,9 @@ impl<'s, 'c> Walk<'s, 'c> {
         for (block, own) in blocks.iter().zip(forms) {
             let mut persons = Vec::new(alloc);
             for (name, form) in block.names.iter().zip(own) {
-                let person = person_of(alloc, name)?;
-                if !self.cite.tells_shown_persons {
-                    persons.push(person)?;
-                } else if let Some(shown) = shown_person(person, *form) {
-                    persons.push(shown)?;
+                let is_shown = *form != DisambiguatedNameForm::Count;
+                if is_shown || !self.cite.tells_shown_persons {
+                    persons.push(person_of(alloc, name)?)?;
                 }
             }
             named.push((
@@ -382,21 +380,6 @@ fn push_block<'c>(
 /// Whether these are the same persons as editors and as translators.
 fn are_same_persons(one: Block<'_>, other: Block<'_>) -> bool {
     are_editor_and_translator(one.variable, other.variable) && one.names == other.names
-}
-
-/// What a name in this form shows of a person.
-fn shown_person(person: Person, form: DisambiguatedNameForm) -> Option<Person> {
-    match form {
-        DisambiguatedNameForm::Count => None,
-        DisambiguatedNameForm::Short => {
-            let Person { name, .. } = person;
-            Some(Person {
-                name,
-                given_name: None,
-            })
-        }
-        DisambiguatedNameForm::LongInitialized | DisambiguatedNameForm::LongFull => Some(person),
-    }
 }
 
 /// Whether these are the editors and the translators, in either order.

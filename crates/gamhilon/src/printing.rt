@@ -165,7 +165,11 @@ fn item_text(
             "<div class=\"csl-left-margin\">{field}</div>\
              <div class=\"csl-right-inline\">{content}</div>"
         ),
-        OutputFormat::Text | OutputFormat::Json => format!(in alloc; "{field}{content}"),
+        OutputFormat::Text => {
+            let field = field.trim_end();
+            format!(in alloc; "{field} {content}")
+        }
+        OutputFormat::Json => format!(in alloc; "{field}{content}"),
     }
 }
 
