@@ -244,10 +244,10 @@ fn task_writer<'s, 'i, 'd>(
 }
 
 /// What the driver answers in these styles.
-fn rendered_in(
+fn rendered_in<'e>(
     alloc: Global,
-    usual: &IndependentStyle,
-    apart: &IndependentStyle,
+    usual: &'e IndependentStyle,
+    apart: &'e IndependentStyle,
     writer: &mut TaskWriter<'_, '_, '_>,
 ) -> Result<Rendered, AnswerError> {
     let items = writer.items;
