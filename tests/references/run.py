@@ -14,24 +14,24 @@ import argparse
 import glob
 import json
 import os
-import resource
 import shutil
 import subprocess
 import sys
 import tempfile
 
-from items import mutated_documents, zotero_library
-
 HERE = os.path.dirname(os.path.abspath(__file__))
+sys.path.append(os.path.dirname(HERE))
+
+import runs
+from items import mutated_documents, zotero_library
+from runs import Failed, sized
+
 MOST_MEMORY = 1 << 31
 SECONDS = 600
 BATCH = 1000
-MOST_GROWTHS = 10000
 LIBRARY = 100000
 # Of processor time the least of some rounds is taken, and there are more of them before a failure.
 ROUNDS = 12
-# The exit status of the program where memory is refused.
-REFUSED = 5
 KINDS = {
     dict: 'an object', list: 'a list', str: 'a text', bool: 'a truth value', int: 'a number',
     float: 'a number', type(None): 'null',
@@ -39,28 +39,14 @@ KINDS = {
 LACKS_ID = 'no `id`'
 
 
-class Failed(Exception):
-    pass
-
-
-def given_bytes(documents):
-    return b''.join(b'%d\n%b' % (len(it), it) for it in documents)
-
-
 def ended(program, documents, *words, **how):
     """Status, standard output and standard error of a run with these documents."""
-    try:
-        done = subprocess.run([program, *words], input=given_bytes(documents), timeout=SECONDS,
-                              stdout=subprocess.PIPE, stderr=subprocess.PIPE, **how)
-    except subprocess.TimeoutExpired:
-        raise Failed('it had not ended after %d seconds' % SECONDS)
-    return done.returncode, done.stdout, done.stderr
+    return runs.ended([program, *words], sized(documents), SECONDS, **how)
 
 
 def answers(program, documents):
     """What the program says of each document: its lines."""
-    limit = lambda: resource.setrlimit(resource.RLIMIT_AS, (MOST_MEMORY, MOST_MEMORY))
-    status, out, error = ended(program, documents, preexec_fn=limit)
+    status, out, error = ended(program, documents, preexec_fn=runs.at_most(MOST_MEMORY))
     if status != 0 or error:
         raise Failed('status %d, %r' % (status, error[:200]))
     return by_documents(out.decode(), len(documents))
@@ -250,39 +236,16 @@ def mutations(program, paths, count, seed):
 # Memory
 
 
-def compiled(folder):
-    """What refuses the nth growth of a process, preloaded."""
-    compiler = next((it for it in map(shutil.which, ('cc', 'gcc', 'clang')) if it), None)
-    if not compiler:
-        raise Failed('no C compiler is here, so that no growth of memory can be refused')
-    made = folder + '/refuse.so'
-    source = HERE + '/../documents/refuse.c'
-    subprocess.run([compiler, '-shared', '-fPIC', '-O1', '-o', made, source, '-ldl'], check=True,
-                   stderr=subprocess.DEVNULL)
-    return made
-
-
 def refused_in_turn(program, document):
     """Each run with a growth refused ends with status 5 and prints nothing, wherever it is refused;
     or with the whole answer, where that growth only was to leave memory for later. At last none is
     refused."""
-    answer = ended(program, [document])[1]
-    in_reading = 0
-    with tempfile.TemporaryDirectory(prefix='references-') as folder:
-        shim = compiled(folder)
-        for n in range(1, MOST_GROWTHS):
-            how = {'LD_PRELOAD': shim, 'REFUSE': str(n)}
-            status, out, error = ended(program, [document], 'calls', env=how)
-            calls, was_refused, _ = error.partition(b'!')
-            is_refusal = was_refused == b'!' and (status, out) == (REFUSED, b'')
-            if (status, out) != (0, answer) and not is_refusal:
-                raise Failed('growth %d: status %d, %r, %r' % (n, status, out[:200], error[-200:]))
-            in_reading += is_refusal and calls == b'read\n'
-            if not was_refused:
-                break
+    run = lambda environment: ended(program, [document], 'calls', env=environment)
+    refused, in_reading = runs.refused_in_turn(run)
     if in_reading < 10:
         raise Failed('only %d growths were refused while a document was read' % in_reading)
-    print('%d growths refused in turn, %d of them while a document was read' % (n - 1, in_reading))
+    print('%d growths refused in turn, %d of them while a document was read' % (
+        refused, in_reading))
 
 
 # Time
@@ -307,7 +270,7 @@ def written(folder, shape, size):
     child = os.fork()
     if child == 0:
         with open(path, 'wb') as file:
-            file.write(given_bytes([shape(size)]))
+            file.write(sized([shape(size)]))
         os._exit(0)
     if os.waitpid(child, 0)[1] != 0:
         raise Failed('a document of size %d was not made' % size)
@@ -432,17 +395,7 @@ def main():
     parser.add_argument('--strict', action='store_true')
     given = parser.parse_args()
     program = os.path.abspath(given.program)
-    passed = failed = 0
-    for name, call, *arguments in tests_of(program, given):
-        try:
-            call(program, *arguments)
-            passed += 1
-        except Failed as error:
-            failed += 1
-            print('FAILED %s\n    %s' % (name, str(error).replace('\n', '\n    ')))
-    print('%d passed, %d failed' % (passed, failed))
-    return 1 if failed else 0
-
+    return runs.count(tests_of(program, given), program)
 
 if __name__ == '__main__':
     sys.exit(main())

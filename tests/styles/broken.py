@@ -17,6 +17,20 @@ def layout(elements):
     return style(citation=' <citation>\n  <layout>\n   %s\n  </layout>\n </citation>\n' % elements)
 
 
+def macros(*bodies):
+    """A style with these macros, `m0` and so on."""
+    return style(body=''.join(' <macro name="m%d">%s</macro>\n' % it for it in enumerate(bodies)))
+
+
+def texts(count):
+    return '<text value="t"/>' * count
+
+
+def deep(groups, element):
+    """An element in as many groups."""
+    return '<group>' * groups + element + '</group>' * groups
+
+
 def locale(body):
     return LOCALE + body + '</locale>\n'
 
@@ -141,6 +155,22 @@ REFUSED = {
         ),
         "found `c`, wanted a macro that doesn't lead back to this one",
     ),
+    'a ring that one leads to, by a second call': (
+        macros(
+            '<text macro="m3"/>', '<text macro="m4"/><text ¦macro="m2"/>', '<text macro="m3"/>', '<text macro="m1"/>', texts(1)
+        ),
+        "found `m2`, wanted a macro that doesn't lead back to this one",
+    ),
+    'one element more than a macro may have': (
+        macros('<text macro="m1"/>' * 1000 + texts(1), texts(999)).replace('<macro', '¦<macro', 1),
+        'found `macro`, wanted at most 1000000 elements with all macros written out',
+    ),
+    'one level more than a macro may have': (
+        macros(
+            deep(250, '<text macro="m1"/>'), deep(249, '<text macro="m2"/>'), deep(249, '<text macro="m3"/>'), deep(249, texts(1))
+        ).replace('<macro', '¦<macro', 1),
+        'found `macro`, wanted at most 1000 elements in one another with all macros written out',
+    ),
     'macros that double': (
         style(
             body=''.join(
@@ -190,6 +220,9 @@ WARNED = {
     'a variable': (layout('<text ¦variable="custom"/>'), 'unknown variable `custom`'),
     'a variable of several': (layout('<choose><if ¦variable="title isued"/></choose>'), 'unknown variable `isued`, perhaps `issued`'),
     'a type': (layout('<choose><if ¦type="boook"/></choose>'), 'unknown item type `boook`, perhaps `book`'),
+    'a name of other processors': (layout('<text ¦variable="doi"/>'), 'unknown variable `doi`'),
+    'a long ordinal above ten': (locale('<terms>\n  <term ¦name="long-ordinal-11">t</term></terms>'), 'unknown term `long-ordinal-11`'),
+    'an ordinal with a sign': (locale('<terms>\n  <term ¦name="ordinal-+1">t</term></terms>'), 'unknown term `ordinal-+1`'),
     'a locator': (layout('<choose><if ¦locator="surah"/></choose>'), 'unknown locator type `surah`'),
     'a term': (layout('<text ¦term="no-date"/>'), 'unknown term `no-date`, perhaps `no date`'),
     'a term of a locale': (locale('<terms>\n  <term ¦name="year-range-delimiter">–</term></terms>'), 'unknown term `year-range-delimiter`'),
@@ -213,6 +246,15 @@ WARNED = {
         style(info=INFO.replace(' </info>', '  <link ¦href="h" rel="independent-parent"/>\n </info>')),
         'the parent `h` is not used',
     ),
+}
+
+# What the limits just allow.
+ALLOWED = {
+    'a macro of many elements': macros('<text macro="m1"/>' * 1000, texts(999)),
+    'macros that are deep': macros(
+        deep(249, '<text macro="m1"/>'), deep(249, '<text macro="m2"/>'), deep(249, '<text macro="m3"/>'), deep(249, texts(1))
+    ),
+    'macros that are called before they are told, and twice': macros('<text macro="m1"/><text macro="m2"/>' * 2, '<text macro="m2"/>', texts(1)),
 }
 
 

@@ -4,7 +4,8 @@ crates/test_style_files, on styles and locales.
 
 Each file of documents/, and of Debian's packages citation-style-language-styles and citation-style-language-locales, is read,
 with no warning but those of EXPLAINED, and says what it says by xml.etree (said.py: each element with all its values); packages
-that aren't installed are named. The files of broken.py are refused, or warned of, at their places and in their words. N files
+that aren't installed are named. So do files with all names of CSL 1.0.2 (tests/csl_names.py). The files of broken.py are refused, or
+warned of, at their places and in their words, or just allowed. N files
 (3000, if not said) are made by changes of others, drawn by the seed: each is refused at a place of the text, or read; with no
 warning it says what it says by xml.etree. Each growth of memory is refused in turn (tests/documents/refuse.c, for which a C
 compiler must be there). Four times as much takes about four times as long, and the packages' files take at most 1.5 times as
@@ -23,12 +24,16 @@ import sys
 import tempfile
 import xml.etree.ElementTree
 
-from broken import REFUSED, WARNED, placed
+HERE = os.path.dirname(os.path.abspath(__file__))
+sys.path.append(os.path.dirname(HERE))
+
+import csl_names
+import runs
+from broken import ALLOWED, REFUSED, WARNED, placed
 from mutated import mutated_documents
+from runs import ATTEMPTS, Failed, processor_time, read
 from said import said_of
 
-HERE = os.path.dirname(os.path.abspath(__file__))
-ROOT = os.path.dirname(os.path.dirname(HERE))
 STYLES = '/usr/share/citation-style-language/'
 PACKAGES = {'styles': '*.csl', 'locales': '*.xml'}
 # Warnings on the packages' files, by what they say without names: how often, and why that is right.
@@ -37,34 +42,13 @@ NAMED = re.compile('`[^`]*`')
 MOST_MEMORY = 1 << 30
 SECONDS = 120
 BATCH = 2000
-MOST_GROWTHS = 50000
-# Times as long for four times as much that are still about four times: both are measured while others run.
-ABOUT_FOUR = 6
-# How often a time is measured anew before it counts as too long.
-ATTEMPTS = 4
-
-
-class Failed(Exception):
-    pass
-
-
-def read(path):
-    with open(path, 'rb') as file:
-        return file.read()
+# What can be told from nothing, in seconds.
+MEASURABLE = 0.01
 
 
 def ended(program, documents, *words, **how):
     """Status, standard output and standard error of a run with these documents."""
-    given = b''.join(b'%d\n%b' % (len(it), it) for it in documents)
-    try:
-        done = subprocess.run([program, *words], input=given, stdout=subprocess.PIPE, stderr=subprocess.PIPE, timeout=SECONDS, **how)
-    except subprocess.TimeoutExpired:
-        raise Failed('it had not ended after %d seconds' % SECONDS)
-    return done.returncode, done.stdout, done.stderr
-
-
-def limited():
-    resource.setrlimit(resource.RLIMIT_AS, (MOST_MEMORY, MOST_MEMORY))
+    return runs.ended([program, *words], runs.sized(documents), SECONDS, **how)
 
 
 class Answer:
@@ -76,7 +60,7 @@ class Answer:
 
 def answers(programs, documents):
     """What the program says of each document."""
-    status, out, error = ended(programs.test_style_files, documents, preexec_fn=limited)
+    status, out, error = ended(programs.test_style_files, documents, preexec_fn=runs.at_most(MOST_MEMORY))
     if status != 0 or error:
         raise Failed('status %d, %r' % (status, error[:200]))
     found, answer = [], Answer()
@@ -176,6 +160,21 @@ def warned(programs):
         raise Failed('\n'.join(wrong))
 
 
+def allowed(programs):
+    """What the limits just allow is read, with no warning."""
+    for (name, document), answer in zip(ALLOWED.items(), answers(programs, [it.encode() for it in ALLOWED.values()])):
+        if answer.fault or answer.warnings:
+            raise Failed('%s: %s %s' % (name, answer.fault, answer.warnings))
+
+
+def names_of_csl(programs):
+    """Each name of CSL 1.0.2 is known where it stands for a variable, a type, a locator type, a term, and a form of one."""
+    documents = [csl_names.style_of_names(), csl_names.locale_of_names()]
+    for document, answer in zip(documents, answers(programs, documents)):
+        if answer.fault or answer.warnings or answer.digest != digest(document):
+            raise Failed('%s %s, or %s' % (answer.fault, answer.warnings, difference(programs, document)))
+
+
 # The program
 
 
@@ -255,49 +254,17 @@ def mutations(programs, count, seed):
 # Memory
 
 
-def compiled(folder):
-    """What refuses the nth growth of a process, preloaded."""
-    compiler = next((it for it in map(shutil.which, ('cc', 'gcc', 'clang')) if it), None)
-    if not compiler:
-        raise Failed('no C compiler is here, so that no growth of memory can be refused')
-    made = folder + '/refuse.so'
-    source = HERE + '/../documents/refuse.c'
-    subprocess.run([compiler, '-shared', '-fPIC', '-O1', '-o', made, source, '-ldl'], check=True, stderr=subprocess.DEVNULL)
-    return made
-
-
 def refused_in_turn(programs, document):
     """Each run with a growth refused ends with status 5, or 1 while the input is read, and prints nothing; or with the answer.
     Reading is refused some, and at last none is refused."""
-    answer = ended(programs.test_style_files, [document])[1]
-    in_reading = 0
-    with tempfile.TemporaryDirectory(prefix='styles-') as folder:
-        shim = compiled(folder)
-        for n in range(1, MOST_GROWTHS):
-            status, out, error = ended(programs.test_style_files, [document], 'calls', env={'LD_PRELOAD': shim, 'REFUSE': str(n)})
-            calls, was_refused, _ = error.partition(b'!')
-            if (status, out) != (0, answer) and (not was_refused or out or status != (5 if b'read' in calls else status)):
-                raise Failed('growth %d: status %d, %r, %r' % (n, status, out, error))
-            in_reading += status == 5 and calls == b'read\n'
-            if not was_refused:
-                break
+    run = lambda environment: ended(programs.test_style_files, [document], 'calls', env=environment)
+    refused, in_reading = runs.refused_in_turn(run, unread=1)
     if in_reading < 20:
         raise Failed('only %d growths were refused while a file was read' % in_reading)
-    print('%d growths refused in turn, %d of them while a file was read' % (n - 1, in_reading))
+    print('%d growths refused in turn, %d of them while a file was read' % (refused, in_reading))
 
 
 # Time
-
-
-def processor_time(who, call):
-    """The processor time of a call, the least of three, and what it returned."""
-    times = []
-    for _ in range(3):
-        before = resource.getrusage(who)
-        returned = call()
-        after = resource.getrusage(who)
-        times.append(after.ru_utime + after.ru_stime - before.ru_utime - before.ru_stime)
-    return min(times), returned
 
 
 def seconds(programs, documents):
@@ -342,21 +309,12 @@ def shapes(size):
     }
 
 
-def about_four(programs, name, small, large):
-    """Whether four times as much takes about four times as long."""
-    for _ in range(ATTEMPTS):
-        times = seconds(programs, [small]), seconds(programs, [large])
-        print('%s: %.2f s, %.2f s for four times as much' % (name, *times))
-        if times[1] <= ABOUT_FOUR * max(times[0], 0.01):
-            return True
-    return False
-
-
 def linear_time(programs):
     small, large = shapes(1 << 20), shapes(1 << 22)
-    wrong = [it for it in small if not about_four(programs, it, small[it], large[it])]
+    of_one = lambda document: seconds(programs, [document])
+    wrong = [it for it in small if not runs.grows_evenly(it, of_one, small[it], large[it], MEASURABLE)]
     if wrong:
-        raise Failed('more than %d times as long for four times as much: %s' % (ABOUT_FOUR, ', '.join(wrong)))
+        raise Failed('more than about four times as long for four times as much: %s' % ', '.join(wrong))
 
 
 def cost(programs, paths):
@@ -386,6 +344,8 @@ def tests_of(given):
             print('not installed, and left out: citation-style-language-' + package)
     tests.append(('files that are refused', broken))
     tests.append(('files with warnings', warned))
+    tests.append(('files that the limits just allow', allowed))
+    tests.append(('names of CSL', names_of_csl))
     tests.append(('style_check', program))
     tests.append(('mutated files', mutations, given.mutate, given.seed))
     for path in own_documents():
@@ -407,17 +367,7 @@ def main():
         style_check=os.path.abspath(given.style_check), test_style_files=os.path.abspath(given.test_style_files)
     )
     sys.setrecursionlimit(10000)
-    passed = failed = 0
-    for name, call, *arguments in tests_of(given):
-        try:
-            call(programs, *arguments)
-            passed += 1
-        except Failed as error:
-            failed += 1
-            print('FAILED %s\n    %s' % (name, str(error).replace('\n', '\n    ')))
-    print('%d passed, %d failed' % (passed, failed))
-    return 1 if failed else 0
-
+    return runs.count(tests_of(given), programs)
 
 if __name__ == '__main__':
     sys.exit(main())

@@ -15,18 +15,19 @@ import hashlib
 import os
 import re
 import resource
-import shutil
-import subprocess
 import sys
-import tempfile
 import time
 import xml.etree.ElementTree
 from xml.parsers import expat
 
+HERE = os.path.dirname(os.path.abspath(__file__))
+sys.path.append(os.path.dirname(HERE))
+
+import runs
 from broken import BEYOND, EXPAT, RULE
 from mutated import mutated_documents
+from runs import ATTEMPTS, Failed, read
 
-HERE = os.path.dirname(os.path.abspath(__file__))
 STYLES = '/usr/share/citation-style-language/'
 PACKAGES = {'styles': '*.csl', 'locales': '*.xml'}
 FAULT = re.compile('([1-9][0-9]*) ([1-9][0-9]*) found (the end of the text|`.*`), wanted (.*)', re.DOTALL)
@@ -35,37 +36,18 @@ OWN_REFUSALS = [it[3].split('wanted ')[1] for it in BEYOND]
 MOST_MEMORY = 1 << 30
 SECONDS = 600
 BATCH = 2000
-MOST_GROWTHS = 10000
-# Times as long for four times as much that are still about four times, from a time that can be told from nothing:
-# both are measured while others run, and so more than once before a test fails.
-ABOUT_FOUR = 6
+# What can be told from nothing, in seconds.
 MEASURABLE = 0.1
-ATTEMPTS = 4
-
-
-class Failed(Exception):
-    pass
-
-
-def read(path):
-    with open(path, 'rb') as file:
-        return file.read()
 
 
 def ended(program, documents, *words, **how):
     """Status, standard output and standard error of a run with these documents."""
-    given = b''.join(b'%d\n%b' % (len(it), it) for it in documents)
-    try:
-        done = subprocess.run([program, *words], input=given, stdout=subprocess.PIPE, stderr=subprocess.PIPE, timeout=SECONDS, **how)
-    except subprocess.TimeoutExpired:
-        raise Failed('it had not ended after %d seconds' % SECONDS)
-    return done.returncode, done.stdout, done.stderr
+    return runs.ended([program, *words], runs.sized(documents), SECONDS, **how)
 
 
 def answers(program, documents):
     """What the program says of each document."""
-    limit = lambda: resource.setrlimit(resource.RLIMIT_AS, (MOST_MEMORY, MOST_MEMORY))
-    status, out, error = ended(program, documents, preexec_fn=limit)
+    status, out, error = ended(program, documents, preexec_fn=runs.at_most(MOST_MEMORY))
     if status != 0 or error:
         raise Failed('status %d, %r' % (status, error[:200]))
     lines = out.decode().split('\n')
@@ -200,52 +182,25 @@ def mutations(program, count, seed):
 # Memory
 
 
-def compiled(folder):
-    """What refuses the nth growth of a process, preloaded."""
-    compiler = next((it for it in map(shutil.which, ('cc', 'gcc', 'clang')) if it), None)
-    if not compiler:
-        raise Failed('no C compiler is here, so that no growth of memory can be refused')
-    made = folder + '/refuse.so'
-    source = HERE + '/../documents/refuse.c'
-    subprocess.run([compiler, '-shared', '-fPIC', '-O1', '-o', made, source, '-ldl'], check=True, stderr=subprocess.DEVNULL)
-    return made
-
-
 def refused_in_turn(program, document):
     """Each run with a growth refused ends with status 5, or 1 while the input is read, and prints nothing; or with the answer.
     Reading is refused some, and at last none is refused."""
-    answer = ended(program, [document])[1]
-    in_reading = 0
-    with tempfile.TemporaryDirectory(prefix='xml-') as folder:
-        shim = compiled(folder)
-        for n in range(1, MOST_GROWTHS):
-            status, out, error = ended(program, [document], 'calls', env={'LD_PRELOAD': shim, 'REFUSE': str(n)})
-            calls, was_refused, _ = error.partition(b'!')
-            ended_as_told = status == 5 or status == 1 and b'read' not in calls
-            if (status, out) != (0, answer) and (not was_refused or out or not ended_as_told):
-                raise Failed('growth %d: status %d, %r, %r' % (n, status, out, error))
-            in_reading += status == 5 and calls == b'read\n'
-            if not was_refused:
-                break
+    run = lambda environment: ended(program, [document], 'calls', env=environment)
+    refused, in_reading = runs.refused_in_turn(run, unread=1)
     if in_reading < 10:
         raise Failed('only %d growths were refused while a document was read' % in_reading)
-    print('%d growths refused in turn, %d of them while a document was read' % (n - 1, in_reading))
+    print('%d growths refused in turn, %d of them while a document was read' % (refused, in_reading))
 
 
 # Time
 
 
 def seconds(program, documents):
-    """The processor time of reading these documents, the least of three runs."""
-    times = []
-    for _ in range(3):
-        before = resource.getrusage(resource.RUSAGE_CHILDREN)
-        status = ended(program, documents, 'count')[0]
-        after = resource.getrusage(resource.RUSAGE_CHILDREN)
-        if status != 0:
-            raise Failed('status %d' % status)
-        times.append(after.ru_utime + after.ru_stime - before.ru_utime - before.ru_stime)
-    return min(times)
+    """The processor time of reading these documents."""
+    time, (status, _, _) = runs.processor_time(resource.RUSAGE_CHILDREN, lambda: ended(program, documents, 'count'))
+    if status != 0:
+        raise Failed('status %d' % status)
+    return time
 
 
 def shapes(size):
@@ -266,32 +221,12 @@ def shapes(size):
     }
 
 
-def times_of(program, small, large):
-    """Of as much and of four times as much, the least times of a few attempts: one that is about four times the other ends
-    them."""
-    times = [float('inf')] * 2
-    for _ in range(ATTEMPTS):
-        times = [min(time, seconds(program, [document] * 4)) for time, document in zip(times, (small, large))]
-        if are_about_four(times):
-            break
-    return times
-
-
-def are_about_four(times):
-    return times[1] <= ABOUT_FOUR * max(times[0], MEASURABLE)
-
-
 def linear_time(program):
     small, large = shapes(1 << 20), shapes(1 << 22)
-    wrong = []
-    for name in small:
-        times = times_of(program, small[name], large[name])
-        said = '%s: %.2f s, %.2f s for four times as much' % (name, *times)
-        print(said)
-        if not are_about_four(times):
-            wrong.append(said)
+    four = lambda document: seconds(program, [document] * 4)
+    wrong = [it for it in small if not runs.grows_evenly(it, four, small[it], large[it], MEASURABLE)]
     if wrong:
-        raise Failed('\n'.join(wrong))
+        raise Failed('more than about four times as long for four times as much: %s' % ', '.join(wrong))
 
 
 def seconds_of_expat(documents):
@@ -349,17 +284,7 @@ def main():
     given = parser.parse_args()
     program = os.path.abspath(given.program)
     sys.setrecursionlimit(10000)
-    passed = failed = 0
-    for name, call, *arguments in tests_of(program, given):
-        try:
-            call(program, *arguments)
-            passed += 1
-        except Failed as error:
-            failed += 1
-            print('FAILED %s\n    %s' % (name, str(error).replace('\n', '\n    ')))
-    print('%d passed, %d failed' % (passed, failed))
-    return 1 if failed else 0
-
+    return runs.count(tests_of(program, given), program)
 
 if __name__ == '__main__':
     sys.exit(main())
