@@ -1,0 +1,137 @@
+//! Chains of locales (CSL 1.0.2, Locale Fallback).
+use csl_texts::cases::Language;
+use csl_texts::quotes::QuoteMarks;
+use csl_vocabulary::term::{PlainTerm, TermForm};
+use std::alloc::{AllocError, Global};
+use style_file::date::DateForm;
+use style_file::fallback::{LocaleSource, is_same_language, lookup_order};
+use style_file::locale::{Locale, LocaleDate, LocaleFile, StyleLocale};
+
+/// The locales in which the words of a language are looked for, in their order.
+#[derive(Drop)]
+pub struct LocaleChain<'a> {
+    pub(crate) locales: Vec<&'a Locale>,
+    language: Language,
+}
+
+impl<'a> LocaleChain<'a> {
+    /// The chain for a document in this language (a tag as `de-AT`): the style's own locales for it and for
+    /// all languages; then the locale files of the dialect, of the language's primary dialect, and of en-US.
+    ///
+    /// # Errors
+    ///
+    /// Where memory is refused.
+    pub fn new(
+        alloc: Global,
+        tag: &str,
+        of_style: &'a [StyleLocale],
+        files: &'a [LocaleFile],
+    ) -> Result<LocaleChain<'a>, AllocError> {
+        let mut locales = Vec::new(alloc);
+        for source in lookup_order(alloc, tag)? {
+            match source {
+                LocaleSource::Style(tag) => push_of_style(&mut locales, of_style, Some(tag))?,
+                LocaleSource::StyleForAll => push_of_style(&mut locales, of_style, None)?,
+                LocaleSource::File(tag) => push_file(&mut locales, files, tag)?,
+            }
+        }
+        let language = Language::of_tag(tag);
+        Ok(LocaleChain { locales, language })
+    }
+
+    /// The language of text cases.
+    pub fn language(&self) -> Language {
+        self.language
+    }
+
+    /// The date of this form, which is that of the first locale that has it.
+    pub fn date(&self, form: DateForm) -> Option<&'a LocaleDate> {
+        for locale in &self.locales {
+            for date in &locale.dates {
+                if date.form == form {
+                    return Some(date);
+                }
+            }
+        }
+        None
+    }
+
+    /// Whether a period or a comma behind a quote stands inside it (punctuation-in-quote), as the first
+    /// locale says that tells; not where none does.
+    pub fn has_punctuation_in_quotes(&self) -> bool {
+        for locale in &self.locales {
+            if let Some(value) = locale.options.punctuation_in_quote {
+                return value;
+            }
+        }
+        false
+    }
+
+    /// Whether the first day of a month alone is an ordinal (limit-day-ordinals-to-day-1), as the first
+    /// locale says that tells; not where none does.
+    pub fn limits_day_ordinals(&self) -> bool {
+        for locale in &self.locales {
+            if let Some(value) = locale.options.limit_day_ordinals_to_day_1 {
+                return value;
+            }
+        }
+        false
+    }
+
+    /// The quotation marks; those of English where no locale has them.
+    pub fn quote_marks(&self) -> QuoteMarks<'a> {
+        QuoteMarks {
+            open: self.mark(PlainTerm::OpenQuote, "“"),
+            close: self.mark(PlainTerm::CloseQuote, "”"),
+            inner_open: self.mark(PlainTerm::OpenInnerQuote, "‘"),
+            inner_close: self.mark(PlainTerm::CloseInnerQuote, "’"),
+        }
+    }
+
+    /// What stands between the pages of a range (page-range-delimiter): an en dash where no locale
+    /// tells.
+    pub fn page_range_delimiter(&self) -> &'a str {
+        self.mark(PlainTerm::PageRangeDelimiter, "–")
+    }
+
+    fn mark(&self, term: PlainTerm, otherwise: &'static str) -> &'a str {
+        match self.plain_term(term, TermForm::Long, false) {
+            Some(mark) => mark,
+            None => otherwise,
+        }
+    }
+}
+
+/// Adds the style's locales for this language; without one, those for all languages.
+fn push_of_style<'a>(
+    locales: &mut Vec<&'a Locale>,
+    of_style: &'a [StyleLocale],
+    language: Option<&str>,
+) -> Result<(), AllocError> {
+    for own in of_style {
+        let is_wanted = match (&own.language, language) {
+            (Some(tag), Some(language)) => is_same_language(tag.as_str(), language),
+            (None, None) => true,
+            _ => false,
+        };
+        if is_wanted {
+            locales.push(&own.locale)?;
+        }
+    }
+    Ok(())
+}
+
+/// Adds the locale file of this language.
+fn push_file<'a>(
+    locales: &mut Vec<&'a Locale>,
+    files: &'a [LocaleFile],
+    language: &str,
+) -> Result<(), AllocError> {
+    for file in files {
+        if is_same_language(file.language.as_str(), language) {
+            locales.push(&file.locale)?;
+            return Ok(());
+        }
+    }
+    Ok(())
+}

@@ -1,0 +1,10 @@
+//! The words of a language: terms, ordinals, quotation marks, dates and options, looked for in a chain
+//! of locales.
+#![tactic(auto)]
+
+pub mod chain;
+mod find;
+pub mod ordinals;
+pub mod terms;
+#[cfg(test)]
+mod tests;

@@ -1,0 +1,53 @@
+//! Terms in their forms (CSL 1.0.2, Terms).
+use crate::chain::LocaleChain;
+use crate::find::{Wanted, term_of, words_of};
+use csl_vocabulary::term::{Gender, PlainTerm, TermForm, TermName};
+use style_file::locale::Term;
+
+impl<'a> LocaleChain<'a> {
+    /// The words of a term in this form, for many if `is_plural`; `None` where no locale has the term. A form
+    /// that no locale has is that which stands for it: `verb-short` is `verb`, `symbol` is `short`, and these
+    /// are `long`.
+    pub fn term(&self, name: TermName, form: TermForm, is_plural: bool) -> Option<&'a str> {
+        let term = self.find_in_forms(name, form)?;
+        Some(words_of(term, is_plural))
+    }
+
+    /// The words of a term with a name of its own.
+    pub fn plain_term(&self, term: PlainTerm, form: TermForm, is_plural: bool) -> Option<&'a str> {
+        self.term(TermName::Plain(term), form, is_plural)
+    }
+
+    /// The gender of a noun, which its ordinals take: that of the first locale that has the term.
+    pub fn gender_of(&self, term: PlainTerm) -> Option<Gender> {
+        self.find_in_forms(TermName::Plain(term), TermForm::Long)?
+            .gender
+    }
+
+    fn find_in_forms(&self, name: TermName, form: TermForm) -> Option<&'a Term> {
+        let second = form.fallback();
+        let third = second.and_then(|form| form.fallback());
+        let forms = [Some(form), second, third];
+        for form in forms.iter().flatten() {
+            let wanted = Wanted {
+                name,
+                form: *form,
+                gender: None,
+            };
+            if let Some(term) = self.find(wanted) {
+                return Some(term);
+            }
+        }
+        None
+    }
+
+    /// The term of the first locale that has it.
+    pub(crate) fn find(&self, wanted: Wanted) -> Option<&'a Term> {
+        for locale in &self.locales {
+            if let Some(term) = term_of(locale, wanted) {
+                return Some(term);
+            }
+        }
+        None
+    }
+}

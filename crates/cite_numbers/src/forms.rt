@@ -1,0 +1,111 @@
+//! The forms of numbers (CSL 1.0.2, Number, and appendix III, Page Ranges).
+use cite_locale::chain::LocaleChain;
+use csl_texts::numbers::{Number, NumberDelimiter, number_parts, roman};
+use csl_texts::pages::page_ranges;
+use csl_vocabulary::term::Gender;
+use std::alloc::{AllocError, Global};
+use style_file::element::NumberForm;
+use style_file::style::PageRangeFormat;
+
+/// The text of a number variable in this form, its ordinals for a noun of this gender. A text that is
+/// not numeric stays, but for the hyphens of its ranges. A number with letters stays in any form.
+///
+/// # Errors
+///
+/// Where memory is refused.
+pub fn number_text(
+    alloc: Global,
+    locales: &LocaleChain<'_>,
+    text: &str,
+    form: NumberForm,
+    gender: Option<Gender>,
+) -> Result<String, AllocError> {
+    let Some(parts) = number_parts(alloc, text)? else {
+        return pages(alloc, locales, text, None);
+    };
+    let mut out = String::new(alloc);
+    for part in &parts {
+        push_number(alloc, &mut out, locales, part.number, form, gender)?;
+        if let Some(delimiter) = part.delimiter {
+            out.push_str(delimiter_text(locales, delimiter))?;
+        }
+    }
+    Ok(out)
+}
+
+fn push_number(
+    alloc: Global,
+    out: &mut String,
+    locales: &LocaleChain<'_>,
+    number: Number<'_>,
+    form: NumberForm,
+    gender: Option<Gender>,
+) -> Result<(), AllocError> {
+    let Some(value) = number.value else {
+        return out.push_str(number.text);
+    };
+    match form {
+        NumberForm::Numeric => out.push_str(number.text),
+        NumberForm::Ordinal => out.push_str(ordinal(alloc, locales, value, gender)?.as_str()),
+        NumberForm::LongOrdinal => {
+            out.push_str(long_ordinal(alloc, locales, value, gender)?.as_str())
+        }
+        NumberForm::Roman => out.push_str(roman(alloc, value)?.as_str()),
+    }
+}
+
+fn delimiter_text<'a>(locales: &LocaleChain<'a>, delimiter: NumberDelimiter) -> &'a str {
+    match delimiter {
+        NumberDelimiter::Hyphen => locales.page_range_delimiter(),
+        NumberDelimiter::Comma => ", ",
+        NumberDelimiter::Ampersand => " & ",
+    }
+}
+
+/// A number with the suffix that makes it an ordinal: `2nd`.
+///
+/// # Errors
+///
+/// Where memory is refused.
+pub fn ordinal(
+    alloc: Global,
+    locales: &LocaleChain<'_>,
+    number: u32,
+    gender: Option<Gender>,
+) -> Result<String, AllocError> {
+    let suffix = locales.ordinal_suffix(number, gender);
+    format!(in alloc; "{number}{suffix}")
+}
+
+/// The word for an ordinal, as `second`; above ten, and where the locale has none, the number with its
+/// suffix.
+///
+/// # Errors
+///
+/// Where memory is refused.
+pub fn long_ordinal(
+    alloc: Global,
+    locales: &LocaleChain<'_>,
+    number: u32,
+    gender: Option<Gender>,
+) -> Result<String, AllocError> {
+    match locales.long_ordinal(number, gender) {
+        Some(word) => String::from_str(alloc, word),
+        None => ordinal(alloc, locales, number, gender),
+    }
+}
+
+/// The text of a variable of pages, each range in it in this format, with the locale's delimiter between
+/// its pages. Without a format the pages stay.
+///
+/// # Errors
+///
+/// Where memory is refused.
+pub fn pages(
+    alloc: Global,
+    locales: &LocaleChain<'_>,
+    text: &str,
+    format: Option<PageRangeFormat>,
+) -> Result<String, AllocError> {
+    page_ranges(alloc, text, format, locales.page_range_delimiter())
+}

@@ -1,0 +1,131 @@
+//! What an element changes in the texts of its content (CSL 1.0.2, text-case and strip-periods).
+use crate::piece::{Piece, Wrap};
+use crate::pieces::Pieces;
+use csl_references::rich_text::Baseline;
+use csl_texts::cases::{Language, Recasing, Span};
+use std::alloc::{AllocError, Global};
+use style_file::formatting::{FontVariant, TextCase, VerticalAlign};
+
+/// What stands for the mark before a quote, which is not known yet, where words are looked for.
+const QUOTE: &str = "“";
+
+/// The stream in this case. A word may reach over several texts. What is set `nocase`, in small
+/// capitals, or above or below the line stays as it is.
+///
+/// # Errors
+///
+/// Where memory is refused.
+pub(crate) fn in_case(
+    alloc: Global,
+    pieces: Pieces,
+    case: TextCase,
+    language: Language,
+) -> Result<Pieces, AllocError> {
+    let spoken = spoken_text(alloc, &pieces)?;
+    let recasing = Recasing::new(alloc, spoken.text.as_str(), &spoken.kept, case, language)?;
+    let mut out = Pieces::new(alloc);
+    let mut start = 0usize;
+    for piece in pieces.into_vec() {
+        match piece {
+            Piece::Text(text) => {
+                out.push_text(recasing.apply(alloc, text.as_str(), start)?)?;
+                start = start.saturating_add(text.len());
+            }
+            Piece::Open(wrap) => {
+                start = start.saturating_add(mark_before(&wrap).len());
+                out.open(wrap)?;
+            }
+            Piece::Close => out.close()?,
+        }
+    }
+    Ok(out)
+}
+
+/// The stream without the periods of its texts.
+///
+/// # Errors
+///
+/// Where memory is refused.
+pub(crate) fn without_periods(alloc: Global, pieces: Pieces) -> Result<Pieces, AllocError> {
+    let mut out = Pieces::new(alloc);
+    for piece in pieces.into_vec() {
+        match piece {
+            Piece::Text(text) => out.push_text(text.as_str().replace(alloc, ".", "")?)?,
+            Piece::Open(wrap) => out.open(wrap)?,
+            Piece::Close => out.close()?,
+        }
+    }
+    Ok(out)
+}
+
+/// The texts of a stream as one, and which parts of it stay as they are.
+#[derive(Drop)]
+struct Spoken {
+    text: String,
+    kept: Vec<Span>,
+    /// Where the part begins that stays, and how many wraps are open in it, with that around it.
+    start: usize,
+    inside: usize,
+}
+
+fn spoken_text(alloc: Global, pieces: &Pieces) -> Result<Spoken, AllocError> {
+    let mut spoken = Spoken {
+        text: String::new(alloc),
+        kept: Vec::new(alloc),
+        start: 0,
+        inside: 0,
+    };
+    for piece in pieces.as_slice() {
+        match piece {
+            Piece::Text(more) => spoken.text.push_str(more.as_str())?,
+            Piece::Open(wrap) => spoken.open(wrap)?,
+            Piece::Close => spoken.close()?,
+        }
+    }
+    Ok(spoken)
+}
+
+impl Spoken {
+    fn open(&mut self, wrap: &Wrap) -> Result<(), AllocError> {
+        self.text.push_str(mark_before(wrap))?;
+        if self.inside > 0 {
+            self.inside = self.inside.saturating_add(1);
+        } else if keeps(wrap) {
+            self.inside = 1;
+            self.start = self.text.len();
+        }
+        Ok(())
+    }
+
+    fn close(&mut self) -> Result<(), AllocError> {
+        if self.inside == 1 {
+            let start = self.start;
+            let end = self.text.len();
+            self.kept.push(Span { start, end })?;
+        }
+        self.inside = self.inside.saturating_sub(1);
+        Ok(())
+    }
+}
+
+fn mark_before(wrap: &Wrap) -> &'static str {
+    match wrap {
+        Wrap::Quotes => QUOTE,
+        _ => "",
+    }
+}
+
+/// Whether what is inside keeps its case.
+fn keeps(wrap: &Wrap) -> bool {
+    match wrap {
+        Wrap::Markup(style) => {
+            style.keeps_case || style.small_caps || style.baseline != Baseline::Normal
+        }
+        Wrap::Formatting(formatting) => {
+            formatting.font_variant == Some(FontVariant::SmallCaps)
+                || formatting.vertical_align == Some(VerticalAlign::Superscript)
+                || formatting.vertical_align == Some(VerticalAlign::Subscript)
+        }
+        Wrap::Quotes | Wrap::Link(_) | Wrap::Display(_) | Wrap::Mark(_) => false,
+    }
+}

@@ -1,0 +1,169 @@
+//! Streams of pieces.
+use crate::piece::{Mark, Piece, Wrap};
+use std::alloc::{AllocError, Global};
+
+/// A stream of pieces. What opens in it closes in it, and nothing else does.
+#[derive(Clone, Drop)]
+pub struct Pieces {
+    pieces: Vec<Piece>,
+}
+
+impl Pieces {
+    /// No pieces.
+    pub fn new(alloc: Global) -> Pieces {
+        Pieces {
+            pieces: Vec::new(alloc),
+        }
+    }
+
+    /// A text alone.
+    ///
+    /// # Errors
+    ///
+    /// Where memory is refused.
+    pub fn of_str(alloc: Global, text: &str) -> Result<Pieces, AllocError> {
+        let mut pieces = Pieces::new(alloc);
+        pieces.push_str(alloc, text)?;
+        Ok(pieces)
+    }
+
+    /// Whether no text of the stream has a character.
+    pub fn has_no_text(&self) -> bool {
+        self.first_char().is_none()
+    }
+
+    /// The first character of its texts.
+    pub fn first_char(&self) -> Option<char> {
+        self.pieces.iter().find_map(|piece| piece.first_char())
+    }
+
+    /// The last character of its texts.
+    pub fn last_char(&self) -> Option<char> {
+        self.pieces.iter().rev().find_map(|piece| piece.last_char())
+    }
+
+    /// Whether some of the stream has this mark.
+    pub fn has_mark(&self, mark: Mark) -> bool {
+        for piece in &self.pieces {
+            if is_marked(piece, mark) {
+                return true;
+            }
+        }
+        false
+    }
+
+    /// The pieces in their order.
+    pub fn as_slice(&self) -> &[Piece] {
+        self.pieces.as_slice()
+    }
+
+    /// The pieces as a vector.
+    pub fn into_vec(self) -> Vec<Piece> {
+        self.pieces
+    }
+
+    /// Adds a text.
+    ///
+    /// # Errors
+    ///
+    /// Where memory is refused; the stream stays as it is.
+    pub fn push_text(&mut self, text: String) -> Result<(), AllocError> {
+        if text.is_empty() {
+            return Ok(());
+        }
+        self.pieces.push(Piece::Text(text))?;
+        Ok(())
+    }
+
+    /// Adds a copy of a text.
+    ///
+    /// # Errors
+    ///
+    /// Where memory is refused; the stream stays as it is.
+    pub fn push_str(&mut self, alloc: Global, text: &str) -> Result<(), AllocError> {
+        self.push_text(String::from_str(alloc, text)?)
+    }
+
+    /// Adds the pieces of another stream.
+    ///
+    /// # Errors
+    ///
+    /// Where memory is refused; the stream stays as it is.
+    pub fn push_pieces(&mut self, other: Pieces) -> Result<(), AllocError> {
+        let mut pieces = other.pieces;
+        self.pieces.append(&mut pieces)
+    }
+
+    /// Adds the pieces of another stream with something around them.
+    ///
+    /// # Errors
+    ///
+    /// Where memory is refused; some of what was to be added is in the stream then.
+    pub fn push_wrapped(&mut self, wrap: Wrap, inside: Pieces) -> Result<(), AllocError> {
+        self.open(wrap)?;
+        self.push_pieces(inside)?;
+        self.close()
+    }
+
+    pub(crate) fn open(&mut self, wrap: Wrap) -> Result<(), AllocError> {
+        self.pieces.push(Piece::Open(wrap))?;
+        Ok(())
+    }
+
+    pub(crate) fn close(&mut self) -> Result<(), AllocError> {
+        self.pieces.push(Piece::Close)?;
+        Ok(())
+    }
+
+    /// The stream without its parts of this mark.
+    ///
+    /// # Errors
+    ///
+    /// Where memory is refused.
+    pub fn without_mark(self, alloc: Global, mark: Mark) -> Result<Pieces, AllocError> {
+        let mut kept = Pieces::new(alloc);
+        let mut inside = 0usize;
+        for piece in self.pieces {
+            let before = inside;
+            inside = depth_behind(inside, &piece, mark);
+            if before == 0 && inside == 0 {
+                kept.pieces.push(piece)?;
+            }
+        }
+        Ok(kept)
+    }
+
+    /// The parts of the stream that have this mark.
+    ///
+    /// # Errors
+    ///
+    /// Where memory is refused.
+    pub fn only_mark(self, alloc: Global, mark: Mark) -> Result<Pieces, AllocError> {
+        let mut kept = Pieces::new(alloc);
+        let mut inside = 0usize;
+        for piece in self.pieces {
+            let before = inside;
+            inside = depth_behind(inside, &piece, mark);
+            if before > 0 || inside > 0 {
+                kept.pieces.push(piece)?;
+            }
+        }
+        Ok(kept)
+    }
+}
+
+fn is_marked(piece: &Piece, mark: Mark) -> bool {
+    match piece {
+        Piece::Open(Wrap::Mark(other)) => *other == mark,
+        _ => false,
+    }
+}
+
+/// How many wraps are open from a mark on, with that of the mark, behind a piece.
+fn depth_behind(depth: usize, piece: &Piece, mark: Mark) -> usize {
+    match piece {
+        Piece::Open(_) if depth > 0 || is_marked(piece, mark) => depth.saturating_add(1),
+        Piece::Close => depth.saturating_sub(1),
+        _ => depth,
+    }
+}

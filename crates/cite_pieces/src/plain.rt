@@ -1,0 +1,42 @@
+//! Streams as plain text.
+use crate::piece::{Piece, Wrap};
+use crate::pieces::Pieces;
+use csl_texts::quotes::QuoteMarks;
+use std::alloc::{AllocError, Global};
+
+/// The texts of a stream, with quotation marks. Quotes inside quotes have the inner marks, and so on
+/// in turn.
+///
+/// # Errors
+///
+/// Where memory is refused.
+pub fn plain_text(
+    alloc: Global,
+    pieces: &Pieces,
+    marks: QuoteMarks<'_>,
+) -> Result<String, AllocError> {
+    let mut out = String::new(alloc);
+    let mut marks = marks;
+    // Which of the wraps that are open are quotes.
+    let mut are_quotes = Vec::new(alloc);
+    for piece in pieces.as_slice() {
+        match piece {
+            Piece::Text(text) => out.push_str(text.as_str())?,
+            Piece::Open(wrap) => {
+                let is_quote = matches!(wrap, Wrap::Quotes);
+                are_quotes.push(is_quote)?;
+                if is_quote {
+                    out.push_str(marks.open)?;
+                    marks = marks.inside();
+                }
+            }
+            Piece::Close => {
+                if are_quotes.pop() == Some(true) {
+                    marks = marks.inside();
+                    out.push_str(marks.close)?;
+                }
+            }
+        }
+    }
+    Ok(out)
+}

@@ -1,0 +1,214 @@
+//! Punctuation where texts meet: affixes, delimiters and what they stand around.
+use crate::piece::{Piece, Wrap};
+use crate::pieces::Pieces;
+use std::alloc::{AllocError, Global};
+use std::mem::replace;
+
+/// The stream with its punctuation in order. Where two texts meet, doubled punctuation is written
+/// once, as `..` and `?.` are `.` and `?`, and doubled spaces are one space. No space is before a
+/// period or a comma. If `in_quotes`, as locales ask for by punctuation-in-quote, a period or a comma
+/// behind a quote stands inside it, and inside the innermost one where several end there; but not one
+/// of the same field.
+///
+/// # Errors
+///
+/// Where memory is refused.
+pub fn punctuated(alloc: Global, pieces: Pieces, in_quotes: bool) -> Result<Pieces, AllocError> {
+    let mut joints = Joints {
+        alloc,
+        in_quotes,
+        out: Pieces::new(alloc),
+        are_quotes: Vec::new(alloc),
+        last: String::new(alloc),
+        behind: Vec::new(alloc),
+        before: None,
+    };
+    for piece in pieces.into_vec() {
+        match piece {
+            Piece::Text(text) => joints.push_text(text)?,
+            Piece::Open(wrap) => joints.open(wrap)?,
+            Piece::Close => joints.close()?,
+        }
+    }
+    joints.write_last()?;
+    Ok(joints.out)
+}
+
+/// A stream that is being put in order.
+#[derive(Drop)]
+struct Joints {
+    alloc: Global,
+    in_quotes: bool,
+    /// What is in order.
+    out: Pieces,
+    /// Which of the wraps that are open are quotes.
+    are_quotes: Vec<bool>,
+    /// The last text.
+    last: String,
+    /// What opens and closes behind it.
+    behind: Vec<Edge>,
+    /// The character before it, where that is not a quotation mark.
+    before: Option<char>,
+}
+
+/// Where a wrap begins or ends.
+#[derive(Drop)]
+enum Edge {
+    Open(Wrap),
+    Close,
+    CloseQuotes,
+}
+
+impl Joints {
+    fn open(&mut self, wrap: Wrap) -> Result<(), AllocError> {
+        let is_quote = matches!(&wrap, Wrap::Quotes);
+        self.are_quotes.push(is_quote)?;
+        self.behind.push(Edge::Open(wrap))?;
+        if is_quote {
+            self.write_last()?;
+            self.before = None;
+        }
+        Ok(())
+    }
+
+    fn close(&mut self) -> Result<(), AllocError> {
+        let edge = if self.are_quotes.pop() == Some(true) {
+            Edge::CloseQuotes
+        } else {
+            Edge::Close
+        };
+        self.behind.push(edge)?;
+        Ok(())
+    }
+
+    fn push_text(&mut self, text: String) -> Result<(), AllocError> {
+        let is_behind_quote = self.is_behind_quote();
+        let rest = self.joined(text.as_str(), is_behind_quote)?;
+        let rest = if is_behind_quote && self.in_quotes && !self.is_in_markup() {
+            self.moved_into_quotes(rest)?
+        } else {
+            rest
+        };
+        if rest.is_empty() {
+            return Ok(());
+        }
+        let next = String::from_str(self.alloc, rest)?;
+        self.write_last()?;
+        self.last = next;
+        Ok(())
+    }
+
+    /// Whether a quote ends behind the last text.
+    fn is_behind_quote(&self) -> bool {
+        for edge in &self.behind {
+            if matches!(edge, Edge::CloseQuotes) {
+                return true;
+            }
+        }
+        false
+    }
+
+    /// Whether markup begins behind the last text: what is in it stays behind the quote of its field.
+    fn is_in_markup(&self) -> bool {
+        for edge in &self.behind {
+            if matches!(edge, Edge::Open(Wrap::Markup(_))) {
+                return true;
+            }
+        }
+        false
+    }
+
+    /// What is left of a text when its period or comma has moved into the quotes before it.
+    fn moved_into_quotes<'t>(&mut self, text: &'t str) -> Result<&'t str, AllocError> {
+        match text.chars().next() {
+            Some(mark) if mark == '.' || mark == ',' => {
+                self.move_into_quotes(mark)?;
+                Ok(text.strip_prefix(mark).unwrap_or(""))
+            }
+            _ => Ok(text),
+        }
+    }
+
+    /// What is left of a text when it is joined to the last one, which may lose its end.
+    fn joined<'t>(&mut self, text: &'t str, is_behind_quote: bool) -> Result<&'t str, AllocError> {
+        let Some(first) = text.chars().next() else {
+            return Ok("");
+        };
+        let is_tight = first == '.' || first == ',';
+        if (is_tight && (self.in_quotes || !is_behind_quote))
+            || (first == ' ' && !is_behind_quote)
+        {
+            self.trim_last(' ')?;
+        }
+        let Some(last) = self.last.as_str().chars().next_back().or(self.before) else {
+            return Ok(text);
+        };
+        match kept_where_meet(last, first) {
+            Kept::Both => {}
+            Kept::First => return Ok(text.trim_start_matches(first)),
+            Kept::Second => self.trim_last(last)?,
+        }
+        Ok(text)
+    }
+
+    fn trim_last(&mut self, c: char) -> Result<(), AllocError> {
+        let kept = self.last.as_str().trim_end_matches(c);
+        self.last = String::from_str(self.alloc, kept)?;
+        Ok(())
+    }
+
+    /// Puts a mark before the first closing quotation mark behind the last text.
+    fn move_into_quotes(&mut self, mark: char) -> Result<(), AllocError> {
+        let edges = replace(&mut self.behind, Vec::new(self.alloc));
+        self.write_last()?;
+        let mut is_moved = false;
+        for edge in edges {
+            if !is_moved && matches!(&edge, Edge::CloseQuotes) {
+                self.last.push(mark)?;
+                is_moved = true;
+            }
+            if is_moved {
+                self.behind.push(edge)?;
+            } else {
+                self.write_edge(edge)?;
+            }
+        }
+        Ok(())
+    }
+
+    /// Writes the last text and what is behind it.
+    fn write_last(&mut self) -> Result<(), AllocError> {
+        let last = replace(&mut self.last, String::new(self.alloc));
+        if let Some(c) = last.as_str().chars().next_back() {
+            self.before = Some(c);
+            self.out.push_text(last)?;
+        }
+        for edge in replace(&mut self.behind, Vec::new(self.alloc)) {
+            self.write_edge(edge)?;
+        }
+        Ok(())
+    }
+
+    fn write_edge(&mut self, edge: Edge) -> Result<(), AllocError> {
+        match edge {
+            Edge::Open(wrap) => self.out.open(wrap),
+            Edge::Close | Edge::CloseQuotes => self.out.close(),
+        }
+    }
+}
+
+/// Which of two characters that meet is written.
+enum Kept {
+    Both,
+    First,
+    Second,
+}
+
+fn kept_where_meet(last: char, first: char) -> Kept {
+    match (last, first) {
+        ('.', '.') | (',', ',') | (';', ';') | (':', ':') | ('!', '!') | ('?', '?') => Kept::First,
+        ('!' | '?', '.' | ':') | (':' | ';', '.') | (';', ':') => Kept::First,
+        (':' | ';', '!' | '?') => Kept::Second,
+        _ => Kept::Both,
+    }
+}

@@ -1,0 +1,138 @@
+//! Given names and their initials (CSL 1.0.2, initialize-with).
+use std::alloc::{AllocError, Global};
+
+/// How initials are made of given names.
+#[derive(Clone, Copy, Debug)]
+pub struct Initials<'a> {
+    /// What stands behind each initial (initialize-with).
+    pub mark: &'a str,
+    /// Whether initials of a compound name have a hyphen between them (initialize-with-hyphen).
+    pub has_hyphens: bool,
+    /// Whether names become initials (initialize). If not, only the initials that are there get the
+    /// mark.
+    pub shortens: bool,
+}
+
+/// Given names as initials: `Jean-Luc` is `J.-L.` with the mark `.`. A word without a capital in
+/// front stays, as particles do, and so does one of a script without case. What ends in a period is
+/// an initial already, however long it is, and so is a single capital.
+///
+/// # Errors
+///
+/// Where memory is refused.
+pub fn in_initials(alloc: Global, given: &str, how: Initials<'_>) -> Result<String, AllocError> {
+    let mut names = ShortNames {
+        text: String::new(alloc),
+        gap: "",
+        how,
+    };
+    for word in given.split_whitespace() {
+        names.push_word(word)?;
+    }
+    Ok(names.text)
+}
+
+/// Names that are being written.
+#[derive(Drop)]
+struct ShortNames<'a> {
+    text: String,
+    /// The white space before the next name.
+    gap: &'a str,
+    how: Initials<'a>,
+}
+
+impl ShortNames<'_> {
+    fn push_word(&mut self, word: &str) -> Result<(), AllocError> {
+        if self.how.shortens && !has_capital_first(word) {
+            return self.push_kept(word, false);
+        }
+        for (place, part) in word.split('-').enumerate() {
+            let mut is_compound = place > 0;
+            for name in part.split_inclusive('.') {
+                self.push_name(name, is_compound)?;
+                is_compound = false;
+            }
+        }
+        Ok(())
+    }
+
+    /// Adds a name with or without a period behind it; `is_compound`: with a hyphen before it.
+    fn push_name(&mut self, name: &str, is_compound: bool) -> Result<(), AllocError> {
+        let letters = name.trim_end_matches('.');
+        if letters.is_empty() {
+            return Ok(());
+        }
+        if letters.len() < name.len() || is_single_capital(letters) {
+            self.push_gap(is_compound)?;
+            self.text.push_str(letters)?;
+            self.push_mark()
+        } else if !self.how.shortens {
+            self.push_kept(letters, is_compound)
+        } else if has_capital_first(letters) {
+            self.push_gap(is_compound)?;
+            push_first_letters(&mut self.text, letters)?;
+            self.push_mark()
+        } else if is_compound {
+            Ok(())
+        } else {
+            self.push_kept(letters, false)
+        }
+    }
+
+    /// Adds what stands before an initial.
+    fn push_gap(&mut self, is_compound: bool) -> Result<(), AllocError> {
+        if is_compound && self.how.has_hyphens {
+            self.text.push('-')
+        } else {
+            self.text.push_str(self.gap)
+        }
+    }
+
+    /// Adds the mark behind an initial; the white space at its end stands only before another name.
+    fn push_mark(&mut self) -> Result<(), AllocError> {
+        let mark = self.how.mark;
+        let seen = mark.trim_end();
+        self.gap = mark.strip_prefix(seen).unwrap_or("");
+        self.text.push_str(seen)
+    }
+
+    /// Adds a word as it is.
+    fn push_kept(&mut self, word: &str, is_compound: bool) -> Result<(), AllocError> {
+        if is_compound {
+            self.text.push('-')?;
+        } else if !self.text.is_empty() {
+            self.text
+                .push_str(if self.gap.is_empty() { " " } else { self.gap })?;
+        }
+        self.gap = " ";
+        self.text.push_str(word)
+    }
+}
+
+fn has_capital_first(word: &str) -> bool {
+    word.starts_with(|c: char| c.is_uppercase())
+}
+
+fn is_single_capital(letters: &str) -> bool {
+    has_capital_first(letters) && letters.chars().count() == 1
+}
+
+/// Appends the first letter of a name, and the second one where the name is written with two
+/// capitals, as a letter of another script sometimes is: `Iu` of `IUrii`.
+fn push_first_letters(text: &mut String, name: &str) -> Result<(), AllocError> {
+    let mut letters = name.chars();
+    let Some(first) = letters.next() else {
+        return Ok(());
+    };
+    text.push(first)?;
+    let Some(second) = letters.next() else {
+        return Ok(());
+    };
+    let rest = letters.as_str();
+    if second.is_uppercase() && !rest.is_empty() && rest.chars().all(|c| c.is_lowercase()) {
+        for letter in second.to_lowercase() {
+            text.push(letter)?;
+        }
+    }
+    Ok(())
+}

@@ -1,0 +1,11 @@
+//! Texts as a writer of citations makes them: cases, page ranges, numbers, initials of names.
+#![tactic(auto)]
+
+pub mod cases;
+pub mod initials;
+pub mod numbers;
+pub mod pages;
+pub mod quotes;
+#[cfg(test)]
+mod tests;
+mod words;

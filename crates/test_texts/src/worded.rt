@@ -1,0 +1,245 @@
+//! Functions over the words of locales: terms, ordinals, numbers, locators and dates.
+use crate::locales::{PLAIN, affixes, files, part};
+use cite_dates::sorting::sort_text;
+use cite_dates::write::{DateOptions, push_date};
+use cite_locale::chain::LocaleChain;
+use cite_numbers::forms::{number_text, pages};
+use cite_numbers::locators::locator_parts;
+use cite_numbers::plurals::is_plural;
+use cite_pieces::output::Output;
+use cite_pieces::plain::plain_text;
+use csl_references::date::Date;
+use csl_vocabulary::item_type::ItemType;
+use csl_vocabulary::locator::LocatorType;
+use csl_vocabulary::term::{Gender, PlainTerm, TermForm, TermName};
+use csl_vocabulary::variable::{DateVariable, NameVariable, NumberVariable};
+use std::alloc::{AllocError, Global};
+use style_file::date;
+use style_file::date::{
+    DateForm, DateFormat, DatePart, DatePartName, DateParts, DayForm, MonthForm, YearForm,
+};
+use style_file::element::NumberForm;
+use style_file::locale::LocaleFile;
+use style_file::names::LabelPlural;
+
+/// LOCALE TERM FORM one|many
+pub fn term(alloc: Global, args: &[&str]) -> Result<Option<String>, AllocError> {
+    let [tag, name, form, count] = args else {
+        return Ok(None);
+    };
+    let (Some(name), Some(form)) = (TermName::of_name(*name), TermForm::of_name(*form)) else {
+        return Ok(None);
+    };
+    let files = files(alloc)?;
+    let locales = LocaleChain::new(alloc, *tag, &[], &files)?;
+    let words = locales.term(name, form, *count == "many");
+    Ok(Some(String::from_str(alloc, words.unwrap_or("none"))?))
+}
+
+/// KIND NAME: the term of a variable or a type.
+pub fn term_of(alloc: Global, args: &[&str]) -> Result<Option<String>, AllocError> {
+    let [kind, name] = args else {
+        return Ok(None);
+    };
+    match plain_term_of(*kind, *name) {
+        Some(term) => Ok(Some(String::from_str(alloc, term.name())?)),
+        None => Ok(None),
+    }
+}
+
+fn plain_term_of(kind: &str, name: &str) -> Option<PlainTerm> {
+    match kind {
+        "number" => Some(NumberVariable::of_name(name)?.term()),
+        "names" => Some(NameVariable::of_name(name)?.term()),
+        "locator" => Some(LocatorType::of_name(name)?.term()),
+        "type" => Some(ItemType::of_name(name)?.term()),
+        _ => None,
+    }
+}
+
+/// LOCALE FORM GENDER TEXT
+pub fn number(alloc: Global, args: &[&str]) -> Result<Option<String>, AllocError> {
+    let [tag, form, gender, text] = args else {
+        return Ok(None);
+    };
+    let files = files(alloc)?;
+    let locales = LocaleChain::new(alloc, *tag, &[], &files)?;
+    let form = match *form {
+        "ordinal" => NumberForm::Ordinal,
+        "long-ordinal" => NumberForm::LongOrdinal,
+        "roman" => NumberForm::Roman,
+        _ => NumberForm::Numeric,
+    };
+    let gender = Gender::of_name(*gender);
+    Ok(Some(number_text(alloc, &locales, *text, form, gender)?))
+}
+
+/// LOCALE TEXT: pages without a format.
+pub fn page(alloc: Global, args: &[&str]) -> Result<Option<String>, AllocError> {
+    let [tag, text] = args else {
+        return Ok(None);
+    };
+    let files = files(alloc)?;
+    let locales = LocaleChain::new(alloc, *tag, &[], &files)?;
+    Ok(Some(pages(alloc, &locales, *text, None)?))
+}
+
+/// VARIABLE TEXT
+pub fn plural(alloc: Global, args: &[&str]) -> Result<Option<String>, AllocError> {
+    let [variable, text] = args else {
+        return Ok(None);
+    };
+    let Some(variable) = NumberVariable::of_name(*variable) else {
+        return Ok(None);
+    };
+    let word = if is_plural(LabelPlural::Contextual, variable, *text) {
+        "plural"
+    } else {
+        "singular"
+    };
+    Ok(Some(String::from_str(alloc, word)?))
+}
+
+/// LOCALE LABEL TEXT: the parts, each with its label before it.
+pub fn locator(alloc: Global, args: &[&str]) -> Result<Option<String>, AllocError> {
+    let [tag, label, text] = args else {
+        return Ok(None);
+    };
+    let Some(label) = LocatorType::of_name(*label) else {
+        return Ok(None);
+    };
+    let files = files(alloc)?;
+    let locales = LocaleChain::new(alloc, *tag, &[], &files)?;
+    let mut out = String::new(alloc);
+    for part in locator_parts(alloc, &locales, *text, label)? {
+        write!(out, "{}{}:{}", part.before, part.label.name(), part.text)?;
+    }
+    Ok(Some(out))
+}
+
+/// LOCALE ELEMENT SUFFIX DATE; the suffix stands behind the year.
+pub fn date(alloc: Global, args: &[&str]) -> Result<Option<String>, AllocError> {
+    let [tag, element, suffix, text] = args else {
+        return Ok(None);
+    };
+    let Some(element) = date_element(alloc, *element)? else {
+        return Ok(None);
+    };
+    let reading = Date::of_text(alloc, *text)?;
+    let files = files(alloc)?;
+    let text = written_date(alloc, *tag, &files, &element, &reading.date, *suffix)?;
+    Ok(Some(text))
+}
+
+/// A date as its element has it, in plain text.
+fn written_date<'s>(
+    alloc: Global,
+    tag: &str,
+    files: &'s [LocaleFile],
+    element: &'s date::Date,
+    date: &Date,
+    suffix: &str,
+) -> Result<String, AllocError> {
+    let options = DateOptions {
+        mark: None,
+        year_suffix: if suffix.is_empty() {
+            None
+        } else {
+            Some(suffix)
+        },
+    };
+    let locales = LocaleChain::new(alloc, tag, &[], files)?;
+    let mut output = Output::new(alloc, locales.language());
+    push_date(&mut output, &locales, element, date, options)?;
+    let pieces = output.finish()?;
+    plain_text(alloc, &pieces, locales.quote_marks())
+}
+
+/// DATE: the text by which it is sorted.
+pub fn sorted(alloc: Global, args: &[&str]) -> Result<Option<String>, AllocError> {
+    let [text] = args else {
+        return Ok(None);
+    };
+    let reading = Date::of_text(alloc, *text)?;
+    match &reading.date.span {
+        Some(span) => Ok(Some(sort_text(alloc, span)?)),
+        None => Ok(None),
+    }
+}
+
+/// A date: `text` or `numeric` and its parts, as `text:year-month`; or parts apart by `|`, each a
+/// name and its form, prefix and suffix apart by `:`.
+fn date_element(alloc: Global, words: &str) -> Result<Option<date::Date>, AllocError> {
+    let format = match words.split_once(':') {
+        Some(("text", parts)) => localized(alloc, DateForm::Text, parts),
+        Some(("numeric", parts)) => localized(alloc, DateForm::Numeric, parts),
+        _ => match own_parts(alloc, words)? {
+            Some(parts) => DateFormat::Own {
+                parts,
+                delimiter: String::new(alloc),
+            },
+            None => return Ok(None),
+        },
+    };
+    Ok(Some(date::Date {
+        variable: DateVariable::Issued,
+        format,
+        affixes: affixes(alloc, "", "")?,
+        formatting: PLAIN,
+        display: None,
+        text_case: None,
+    }))
+}
+
+fn localized(alloc: Global, form: DateForm, parts: &str) -> DateFormat {
+    DateFormat::Localized {
+        form,
+        parts: match parts {
+            "year" => DateParts::Year,
+            "year-month" => DateParts::YearMonth,
+            _ => DateParts::YearMonthDay,
+        },
+        settings: Vec::new(alloc),
+    }
+}
+
+fn own_parts(alloc: Global, words: &str) -> Result<Option<Vec<DatePart>>, AllocError> {
+    let mut parts = Vec::new(alloc);
+    for words in words.split('|') {
+        match own_part(alloc, words)? {
+            Some(part) => parts.push(part)?,
+            None => return Ok(None),
+        }
+    }
+    Ok(Some(parts))
+}
+
+fn own_part(alloc: Global, words: &str) -> Result<Option<DatePart>, AllocError> {
+    let mut fields = words.split(':');
+    let name = fields.next().unwrap_or("");
+    let form = fields.next().unwrap_or("");
+    let prefix = fields.next().unwrap_or("");
+    let suffix = fields.next().unwrap_or("");
+    match part_name(name, form) {
+        Some(name) => Ok(Some(part(alloc, name, prefix, suffix)?)),
+        None => Ok(None),
+    }
+}
+
+fn part_name(name: &str, form: &str) -> Option<DatePartName> {
+    let name = match (name, form) {
+        ("day", "ordinal") => DatePartName::Day(Some(DayForm::Ordinal)),
+        ("day", "numeric-leading-zeros") => DatePartName::Day(Some(DayForm::NumericLeadingZeros)),
+        ("day", _) => DatePartName::Day(None),
+        ("month", "short") => DatePartName::Month(Some(MonthForm::Short)),
+        ("month", "numeric") => DatePartName::Month(Some(MonthForm::Numeric)),
+        ("month", "numeric-leading-zeros") => {
+            DatePartName::Month(Some(MonthForm::NumericLeadingZeros))
+        }
+        ("month", _) => DatePartName::Month(None),
+        ("year", "short") => DatePartName::Year(Some(YearForm::Short)),
+        ("year", _) => DatePartName::Year(None),
+        _ => return None,
+    };
+    Some(name)
+}
