@@ -19,6 +19,7 @@ use style_file::date::{
     DateForm, DateFormat, DatePart, DatePartName, DateParts, DayForm, MonthForm, YearForm,
 };
 use style_file::element::NumberForm;
+use style_file::locale::LocaleFile;
 use style_file::names::LabelPlural;
 
 /// LOCALE TERM FORM one|many
@@ -126,15 +127,15 @@ pub fn date(alloc: Global, args: &[&str]) -> Result<Option<String>, AllocError> 
     };
     let reading = Date::of_text(alloc, *text)?;
     let files = files(alloc)?;
-    let locales = LocaleChain::new(alloc, *tag, &[], &files)?;
-    let text = written_date(alloc, &locales, &element, &reading.date, *suffix)?;
+    let text = written_date(alloc, *tag, &files, &element, &reading.date, *suffix)?;
     Ok(Some(text))
 }
 
 /// A date as its element has it, in plain text.
 fn written_date<'s>(
     alloc: Global,
-    locales: &LocaleChain<'s>,
+    tag: &str,
+    files: &'s [LocaleFile],
     element: &'s date::Date,
     date: &Date,
     suffix: &str,
@@ -147,8 +148,9 @@ fn written_date<'s>(
             Some(suffix)
         },
     };
+    let locales = LocaleChain::new(alloc, tag, &[], files)?;
     let mut output = Output::new(alloc, locales.language());
-    push_date(&mut output, locales, element, date, options)?;
+    push_date(&mut output, &locales, element, date, options)?;
     let pieces = output.finish()?;
     plain_text(alloc, &pieces, locales.quote_marks())
 }
