@@ -1,0 +1,163 @@
+//! The values of keys.
+use crate::collation::{CollationKey, SEPARATOR};
+use cite_locale::chain::LocaleChain;
+use cite_names::forms::{form_of, own_forms, written_names};
+use cite_names::parts::{may_be_inverted, parts_of};
+use cite_names::rules::{HandedDown, NameRules};
+use cite_pieces::plain::plain_text;
+use cite_program::program::Program;
+use cite_walk::cite::{CiteFacts, Scene, SceneKind};
+use cite_walk::sorted::{sorted_date, sorted_number};
+use cite_walk::walk::write_cite;
+use csl_base::names::DisambiguatedNameForm;
+use csl_references::name::Name;
+use csl_texts::quotes::QuoteMarks;
+use csl_vocabulary::variable::{NameVariable, Variable};
+use std::alloc::{AllocError, Global};
+use style_file::names::{InheritedNameOptions, NameForm};
+use style_file::sections::{SortBy, SortKey};
+use style_file::style::CslStyle;
+
+/// A key of a style, with the program of its macro.
+#[derive(Drop)]
+pub struct Key<'s> {
+    pub key: SortKey,
+    pub program: Option<Program<'s>>,
+}
+
+/// What the values of keys depend on, beside the items.
+#[derive(Clone, Copy)]
+pub struct KeyScene<'s> {
+    pub style: &'s CslStyle,
+    pub locale: &'s LocaleChain<'s>,
+    /// The options of names of the citation or the bibliography.
+    pub names: &'s InheritedNameOptions,
+}
+
+/// The quotation marks of keys, which have none.
+const NO_MARKS: QuoteMarks<'static> = QuoteMarks {
+    open: "",
+    close: "",
+    inner_open: "",
+    inner_close: "",
+};
+
+impl<'s> KeyScene<'s> {
+    /// The value of a key for a cite; `None` where it is empty.
+    ///
+    /// # Errors
+    ///
+    /// Where memory is refused.
+    pub fn value(
+        &self,
+        alloc: Global,
+        key: &'s Key<'s>,
+        cite: CiteFacts<'_>,
+    ) -> Result<Option<CollationKey>, AllocError> {
+        let text = match (key.key.by, &key.program) {
+            (SortBy::Variable(variable), _) => {
+                self.variable_text(alloc, key.key, variable, cite)?
+            }
+            (SortBy::Macro(_), Some(program)) => self.macro_text(alloc, key.key, program, cite)?,
+            (SortBy::Macro(_), None) => return Ok(None),
+        };
+        if text.as_str().trim().is_empty() {
+            return Ok(None);
+        }
+        Ok(Some(CollationKey::of_text(alloc, text.as_str())?))
+    }
+
+    /// What a macro writes.
+    fn macro_text(
+        &self,
+        alloc: Global,
+        key: SortKey,
+        program: &'s Program<'s>,
+        cite: CiteFacts<'_>,
+    ) -> Result<String, AllocError> {
+        let scene = Scene {
+            style: self.style,
+            locale: self.locale,
+            program,
+            names: self.names,
+            kind: SceneKind::Key(key),
+            adds_year_suffix: false,
+        };
+        let written = write_cite(alloc, scene, cite)?;
+        plain_text(alloc, &written.pieces, NO_MARKS)
+    }
+
+    fn variable_text(
+        &self,
+        alloc: Global,
+        key: SortKey,
+        variable: Variable,
+        cite: CiteFacts<'_>,
+    ) -> Result<String, AllocError> {
+        match variable {
+            Variable::Text(variable) => match cite.text(variable, false) {
+                Some(text) => text.plain(alloc),
+                None => Ok(String::new(alloc)),
+            },
+            Variable::Number(variable) => match cite.number(alloc, variable)? {
+                Some(value) => {
+                    let plain = value.text().plain(alloc)?;
+                    sorted_number(alloc, plain.as_str())
+                }
+                None => Ok(String::new(alloc)),
+            },
+            Variable::Date(variable) => match cite.reference.date(variable) {
+                Some(date) => sorted_date(alloc, date, 3),
+                None => Ok(String::new(alloc)),
+            },
+            Variable::Name(variable) => self.names_text(alloc, key, variable, cite),
+        }
+    }
+
+    /// Names in sort order, in full.
+    fn names_text(
+        &self,
+        alloc: Global,
+        key: SortKey,
+        variable: NameVariable,
+        cite: CiteFacts<'_>,
+    ) -> Result<String, AllocError> {
+        let Some(names) = cite.reference.names(variable) else {
+            return Ok(String::new(alloc));
+        };
+        let rules = NameRules {
+            form: NameForm::Long,
+            initialize_with: None,
+            ..NameRules::of_name(
+                None,
+                HandedDown {
+                    section: &self.names.name,
+                    style: &self.style.names.name,
+                    options: self.style.options,
+                    sort_key: Some(key),
+                    is_subsequent: false,
+                },
+            )
+        };
+        let forms = own_forms(alloc, &rules, names.len())?;
+        let mut text = String::new(alloc);
+        for name in names.iter().take(written_names(forms.as_slice())) {
+            push_name(alloc, &mut text, &rules, name, form_of(&rules))?;
+        }
+        Ok(text)
+    }
+}
+
+/// Adds a name, whose parts are compared one by one.
+fn push_name(
+    alloc: Global,
+    text: &mut String,
+    rules: &NameRules<'_>,
+    name: &Name,
+    form: DisambiguatedNameForm,
+) -> Result<(), AllocError> {
+    for part in parts_of(alloc, rules, name, form, may_be_inverted(name))? {
+        text.push_str(part.text.as_str())?;
+    }
+    text.push(SEPARATOR)
+}

@@ -1,0 +1,8 @@
+//! Sorting (CSL 1.0.2, "Sorting").
+#![tactic(auto)]
+
+pub mod collation;
+pub mod keys;
+pub mod order;
+#[cfg(test)]
+mod tests;
