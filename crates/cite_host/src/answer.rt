@@ -101,7 +101,7 @@ impl<'d> Document<'d> {
         let usual = driven_style(alloc, self.style, Shrinking::AsTheStyle, has_notes)?;
         let apart = driven_style(alloc, self.style, Shrinking::Never, has_notes)?;
         let mut writer = task_writer(alloc, setting, items, citations)?;
-        let rendered = rendered_in(alloc, &usual, &apart, &mut writer)?;
+        let rendered = rendered_in(alloc, &usual, &apart, items, &mut writer)?;
         let TaskWriter { suffixes, .. } = writer;
         Ok(Written { rendered, suffixes })
     }
@@ -248,9 +248,9 @@ fn rendered_in<'e>(
     alloc: Global,
     usual: &'e IndependentStyle,
     apart: &'e IndependentStyle,
+    items: &'e Items<'_>,
     writer: &mut TaskWriter<'_, '_, '_>,
 ) -> Result<Rendered, AnswerError> {
-    let items = writer.items;
     let locators = locators_of(alloc, writer.citations)?;
     let styles = DrivenStyles { usual, apart };
     let driver = filled_driver(alloc, styles, items, writer.citations, &locators)?;
