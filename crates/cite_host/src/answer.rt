@@ -252,8 +252,11 @@ fn rendered_in<'e>(
     writer: &mut TaskWriter<'_, '_, '_>,
 ) -> Result<Rendered, AnswerError> {
     let locators = locators_of(alloc, writer.citations)?;
-    let styles = DrivenStyles { usual, apart };
-    let driver = filled_driver(alloc, styles, items, writer.citations, &locators)?;
+    let styles = DrivenStyles {
+        usual: &*usual,
+        apart: &*apart,
+    };
+    let driver = filled_driver(alloc, styles, &*items, writer.citations, &locators)?;
     let mut order = Vec::new(alloc);
     for entry in &items.entries {
         order.push(entry)?;
