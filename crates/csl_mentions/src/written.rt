@@ -1,0 +1,92 @@
+//! What was written of a mention.
+ghost use Rattle.std.specs.Prelude.{◌≡◌, IfOk, option_map};
+ghost use Rattle.csl_mentions.specs.Written.{first_persons, named_by, names_of, written_of};
+
+use csl_lists::seq::Seq;
+use csl_lists::text::Text;
+use csl_telling::mention::MentionedName;
+use csl_trees::elem::{Elem, ElemChildren, ElemMeta};
+use csl_values::entry::Person;
+use csl_values::names::NameDisambiguationProperties;
+use std::alloc::{AllocError, Global};
+
+/// What is read of a mention that was written.
+#[derive(Drop)]
+pub struct Written {
+    /// Its plain text.
+    pub text: Text,
+    /// Its names that may be made fuller: of the persons of the first variable of its first names, each
+    /// with the form in which it was written; as many as have both.
+    pub names: Seq<MentionedName>,
+    /// Whether a condition `disambiguate` was tested.
+    pub tested: bool,
+}
+
+/// The persons of the first variable that an element was rendered for, if it stands for names.
+fn named_by(elem: &Elem) -> &[Person]
+    ensures { result.now ≡ named_by elem.now.meta }
+{
+    match &elem.meta {
+        Some(ElemMeta::Names(variables)) => match variables.as_slice().first() {
+            Some(variable) => variable.0.as_slice(),
+            None => &[],
+        },
+        _ => &[],
+    }
+}
+
+/// The persons of the first variable of the first names of a tree.
+fn first_persons(tree: &ElemChildren) -> &[Person]
+    ensures { result.now ≡ first_persons tree.now }
+{
+    match tree.find_names() {
+        Some(names) => named_by(names),
+        None => &[],
+    }
+}
+
+fn names_of(
+    alloc: Global,
+    persons: &[Person],
+    first_name: &Option<NameDisambiguationProperties>,
+) -> Result<Vec<MentionedName>, AllocError>
+    ensures { IfOk result (λ v. v.items ≡ names_of persons.now first_name.now) }
+{
+    let mut names = Vec::new(alloc);
+    let Some(forms) = first_name else {
+        return Ok(names);
+    };
+    for (k, person) in persons.iter().enumerate() {
+        if let Some(own) = forms.forms.as_slice().get(k) {
+            names.push(MentionedName {
+                person: person.clone()?,
+                own: *own,
+            })?;
+        }
+    }
+    Ok(names)
+}
+
+/// What is read of a cite that was written for a mention: its tree, the forms of its first names, and
+/// whether a condition `disambiguate` was tested.
+///
+/// # Errors
+///
+/// Where memory is refused.
+pub fn written_of(
+    alloc: Global,
+    tree: &ElemChildren,
+    first_name: &Option<NameDisambiguationProperties>,
+    tested: bool,
+) -> Result<Written, AllocError>
+    ensures { IfOk result (λ w. w ≡ written_of tree.now first_name.now tested) }
+{
+    let mut text = String::new(alloc);
+    tree.write_plain(&mut text)?;
+    let names = names_of(alloc, first_persons(tree), first_name)?;
+    Ok(Written {
+        text: Text::new(text),
+        names: Seq::new(names),
+        tested,
+    })
+}

@@ -1,0 +1,67 @@
+-- What is known of entries, one more cite.
+use mathlib.Core.Bool.{or-false, or-true}
+use Rattle.std.proofs.Common.{◌≡◌, ℕ, Bool, true, false, cond, ◌||◌, Some, None, Option, List, [], ◌∷◌, ◌++◌, map, reverse, refl, ap, sym, ◌∙◌}
+use Rattle.std.specs.Prelude.{nat_eq, unwrap_or}
+use Rattle.std.specs.HashMap.{HashMap, get}
+use Rattle.std.specs.List.{list_any}
+use Rattle.std.specs.Option.{option_or}
+use Rattle.std.specs.Cmp.{nat_eq_equiv}
+use Rattle.std.proofs.lemmas.Bool.{eqb-true}
+use Rattle.std.proofs.lemmas.List.{map-append, reverse-append}
+use Rattle.std.proofs.lemmas.List.Folds.{list_any-append}
+use Rattle.csl_notes.specs.Known.{grown, known_at, known_by, known_with, unknown}
+use Rattle.csl_notes.specs.Notes.{cites_entry, first_note, first_of, last_note, note_citing}
+use Rattle.csl_notes.specs.declared.notes.HandedCite.{HandedCite}
+use Rattle.csl_notes.specs.declared.notes.Known.{Known}
+
+or-none : {X : Type 0} (o : Option X) → option_or o None ≡ o
+or-none None = refl
+or-none (Some x) = refl
+
+first-push : {X : Type 0} (os : List (Option X)) (o : Option X) → first_of (os ++ o ∷ []) ≡ option_or (first_of os) o
+first-push [] o = or-none o
+first-push (None ∷ os) o = first-push os o
+first-push (Some x ∷ os) o = refl
+
+module _ (before : List HandedCite) (c : HandedCite) (e : ℕ) where
+  notes-push : map (note_citing e) (before ++ c ∷ []) ≡ map (note_citing e) before ++ note_citing e c ∷ []
+  notes-push = map-append (note_citing e) before (c ∷ [])
+
+  pub known-push : known_by (before ++ c ∷ []) e ≡ known_with c e (known_by before e)
+  known-push =
+      (λ i. record {
+        cited = list_any-append (cites_entry e) before (c ∷ []) i;
+        first_note = (ap first_of notes-push ∙ first-push (map (note_citing e) before) (note_citing e c)) i;
+        last_note = ap first_of (ap reverse notes-push ∙ reverse-append (map (note_citing e) before) (note_citing e c ∷ [])) i;
+      })
+      ∙ by (nat_eq e c.entry)
+    where
+      by : (b : Bool) → ◌≡◌ {A = Known}
+          (record {
+            cited = list_any (cites_entry e) before || (b || false);
+            first_note = option_or (first_note e before) (cond b c.note None);
+            last_note = option_or (cond b c.note None) (last_note e before);
+          })
+          (cond b (grown c (known_by before e)) (known_by before e))
+      by true = λ i. record {
+        cited = or-true (list_any (cites_entry e) before) i;
+        first_note = option_or (first_note e before) c.note;
+        last_note = option_or c.note (last_note e before);
+      }
+      by false = λ i. record {
+        cited = or-false (list_any (cites_entry e) before) i;
+        first_note = or-none (first_note e before) i;
+        last_note = last_note e before;
+      }
+
+-- the same of the map
+pub noted : {S : Type 0} (old new : HashMap ℕ Known S) (c : HandedCite) (before : Known) → ((q : ℕ) → get nat_eq new q ≡ cond (nat_eq c.entry q) (Some (grown c before)) (get nat_eq old q))
+    → before ≡ known_at old c.entry → (e : ℕ) → known_at new e ≡ known_with c e (known_at old e)
+noted {S = S} old new c before updated was e =
+    ap (λ o. unwrap_or o unknown) (updated e) ∙ by (nat_eq c.entry e) refl
+  where
+    by : (b : Bool) → nat_eq c.entry e ≡ b → unwrap_or (cond b (Some (grown c before)) (get nat_eq old e)) unknown ≡ known_with c e (known_at old e)
+    by true p =
+        let same : c.entry ≡ e = eqb-true c.entry e p in
+        ap (grown c) (was ∙ ap (known_at old) same) ∙ ap (λ b. cond b (grown c (known_at old e)) (known_at old e)) (sym (nat_eq_equiv.symm e c.entry ∙ p))
+    by false p = ap (λ b. cond b (grown c (known_at old e)) (known_at old e)) (sym (nat_eq_equiv.symm e c.entry ∙ p))
