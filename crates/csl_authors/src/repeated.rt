@@ -119,13 +119,11 @@ fn same_authors<N: PartialEq, P: PartialEq>(
 fn equal_at_first<N: PartialEq>(before: &[N], own: &[N]) -> usize
     ensures { result ≡ common_prefix_len N.eq before.now own.now }
 {
-    for (k, name) in own.iter().enumerate() {
-        match before.get(k) {
-            Some(other) if *other == *name => {}
-            _ => return k,
-        }
+    let mut n = 0;
+    while n < before.len() && n < own.len() && before[n] == own[n] {
+        n += 1;
     }
-    own.len()
+    n
 }
 
 /// So many names at the beginning, if there are any.

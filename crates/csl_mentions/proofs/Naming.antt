@@ -1,43 +1,26 @@
--- Names by persons and forms, one more person.
-use Rattle.std.proofs.Common.{◌≡◌, ℕ, zero, suc, ◌+◌, ◌<◌, ◌≤◌, Bool, Some, None, Option, List, [], ◌∷◌, ◌++◌, length, map, take, get_or, refl, ap, sym, ◌∙◌, arith, add-one}
-use Rattle.std.specs.Prelude.{filter, slice_get}
+-- Names by persons and forms, one more.
+use Rattle.std.proofs.Common.{◌≡◌, ℕ, zero, suc, ◌+◌, ◌<◌, ◌≤◌, Bool, List, [], ◌∷◌, ◌++◌, length, map, min, take, get_or, refl, ap, sym, subst, ◌∙◌, arith}
+use Rattle.std.specs.Prelude.{filter}
 use Rattle.std.specs.List.{zip}
-use Rattle.std.proofs.lemmas.List.{length-take-le, map-append}
+use Rattle.std.proofs.lemmas.List.{get_or_default, length-take-le, map-append, take_all, take_more}
 use Rattle.std.proofs.lemmas.List.Sums.{count_by-le-length, length-filter}
+use Rattle.std.proofs.lemmas.Slice.Zip.{get_or-zip, length-zip}
+use Rattle.csl_values.specs.declared.entry.Person.{Person}
+use Rattle.csl_values.specs.declared.names.DisambiguatedNameForm.{DisambiguatedNameForm}
+use Rattle.csl_telling.specs.declared.mention.MentionedName.{MentionedName}
+use Rattle.csl_mentions.specs.Written.{named_as}
 
-module _ {X Y : Type 0} where
-  take-none : (xs : List X) → take zero xs ≡ []
-  take-none [] = refl
-  take-none (x ∷ xs) = refl
+module _ (persons : List Person) (forms : List DisambiguatedNameForm) (k : ℕ) where
+  pub names-next : (p q : Person) (o d : DisambiguatedNameForm) (found all : List MentionedName) → k < length persons → k < length forms → q ≡ p → p ≡ get_or persons k p → o ≡ get_or forms k d
+      → found ≡ map named_as (take k (zip persons forms)) → all ≡ found ++ record { person = q; own = o } ∷ [] → all ≡ map named_as (take (k + 1) (zip persons forms))
+  names-next p q o d found all v w copied here form so_far pushed =
+      let both : k < length (zip persons forms) = subst (λ n. k < n) (sym (length-zip persons forms)) (omega arith) in
+      let at : get_or (zip persons forms) k (p, o) ≡ (p, o) = get_or-zip persons forms k (p, o) v w ∙ (λ i. (sym here i, sym (form ∙ get_or_default forms k d o w) i)) in
+      pushed ∙ (λ i. so_far i ++ record { person = copied i; own = o } ∷ [])
+      ∙ sym (ap (map named_as) (take_more (zip persons forms) k (p, o) both ∙ ap (λ x. take k (zip persons forms) ++ x ∷ []) at) ∙ map-append named_as (take k (zip persons forms)) ((p, o) ∷ []))
 
-  zip-nothing : (xs : List X) → zip {X = Y} xs [] ≡ []
-  zip-nothing [] = refl
-  zip-nothing (x ∷ xs) = refl
-
-  more-from : (k : ℕ) (xs : List X) (ys : List Y) (x : X) (y : Y) → k < length xs → x ≡ get_or xs k x → slice_get ys k ≡ Some y → zip (take (suc k) xs) ys ≡ zip (take k xs) ys ++ (x, y) ∷ []
-  more-from k [] ys x y w h g = absurd (omega arith)
-  more-from zero (z ∷ xs) [] x y w h g = cc
-  more-from (suc k) (z ∷ xs) [] x y w h g = cc
-  more-from zero (z ∷ xs) (u ∷ ys) x y w h g =
-      let e : u ≡ y = cc in
-      ap (λ zs. (z, u) ∷ zip zs ys) (take-none xs) ∙ (λ i. (sym h i, e i) ∷ []) ∙ ap (λ zs. zip zs (u ∷ ys) ++ (x, y) ∷ []) (sym (take-none (z ∷ xs)))
-  more-from (suc k) (z ∷ xs) (u ∷ ys) x y w h g = ap (λ ps. (z, u) ∷ ps) (more-from k xs ys x y (omega arith) h g)
-
-  past-from : (k : ℕ) (xs : List X) (ys : List Y) → slice_get ys k ≡ None → zip (take (suc k) xs) ys ≡ zip (take k xs) ys
-  past-from k xs [] g = zip-nothing (take (suc k) xs) ∙ sym (zip-nothing (take k xs))
-  past-from zero xs (u ∷ ys) g = cc
-  past-from (suc k) [] (u ∷ ys) g = refl
-  past-from (suc k) (z ∷ xs) (u ∷ ys) g = ap (λ ps. (z, u) ∷ ps) (past-from k xs ys g)
-
-  -- one more pair
-  pub zip-more : {Z : Type 0} (f : X × Y → Z) (k : ℕ) (xs : List X) (ys : List Y) (x : X) (y : Y) → k < length xs → x ≡ get_or xs k x → slice_get ys k ≡ Some y
-      → map f (zip (take (k + 1) xs) ys) ≡ map f (zip (take k xs) ys) ++ f (x, y) ∷ []
-  zip-more f k xs ys x y w h g =
-      ap (λ n. map f (zip (take n xs) ys)) (add-one k) ∙ ap (map f) (more-from k xs ys x y w h g) ∙ map-append f (zip (take k xs) ys) ((x, y) ∷ [])
-
-  -- none behind the end of the others
-  pub zip-past : {Z : Type 0} (f : X × Y → Z) (k : ℕ) (xs : List X) (ys : List Y) → slice_get ys k ≡ None → map f (zip (take (k + 1) xs) ys) ≡ map f (zip (take k xs) ys)
-  zip-past f k xs ys g = ap (λ n. map f (zip (take n xs) ys)) (add-one k) ∙ ap (map f) (past-from k xs ys g)
+  pub all-named : min (length persons) (length forms) ≤ k → take k (zip persons forms) ≡ zip persons forms
+  all-named h = take_all k (zip persons forms) (subst (λ n. n ≤ k) (sym (length-zip persons forms)) h)
 
 pub fewer : {X : Type 0} (p : X → Bool) (k : ℕ) (xs : List X) → k ≤ length xs → length (filter p (take k xs)) ≤ k
 fewer p k xs h =

@@ -2,6 +2,7 @@
 use Rattle.std.specs.Prelude.{Bool, List, [], ◌∷◌, None, Option, Some, map}
 use Rattle.std.specs.List.{zip}
 use Rattle.csl_values.specs.declared.entry.Person.{Person}
+use Rattle.csl_values.specs.declared.names.DisambiguatedNameForm.{DisambiguatedNameForm}
 use Rattle.csl_values.specs.declared.names.NameDisambiguationProperties.{NameDisambiguationProperties}
 use Rattle.csl_trees.specs.Child.{Child}
 use Rattle.csl_trees.specs.Tree.{find_elem, has_names, plain}
@@ -23,10 +24,14 @@ persons_of (Some e) = named_by e.meta
 abbrev pub first_persons : List Child → List Person
 first_persons tree = persons_of (find_elem has_names tree)
 
+-- a person, written in a form
+abbrev pub named_as : Person × DisambiguatedNameForm → MentionedName
+named_as p = record { person = p.0; own = p.1 }
+
 -- its names that may be made fuller: persons with the forms in which they were written, as many as have both
 abbrev pub names_of : List Person → Option NameDisambiguationProperties → List MentionedName
 names_of persons None = []
-names_of persons (Some forms) = map (λ p. record { person = p.0; own = p.1 }) (zip persons forms.forms)
+names_of persons (Some own) = map named_as (zip persons own.forms)
 
 abbrev pub written_of : List Child → Option NameDisambiguationProperties → Bool → Written
 written_of tree first_name tested = record {

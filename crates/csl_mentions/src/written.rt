@@ -1,13 +1,14 @@
 //! What was written of a mention.
-ghost use Rattle.std.specs.Prelude.{◌≡◌, IfOk, option_map};
-ghost use Rattle.csl_mentions.specs.Written.{first_persons, named_by, names_of, written_of};
+ghost use Rattle.std.specs.Prelude.{◌≡◌, IfOk, map};
+ghost use Rattle.std.specs.List.{zip};
+ghost use Rattle.csl_mentions.specs.Written.{first_persons, named_as, named_by, names_of, written_of};
 
 use csl_lists::seq::Seq;
 use csl_lists::text::Text;
 use csl_telling::mention::MentionedName;
 use csl_trees::elem::{Elem, ElemChildren, ElemMeta};
 use csl_values::entry::Person;
-use csl_values::names::NameDisambiguationProperties;
+use csl_values::names::{DisambiguatedNameForm, NameDisambiguationProperties};
 use std::alloc::{AllocError, Global};
 
 /// What is read of a mention that was written.
@@ -45,6 +46,7 @@ fn first_persons(tree: &ElemChildren) -> &[Person]
     }
 }
 
+/// Its names that may be made fuller.
 fn names_of(
     alloc: Global,
     persons: &[Person],
@@ -52,19 +54,35 @@ fn names_of(
 ) -> Result<Vec<MentionedName>, AllocError>
     ensures { IfOk result (λ v. v.items ≡ names_of persons.now first_name.now) }
 {
-    let mut names = Vec::new(alloc);
-    let Some(forms) = first_name else {
-        return Ok(names);
-    };
-    for (k, person) in persons.iter().enumerate() {
-        if let Some(own) = forms.forms.as_slice().get(k) {
-            names.push(MentionedName {
-                person: person.clone()?,
-                own: *own,
-            })?;
-        }
+    match first_name {
+        Some(own) => names_in(alloc, persons, own.forms.as_slice()),
+        None => Ok(Vec::new(alloc)),
+    }
+}
+
+/// Persons with the forms in which they were written, as many as have both.
+fn names_in(
+    alloc: Global,
+    persons: &[Person],
+    forms: &[DisambiguatedNameForm],
+) -> Result<Vec<MentionedName>, AllocError>
+    ensures { IfOk result (λ v. v.items ≡ map named_as (zip persons.now forms.now)) }
+{
+    let count = persons.len().min(forms.len());
+    let mut names = Vec::with_capacity(alloc, count)?;
+    for k in 0..count {
+        names.push(MentionedName {
+            person: copied(&persons[k])?,
+            own: forms[k],
+        })?;
     }
     Ok(names)
+}
+
+fn copied(person: &Person) -> Result<Person, AllocError>
+    ensures { IfOk result (λ p. p ≡ person.now) }
+{
+    person.clone()
 }
 
 /// What is read of a cite that was written for a mention: its tree, the forms of its first names, and

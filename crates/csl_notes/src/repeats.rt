@@ -94,10 +94,13 @@ fn note_request<L>(
         || (is_note n request.now.note
         && list_any (λ c. not (nat_eq e c.entry)) request.now.cites.items))) }
 {
-    if let Some(number) = request.note {
-        note_cites(noted, number, &request.cites)?;
+    match request.note {
+        Some(number) => {
+            note_cites(noted, number, &request.cites)?;
+            Ok(())
+        }
+        None => Ok(()),
     }
-    Ok(())
 }
 
 /// Notes the entries of cites in a note.

@@ -1,17 +1,20 @@
 -- Cites behind ranges of numbers, one more cite.
-use Rattle.std.proofs.Common.{◌≡◌, ◌⊎◌, inl, inr, ℕ, zero, suc, ◌+◌, ◌<◌, ◌≤◌, Bool, true, false, not, ◌&&◌, ◌||◌, Some, None, Option, List, [], ◌∷◌, ◌++◌, cond, length, map, take, refl, ap, sym, subst, ◌∙◌, true≢false, arith}
+use Rattle.std.proofs.Common.{◌≡◌, ◌⊎◌, inl, inr, ℕ, zero, suc, ◌+◌, ◌<◌, ◌≤◌, Bool, true, false, not, ◌&&◌, ◌||◌, Some, None, Option, List, [], ◌∷◌, ◌++◌, cond, length, map, take, get_or, refl, ap, sym, ◌∙◌, true≢false, arith}
 use Rattle.std.specs.Prelude.{is_some, nat_eq, slice_get}
 use Rattle.std.specs.List.{enumerate_from, list_all, list_any}
 use Rattle.std.specs.Option.{option_map_or}
 use Rattle.std.proofs.lemmas.Bool.{and_parts, and_from}
-use Rattle.csl_runs.specs.Links.{ends_long as ends_around, number_made}
+use Rattle.std.proofs.lemmas.List.{get_or_default}
+use Rattle.std.proofs.lemmas.Option.{slice_get-get_or}
+use Rattle.csl_runs.specs.Links.{ends_long as ends_around, moved, number_made}
 use Rattle.csl_runs.specs.NumberRanges.{ends_range, follows_range, in_range, is_next, rises, shows_number}
-use Rattle.csl_runs.specs.Stretches.{fits_at, is_inner, places}
+use Rattle.csl_runs.specs.Stretches.{fits_at, is_inner, linked_at, places}
 use Rattle.csl_runs.specs.declared.around.Around.{Around}
 use Rattle.csl_runs.specs.declared.collapsed.CollapsedCite.{CollapsedCite}
 use Rattle.csl_runs.specs.declared.collapsed.Delimiter.{Delimiter}
 use Rattle.csl_runs.specs.declared.numbers.NumberedCite.{NumberedCite}
-use Rattle.csl_runs.proofs.Linked.{IsAt, IsSound, ends, inner}
+use Rattle.csl_runs.proofs.Linked.{IsAt, IsSound, IsUpTo, ends, inner, moved-here, on-to-next}
+use Rattle.csl_runs.proofs.Stepping.{made-next}
 use Rattle.csl_runs.proofs.Tests.{each, of-each, of-some, same_test, some}
 
 next-parts : (m n : Option ℕ) → is_next m n ≡ true → (is_some m ≡ true) × (is_some n ≡ true)
@@ -93,3 +96,30 @@ module _ (cites : List NumberedCite) (k : ℕ) where
       is_cut = false;
       delimiter = cond (ends-here i) Delimiter.Dash (cond (so_far i && not c.hidden) Delimiter.AfterCollapse Delimiter.Usual);
     }
+
+-- the walk, one more cite
+module _ (cites : List NumberedCite) (k : ℕ) (a b : Around) (up : Bool) (so_far : IsUpTo shows_number rises cites k a) (is_moved : b ≡ moved a up) (goes_up : up ≡ linked_at rises cites k) where
+  at-next : IsAt shows_number rises cites k b
+  at-next =
+      let at = moved-here shows_number rises cites k a up so_far goes_up in
+      record {
+        before = ap (λ x. x.before) is_moved ∙ at.before;
+        here = ap (λ x. x.here) is_moved ∙ at.here;
+        behind = ap (λ x. x.behind) is_moved ∙ at.behind;
+      }
+
+  pub around-next : IsUpTo shows_number rises cites (k + 1) b
+  around-next = on-to-next shows_number rises cites k b at-next
+
+  module _ (c d : NumberedCite) (follows : Bool) (within : k < length cites) (here : c ≡ get_or cites k d) (was : follows ≡ follows_range cites k) where
+    found-here : slice_get cites k ≡ Some c
+    found-here = slice_get-get_or cites k d within ∙ ap Some (sym here)
+
+    pub follows-now : (now : Bool) → now ≡ (ends_around b || (follows && c.hidden)) → now ≡ follows_range cites (k + 1)
+    follows-now now h = h ∙ follows-next cites k c found-here b at-next follows was
+
+    pub collapsed-next : (made all : List CollapsedCite) (x : CollapsedCite) → made ≡ map (λ p. in_range cites p.0 p.1) (take k (enumerate_from 0 cites)) → x ≡ number_made b follows c.hidden → all ≡ made ++ x ∷ []
+        → all ≡ map (λ p. in_range cites p.0 p.1) (take (k + 1) (enumerate_from 0 cites))
+    collapsed-next made all x made_so_far is pushed =
+        pushed ∙ (λ i. made_so_far i ++ (is ∙ made-here cites k c found-here b at-next follows was) i ∷ [])
+        ∙ sym (made-next cites k c within (here ∙ get_or_default cites k d c within) (λ p. in_range cites p.0 p.1))

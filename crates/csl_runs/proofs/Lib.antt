@@ -3,3 +3,4 @@ pub mod Wholes
 pub mod Stepping
 pub mod Linked
 pub mod Following
+pub mod Suffixed

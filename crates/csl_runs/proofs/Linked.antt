@@ -1,9 +1,10 @@
 -- Stretches of linked members, by neighbours.
-use Rattle.std.proofs.Common.{◌≡◌, ◌⊎◌, inl, inr, ℕ, zero, suc, ◌+◌, ◌<◌, ◌≤◌, Bool, true, false, not, ◌&&◌, nat_le, Some, None, Option, List, [], ◌∷◌, length, refl, ap, sym, subst, ◌∙◌, true≢false, arith, add-one}
+use Rattle.std.proofs.Common.{◌≡◌, ◌⊎◌, inl, inr, ℕ, zero, suc, ◌+◌, ◌<◌, ◌≤◌, Bool, true, false, not, ◌&&◌, nat_le, Some, None, Option, List, [], ◌∷◌, length, get_or, refl, ap, sym, subst, ◌∙◌, true≢false, arith, add-one}
 use Rattle.std.specs.Prelude.{slice_get}
 use Rattle.std.specs.List.{list_all}
 use Rattle.std.specs.Option.{option_map_or}
 use Rattle.std.proofs.lemmas.Bool.{and_parts, and_from}
+use Rattle.std.proofs.lemmas.Option.{slice_get-get_or, slice_get_past}
 use Rattle.csl_runs.specs.Links.{moved, unlinked}
 use Rattle.csl_runs.specs.Stretches.{both, ends_long, fits_at, is_chain, is_inner, is_later, linked_at, places}
 use Rattle.csl_runs.specs.declared.around.Around.{Around}
@@ -106,3 +107,17 @@ module _ {X : Type 0} (fits : X → Bool) (link : X → X → Bool) where
 
     pub later-next : IsSound fits link → (k : ℕ) (b : Bool) → b ≡ linked_at link xs k → b ≡ is_later fits link xs (k + 1)
     later-next sound k b e = e ∙ goes-on k ∙ ap came_here (sym (add-one k)) ∙ sym (later sound (k + 1))
+
+-- the place and the one behind it
+module _ {X : Type 0} (link : X → X → Bool) (xs : List X) (k : ℕ) where
+  pub linked-within : (d e : X) → k + 1 < length xs → linked_at link xs k ≡ link (get_or xs k d) (get_or xs (k + 1) e)
+  linked-within d e h =
+      let w : k < length xs = omega arith in
+      λ i. both link (slice_get-get_or xs k d w i) (slice_get-get_or xs (k + 1) e h i)
+
+  pub linked-past : length xs ≤ k + 1 → linked_at link xs k ≡ false
+  linked-past h = ap (both link (slice_get xs k)) (slice_get_past xs (k + 1) h) ∙ by (slice_get xs k)
+    where
+      by : (o : Option X) → both link o None ≡ false
+      by None = refl
+      by (Some x) = refl

@@ -1,6 +1,6 @@
 -- Stretches of cites that show the suffixes of their years alone, and ranges of suffixes.
-use Rattle.std.specs.Prelude.{ℕ, ◌+◌, Bool, true, false, not, ◌&&◌, List, Option, None, Some, if◌then◌else◌, is_some, map, nat_eq}
-use Rattle.std.specs.List.{enumerate_from}
+use Rattle.std.specs.Prelude.{ℕ, ◌+◌, Bool, true, false, not, ◌&&◌, List, Option, None, Some, if◌then◌else◌, is_some, length, map, nat_eq}
+use Rattle.std.specs.List.{range_with_len}
 use Rattle.std.specs.Option.{is_none, option_eq}
 use Rattle.csl_runs.specs.Stretches.{ends_long, is_inner, is_later}
 use Rattle.csl_runs.specs.declared.collapsed.CollapsedCite.{CollapsedCite}
@@ -55,4 +55,4 @@ module _ (ranges : Bool) (cites : List SuffixedCite) where
   }
 
   abbrev pub suffix_stretches : List CollapsedCite
-  suffix_stretches = map (λ p. in_stretch p.0) (enumerate_from 0 cites)
+  suffix_stretches = map in_stretch (range_with_len 0 (length cites))

@@ -49,9 +49,11 @@ fn rises_behind(cites: &[NumberedCite], k: usize) -> bool
     requires { k < length cites.now }
     ensures { result ≡ linked_at rises cites.now k }
 {
-    match cites.get(k + 1) {
-        Some(next) => is_next(cites[k].number, next.number),
-        None => false,
+    let next = k + 1;
+    if next < cites.len() {
+        is_next(cites[k].number, cites[next].number)
+    } else {
+        false
     }
 }
 

@@ -78,9 +78,11 @@ fn joins_behind(cites: &[SuffixedCite], k: usize) -> bool
     requires { k < length cites.now }
     ensures { result ≡ linked_at joins cites.now k }
 {
-    match cites.get(k + 1) {
-        Some(next) => joins(&cites[k], next),
-        None => false,
+    let next = k + 1;
+    if next < cites.len() {
+        joins(&cites[k], &cites[next])
+    } else {
+        false
     }
 }
 
@@ -89,9 +91,11 @@ fn rises_behind(cites: &[SuffixedCite], k: usize) -> bool
     requires { k < length cites.now }
     ensures { result ≡ linked_at suffixes_rise cites.now k }
 {
-    match cites.get(k + 1) {
-        Some(next) => suffixes_rise(&cites[k], next),
-        None => false,
+    let next = k + 1;
+    if next < cites.len() {
+        suffixes_rise(&cites[k], &cites[next])
+    } else {
+        false
     }
 }
 

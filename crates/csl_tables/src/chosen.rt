@@ -1,5 +1,5 @@
 //! The table of the condition `disambiguate`, and later mentions.
-ghost use Rattle.std.specs.Prelude.{◌≡◌, IfOk, OnOk, filter, length, map, not};
+ghost use Rattle.std.specs.Prelude.{◌≡◌, ◌&&◌, IfOk, OnOk, filter, is_some, length, map, not};
 ghost use Rattle.std.specs.List.{zip};
 ghost use Rattle.csl_mentions.specs.Groups.{group_of};
 ghost use Rattle.csl_tables.specs.Steps.{all_changed, chosen_by};
@@ -16,7 +16,8 @@ pub(crate) fn choose(
     tested: &[bool],
     states: &mut [MentionState],
 ) -> Result<(), AllocError>
-    requires { length tested.now ≡ length mentions.now }
+    requires tested { length tested.now ≡ length mentions.now }
+    requires states { length states.old ≡ length mentions.now }
     ensures { OnOk result (states.new ≡ all_changed chosen_by
         (zip tested.now (map (group_of mentions.now) mentions.now)) states.old) }
 {
@@ -27,14 +28,20 @@ pub(crate) fn choose(
 
 /// The same by their groups.
 fn choose_in(tested: &[bool], groups: &[Option<usize>], states: &mut [MentionState])
-    requires { length tested.now ≡ length groups.now }
+    requires tested { length states.old ≡ length tested.now }
+    requires groups { length states.old ≡ length groups.now }
     ensures { states.new ≡ all_changed chosen_by (zip tested.now groups.now) states.old }
 {
     for k in 0..states.len() {
-        if k < tested.len() {
-            states[k].chosen = tested[k] && groups[k].is_some();
-        }
+        states[k].chosen = is_chosen(tested[k], groups[k]);
     }
+}
+
+/// Whether a mention is chosen that tested the condition or didn't, and is in a group or in none.
+fn is_chosen(tested: bool, group: Option<usize>) -> bool
+    ensures { result ≡ (tested && is_some group) }
+{
+    tested && group.is_some()
 }
 
 /// The later mentions among these.

@@ -1,5 +1,5 @@
 //! The table of names.
-ghost use Rattle.std.specs.Prelude.{◌≡◌, IfOk, map};
+ghost use Rattle.std.specs.Prelude.{◌≡◌, IfOk, length, map};
 ghost use Rattle.csl_mentions.specs.Groups.{group_of};
 ghost use Rattle.csl_telling.specs.Told.{told_by_names};
 ghost use Rattle.csl_tables.specs.Steps.{all_changed, in_group, state_of};
@@ -18,6 +18,7 @@ pub(crate) fn told_by_names(
     mentions: &[Mention],
     named: &mut [NamedMention],
 ) -> Result<Vec<MentionState>, AllocError>
+    requires { length mentions.now ≡ length named.old }
     ensures { IfOk result (λ v.
         let grouped = all_changed in_group (map (group_of mentions.now) mentions.now) named.old in
         v.items ≡ map state_of (map (told_by_names grouped) grouped)) }
@@ -30,12 +31,11 @@ pub(crate) fn told_by_names(
 
 /// Puts mentions into their groups.
 fn put_into_groups(groups: &[Option<usize>], named: &mut [NamedMention])
+    requires { length groups.now ≡ length named.old }
     ensures { named.new ≡ all_changed in_group groups.now named.old }
 {
     for k in 0..named.len() {
-        if let Some(group) = groups.get(k) {
-            named[k].group = *group;
-        }
+        named[k].group = groups[k];
     }
 }
 

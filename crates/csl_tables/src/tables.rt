@@ -87,11 +87,12 @@ fn tell_by_names<M, W: MentionWriter<M>>(
         ≡ asked_for (first_tasks subjects.now ++ tasks_where subjects.now (λ s. is_some s.names)
         (second_table (W.writing writer.old).write subjects.now)) (W.writing writer.old)) }
 {
+    let firsts = write_firsts(alloc, subjects, writer)?;
     let Firsts {
         mut mentions,
         mut named,
         tested,
-    } = write_firsts(alloc, subjects, writer)?;
+    } = firsts;
     let states = told_by_names(alloc, &mentions, &mut named)?;
     write_changed(
         alloc,

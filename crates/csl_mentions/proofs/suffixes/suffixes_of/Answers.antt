@@ -1,8 +1,9 @@
-use Rattle.std.proofs.Common.{Some, ap, cond, map, ◌+◌, ◌∙◌}
+use Rattle.std.proofs.Common.{Some, ap, arith, cond, map, ◌+◌, ◌∙◌}
 use Rattle.csl_telling.specs.Telling.{in_one_group}
 use Rattle.csl_mentions.specs.Counts.{count, suffix_by}
-use Rattle.csl_mentions.specs.Suffixes.{suffix_of}
+use Rattle.csl_mentions.specs.Suffixes.{is_in_class, suffix_of}
 use Rattle.csl_mentions.proofs.Stepping.{enumerate-all}
+use Rattle.csl_mentions.proofs.Naming.{fewer}
 use Rattle.csl_mentions.proofs.Numbering.{counts-next, suffix-is, suffixes-next}
 use Rattle.csl_mentions.proofs.suffixes.suffixes_of.Goals as goal
 
@@ -27,4 +28,8 @@ returns c =
     c.loop-later.invariant.found ∙ ap (map (suffix_of laters)) (enumerate-all laters c.loop-later.later-index c.loop-later-test.false)
 
 pub next_suffix-requires : goal.next_suffix-requires
-next_suffix-requires c = λ n. let few = fewer (is_in_class c.args.laters.now (Some n)) c.loop-later.later-index c.args.laters.now ? in let is = c.loop-later.invariant.counts n in ?
+next_suffix-requires c = λ n.
+    let within = c.loop-later-test.true in
+    let few = fewer (is_in_class c.args.laters.now (Some n)) c.loop-later.later-index c.args.laters.now (omega arith) in
+    let is = c.loop-later.invariant.counts n in
+    omega arith

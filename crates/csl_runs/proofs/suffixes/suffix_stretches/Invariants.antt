@@ -1,5 +1,5 @@
-use Rattle.std.proofs.Common.{◌≡◌, map, take}
-use Rattle.std.specs.List.{enumerate_from}
+use Rattle.std.proofs.Common.{◌≡◌, map}
+use Rattle.std.specs.List.{range_with_len}
 use Rattle.csl_runs.specs.Stretches.{is_later}
 use Rattle.csl_runs.specs.SuffixStretches.{fits, in_stretch, joins, suffixes_rise}
 use Rattle.csl_runs.proofs.Linked.{IsUpTo}
@@ -9,5 +9,5 @@ abbrev pub invariant-loop-k : goal.invariant-loop-k
 invariant-loop-k l = record {
   around : IsUpTo fits suffixes_rise l.cites l.k l.around;
   later : l.is_later ≡ is_later fits joins l.cites l.k;
-  collapsed : l.collapsed.items ≡ map (λ p. in_stretch l.ranges l.cites p.0) (take l.k (enumerate_from 0 l.cites));
+  collapsed : l.collapsed.items ≡ map (in_stretch l.ranges l.cites) (range_with_len 0 l.k);
 }
