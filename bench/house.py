@@ -1,7 +1,7 @@
 #!/usr/bin/env python3
 """house.py [-v]: prints how the crates read, in figures: how many `requires` above csl_writers are
 about rings of macros and about the places of cites, how many clauses and definitions are wider than
-110 columns, how many functions are longer than 40 lines, their contracts included, how many lines
+100 columns, how many functions are longer than 40 lines, their contracts included, how many lines
 the proofs have, by crate, and how many public names and lines of pages have a word that
 docs/GLOSSARY.md doesn't want. With -v each of these places is listed."""
 import glob
@@ -10,7 +10,7 @@ import re
 import sys
 
 ROOT = os.path.dirname(os.path.dirname(os.path.abspath(__file__)))
-WIDTH, LENGTH = 110, 40
+WIDTH, LENGTH = 100, 40
 RINGS = re.compile(r'NoRing')
 PLACES = re.compile(
     r'IsPlace\b|IsPlaced\b|ArePlaced\b|HasShapeOf\b|AreCites\w*|IsCitedBy\b|\bplaces\b|\bplace\b')
@@ -88,6 +88,13 @@ def unwanted_words():
         yield words.split(', '), instead
 
 
+def names_that_stay():
+    """The names of the original, which may have any word."""
+    whole = '\n'.join(lines_of(ROOT + '/docs/GLOSSARY.md'))
+    told = whole.partition('Names of the original stay:')[2].partition('\n\n')[0]
+    return {*re.findall(r'`(\w+)`', told)}
+
+
 def words_of(name):
     """The words of a name, in lower case with underscores around each: `_ring_place_`."""
     return '_%s_' % re.sub(r'(?<=[a-z0-9])(?=[A-Z])', '_', name).lower()
@@ -121,7 +128,10 @@ def pages():
 def strays(crates):
     """For each row of the words that are not to be used: the words, what stands in their place,
     and where names and pages have them."""
-    names, lines = [*public_names(crates)], [*pages()]
+    stay = names_that_stay()
+    names = [(name, place) for name, place in public_names(crates) if name not in stay]
+    of_stay = re.compile(r'`(?:%s)`' % '|'.join(sorted(stay)))
+    lines = [(of_stay.sub('', line), place) for line, place in pages()]
     for words, instead in unwanted_words():
         of_names = ['_%s_' % word for word in words if ' ' not in word]
         of_pages = [re.compile(r'\b%s\b' % word, re.IGNORECASE)

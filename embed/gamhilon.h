@@ -152,14 +152,14 @@ uint32_t gamhilon_find_fault(const uint8_t *document, size_t document_length,
 typedef struct {
     size_t of_bibliography; /* 1 where the style is that of the bibliography, and else 0 */
     size_t request;         /* the index of the request whose style it is, from 0; 0 for the bibliography's */
-    size_t macro_place;     /* the index of the first macro on a ring, among the macros of its style, from 0 */
-} gamhilon_ring_place;
+    size_t macro_index;     /* the index of the first macro on a ring, among the macros of its style, from 0 */
+} gamhilon_ring_location;
 
 /* Finds the first ring of macros. At GAMHILON_MACRO_RING `*ring` is its place, and at every other status it is as
  * it was. `ring` must not be null.
  *
  * Ends with the statuses of gamhilon_render_text, but never with GAMHILON_BUFFER_TOO_SMALL. */
-uint32_t gamhilon_find_ring(const uint8_t *document, size_t document_length, gamhilon_ring_place *ring);
+uint32_t gamhilon_find_ring(const uint8_t *document, size_t document_length, gamhilon_ring_location *ring);
 
 /* ---- Hosts that write cites themselves ------------------------------------------------------------------ */
 

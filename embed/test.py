@@ -420,7 +420,7 @@ def try_from_python(cases, jsons):
         gamhilon.render(ring)
         hold(False, 'a ring is refused')
     except gamhilon.MacroRing as refusal:
-        hold((refusal.status, refusal.request, refusal.macro_place) == (3, None, 1),
+        hold((refusal.status, refusal.request, refusal.macro_index) == (3, None, 1),
              'the place of a ring of the bibliography')
     ring['styles']['t'] = {'citation': {'elements': []}}
     ring['requests'] = [{'style': 't', 'items': []}, {'style': 's', 'items': []}]
@@ -428,7 +428,7 @@ def try_from_python(cases, jsons):
         gamhilon.render(ring)
         hold(False, 'a ring is refused')
     except gamhilon.MacroRing as refusal:
-        hold((refusal.request, refusal.macro_place) == (1, 1), 'the place of a ring of a request')
+        hold((refusal.request, refusal.macro_index) == (1, 1), 'the place of a ring of a request')
 
 
 def try_driving():

@@ -46,10 +46,10 @@ enum { BUFFER_LENGTH = 1 << 22 };
 
 static uint8_t document[BUFFER_LENGTH], buffer[BUFFER_LENGTH], answer[BUFFER_LENGTH];
 static size_t n;
-static gamhilon_ring_place ring;
+static gamhilon_ring_location ring;
 
 static uint32_t called(int form, uint8_t *into, size_t *length) {
-    ring.macro_place = 77;
+    ring.macro_index = 77;
     *length = 0;
     if (form == 0) return gamhilon_render_text(document, n, into, BUFFER_LENGTH, length);
     if (form == 1) return gamhilon_render_json(document, n, into, BUFFER_LENGTH, length);
@@ -63,7 +63,7 @@ static uint32_t called(int form, uint8_t *into, size_t *length) {
 /* Whether a call of which some allocation was refused is right: refused itself, or the answer all the same. */
 static int is_right(uint32_t status, size_t length, uint32_t whole_status, size_t whole_length) {
     if (open_blocks != 0) return 0;
-    if (status == GAMHILON_OUT_OF_MEMORY) return length == 0 && buffer[0] == 7 && buffer[99] == 7 && ring.macro_place == 77;
+    if (status == GAMHILON_OUT_OF_MEMORY) return length == 0 && buffer[0] == 7 && buffer[99] == 7 && ring.macro_index == 77;
     return status == whole_status && length == whole_length && memcmp(buffer, answer, whole_length) == 0;
 }
 

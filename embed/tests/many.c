@@ -36,7 +36,7 @@ static void *worker(void *first) {
     for (int t = *(int *)first; t < times; t += THREADS) {
         const work *it = &works[t % count];
         int form = t / count % 5, step = t / count / 5 % (2 * AROUND + 1) - AROUND;
-        gamhilon_ring_place ring;
+        gamhilon_ring_location ring;
         if (form == 3) wrong += gamhilon_find_ring(it->document, it->n, &ring) != it->statuses[0];
         else if (form == 4) wrong += gamhilon_check_limits(it->document, it->n, 100, 100000) != it->limited;
         else if (step < 0 && it->lengths[form] < (size_t)-step) wrong += tried(it, form, 0);

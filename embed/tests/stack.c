@@ -15,7 +15,7 @@ static int form;
 
 static void *worker(void *unused) {
     size_t length;
-    gamhilon_ring_place ring;
+    gamhilon_ring_location ring;
     if (form == 0) gamhilon_render_text(document, n, buffer, BUFFER_LENGTH, &length);
     else if (form == 1) gamhilon_render_json(document, n, buffer, BUFFER_LENGTH, &length);
     else if (form == 2) gamhilon_find_fault(document, n, buffer, BUFFER_LENGTH, &length);

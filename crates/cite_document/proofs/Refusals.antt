@@ -1,28 +1,28 @@
 -- What the driver answers to a document's requests, and what it refuses, is of the document.
 use Rattle.csl_writing.specs.LayoutWriting.{layout_writing}
-use Rattle.std.proofs.Common.{◌≡◌, ℕ, ◌+◌, ◌<◌, ◌^◌, Bool, List, length, Some, refl, ap, sym, ◌∙◌, subst}
+use Rattle.std.proofs.Common.{◌≡◌, ℕ, Bool, List, Some, refl, ap, sym, ◌∙◌, subst}
 use Rattle.std.specs.declared.convert.Infallible.{Infallible}
 use Rattle.csl_values.specs.PlainEntry.{plain_answers}
 use Rattle.csl_values.specs.declared.entry.PlainEntry.{PlainEntry}
 use Rattle.csl_driver.specs.Answer.{rendered}
-use Rattle.csl_entries.specs.Entries.{distinct}
-use Rattle.csl_passes.specs.Request.{Wanted, cited}
+use Rattle.csl_passes.specs.Request.{Wanted}
 use Rattle.csl_round_laws.specs.declared.mode.RoundMode.{RoundMode}
 use Rattle.csl_driver.specs.Driver.{Driver}
+use Rattle.csl_driver.specs.Promised.{CanBeAnswered}
 use Rattle.csl_driver.specs.Rings.{IsFirstRingOf, NoRingAtAll, Overflows, Refuses}
 use Rattle.csl_driver.specs.declared.error.DriverError.{DriverError}
 use Rattle.csl_driver.specs.declared.error.DriverError.TheVariants as drivers
-use Rattle.csl_driver.specs.declared.error.RingPlace.{RingPlace}
+use Rattle.csl_driver.specs.declared.error.RingLocation.{RingLocation}
 use Rattle.csl_assembly.specs.declared.rendered.Rendered.{Rendered}
 use Rattle.json_document.specs.Form.{Document}
 use Rattle.cite_document.specs.Run.{same_plain_entry, same_own_payload, accepted, wanted_of, answer, HasAnswer, HasFirstRing, HasTooLargeNumbers, IsRefusedFor}
 use Rattle.cite_document.specs.Status.{refused}
 
 module _ (v : Driver PlainEntry Infallible) (w : Wanted PlainEntry) (d : Document) (p : v ≡ record { requests = accepted d.requests; offset = d.offset }) (q : w ≡ wanted_of d) where
-  pub has_answer : NoRingAtAll v.requests w.style → v.offset + length (distinct same_plain_entry (cited v.requests)) < 2 ^ 64 → HasAnswer d
-  has_answer a b =
-      subst (λ x. NoRingAtAll x.requests d.style × (x.offset + length (distinct same_plain_entry (cited x.requests)) < 2 ^ 64)) p
-      (subst (λ (x : Wanted PlainEntry). NoRingAtAll v.requests x.style) q a, b)
+  pub has_answer : CanBeAnswered same_plain_entry (record { wanted = w; requests = v.requests; offset = v.offset }) → HasAnswer d
+  has_answer can =
+      subst (λ x. CanBeAnswered same_plain_entry (record { wanted = wanted_of d; requests = x.requests; offset = x.offset })) p
+      (subst (λ (x : Wanted PlainEntry). CanBeAnswered same_plain_entry (record { wanted = x; requests = v.requests; offset = v.offset })) q can)
 
   pub is_answer : (mode : RoundMode) (r : Rendered) → mode ≡ d.rounds → r ≡ rendered same_plain_entry same_own_payload (layout_writing plain_answers) mode (record { wanted = w; requests = v.requests; offset = v.offset }) → r ≡ answer d
   is_answer mode r m e =
@@ -30,7 +30,7 @@ module _ (v : Driver PlainEntry Infallible) (w : Wanted PlainEntry) (d : Documen
       ∙ ap (λ x. rendered same_plain_entry same_own_payload (layout_writing plain_answers) d.rounds (record { wanted = x; requests = v.requests; offset = v.offset })) q
       ∙ ap (λ x. rendered same_plain_entry same_own_payload (layout_writing plain_answers) d.rounds (record { wanted = wanted_of d; requests = x.requests; offset = x.offset })) p
 
-  first_ring : (place : RingPlace) (i : ℕ) → IsFirstRingOf v.requests w.style place i → HasFirstRing place i d
+  first_ring : (place : RingLocation) (i : ℕ) → IsFirstRingOf v.requests w.style place i → HasFirstRing place i d
   first_ring place i h =
       subst (λ x. IsFirstRingOf x.requests d.style place i) p (subst (λ (x : Wanted PlainEntry). IsFirstRingOf v.requests x.style place i) q h)
 

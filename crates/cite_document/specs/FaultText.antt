@@ -19,7 +19,8 @@ use Rattle.json_values.specs.declared.fault.Wanted.TheVariants as wanted
 
 -- `~0` stands for `~`, and `~1` for `/`
 abbrev pub escaped : ℕ → List ℕ
-escaped c = if c == code "~" then codes "~0" else (if c == code "/" then codes "~1" else encode_utf8 c)
+escaped c = if c == code "~" then codes "~0"
+    else (if c == code "/" then codes "~1" else encode_utf8 c)
 
 abbrev pub step_text : Step → List ℕ
 step_text (steps.Key k) = codes "/" ++ flat_map escaped (chars (string_bytes k))

@@ -15,8 +15,8 @@ use Rattle.json_values.specs.declared.error.ReadError.TheVariants as parts
 use Rattle.cite_document.specs.declared.limits.LimitError.{LimitError}
 use Rattle.cite_document.specs.declared.limits.LimitError.TheVariants as errors
 
--- the styles of the document that the bytes are, by their names, where they are of their form; of the rest of
--- the document only the keys are read
+-- the styles of the document that the bytes are, by their names, where they are of their form; of
+-- the rest of the document only the keys are read
 unfoldable pub named_styles_in : List ℕ → Option (List NamedStyle)
 named_styles_in bytes = do
   text ← utf8_text bytes
@@ -31,8 +31,8 @@ styles_in bytes = option_map (map (λ s. s.1)) (named_styles_in bytes)
 abbrev pub AreStylesThat : Option (List StyleValue) → (List StyleValue → Type 0) → Type 0
 AreStylesThat styles Such = (ss : List StyleValue) × (styles ≡ Some ss) × Such ss
 
--- each style without a ring is within the limits, or some style exceeds one; a check of styles that are there
--- doesn't call them no document
+-- each style without a ring is within the limits, or some style exceeds one; a check of styles that
+-- are there doesn't call them no document
 abbrev pub ChecksEach : Limits → List StyleValue → Result ⊤ LimitError → Type 0
 ChecksEach limits styles (Ok done) = All (λ s. HasNoRing s.macros → IsWithinLimits limits s) styles
 ChecksEach limits styles (Err (errors.Exceeded which)) = Any (Exceeds which limits) styles

@@ -1,5 +1,5 @@
 -- What a run prints, and why it prints nothing.
-use Rattle.std.specs.Prelude.{◌≡◌, ℕ, ◌+◌, ◌<◌, ◌^◌, Bool, List, length, map, Option, Some, None, Result, Ok, Err, String, string_bytes}
+use Rattle.std.specs.Prelude.{◌≡◌, ℕ, Bool, List, map, Option, Some, None, Result, Ok, Err, String, string_bytes}
 use Rattle.std.specs.declared.alloc.Global.{Global}
 use Rattle.std.specs.declared.convert.Infallible.{Infallible}
 use Rattle.csl_values.specs.PlainEntry.{plain_answers}
@@ -7,11 +7,11 @@ use Rattle.csl_values.specs.declared.entry.PlainEntry.{PlainEntry}
 use Rattle.csl_values.specs.contracts.entry.PlainEntryPartialEq.TheImpl as plain_entry_eq
 use Rattle.std.specs.contracts.prelude.InfalliblePartialEq.TheImpl as infallible_eq
 use Rattle.csl_driver.specs.Answer.{Job, rendered}
-use Rattle.csl_entries.specs.Entries.{distinct}
 use Rattle.csl_writing.specs.LayoutWriting.{layout_writing}
-use Rattle.csl_passes.specs.Request.{Request, Wanted, cited, with_places}
+use Rattle.csl_passes.specs.Request.{Request, Wanted, with_places}
+use Rattle.csl_driver.specs.Promised.{CanBeAnswered}
 use Rattle.csl_driver.specs.Rings.{NoRingAtAll, IsFirstRingOf, Overflows}
-use Rattle.csl_driver.specs.declared.error.RingPlace.{RingPlace}
+use Rattle.csl_driver.specs.declared.error.RingLocation.{RingLocation}
 use Rattle.csl_assembly.specs.declared.rendered.Rendered.{Rendered}
 use Rattle.json_document.specs.Form.{Document}
 use Rattle.cite_document.specs.declared.error.RunError.{RunError}
@@ -39,16 +39,16 @@ document_job d = record { wanted = wanted_of d; requests = accepted d.requests; 
 
 -- the whole answer to a document: that of as many rounds as it says
 abbrev pub answer : Document → Rendered
-answer d = rendered same_plain_entry same_own_payload (layout_writing plain_answers) d.rounds (document_job d)
+answer d = rendered same_plain_entry same_own_payload (layout_writing plain_answers) d.rounds
+    (document_job d)
 
 -- the first ring of a document's styles: the style's place, and that of its first macro on a ring
-abbrev pub HasFirstRing : RingPlace → ℕ → Document → Type 0
+abbrev pub HasFirstRing : RingLocation → ℕ → Document → Type 0
 HasFirstRing place i d = IsFirstRingOf (accepted d.requests) d.style place i
 
 -- no style of a document has a ring, and its numbers are not above the greatest usize
 abbrev pub HasAnswer : Document → Type 0
-HasAnswer d = NoRingAtAll (accepted d.requests) d.style
-    × (d.offset + length (distinct same_plain_entry (cited (accepted d.requests))) < 2 ^ 64)
+HasAnswer d = CanBeAnswered same_plain_entry (document_job d)
 
 -- no style of a document has a ring, and its numbers are above the greatest usize
 abbrev pub HasTooLargeNumbers : Document → Type 0
@@ -62,8 +62,10 @@ IsDocumentThat {D} read Such = (d : D) × (read ≡ Some d) × Such d
 -- why nothing comes of what asks for such a document, where there is one
 abbrev pub IsRefusedFor : {D : Type 0} → (D → Document) → RunError → Option D → Type 0
 IsRefusedFor document errors.Document read = read ≡ None
-IsRefusedFor document (errors.MacroRing place i) read = IsDocumentThat read (λ d. HasFirstRing place i (document d))
-IsRefusedFor document errors.NumberOverflow read = IsDocumentThat read (λ d. HasTooLargeNumbers (document d))
+IsRefusedFor document (errors.MacroRing place i) read =
+    IsDocumentThat read (λ d. HasFirstRing place i (document d))
+IsRefusedFor document errors.NumberOverflow read =
+    IsDocumentThat read (λ d. HasTooLargeNumbers (document d))
 IsRefusedFor document errors.OutOfMemory read = Unit {0}
 IsRefusedFor document errors.Output read = ⊥
 

@@ -1,4 +1,5 @@
--- The errors of the program: the status that it ends with, and what comes of a part that isn't read.
+-- The errors of the program: the status that it ends with, and what comes of a part that isn't
+-- read.
 use Rattle.std.specs.Prelude.{ℕ}
 use Rattle.csl_driver.specs.declared.error.DriverError.{DriverError}
 use Rattle.csl_driver.specs.declared.error.DriverError.TheVariants as drivers

@@ -8,13 +8,15 @@ use Rattle.cite_document.specs.FaultText.{fault_text}
 use Rattle.cite_document.specs.declared.error.RunError.{RunError}
 use Rattle.cite_document.specs.declared.error.RunError.TheVariants as errors
 
--- there is no document of the form, and the text tells a fault of the value, or of the text that is none
+-- there is no document of the form, and the text tells a fault of the value, or of the text that is
+-- none
 abbrev pub IsFaultText : {D : Type 0} → List ℕ → Option D → Option Data → Type 0
 IsFaultText text read value =
     (read ≡ None) × ((f : Fault) × IsFaultIn f value × (text ≡ fault_text f))
 
 -- the text is empty where there is a document, and else tells a fault; only memory can fail
-abbrev pub TellsFault : {D : Type 0} → Result (String Global) RunError → Option D → Option Data → Type 0
+abbrev pub TellsFault : {D : Type 0} → Result (String Global) RunError → Option D
+    → Option Data → Type 0
 TellsFault (Ok text) read value =
     (IsSome read × (string_bytes text ≡ [])) ⊎ IsFaultText (string_bytes text) read value
 TellsFault (Err e) read value = e ≡ errors.OutOfMemory

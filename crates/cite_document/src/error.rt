@@ -2,7 +2,7 @@
 ghost use Rattle.std.specs.Prelude.{◌≡◌};
 ghost use Rattle.cite_document.specs.Status.{status};
 
-use csl_driver::error::{DriverError, RingPlace};
+use csl_driver::error::{DriverError, RingLocation};
 use json_values::error::ReadError;
 use std::alloc::{AllocError, AllocFailed};
 use thiserror::Error;
@@ -17,10 +17,13 @@ pub enum RunError {
     /// The input isn't JSON, or not the form of a document.
     #[error("cite_run: document refused")]
     Document,
-    /// The macros of a style call each other in a ring: where the first such style is asked for, and
-    /// its first macro on a ring.
+    /// The macros of a style call each other in a ring: where the first such style is asked for,
+    /// and its first macro on a ring.
     #[error("cite_run: macro ring")]
-    MacroRing { place: RingPlace, macro_idx: usize },
+    MacroRing {
+        place: RingLocation,
+        macro_index: usize,
+    },
     /// The offset and the number of entries together are above the greatest `usize`.
     #[error("cite_run: number overflow")]
     NumberOverflow,
@@ -88,7 +91,10 @@ impl From<DriverError> for RunError {
 
     fn from(error: DriverError) -> RunError {
         match error {
-            DriverError::MacroRing { place, macro_idx } => RunError::MacroRing { place, macro_idx },
+            DriverError::MacroRing { place, macro_index } => RunError::MacroRing {
+                place,
+                macro_index,
+            },
             DriverError::NumberOverflow => RunError::NumberOverflow,
             DriverError::OutOfMemory(_) => RunError::OutOfMemory,
         }

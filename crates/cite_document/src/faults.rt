@@ -5,7 +5,14 @@ ghost use Rattle.std.specs.List.{flat_map};
 ghost use Rattle.std.specs.Str.{chars};
 ghost use Rattle.json_document.specs.Faults.{value_in};
 ghost use Rattle.json_document.specs.Form.{form};
-ghost use Rattle.cite_document.specs.FaultText.{escaped, fault_text, found_text, pointer_text, step_text, wanted_text};
+ghost use Rattle.cite_document.specs.FaultText.{
+  escaped,
+  fault_text,
+  found_text,
+  pointer_text,
+  step_text,
+  wanted_text,
+};
 ghost use Rattle.cite_document.specs.TellsFault.{TellsFault};
 
 use crate::error::RunError;
@@ -71,7 +78,8 @@ fn push_way(text: &mut String, way: &[Step]) -> Result<(), AllocError>
 
 /// Appends words, and a name behind them.
 fn push_named(text: &mut String, words: &str, name: &str) -> Result<(), AllocError>
-    ensures { OnOk result (string_bytes text.new ≡ string_bytes text.old ++ (words.now ++ name.now)) }
+    ensures { OnOk result
+        (string_bytes text.new ≡ string_bytes text.old ++ (words.now ++ name.now)) }
 {
     text.push_str(words)?;
     text.push_str(name)
@@ -79,7 +87,8 @@ fn push_named(text: &mut String, words: &str, name: &str) -> Result<(), AllocErr
 
 /// Appends words, and a number behind them.
 fn push_counted(text: &mut String, words: &str, number: usize) -> Result<(), AllocError>
-    ensures { OnOk result (string_bytes text.new ≡ string_bytes text.old ++ (words.now ++ decimal number)) }
+    ensures { OnOk result
+        (string_bytes text.new ≡ string_bytes text.old ++ (words.now ++ decimal number)) }
 {
     text.push_str(words)?;
     push_number(text, number)
@@ -106,7 +115,8 @@ fn push_found(text: &mut String, found: &Found) -> Result<(), AllocError>
 }
 
 fn push_wanted(text: &mut String, wanted: &Wanted) -> Result<(), AllocError>
-    ensures { OnOk result (string_bytes text.new ≡ string_bytes text.old ++ wanted_text wanted.now) }
+    ensures { OnOk result
+        (string_bytes text.new ≡ string_bytes text.old ++ wanted_text wanted.now) }
 {
     match wanted {
         Wanted::Utf8 => text.push_str("UTF-8"),
@@ -179,7 +189,8 @@ pub fn print_fault(alloc: Global, fault: &Fault) -> Result<String, AllocError>
     Value::Object(object).to_string(alloc)
 }
 
-/// The first fault of the bytes as JSON, where they are no document; and no text where they are one.
+/// The first fault of the bytes as JSON, where they are no document; and no text where they are
+/// one.
 ///
 /// # Errors
 /// `OutOfMemory` where memory is refused, and no other.

@@ -27,7 +27,8 @@ fn add_all<'e, 'f: 'e>(
     ensures added { OnOk result (driver_view driver.new
         ≡ record (driver_view driver.old) {
           requests = (driver_view driver.old).requests
-              ++ accepted (asked_requests_view (map locale_view (locales_of files.now)) requests.now);
+              ++ accepted (asked_requests_view (map locale_view (locales_of files.now))
+              requests.now);
         }) }
     ensures memory { IfErr result (λ e. e ≡ RunError.OutOfMemory) }
 {
@@ -84,7 +85,10 @@ pub fn bibliography_request<'o, 'e>(
     files: &'o TermTables<'e>,
 ) -> Result<BibliographyRequest<'o, 'e, PlainEntry>, AllocError>
     ensures { IfOk result (λ request. wanted_view request
-        ≡ record (wanted_of (document_view job.now)) { locales = map locale_view (locales_of files.now) }) }
+        ≡ record (wanted_of (document_view job.now)) {
+          locales =
+              map locale_view (locales_of files.now);
+        }) }
 {
     let locale = copied_code(alloc, &job.wanted.locale)?;
     let order = order_of(&job.wanted.order);

@@ -38,10 +38,11 @@ fn read_by<R: Read>(alloc: Global, reader: &mut R, buffer: &mut [u8]) -> Result<
 /// All that the reader has left.
 ///
 /// # Errors
-/// `Output` where a read fails, or where the input isn't at its end after 1,048,576 reads of at most
-/// 65,536 bytes; `OutOfMemory` where there is no room for it.
+/// `Output` where a read fails, or where the input isn't at its end after 1,048,576 reads of at
+/// most 65,536 bytes; `OutOfMemory` where there is no room for it.
 pub fn read_input<R: Read>(alloc: Global, reader: &mut R) -> Result<Vec<u8>, RunError>
-    ensures whole { IfOk result (λ bytes. IfSome (R.remaining reader.old) (λ left. bytes.items ≡ left)) }
+    ensures whole { IfOk result
+        (λ bytes. IfSome (R.remaining reader.old) (λ left. bytes.items ≡ left)) }
 {
     let mut buffer = zeros(alloc, READ_LENGTH)?;
     read_by(alloc, reader, &mut buffer)

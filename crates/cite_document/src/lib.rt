@@ -1,8 +1,8 @@
 //! Documents of the program: read, answered and printed.
 //!
-//! A document is JSON: styles, locales, entries, requests and a bibliography. Its answer is text: each
-//! citation is a line. Where the bibliography's style has a bibliography, an empty line follows, and
-//! then a line for each item: its key, a tab and its text.
+//! A document is JSON: styles, locales, entries, requests and a bibliography. Its answer is text:
+//! each citation is a line. Where the bibliography's style has a bibliography, an empty line
+//! follows, and then a line for each item: its key, a tab and its text.
 #![tactic(auto)]
 
 pub mod error;

@@ -3,7 +3,13 @@ ghost use Rattle.std.specs.Prelude.{[], ◌∷◌, ◌≡◌, map};
 ghost use Rattle.csl_style_values.specs.StyleView.{style_view};
 ghost use Rattle.json_styles.specs.NamedStyleView.{named_styles_view};
 ghost use Rattle.json_values.specs.Reads.{Reads};
-ghost use Rattle.cite_document.specs.Limited.{ChecksEach, ChecksStyles, limit_status, named_styles_in, styles_in};
+ghost use Rattle.cite_document.specs.Limited.{
+  ChecksEach,
+  ChecksStyles,
+  limit_status,
+  named_styles_in,
+  styles_in,
+};
 
 use csl_base::style::IndependentStyle;
 use csl_limits::limits::{Excess, Limits};
@@ -25,8 +31,8 @@ pub enum LimitError {
 }
 
 impl LimitError {
-    /// The status that the library in C gives: 2 and 5 as for an answer, 7 where elements nest too deep, and 8
-    /// where there are too many.
+    /// The status that the library in C gives: 2 and 5 as for an answer, 7 where elements nest too
+    /// deep, and 8 where there are too many.
     pub fn status(&self) -> u8
         ensures { result ≡ limit_status self.now }
     {
@@ -64,13 +70,15 @@ impl From<ReadError> for LimitError {
     }
 }
 
-/// Whether each layout of each style of the document is within the limits. A style whose macros call each
-/// other in a ring passes: a document that asks for it has no answer. Nothing is rendered.
+/// Whether each layout of each style of the document is within the limits. A style whose macros
+/// call each other in a ring passes: a document that asks for it has no answer. Nothing is
+/// rendered.
 ///
 /// # Errors
 ///
-/// `Document` where the bytes aren't JSON, have a key that no document has, or have no styles of their form;
-/// `Exceeded` with a limit that a layout exceeds; `OutOfMemory` where memory is refused.
+/// `Document` where the bytes aren't JSON, have a key that no document has, or have no styles of
+/// their form; `Exceeded` with a limit that a layout exceeds; `OutOfMemory` where memory is
+/// refused.
 pub fn check_limits(alloc: Global, bytes: &[u8], limits: &Limits) -> Result<(), LimitError>
     ensures { ChecksStyles limits.now (styles_in bytes.now) result }
 {

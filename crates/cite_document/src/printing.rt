@@ -3,7 +3,13 @@ ghost use Rattle.std.specs.Prelude.{◌≡◌, ◌++◌, OnOk, IfOk, string_byte
 ghost use Rattle.std.specs.List.{flat_map};
 ghost use Rattle.csl_trees.specs.ChildView.{child_view};
 ghost use Rattle.csl_trees.specs.Tree.{child_plain};
-ghost use Rattle.cite_document.specs.Print.{citation_line, first_text, item_line, bibliography_lines, print};
+ghost use Rattle.cite_document.specs.Print.{
+  citation_line,
+  first_text,
+  item_line,
+  bibliography_lines,
+  print,
+};
 
 use csl_base::elem::{BufWriteFormat, ElemChild};
 use csl_driver::rendered::{BibliographyItem, Rendered, RenderedBibliography, RenderedCitation};
@@ -20,7 +26,8 @@ fn push_child(text: &mut String, child: &ElemChild) -> Result<(), AllocError>
 }
 
 fn push_first_field(text: &mut String, first_field: &Option<ElemChild>) -> Result<(), AllocError>
-    ensures { OnOk result (string_bytes text.new ≡ string_bytes text.old ++ first_text first_field.now) }
+    ensures { OnOk result
+        (string_bytes text.new ≡ string_bytes text.old ++ first_text first_field.now) }
 {
     match first_field {
         Some(child) => push_child(text, child),
@@ -29,7 +36,8 @@ fn push_first_field(text: &mut String, first_field: &Option<ElemChild>) -> Resul
 }
 
 fn print_citation(text: &mut String, citation: &RenderedCitation) -> Result<(), AllocError>
-    ensures { OnOk result (string_bytes text.new ≡ string_bytes text.old ++ citation_line citation.now) }
+    ensures { OnOk result
+        (string_bytes text.new ≡ string_bytes text.old ++ citation_line citation.now) }
 {
     citation.citation.write_plain(text)?;
     text.push_str("\n")?;
@@ -58,7 +66,8 @@ fn print_item(text: &mut String, item: &BibliographyItem) -> Result<(), AllocErr
 }
 
 fn print_items(text: &mut String, items: &[BibliographyItem]) -> Result<(), AllocError>
-    ensures { OnOk result (string_bytes text.new ≡ string_bytes text.old ++ flat_map item_line items.now) }
+    ensures { OnOk result
+        (string_bytes text.new ≡ string_bytes text.old ++ flat_map item_line items.now) }
 {
     for item in items {
         print_item(text, item)?;

@@ -8,14 +8,24 @@ ghost use Rattle.csl_writing.specs.LayoutWriting.{layout_writing};
 ghost use Rattle.csl_driver.specs.Answer.{rendered};
 ghost use Rattle.csl_driver.specs.JobView.{job_of};
 ghost use Rattle.csl_driver.specs.Promised.{Finishes};
-ghost use Rattle.csl_driver.specs.declared.error.RingPlace.{RingPlace};
+ghost use Rattle.csl_driver.specs.declared.error.RingLocation.{RingLocation};
 ghost use Rattle.json_document.specs.DocumentView.{document_view};
 ghost use Rattle.json_document.specs.Form.{asked_form, form, document_form};
 ghost use Rattle.json_document.specs.Entries.{entry_named};
 ghost use Rattle.json_styles.specs.NamedStyleView.{named_styles_view};
 ghost use Rattle.cite_document.specs.Print.{json_text, print};
 ghost use Rattle.json_styles.specs.Styles.{style_named};
-ghost use Rattle.cite_document.specs.Run.{answer, IsRunAnswer, HasAnswer, HasFirstRing, HasTooLargeNumbers, IsDocumentThat, Prints, same_plain_entry, same_own_payload};
+ghost use Rattle.cite_document.specs.Run.{
+  answer,
+  IsRunAnswer,
+  HasAnswer,
+  HasFirstRing,
+  HasTooLargeNumbers,
+  IsDocumentThat,
+  Prints,
+  same_plain_entry,
+  same_own_payload,
+};
 
 use crate::error::RunError;
 use crate::filling::{bibliography_request, filled_driver};
@@ -39,7 +49,8 @@ use std::alloc::Global;
 use std::convert::Infallible;
 use std::io::Write;
 
-/// What the driver answers in these rounds: `finish` in three, and `finish_full` in as many as mark.
+/// What the driver answers in these rounds: `finish` in three, and `finish_full` in as many as
+/// mark.
 fn answer_in<'e>(
     driver: BibliographyDriver<'e, PlainEntry, Infallible>,
     request: BibliographyRequest<'_, 'e, PlainEntry>,
@@ -70,8 +81,8 @@ fn answer_job<'r>(alloc: Global, job: &'r Job<'_>) -> Result<Rendered, RunError>
     Ok(rendered)
 }
 
-/// The answer to what the value asks for, of these styles, entries and locales. The value is dropped
-/// before anything is rendered.
+/// The answer to what the value asks for, of these styles, entries and locales. The value is
+/// dropped before anything is rendered.
 fn answer_of<'e>(
     alloc: Global,
     value: Value,
@@ -138,9 +149,9 @@ pub fn print_json_bytes(alloc: Global, bytes: &[u8]) -> Result<String, RunError>
 /// written.
 ///
 /// # Errors
-/// `Document` exactly where the bytes are no document; `MacroRing` and `NumberOverflow` exactly where
-/// the driver refuses the document; `Output` where the writer fails, which may have taken a beginning;
-/// `OutOfMemory` where memory runs out before the text is ready.
+/// `Document` exactly where the bytes are no document; `MacroRing` and `NumberOverflow` exactly
+/// where the driver refuses the document; `Output` where the writer fails, which may have taken a
+/// beginning; `OutOfMemory` where memory runs out before the text is ready.
 pub fn run<W: Write>(alloc: Global, bytes: &[u8], out: &mut W) -> Result<(), RunError>
     ensures written { OnOk result (IsDocumentThat (form bytes.now)
         (λ d. Appends (W.contents out.old) (W.contents out.new) (print (answer d)))) }
@@ -148,7 +159,7 @@ pub fn run<W: Write>(alloc: Global, bytes: &[u8], out: &mut W) -> Result<(), Run
     ensures document { IsErrOf result RunError.Document → form bytes.now ≡ None }
     ensures overflow { IsErrOf result RunError.NumberOverflow
         → IsDocumentThat (form bytes.now) HasTooLargeNumbers }
-    ensures ring { (place : RingPlace) (i : ℕ) → IsErrOf result (RunError.MacroRing place i)
+    ensures ring { (place : RingLocation) (i : ℕ) → IsErrOf result (RunError.MacroRing place i)
         → IsDocumentThat (form bytes.now) (HasFirstRing place i) }
     ensures output { IsErrOf result RunError.Output → IsDocumentThat (form bytes.now) HasAnswer }
     ensures nothing { IfErr result (λ e. (e ≡ RunError.Output → ⊥)

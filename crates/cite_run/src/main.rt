@@ -1,7 +1,7 @@
 //! Reads a document from standard input, and prints its citations and its bibliography.
 //!
-//! Where there is no answer, standard error gets one line that says why, and the exit status tells it
-//! too.
+//! Where there is no answer, standard error gets one line that says why, and the exit status tells
+//! it too.
 #![tactic(auto)]
 
 use cite_document::error::RunError;

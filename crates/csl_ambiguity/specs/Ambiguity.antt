@@ -29,7 +29,8 @@ module _ {E P : Type 0} where
   module _ (eq : E → E → Bool) where
     -- some two of them cite different entries
     abbrev pub cite_different : List (Member E P) → Bool
-    cite_different cites = list_any (λ a. list_any (λ b. not (eq (entry_of a) (entry_of b))) cites) cites
+    cite_different cites =
+        list_any (λ a. list_any (λ b. not (eq (entry_of a) (entry_of b))) cites) cites
 
     -- the ambiguous groups of a document, as places
     abbrev pub ambiguous_groups : List (CiteRender E P) → List (List Place)

@@ -26,4 +26,5 @@ module _ {E P : Type 0} where
 
     -- the marks of a group of cites, in their order
     abbrev pub choose_marks : List (Member E P) → List (Place × DisambiguateState)
-    choose_marks cites = if may_be_chosen cites then map (λ m. (m.place, Choose)) (chosen cites) else []
+    choose_marks cites = if may_be_chosen cites
+        then map (λ m. (m.place, Choose)) (chosen cites) else []

@@ -58,7 +58,8 @@ pub record MakesGroup (first p : Place) (text : HeapText) (old new : Classes) : 
 -- a cite at p was added to the i-th group
 pub record JoinsGroup (i : ℕ) (p : Place) (old new : Classes) : Type 0 where
   pub at : (q : HeapText) → class_at new q ≡ class_at old q
-  pub groups : groups_in new ≡ slice_set (groups_in old) i (slice_index_or (groups_in old) i [] ++ p ∷ [])
+  pub groups : groups_in new
+      ≡ slice_set (groups_in old) i (slice_index_or (groups_in old) i [] ++ p ∷ [])
 
 -- a cite at p with this text was added, of which this had been found
 abbrev pub AddsTo : Option Class → Place → HeapText → Classes → Classes → Type 0

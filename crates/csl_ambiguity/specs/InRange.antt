@@ -12,4 +12,5 @@ HeapText = String Global
 
 -- each is one of so many
 abbrev pub AreInRange : {S : Type 0} → HashMap HeapText Class S → ℕ → Type 0
-AreInRange by_text count = (text : HeapText) (i : ℕ) → get string_eq by_text text ≡ Some (Group i) → i < count
+AreInRange by_text count = (text : HeapText) (i : ℕ) → get string_eq by_text text ≡ Some (Group i)
+    → i < count

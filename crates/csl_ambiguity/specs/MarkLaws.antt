@@ -51,8 +51,8 @@ module _ {E P : Type 0} where
     AmbiguousStandTogether cites = (a b : Member E P) → AreAmbiguous cites a b
         → StandInOneGroup (ambiguous_groups eq cites) (place_of a) (place_of b)
 
-    -- of cites without suffix each choose mark, and each suffix mark, is a mark to which the state of its
-    -- cite goes on
+    -- of cites without suffix each choose mark, and each suffix mark, is a mark to which the state
+    -- of its cite goes on
     abbrev pub ChooseMarksGoOn : List (Member E P) → Type 0
     ChooseMarksGoOn cites = HaveNoSuffix cites → All (IsMarkOf cites) (choose_marks eq cites)
 
@@ -60,8 +60,8 @@ module _ {E P : Type 0} where
     SuffixMarksGoOn cites = (dated : Bool) → HaveNoSuffix cites
         → All (IsMarkOf cites) (year_suffix_marks eq dated cites)
 
-    -- the distinct entries of cites get the suffixes 0, 1, 2 and on, at their first cites, in the order of
-    -- these
+    -- the distinct entries of cites get the suffixes 0, 1, 2 and on, at their first cites, in the
+    -- order of these
     pub record SuffixesCountEntries (cites : List (Member E P)) : Type 0 where
       pub one_each : map entry_of (first_cites eq cites) ≡ distinct eq (map entry_of cites)
       pub in_order : suffix_marks eq cites

@@ -38,7 +38,8 @@ module _ {E P : Type 0} where
 
   -- the cite at a place, if there is one
   abbrev pub member_at : List (CiteRender E P) → Place → Option (Member E P)
-  member_at cites place = option_map (λ cite. record { place = place; item = cite.1; style = cite.0.style })
+  member_at cites place =
+      option_map (λ cite. record { place = place; item = cite.1; style = cite.0.style })
       (cite_at cites place)
 
   -- a list of it, if there is one

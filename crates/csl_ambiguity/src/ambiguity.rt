@@ -1,9 +1,33 @@
 //! Cites that read alike and don't all cite the same entry.
-ghost use Rattle.std.specs.Prelude.{◌≡◌, ◌++◌, ◌∷◌, [], All, IfOk, List, OnOk, if◌then◌else◌, map, not};
+ghost use Rattle.std.specs.Prelude.{
+  ◌≡◌,
+  ◌++◌,
+  ◌∷◌,
+  [],
+  All,
+  IfOk,
+  List,
+  OnOk,
+  if◌then◌else◌,
+  map,
+  not,
+};
 ghost use Rattle.std.specs.List.{list_any};
-ghost use Rattle.csl_ambiguity.specs.Ambiguity.{ambiguous_groups, cite_different, classes, without_suffix};
+ghost use Rattle.csl_ambiguity.specs.Ambiguity.{
+  ambiguous_groups,
+  cite_different,
+  classes,
+  without_suffix,
+};
 ghost use Rattle.csl_ambiguity.specs.ClassesSoFar.{AreClassesOf};
-ghost use Rattle.csl_ambiguity.specs.Members.{Member, document, entry_of, members, place_of, request_cites};
+ghost use Rattle.csl_ambiguity.specs.Members.{
+  Member,
+  document,
+  entry_of,
+  members,
+  place_of,
+  request_cites,
+};
 ghost use Rattle.csl_lookup.specs.States.{may_get_suffix};
 ghost use Rattle.csl_passes.specs.Places.{AreDistinct, IsPlace};
 ghost use Rattle.csl_passes.specs.RendersView.{item_view, render_view, renders_view};
@@ -22,7 +46,8 @@ fn has_no_suffix<T, P>(item: &SpeculativeItemRender<'_, T, P>) -> bool
     state.may_disambiguate_with_year_suffix()
 }
 
-/// Adds a cite to those of its text, unless its entry has a suffix. The text is written into `text`.
+/// Adds a cite to those of its text, unless its entry has a suffix. The text is written into
+/// `text`.
 fn add_cite<T, P>(
     alloc: Global,
     classes: &mut Classes,
@@ -50,7 +75,8 @@ fn add_cites<T, P>(
     render: &SpeculativeCiteRender<'_, '_, T, P>,
     text: &mut String,
 ) -> Result<(), AllocError>
-    ensures { OnOk result ((cites : List (Member T P)) → AreClassesOf (without_suffix cites) classes.old
+    ensures { OnOk result ((cites : List (Member T P))
+        → AreClassesOf (without_suffix cites) classes.old
         → AreClassesOf (without_suffix (cites ++ request_cites request (render_view render.now)))
         classes.new) }
 {
@@ -60,8 +86,8 @@ fn add_cites<T, P>(
     Ok(())
 }
 
-/// The places of the cites that read alike, for each text that two or more have, in the order of the
-/// second ones.
+/// The places of the cites that read alike, for each text that two or more have, in the order of
+/// the second ones.
 fn classes<T, P>(
     alloc: Global,
     cites: &[SpeculativeCiteRender<'_, '_, T, P>],
@@ -118,7 +144,8 @@ fn keep_if_different<T: EntryLike, P>(
     requires exist { All (IsPlace (renders_view cites.now)) places.items }
     ensures { OnOk result (map (λ g. g.items) groups.new.items
         ≡ map (λ g. g.items) groups.old.items
-        ++ (if cite_different T.eq (members (renders_view cites.now) places.items) then places.items ∷ []
+        ++ (if cite_different T.eq (members (renders_view cites.now) places.items)
+        then places.items ∷ []
         else [])) }
 {
     if cite_different(cites, &places) {
@@ -127,10 +154,10 @@ fn keep_if_different<T: EntryLike, P>(
     Ok(())
 }
 
-/// The ambiguous groups of a document (CSL 1.0.2, disambiguation): the places of the cites that have
-/// equal plain texts, where they cite two entries at least. Cites whose entry has a suffix stand in no
-/// group. The places of a group are in document order, and the groups in the order of their second
-/// places.
+/// The ambiguous groups of a document (CSL 1.0.2, disambiguation): the places of the cites that
+/// have equal plain texts, where they cite two entries at least. Cites whose entry has a suffix
+/// stand in no group. The places of a group are in document order, and the groups in the order of
+/// their second places.
 ///
 /// # Errors
 ///
@@ -141,7 +168,8 @@ pub fn find_ambiguous_sets<T: EntryLike, P>(
 ) -> Result<Vec<AmbiguousGroup>, AllocError>
     ensures groups { IfOk result (λ v. map (λ g. g.items) v.items
         ≡ ambiguous_groups T.eq (renders_view cites.now)) }
-    ensures exist { IfOk result (λ v. All (λ g. All (IsPlace (renders_view cites.now)) g.items) v.items) }
+    ensures exist { IfOk result
+        (λ v. All (λ g. All (IsPlace (renders_view cites.now)) g.items) v.items) }
     ensures distinct { IfOk result (λ v. All (λ g. AreDistinct g.items) v.items) }
 {
     let mut groups = Vec::new(alloc);

@@ -92,7 +92,8 @@ fn choose_marks<T: EntryLike, P>(
     group: &[(usize, usize)],
 ) -> Result<Marks, AllocError>
     requires exist { All (IsPlace (renders_view cites.now)) group.now }
-    ensures { IfOk result (λ v. v.items ≡ choose_marks T.eq (members (renders_view cites.now) group.now)) }
+    ensures { IfOk result
+        (λ v. v.items ≡ choose_marks T.eq (members (renders_view cites.now) group.now)) }
 {
     if !may_be_chosen(cites, group) {
         return Ok(Vec::new(alloc));
@@ -103,9 +104,9 @@ fn choose_marks<T: EntryLike, P>(
     }
 }
 
-/// The choose marks of an ambiguous group: where some cite that tested `disambiguate` is in no state or
-/// in that of names, each cite that tested it is marked, in the order of the group, except those of the
-/// entry of the first such cite. An empty group gives no marks.
+/// The choose marks of an ambiguous group: where some cite that tested `disambiguate` is in no
+/// state or in that of names, each cite that tested it is marked, in the order of the group, except
+/// those of the entry of the first such cite. An empty group gives no marks.
 ///
 /// # Errors
 ///

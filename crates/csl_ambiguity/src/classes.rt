@@ -19,13 +19,21 @@ pub(crate) enum Class {
 #[derive(Drop)]
 pub(crate) struct Classes {
     by_text: HashMap<String, Class>,
-    /// The places of the cites of a text, where they are two or more, in the order of the second ones.
+    /// The places of the cites of a text, where they are two or more, in the order of the second
+    /// ones.
     pub(crate) groups: Vec<AmbiguousGroup>,
     ghost in_range: { AreInRange by_text (vec_len groups) },
 }
 
 impl Classes {
-    ghost use Rattle.csl_ambiguity.specs.ClassesSoFar.{Adds, JoinsGroup, MakesGroup, StartsClass, class_at, groups_in};
+    ghost use Rattle.csl_ambiguity.specs.ClassesSoFar.{
+      Adds,
+      JoinsGroup,
+      MakesGroup,
+      StartsClass,
+      class_at,
+      groups_in,
+    };
 
     pub(crate) fn new(alloc: Global) -> Classes
         ensures groups { groups_in result ≡ [] }

@@ -13,8 +13,8 @@ use indexmap::IndexSet;
 use std::alloc::{AllocError, Global};
 use std::hash::{Hash, Hasher};
 
-/// A cite of an entry, at its place in the document. Two are equal where their entries are, so a set keeps
-/// of the cites of an entry the one that came first.
+/// A cite of an entry, at its place in the document. Two are equal where their entries are, so a
+/// set keeps of the cites of an entry the one that came first.
 #[derive(Drop)]
 pub(crate) struct FirstCite<'a, T> {
     pub(crate) entry: &'a T,

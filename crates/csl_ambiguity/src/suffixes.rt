@@ -3,7 +3,15 @@ ghost use Rattle.std.specs.Prelude.{◌≡◌, All, IfOk, map};
 ghost use Rattle.std.specs.List.{enumerate_from, list_any};
 ghost use Rattle.csl_ambiguity.specs.FirstCites.{firsts_view};
 ghost use Rattle.csl_ambiguity.specs.Members.{members};
-ghost use Rattle.csl_ambiguity.specs.SuffixMarks.{adds_suffix, has_date, shows, shows_date, shows_dates, suffix_marks, year_suffix_marks};
+ghost use Rattle.csl_ambiguity.specs.SuffixMarks.{
+  adds_suffix,
+  has_date,
+  shows,
+  shows_date,
+  shows_dates,
+  suffix_marks,
+  year_suffix_marks,
+};
 ghost use Rattle.csl_lookup.specs.declared.state.DisambiguateState.TheVariants.{YearSuffix};
 ghost use Rattle.csl_passes.specs.Places.{IsPlace};
 ghost use Rattle.csl_passes.specs.RendersView.{item_view, items_view, renders_view};
@@ -117,16 +125,17 @@ fn suffix_marks<T: EntryLike, P>(
     group: &[(usize, usize)],
 ) -> Result<Marks, AllocError>
     requires exist { All (IsPlace (renders_view cites.now)) group.now }
-    ensures { IfOk result (λ v. v.items ≡ suffix_marks T.eq (members (renders_view cites.now) group.now)) }
+    ensures { IfOk result
+        (λ v. v.items ≡ suffix_marks T.eq (members (renders_view cites.now) group.now)) }
 {
     let firsts = first_cites(alloc, cites, group)?;
     numbered(alloc, firsts.as_slice())
 }
 
-/// The suffix marks of an ambiguous group: one for each entry, at its first cite there. The suffix is
-/// the place of the entry among those of the group, in the order of their first cites. There are none
-/// where no cite of the document shows a date (`shows_dates`), and none where the style of no cite of
-/// the group adds suffixes; so an empty group gives no marks.
+/// The suffix marks of an ambiguous group: one for each entry, at its first cite there. The suffix
+/// is the place of the entry among those of the group, in the order of their first cites. There are
+/// none where no cite of the document shows a date (`shows_dates`), and none where the style of no
+/// cite of the group adds suffixes; so an empty group gives no marks.
 ///
 /// # Errors
 ///
@@ -144,7 +153,8 @@ pub fn disambiguate_year_suffix<T: EntryLike, P>(
     disambiguate_dated_year_suffix(alloc, cites, group, shows_dates(cites))
 }
 
-/// The same, where `shows_dates` was asked before. The answer is the same for all groups of a round.
+/// The same, where `shows_dates` was asked before. The answer is the same for all groups of a
+/// round.
 ///
 /// # Errors
 ///

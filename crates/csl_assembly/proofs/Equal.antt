@@ -5,7 +5,7 @@ use Rattle.std.specs.contracts.prelude.NonZeroI16PartialEq.TheImpl as spacing_eq
 use denote.Enum.Bare.{same_true, true_same}
 use mathlib.Core.HLevel.{is_prop→PathP}
 use native.Mathlib.Bridge.{le_prop}
-use Rattle.csl_trees.specs.EqualTrees.{children_find}
+use Rattle.csl_trees.proofs.EqualTrees.{children_find}
 use Rattle.csl_values.specs.Finds.{Finds, both, and-true, finds, texts_find, options_find, lists_find}
 use Rattle.csl_trees.specs.SameTree.{same_trees, same_trees-Decides}
 use Rattle.csl_style_values.specs.contracts.style.SecondFieldAlign as align

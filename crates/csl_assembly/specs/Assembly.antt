@@ -9,7 +9,8 @@ use Rattle.csl_trees.specs.Simplify.{simplified}
 use Rattle.csl_values.specs.declared.formatting.Formatted.{Formatted}
 use Rattle.csl_values.specs.declared.formatting.Formatting.{Formatting}
 
--- the tree of a cite that is shown, and the delimiter that stands before it where it isn't the first
+-- the tree of a cite that is shown, and the delimiter that stands before it where it isn't the
+-- first
 pub record Shown : Type 0 where
   pub delimiter : Option (List ℕ)
   pub tree : List Child
@@ -47,7 +48,8 @@ with_layout_suffix f (Some suffix) cs = if text_ends_with suffix (last_text cs) 
 abbrev pub enclosed_cites : Bool → LayoutValue → List Shown → List Child
 enclosed_cites encloses layout cites =
     let f = layout_formatting layout in
-    if encloses then with_layout_suffix f layout.suffix (text_child f layout.prefix ++ joined_cites f cites)
+    if encloses then with_layout_suffix f layout.suffix
+    (text_child f layout.prefix ++ joined_cites f cites)
     else joined_cites f cites
 
 -- the tree of a citation from its shown cites: nothing where there is none

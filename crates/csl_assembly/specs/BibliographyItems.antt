@@ -15,8 +15,8 @@ use Rattle.csl_assembly.specs.ChildOf.{child_of}
 use Rattle.csl_assembly.specs.declared.rendered.BibliographyItem.{BibliographyItem}
 use Rattle.csl_assembly.specs.declared.rendered.RenderedBibliography.{RenderedBibliography}
 
--- an item of the bibliography from its tree and its key: where second fields are aligned, its first field,
--- which is the first child that stands for something, stands apart
+-- an item of the bibliography from its tree and its key: where second fields are aligned, its first
+-- field, which is the first child that stands for something, stands apart
 abbrev pub with_first_field : Bool → Item → BibliographyItem
 with_first_field aligned (tree, key) =
     if aligned then record {
@@ -32,13 +32,17 @@ cites_at cites places = filter_map (λ p. option_map (λ c. c.1) (cite_at cites 
 
 -- what holds of a cite, without its locator
 abbrev pub unlocated : {E P : Type 0} → ItemRender E P → Properties P
-unlocated i = record i.properties { speculative = record i.properties.speculative { locator = None } }
+unlocated i = record i.properties {
+  speculative =
+      record i.properties.speculative { locator = None };
+}
 
 -- what is asked for where the entry of a cite is written for the bibliography
 abbrev pub item_of : {E P : Type 0} → Source → ItemRender E P → ItemTaskValue E P
 item_of source i = record { source = source; entry = i.entry; properties = unlocated i }
 
-abbrev pub bibliography_tasks : {E P : Type 0} → Source → List (ItemRender E P) → List (TaskValue E P)
+abbrev pub bibliography_tasks : {E P : Type 0} → Source → List (ItemRender E P)
+    → List (TaskValue E P)
 bibliography_tasks source firsts = map (λ i. item_task (item_of source i)) firsts
 
 module _ {E P : Type 0} (writing : Writing E P) (source : Source) where
@@ -55,6 +59,7 @@ module _ {E P : Type 0} (writing : Writing E P) (source : Source) where
     line_spacing = bibliography.line_spacing;
     entry_spacing = bibliography.entry_spacing;
     items = map (with_first_field (is_some bibliography.second_field_align))
-        (substituted bibliography.subsequent_author_substitute bibliography.subsequent_author_substitute_rule
+        (substituted bibliography.subsequent_author_substitute
+        bibliography.subsequent_author_substitute_rule
         (map written_item firsts));
   }

@@ -16,7 +16,8 @@ child_of (transparent i f) = v.Transparent i f
 -- it is the child that is seen as this
 pub child_of-view : (c : ElemChild) → child_of (child_view c) ≡ c
 child_of-view (v.Text f) = refl
-child_of-view (v.Elem e) = ap (λ cs. v.Elem (record e { children = cs })) (list_of-kids_of e.children)
+child_of-view (v.Elem e) =
+    ap (λ cs. v.Elem (record e { children = cs })) (list_of-kids_of e.children)
 child_of-view (v.Markup s) = refl
 child_of-view (v.Link f s) = refl
 child_of-view (v.Transparent i f) = refl

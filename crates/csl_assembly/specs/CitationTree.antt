@@ -17,7 +17,8 @@ module _ {E P : Type 0} where
   abbrev pub shown : List (ItemRender E P) → List (ItemRender E P)
   shown = filter (λ i. not i.hidden)
 
-  -- what stands before a cite that isn't the first that shows: its override, else the layout's delimiter
+  -- what stands before a cite that isn't the first that shows: its override, else the layout's
+  -- delimiter
   abbrev pub delimiter_before : LayoutValue → ItemRender E P → Option (List ℕ)
   delimiter_before layout i = option_or i.delimiter_override layout.delimiter
 

@@ -1,9 +1,28 @@
 //! How a citation is put together from the trees of its cites.
-ghost use Rattle.std.specs.Prelude.{◌≡◌, ◌++◌, Some, IfOk, OnOk, if◌then◌else◌, [], map, option_map};
+ghost use Rattle.std.specs.Prelude.{
+  ◌≡◌,
+  ◌++◌,
+  Some,
+  IfOk,
+  OnOk,
+  if◌then◌else◌,
+  [],
+  map,
+  option_map,
+};
 ghost use Rattle.csl_style_values.specs.ElementView.{text_view};
 ghost use Rattle.csl_style_values.specs.StyleView.{layout_view};
 ghost use Rattle.csl_trees.specs.Tree.{last_text};
-ghost use Rattle.csl_assembly.specs.Assembly.{assembled, behind_delimiter, enclosed_cites, joined_cites, layout_formatting, text_child, text_ends_with, with_layout_suffix};
+ghost use Rattle.csl_assembly.specs.Assembly.{
+  assembled,
+  behind_delimiter,
+  enclosed_cites,
+  joined_cites,
+  layout_formatting,
+  text_child,
+  text_ends_with,
+  with_layout_suffix,
+};
 ghost use Rattle.csl_assembly.specs.ShownView.{shown_view, shown_views};
 
 use csl_base::elem::{ElemChild, ElemChildren};
@@ -11,7 +30,8 @@ use csl_base::formatting::Formatting;
 use csl_base::style::Layout;
 use std::alloc::{AllocError, Global};
 
-/// The tree of a cite that is shown, and the delimiter that stands before it where it isn't the first.
+/// The tree of a cite that is shown, and the delimiter that stands before it where it isn't the
+/// first.
 #[derive(Drop)]
 pub struct ShownCite<'a> {
     pub delimiter: Option<&'a str>,
@@ -92,7 +112,8 @@ fn push_cites(
     cites: Vec<ShownCite<'_>>,
     formatting: Formatting,
 ) -> Result<(), AllocError>
-    ensures { OnOk result (tree.new ≡ tree.old ++ joined_cites formatting (shown_views cites.entry.items)) }
+    ensures { OnOk result
+        (tree.new ≡ tree.old ++ joined_cites formatting (shown_views cites.entry.items)) }
 {
     let mut is_first = true;
     for cite in cites {
@@ -119,7 +140,8 @@ fn push_suffix(
     suffix: &Option<String>,
     formatting: Formatting,
 ) -> Result<(), AllocError>
-    ensures { OnOk result (tree.new ≡ with_layout_suffix formatting (text_view suffix.now) tree.old) }
+    ensures { OnOk result
+        (tree.new ≡ with_layout_suffix formatting (text_view suffix.now) tree.old) }
 {
     match suffix {
         Some(suffix) => {
@@ -162,9 +184,9 @@ fn enclosed(
     Ok(tree)
 }
 
-/// The tree of a citation from its shown cites: empty where there is none. Each cite but the first stands
-/// behind its delimiter, if it has one; the layout's prefix and suffix stand around them where it encloses
-/// them, the suffix unless the last text ends with it. Empty texts give no child.
+/// The tree of a citation from its shown cites: empty where there is none. Each cite but the first
+/// stands behind its delimiter, if it has one; the layout's prefix and suffix stand around them
+/// where it encloses them, the suffix unless the last text ends with it. Empty texts give no child.
 ///
 /// # Errors
 /// Where memory is refused.

@@ -12,7 +12,15 @@ ghost use Rattle.csl_writers.specs.Desk.{after, desk};
 ghost use Rattle.csl_writers.specs.Tasks.{item_task};
 ghost use Rattle.std.specs.List.{find, position_or_len, remove};
 ghost use Rattle.csl_assembly.specs.ChildOf.{child_of};
-ghost use Rattle.csl_assembly.specs.BibliographyItems.{bibliography_of, bibliography_tasks, cites_at, item_of, unlocated, with_first_field, written_item};
+ghost use Rattle.csl_assembly.specs.BibliographyItems.{
+  bibliography_of,
+  bibliography_tasks,
+  cites_at,
+  item_of,
+  unlocated,
+  with_first_field,
+  written_item,
+};
 ghost use Rattle.csl_writers.specs.Writing.{writing_of};
 
 use crate::rendered::{BibliographyItem, RenderedBibliography};
@@ -22,7 +30,7 @@ use csl_base::seq::Seq;
 use csl_base::style::Bibliography;
 use csl_base::text::Text;
 use csl_lookup::properties::CiteProperties;
-use csl_passes::acyclic::AcyclicWanted;
+use csl_passes::acyclic::AcyclicBibliographyRequest;
 use csl_passes::renders::{SpeculativeCiteRender, SpeculativeItemRender};
 use csl_substitution::substitution::substitute_subsequent_authors;
 use csl_writers::asking;
@@ -48,10 +56,11 @@ fn unlocated<'a, T, P: Drop>(
     })
 }
 
-/// The entry of a cite as the bibliography writes it by these properties; `None` where the style has none.
+/// The entry of a cite as the bibliography writes it by these properties; `None` where the style
+/// has none.
 fn tree_by_properties<T: EntryLike, P, W: CiteWriter<T, P>>(
     alloc: Global,
-    wanted: AcyclicWanted<'_, '_, '_, T>,
+    wanted: AcyclicBibliographyRequest<'_, '_, '_, T>,
     first: &SpeculativeItemRender<'_, T, P>,
     properties: &CiteProperties<'_, P>,
     writer: &mut W,
@@ -76,7 +85,7 @@ fn tree_by_properties<T: EntryLike, P, W: CiteWriter<T, P>>(
 /// The entry of a cite as the bibliography writes it, and its key.
 fn written_item<T: EntryLike, P: Drop, W: CiteWriter<T, P>>(
     alloc: Global,
-    wanted: AcyclicWanted<'_, '_, '_, T>,
+    wanted: AcyclicBibliographyRequest<'_, '_, '_, T>,
     first: &SpeculativeItemRender<'_, T, P>,
     writer: &mut W,
     counter: &mut Renders,
@@ -112,7 +121,7 @@ fn cite_at<'c, 'a, T, P>(
 /// The entries of the cites at these places, as the bibliography writes them.
 fn written_items<T: EntryLike, P: Drop, W: CiteWriter<T, P>>(
     alloc: Global,
-    wanted: AcyclicWanted<'_, '_, '_, T>,
+    wanted: AcyclicBibliographyRequest<'_, '_, '_, T>,
     cites: &[SpeculativeCiteRender<'_, '_, T, P>],
     firsts: &[(usize, usize)],
     writer: &mut W,
@@ -139,7 +148,8 @@ fn written_items<T: EntryLike, P: Drop, W: CiteWriter<T, P>>(
 /// Takes the first field out of an item, if it has one.
 fn take_first_field(content: &mut ElemChildren) -> Option<ElemChild>
     ensures field { result ≡ option_map child_of (find child_has_any_meta content.old) }
-    ensures rest { content.new ≡ remove content.old (position_or_len child_has_any_meta content.old) }
+    ensures rest { content.new
+        ≡ remove content.old (position_or_len child_has_any_meta content.old) }
 {
     content.remove_any_meta()
 }
@@ -170,7 +180,8 @@ fn with_first_fields(
     aligned: bool,
     items: Vec<(ElemChildren, String)>,
 ) -> Result<Vec<BibliographyItem>, AllocError>
-    ensures { IfOk result (λ v. v.items ≡ map (with_first_field aligned) (rendered_items_view items.items)) }
+    ensures { IfOk result
+        (λ v. v.items ≡ map (with_first_field aligned) (rendered_items_view items.items)) }
 {
     let mut finished = Vec::with_capacity(alloc, items.len())?;
     for (content, key) in items {
@@ -179,16 +190,17 @@ fn with_first_fields(
     Ok(finished)
 }
 
-/// The bibliography of a style: an item for each of the cites at these places, which are the first ones of
-/// its entries, in its order. Each is written by what holds of its cite, but without a locator; then names
-/// that it shares with one before it are substituted, and where second fields are aligned its first field,
-/// the first child of its tree that stands for something, is taken out. Each rendering is counted.
+/// The bibliography of a style: an item for each of the cites at these places, which are the first
+/// ones of its entries, in its order. Each is written by what holds of its cite, but without a
+/// locator; then names that it shares with one before it are substituted, and where second fields
+/// are aligned its first field, the first child of its tree that stands for something, is taken
+/// out. Each rendering is counted.
 ///
 /// # Errors
 /// The writer's; a want of memory among others.
 pub fn bibliography_of<T: EntryLike, P: Drop, W: CiteWriter<T, P>>(
     alloc: Global,
-    wanted: AcyclicWanted<'_, '_, '_, T>,
+    wanted: AcyclicBibliographyRequest<'_, '_, '_, T>,
     bibliography: &Bibliography,
     cites: &[SpeculativeCiteRender<'_, '_, T, P>],
     firsts: &[(usize, usize)],

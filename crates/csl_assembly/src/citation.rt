@@ -5,7 +5,15 @@ ghost use Rattle.csl_passes.specs.Request.{source_of};
 ghost use Rattle.csl_passes.specs.RequestView.{request_view};
 ghost use Rattle.csl_passes.specs.Renders.{CiteRender};
 ghost use Rattle.csl_passes.specs.RendersView.{item_view, items_view};
-ghost use Rattle.csl_assembly.specs.CitationTree.{citation_tasks, citation_tree, delimiter_before, marked_cite, last_place_of, shown, shown_cite};
+ghost use Rattle.csl_assembly.specs.CitationTree.{
+  citation_tasks,
+  citation_tree,
+  delimiter_before,
+  marked_cite,
+  last_place_of,
+  shown,
+  shown_cite,
+};
 ghost use Rattle.csl_assembly.specs.LastTree.{last_task, task_by_purpose, tree_by_purpose};
 ghost use Rattle.csl_assembly.specs.ShownView.{shown_views};
 ghost use Rattle.csl_passes.specs.Purposes.{has_no_purpose};
@@ -25,7 +33,8 @@ use csl_writers::pushed::push;
 use csl_writers::writer::CiteWriter;
 use std::alloc::Global;
 
-/// What stands before a cite that isn't the first that shows: its override, else the layout's delimiter.
+/// What stands before a cite that isn't the first that shows: its override, else the layout's
+/// delimiter.
 fn delimiter_before<'a, T, P>(
     layout: &'a Layout,
     item: &SpeculativeItemRender<'a, T, P>,
@@ -97,11 +106,11 @@ fn shown_cites<'a, T: EntryLike, P: Drop, W: CiteWriter<T, P>>(
     Ok(cites)
 }
 
-/// The citation of the request of this index: its shown cites, each written for its purpose and as its
-/// verdict cuts it, by all that holds of it in the end, behind its override or else the layout's delimiter;
-/// between the layout's prefix and suffix where no cite has a purpose. Each is an element with meta
-/// `Entry(i)`, where i is its place in the items of the request. Hidden cites are written too; each
-/// rendering is counted.
+/// The citation of the request of this index: its shown cites, each written for its purpose and as
+/// its verdict cuts it, by all that holds of it in the end, behind its override or else the
+/// layout's delimiter; between the layout's prefix and suffix where no cite has a purpose. Each is
+/// an element with meta `Entry(i)`, where i is its place in the items of the request. Hidden cites
+/// are written too; each rendering is counted.
 ///
 /// # Errors
 /// The writer's; a want of memory among others.

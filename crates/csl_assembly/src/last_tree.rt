@@ -4,7 +4,12 @@ ghost use Rattle.csl_lookup.specs.PropertiesView.{properties_view};
 ghost use Rattle.csl_passes.specs.RendersView.{item_view};
 ghost use Rattle.csl_passes.specs.Request.{source_of};
 ghost use Rattle.csl_passes.specs.RequestView.{request_view};
-ghost use Rattle.csl_assembly.specs.LastTree.{last_properties, last_task, task_by_purpose, tree_by_purpose};
+ghost use Rattle.csl_assembly.specs.LastTree.{
+  last_properties,
+  last_task,
+  task_by_purpose,
+  tree_by_purpose,
+};
 ghost use Rattle.csl_writers.specs.Desk.{after, desk};
 ghost use Rattle.csl_writers.specs.TaskView.{cite_task_view};
 ghost use Rattle.csl_writers.specs.Writing.{writing_of};
@@ -21,7 +26,8 @@ use csl_writers::task::{CiteTask, DateTask};
 use csl_writers::writer::CiteWriter;
 use std::alloc::{AllocError, Global};
 
-/// The tree of a cite as the writer writes it for its purpose: the date where it is for the year alone.
+/// The tree of a cite as the writer writes it for its purpose: the date where it is for the year
+/// alone.
 ///
 /// # Errors
 /// The writer's.
@@ -34,7 +40,8 @@ pub fn tree_by_purpose<T: EntryLike, P, W: CiteWriter<T, P>>(
     ensures tree { IfOk result (λ tree. tree
         ≡ tree_by_purpose (writing_of T.answers (W.state writer.old)) (cite_task_view task.entry)) }
     ensures asked { OnOk result (desk (W.state writer.new) counter.new
-        ≡ after (task_by_purpose (cite_task_view task.entry) ∷ []) (desk (W.state writer.old) counter.old)) }
+        ≡ after (task_by_purpose (cite_task_view task.entry) ∷ [])
+        (desk (W.state writer.old) counter.old)) }
 {
     match task.purpose {
         Some(CitePurpose::Year) => {
@@ -52,8 +59,8 @@ pub fn tree_by_purpose<T: EntryLike, P, W: CiteWriter<T, P>>(
     }
 }
 
-/// The tree of a cite of the request at this place, for its purpose and as its verdict cuts it, by its
-/// properties with its own locator.
+/// The tree of a cite of the request at this place, for its purpose and as its verdict cuts it, by
+/// its properties with its own locator.
 ///
 /// # Errors
 /// The writer's; a want of memory among others.
@@ -67,17 +74,19 @@ pub fn last_tree<T: EntryLike, P: Drop, W: CiteWriter<T, P>>(
 ) -> Result<ElemChildren, W::Error>
     ensures tree { IfOk result (λ tree. tree
         ≡ tree_by_purpose (writing_of T.answers (W.state writer.old))
-        (last_task (source_of (request_view request.entry.request.now)) (Some place) (item_view item.now))) }
+        (last_task (source_of (request_view request.entry.request.now)) (Some place)
+        (item_view item.now))) }
     ensures asked { OnOk result (desk (W.state writer.new) counter.new
-        ≡ after (task_by_purpose (last_task (source_of (request_view request.entry.request.now)) (Some place)
+        ≡ after (task_by_purpose
+        (last_task (source_of (request_view request.entry.request.now)) (Some place)
         (item_view item.now)) ∷ []) (desk (W.state writer.old) counter.old)) }
 {
     let properties = last_properties(item)?;
     tree_by_properties(alloc, request, place, item, &properties, writer, counter)
 }
 
-/// The tree of a cite of the request at this place, for its purpose and as its verdict cuts it, by these
-/// properties.
+/// The tree of a cite of the request at this place, for its purpose and as its verdict cuts it, by
+/// these properties.
 fn tree_by_properties<T: EntryLike, P, W: CiteWriter<T, P>>(
     alloc: Global,
     request: AcyclicRequest<'_, '_, T, P>,
@@ -89,8 +98,10 @@ fn tree_by_properties<T: EntryLike, P, W: CiteWriter<T, P>>(
 ) -> Result<ElemChildren, W::Error>
     ensures tree { let task = record (last_task (source_of (request_view request.entry.request.now))
         (Some place) (item_view item.now)) { properties = properties_view properties.now } in
-        IfOk result (λ tree. tree ≡ tree_by_purpose (writing_of T.answers (W.state writer.old)) task) }
-    ensures asked { let task = record (last_task (source_of (request_view request.entry.request.now))
+        IfOk result (λ tree. tree
+        ≡ tree_by_purpose (writing_of T.answers (W.state writer.old)) task) }
+    ensures asked { let task =
+        record (last_task (source_of (request_view request.entry.request.now))
         (Some place) (item_view item.now)) { properties = properties_view properties.now } in
         OnOk result (desk (W.state writer.new) counter.new
         ≡ after (task_by_purpose task ∷ []) (desk (W.state writer.old) counter.old)) }

@@ -10,17 +10,21 @@ use crate::rendered::{BibliographyItem, Rendered, RenderedBibliography, Rendered
 
 /// A law: a copy of an answer, and of its parts, is equal to it.
 pub fn answers_copy_equal()
-    ensures citation { (a b : RenderedCitation) → ⟦<RenderedCitation as Clone>⟧.is_clone a b → b ≡ a }
+    ensures citation { (a b : RenderedCitation)
+        → ⟦<RenderedCitation as Clone>⟧.is_clone a b → b ≡ a }
     ensures item { (a b : BibliographyItem) → ⟦<BibliographyItem as Clone>⟧.is_clone a b → b ≡ a }
-    ensures bibliography { (a b : RenderedBibliography) → ⟦<RenderedBibliography as Clone>⟧.is_clone a b
+    ensures bibliography { (a b : RenderedBibliography)
+        → ⟦<RenderedBibliography as Clone>⟧.is_clone a b
         → b ≡ a }
     ensures answer { (a b : Rendered) → ⟦<Rendered as Clone>⟧.is_clone a b → b ≡ a }
 {}
 
 /// A law: `==` of answers, and of their parts, is true exactly of equal values.
 pub fn answer_equality_decides()
-    ensures citation { (a b : RenderedCitation) → Decides (⟦<RenderedCitation as PartialEq>⟧.eq a b) (a ≡ b) }
-    ensures item { (a b : BibliographyItem) → Decides (⟦<BibliographyItem as PartialEq>⟧.eq a b) (a ≡ b) }
+    ensures citation { (a b : RenderedCitation)
+        → Decides (⟦<RenderedCitation as PartialEq>⟧.eq a b) (a ≡ b) }
+    ensures item { (a b : BibliographyItem)
+        → Decides (⟦<BibliographyItem as PartialEq>⟧.eq a b) (a ≡ b) }
     ensures bibliography { (a b : RenderedBibliography)
         → Decides (⟦<RenderedBibliography as PartialEq>⟧.eq a b) (a ≡ b) }
     ensures answer { (a b : Rendered) → Decides (⟦<Rendered as PartialEq>⟧.eq a b) (a ≡ b) }

@@ -1,4 +1,5 @@
-//! How the answer is put together from the cites as they stand in the end: citations, and the bibliography.
+//! How the answer is put together from the cites as they stand in the end: citations, and the
+//! bibliography.
 #![tactic(auto)]
 
 pub mod assemble;

@@ -1,7 +1,7 @@
 //! Style values, entries, trees and stacks of the citation driver.
 //!
-//! Contracts see plain data: a text is its list of bytes, a list is its items, a tree is the list of
-//! its children. No capacity and no address shows.
+//! Contracts see plain data: a text is its list of bytes, a list is its items, a tree is the list
+//! of its children. No capacity and no address shows.
 #![tactic(auto)]
 
 pub mod laws;

@@ -19,7 +19,8 @@ module _ {E P : Type 0} where
   collapsed_by YearSuffix citation cites = year_collapsed citation true cites
   collapsed_by YearSuffixRanged citation cites = year_collapsed citation false cites
 
-  abbrev pub collapsed_cites : Option Collapse → CitationValue → List (ItemRender E P) → List (ItemRender E P)
+  abbrev pub collapsed_cites : Option Collapse → CitationValue → List (ItemRender E P)
+      → List (ItemRender E P)
   collapsed_cites None citation cites = cites
   collapsed_cites (Some kind) citation cites = by_places (collapsed_by kind citation cites) cites
 
@@ -29,5 +30,5 @@ module _ {E P : Type 0} where
       record r { items = collapsed_cites citation.collapse citation r.items }
 
   -- those of a request of which none has a purpose
-  abbrev pub drawn_together : CiteRender E P → CiteRender E P
-  drawn_together c = if has_no_purpose c.items then collapsed c else c
+  abbrev pub collapsed_finally : CiteRender E P → CiteRender E P
+  collapsed_finally c = if has_no_purpose c.items then collapsed c else c

@@ -38,8 +38,8 @@ module _ {E P : Type 0} (cites collapsed : List (ItemRender E P)) where
     pub last_shown : is_hidden collapsed q ≡ false
     pub between_hidden : (k : ℕ) → p < k → k < q → is_hidden collapsed k ≡ true
 
-  -- the cites between p and q: collapsing hid them all, their numbers in order are exactly those strictly
-  -- between the numbers of p and q, and a dash stands before q
+  -- the cites between p and q: collapsing hid them all, their numbers in order are exactly those
+  -- strictly between the numbers of p and q, and a dash stands before q
   pub record AreDrawnTogether (p q : ℕ) : Type 0 where
     pub all_were_hid : (k : ℕ) → p < k → k < q → WasHid k
     pub numbers_between : slice_range (numbers_of collapsed) (p + 1) q
@@ -51,7 +51,8 @@ module _ {E P : Type 0} (cites collapsed : List (ItemRender E P)) where
     pub first : ℕ
     pub last : ℕ
     pub is_inside : (is_run (map shown_number cites) first last ≡ true) × (first < k) × (k < last)
-    pub no_other : (a b : ℕ) → is_run (map shown_number cites) a b ≡ true → a < k → k < b → (a ≡ first)
+    pub no_other : (a b : ℕ) → is_run (map shown_number cites) a b ≡ true → a < k → k < b
+        → (a ≡ first)
         × (b ≡ last)
 
   -- the laws, for a style with this collapse
@@ -60,7 +61,8 @@ module _ {E P : Type 0} (cites collapsed : List (ItemRender E P)) where
     pub numbers_stay : numbers_of collapsed ≡ numbers_of cites
     -- nothing is hidden but by the collapse of numbers
     pub only_numbers_hide : (k : ℕ) → WasHid k → collapse ≡ Some CitationNumber
-    -- where collapsing hid one of the cites between two shown ones, what is hidden there can be read back
+    -- where collapsing hid one of the cites between two shown ones, what is hidden there can be
+    -- read back
     pub hidden_can_be_read_back : (p q k : ℕ) → AreNextShown p q → p < k → k < q → WasHid k
         → AreDrawnTogether p q
     -- what collapsing hid is inside exactly one run

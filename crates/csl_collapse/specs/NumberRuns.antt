@@ -27,7 +27,8 @@ module _ (numbers : List (Option ℕ)) where
   abbrev pub rises : ℕ → ℕ → Bool
   rises a b =
       nat_le a b && list_all (λ k. is_some (number_at k)) (places a (b + 1))
-      && list_all (λ k. option_eq nat_eq (number_at (k + 1)) (option_map (λ n. n + 1) (number_at k)))
+      && list_all (λ k. option_eq nat_eq (number_at (k + 1))
+      (option_map (λ n. n + 1) (number_at k)))
       (places a b)
 
   abbrev pub is_run : ℕ → ℕ → Bool
@@ -35,7 +36,8 @@ module _ (numbers : List (Option ℕ)) where
 
   -- a run begins before k and ends behind it
   abbrev pub is_inner : ℕ → Bool
-  is_inner k = list_any (λ a. list_any (λ b. is_run a b) (places (k + 1) (length numbers))) (places 0 k)
+  is_inner k = list_any (λ a. list_any (λ b. is_run a b) (places (k + 1) (length numbers)))
+      (places 0 k)
 
   -- a run with an inner cite ends at k
   abbrev pub ends_collapsed : ℕ → Bool
@@ -46,14 +48,16 @@ module _ (numbers : List (Option ℕ)) where
   follows_collapsed k = nat_lt 0 k && ends_collapsed (k - 1)
       && list_any (λ b. is_run k b) (places k (length numbers))
 
--- the cite at k of these: hidden inside a run, behind a dash at its end, and behind the given delimiter where
--- it follows it
-abbrev pub number_collapsed : {E P : Type 0} → Option (List ℕ) → List (ItemRender E P) → ℕ → ItemRender E P
+-- the cite at k of these: hidden inside a run, behind a dash at its end, and behind the given
+-- delimiter where it follows it
+abbrev pub number_collapsed : {E P : Type 0} → Option (List ℕ) → List (ItemRender E P) → ℕ
+    → ItemRender E P
     → ItemRender E P
 number_collapsed after cites k c =
     let numbers = map shown_number cites in
     record c {
       hidden = c.hidden || is_inner numbers k;
-      delimiter_override = if ends_collapsed numbers k then Some en_dash else if follows_collapsed numbers k
+      delimiter_override = if ends_collapsed numbers k then Some en_dash
+          else if follows_collapsed numbers k
           then after else c.delimiter_override;
     }

@@ -38,9 +38,10 @@ number_step rises after c = record c {
       else c.delimiter_override;
 }
 
--- a cite changed by whether it is of the group of the one before, and that one of the group of the one before
--- it
-abbrev pub year_step : {E P : Type 0} → CitationValue → Bool → Bool → Bool → ItemRender E P → ItemRender E P
+-- a cite changed by whether it is of the group of the one before, and that one of the group of the
+-- one before it
+abbrev pub year_step : {E P : Type 0} → CitationValue → Bool → Bool → Bool → ItemRender E P
+    → ItemRender E P
 year_step citation to_suffixes is_later was_later c =
     if is_later then (if to_suffixes && has_later_suffix c then cut_to_suffix citation c
     else cut_to_date citation c)

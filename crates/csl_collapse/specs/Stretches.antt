@@ -8,8 +8,8 @@ use Rattle.csl_style_values.specs.Style.{CitationValue}
 abbrev pub places : ℕ → ℕ → List ℕ
 places a b = range_with_len a (b - a)
 
--- the test holds of the places from a to b, and neither of those from the place before a nor of those to the
--- place behind b
+-- the test holds of the places from a to b, and neither of those from the place before a nor of
+-- those to the place behind b
 abbrev pub is_maximal : (ℕ → ℕ → Bool) → ℕ → ℕ → Bool
 is_maximal holds a b = holds a b && not (nat_lt 0 a && holds (a - 1) b) && not (holds a (b + 1))
 

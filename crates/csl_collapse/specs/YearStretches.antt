@@ -56,7 +56,9 @@ module _ {E P : Type 0} where
       → ItemRender E P
   year_collapsed citation to_suffixes cites k c =
       let groups = map (λ d. d.group) cites in
-      if is_later_in_stretch groups k then (if to_suffixes && has_later_suffix c then cut_to_suffix citation c
+      if is_later_in_stretch groups k
+      then (if to_suffixes && has_later_suffix c then cut_to_suffix citation c
       else cut_to_date citation c)
-      else if follows_stretch groups k then record c { delimiter_override = after_collapse citation }
+      else if follows_stretch groups k
+      then record c { delimiter_override = after_collapse citation }
       else c

@@ -2,7 +2,7 @@
 ghost use Rattle.std.specs.Prelude.{◌≡◌, option_map};
 ghost use Rattle.csl_style_values.specs.StyleView.{citation_view};
 ghost use Rattle.csl_passes.specs.RendersView.{render_view};
-ghost use Rattle.csl_collapse.specs.Collapsed.{collapsed, drawn_together};
+ghost use Rattle.csl_collapse.specs.Collapsed.{collapsed, collapsed_finally};
 ghost use Rattle.csl_collapse.specs.NumberLaws.{CanBeReadBack};
 ghost use Rattle.csl_collapse.specs.Stretches.{after_collapse};
 
@@ -15,8 +15,8 @@ use csl_passes::renders::SpeculativeCiteRender;
 /// Collapses the cites of a request, as `collapse_items` does, where none of them has a purpose.
 ///
 /// It takes no memory.
-pub fn draw_together<T, P>(render: &mut SpeculativeCiteRender<'_, '_, T, P>)
-    ensures { render_view render.new ≡ drawn_together (render_view render.old) }
+pub fn collapse_cites<T, P>(render: &mut SpeculativeCiteRender<'_, '_, T, P>)
+    ensures { render_view render.new ≡ collapsed_finally (render_view render.old) }
 {
     if has_no_purpose(&render.items) {
         collapse_items(render);
@@ -24,17 +24,19 @@ pub fn draw_together<T, P>(render: &mut SpeculativeCiteRender<'_, '_, T, P>)
 }
 
 /// Draws the cites of a request together as its style asks for (CSL 1.0.2, `collapse`). Only hidden
-/// flags, overrides of delimiters and verdicts change; nothing does where the style has no collapse.
+/// flags, overrides of delimiters and verdicts change; nothing does where the style has no
+/// collapse.
 ///
-/// By citation numbers: of a run of adjacent cites that show numbers which rise by one, none of them
-/// hidden, and that is as long as can be, the inner ones are hidden, and where there are any an en dash
-/// stands before the last. The first cite of a run right behind such a one gets the after-collapse
-/// delimiter, else the layout's.
+/// By citation numbers: of a run of adjacent cites that show numbers which rise by one, none of
+/// them hidden, and that is as long as can be, the inner ones are hidden, and where there are any
+/// an en dash stands before the last. The first cite of a run right behind such a one gets the
+/// after-collapse delimiter, else the layout's.
 ///
-/// By years: of adjacent cites of one group each but the first gets the cite group delimiter and is cut
-/// to its date; by suffixes one with a suffix other than the first gets the year-suffix delimiter, else
-/// the cite group delimiter, and is cut to the suffix. The cite behind two or more of one group gets the
-/// after-collapse delimiter, else the layout's. Ranges of suffixes are treated as years.
+/// By years: of adjacent cites of one group each but the first gets the cite group delimiter and is
+/// cut to its date; by suffixes one with a suffix other than the first gets the year-suffix
+/// delimiter, else the cite group delimiter, and is cut to the suffix. The cite behind two or more
+/// of one group gets the after-collapse delimiter, else the layout's. Ranges of suffixes are
+/// treated as years.
 ///
 /// It takes no memory. Purposes aren't looked at.
 pub fn collapse_items<T, P>(render: &mut SpeculativeCiteRender<'_, '_, T, P>)

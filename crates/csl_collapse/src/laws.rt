@@ -6,5 +6,6 @@ ghost use Rattle.csl_collapse.specs.NumberLaws.{CanBeReadBack};
 /// What collapsing hides of the cites of every request can be read back.
 pub fn collapsed_can_be_read_back<T, P>()
     ensures { (render : CiteRender T P)
-        → CanBeReadBack render.items (collapsed render).items render.request.style.citation.collapse }
+        → CanBeReadBack render.items (collapsed render).items
+        render.request.style.citation.collapse }
 {}

@@ -1,4 +1,5 @@
-//! Drawing together the cites of a request: runs of citation numbers, and years behind the same names.
+//! Drawing together the cites of a request: runs of citation numbers, and years behind the same
+//! names.
 #![tactic(auto)]
 
 pub mod collapse;

@@ -58,7 +58,8 @@ pub(crate) fn collapse_numbers<'a, T, P>(
     }
 }
 
-/// Hides a cite inside a run, or gives it what stands before the last of a run or before one behind.
+/// Hides a cite inside a run, or gives it what stands before the last of a run or before one
+/// behind.
 #[tactic(auto, using(crate::proofs::RunLemmas::en_dash_bytes))]
 fn collapse_number<'a, T, P>(
     cite: &mut SpeculativeItemRender<'a, T, P>,

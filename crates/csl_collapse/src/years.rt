@@ -33,7 +33,8 @@ pub(crate) fn collapse_years<'a, T, P>(
     }
 }
 
-/// Cuts a cite behind another of its group, or gives the delimiter to one behind several of another.
+/// Cuts a cite behind another of its group, or gives the delimiter to one behind several of
+/// another.
 fn collapse_year<'a, T, P>(
     cite: &mut SpeculativeItemRender<'a, T, P>,
     citation: &'a Citation,
@@ -42,7 +43,8 @@ fn collapse_year<'a, T, P>(
     was_later: bool,
 )
     ensures { item_view cite.new
-        ≡ year_step (citation_view citation.now) to_suffixes is_later was_later (item_view cite.old) }
+        ≡ year_step (citation_view citation.now) to_suffixes is_later was_later
+        (item_view cite.old) }
 {
     if !is_later {
         if was_later {

@@ -19,7 +19,8 @@ Frames = List (List Child)
 
 -- a tree with its last text changed by f; the same tree where there is none
 abbrev pub on_last_text : (List ℕ → List ℕ) → List Child → List Child
-on_last_text f cs = option_map_or (λ (t : Formatted). put_last_text cs (record t { text = f t.text }))
+on_last_text f cs = option_map_or
+    (λ (t : Formatted). put_last_text cs (record t { text = f t.text }))
     (last_text cs) cs
 
 -- the text that a child is, or that it holds through elements of one child each
@@ -65,7 +66,8 @@ filled frames = option_and_then (slice_get frames) (topmost is_filled frames)
 
 -- the frames with that one changed by f; the same frames where there is none
 abbrev pub on_filled : (List Child → List Child) → Frames → Frames
-on_filled f frames = option_map_or (λ frame. put_topmost is_filled frames (f frame)) (filled frames) frames
+on_filled f frames = option_map_or (λ frame. put_topmost is_filled frames (f frame))
+    (filled frames) frames
 
 -- the top frame
 abbrev pub top : Frames → Option (List Child)
@@ -73,14 +75,15 @@ top frames = slice_get frames (length frames - 1)
 
 -- the frames with the top one changed by f
 abbrev pub on_top : (List Child → List Child) → Frames → Frames
-on_top f frames = option_map_or (λ frame. slice_set frames (length frames - 1) (f frame)) (top frames) frames
+on_top f frames = option_map_or (λ frame. slice_set frames (length frames - 1) (f frame))
+    (top frames) frames
 
 -- the frames below the top one
 abbrev pub below : Frames → Frames
 below frames = take (length frames - 1) frames
 
--- what a closed frame adds to the one below: an element, where it is set off or stands for something, and
--- else its children
+-- what a closed frame adds to the one below: an element, where it is set off or stands for
+-- something, and else its children
 abbrev pub closed : Option Display → Option ElemMeta → List Child → List Child
 closed None None cs = cs
 closed d m cs = elem (kids_of cs) d m ∷ []

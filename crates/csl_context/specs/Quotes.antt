@@ -4,4 +4,7 @@ use Rattle.csl_context.specs.declared.text.ClosingQuotes as declared
 use Rattle.csl_context.specs.Steps.{ClosingQuotes}
 
 abbrev pub quotes_view : declared.ClosingQuotes → ClosingQuotes
-quotes_view q = record { outer = option_map (λ s. s.now) q.outer; inner = option_map (λ s. s.now) q.inner }
+quotes_view q = record {
+  outer = option_map (λ s. s.now) q.outer;
+  inner = option_map (λ s. s.now) q.inner;
+}

@@ -1,4 +1,5 @@
--- What is done to a text, and to the text before a piece that is written. A text is the list of its bytes.
+-- What is done to a text, and to the text before a piece that is written. A text is the list of its
+-- bytes.
 use Rattle.std.specs.Prelude.{ℕ, ◌-◌, Bool, false, ◌||◌, ◌&&◌, ◌==◌, not, if◌then◌else◌, List, [], ◌∷◌, ◌++◌, length, take, nat_eq, codes, encode_utf8, Option, None, Some}
 use Rattle.std.specs.List.{list_any, ends_with, insert_slice}
 use Rattle.std.specs.Char.{is_whitespace}
@@ -79,7 +80,8 @@ term_text (Some q) = q
 
 -- the closing quote at a text's end: the outer one or else the inner one; empty where there is none
 abbrev pub quote_at_end : ClosingQuotes → List ℕ → List ℕ
-quote_at_end q t = if ends_with_term q.outer t then term_text q.outer else if ends_with_term q.inner t
+quote_at_end q t = if ends_with_term q.outer t then term_text q.outer
+    else if ends_with_term q.inner t
     then term_text q.inner else []
 
 abbrev pub ends_quoted : ClosingQuotes → List ℕ → Bool
@@ -87,4 +89,5 @@ ends_quoted q t = not (length (quote_at_end q t) == 0)
 
 -- t with a mark before its closing quote; where it ends in none, t stays
 abbrev pub pulled : ClosingQuotes → List ℕ → List ℕ → List ℕ
-pulled q mark t = if ends_quoted q t then insert_slice t (length t - length (quote_at_end q t)) mark else t
+pulled q mark t = if ends_quoted q t
+    then insert_slice t (length t - length (quote_at_end q t)) mark else t

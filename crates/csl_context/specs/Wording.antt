@@ -77,8 +77,8 @@ unfoldable pub with_suffix : Lookup → Option (List ℕ) → State → State
 with_suffix k None a = a
 with_suffix k (Some s) a = if ends_so s a then a else pushed k s a
 
--- the top frame, which a prefix of n bytes began, is closed with its suffix; where it shows nothing else it
--- is dropped
+-- the top frame, which a prefix of n bytes began, is closed with its suffix; where it shows nothing
+-- else it is dropped
 unfoldable pub suffixed : Lookup → Option (List ℕ) → ℕ → ℕ → State → State
 suffixed k suffix formats n a =
     if has_content_since n a

@@ -1,5 +1,5 @@
--- What a writing context holds, and what each of its calls makes of it. A stack is the list of its items, the
--- bottom first.
+-- What a writing context holds, and what each of its calls makes of it. A stack is the list of its
+-- items, the bottom first.
 use Rattle.std.specs.Prelude.{ℕ, ◌-◌, ◌+◌, ◌^◌, Bool, true, false, ◌==◌, ◌&&◌, not, nat_lt, min, if◌then◌else◌, List, [], ◌∷◌, ◌++◌, length, take, drop, map, slice_get, Option, None, Some, option_map, unwrap_or, is_some, string_bytes}
 use Rattle.std.specs.Option.{option_map_or, option_and_then}
 use Rattle.std.specs.Str.{trim_end}
@@ -86,21 +86,23 @@ formatting a = unwrap_or (slice_get a.formats (length a.formats - 1)) normal
 unfoldable pub with_child : Child → State → State
 with_child c a = record a { frames = on_top (λ cs. cs ++ c ∷ []) a.frames }
 
--- the buffer as a text at the end of the top frame, joined to a text of its formatting that stands there
+-- the buffer as a text at the end of the top frame, joined to a text of its formatting that stands
+-- there
 unfoldable pub saved : State → State
 saved a =
     if is_saved a
     then a
     else record a {
       buffer = [];
-      frames = on_top (λ cs. join_last cs (text (record { text = a.buffer; formatting = formatting a })))
+      frames = on_top (λ cs.
+          join_last cs (text (record { text = a.buffer; formatting = formatting a })))
           a.frames;
     }
 
 -- Writing text.
 
--- the text before changed by f: the buffer, or where that is empty the last text of the topmost frame that
--- has children
+-- the text before changed by f: the buffer, or where that is empty the last text of the topmost
+-- frame that has children
 abbrev pub on_text_before : (List ℕ → List ℕ) → State → State
 on_text_before f a = if is_saved a then record a { frames = on_filled (on_last_text f) a.frames }
     else record a { buffer = f a.buffer }
@@ -120,10 +122,11 @@ appended s a = record a { buffer = a.buffer ++ (if a.stripping then without_peri
 abbrev pub unpulled : State → State
 unpulled a = record a { pulling = false }
 
--- the text that a mark may be pulled into: the buffer, or where that is empty the one text at the end of the
--- topmost frame that has children
+-- the text that a mark may be pulled into: the buffer, or where that is empty the one text at the
+-- end of the topmost frame that has children
 abbrev pub quoted_text : State → Option (List ℕ)
-quoted_text a = if is_saved a then option_and_then end_sole_text (filled a.frames) else Some a.buffer
+quoted_text a = if is_saved a then option_and_then end_sole_text (filled a.frames)
+    else Some a.buffer
 
 -- s begins with a mark that may be pulled in
 abbrev pub may_pull : List ℕ → State → Bool
@@ -131,7 +134,8 @@ may_pull s a = a.pulling && opens_with_mark s
 
 -- that text changed by f
 abbrev pub on_quoted_text : (List ℕ → List ℕ) → State → State
-on_quoted_text f a = if is_saved a then record a { frames = on_filled (on_end_sole_text f) a.frames }
+on_quoted_text f a = if is_saved a
+    then record a { frames = on_filled (on_end_sole_text f) a.frames }
     else record a { buffer = f a.buffer }
 
 -- the mark before the closing quote of that text, where it has one
@@ -140,7 +144,8 @@ after_pull q s a = if may_pull s a then on_quoted_text (pulled q (take 1 s)) a e
 
 -- what is left of s then
 abbrev pub left_by_pull : ClosingQuotes → List ℕ → State → List ℕ
-left_by_pull q s a = if may_pull s a && option_map_or (ends_quoted q) (quoted_text a) false then drop 1 s
+left_by_pull q s a = if may_pull s a && option_map_or (ends_quoted q) (quoted_text a) false
+    then drop 1 s
     else s
 
 -- s written where nothing is pulled
@@ -163,7 +168,8 @@ with_space a = if is_saved a then record a { frames = on_top (on_last_text space
 
 abbrev pub asks_nothing : StyleFormatting → Bool
 asks_nothing f = not (is_some f.font_style) && (not (is_some f.font_variant)
-    && (not (is_some f.font_weight) && (not (is_some f.text_decoration) && not (is_some f.vertical_align))))
+    && (not (is_some f.font_weight)
+    && (not (is_some f.text_decoration) && not (is_some f.vertical_align))))
 
 -- a format that asks for nothing changes nothing
 unfoldable pub formatted : StyleFormatting → State → State
@@ -190,7 +196,8 @@ discarded height a = let b = saved a in cut_formats height (record b { frames = 
 
 -- a frame that begins with a prefix, as it stands
 unfoldable pub prefixed : Option (List ℕ) → State → State
-prefixed prefix a = let b = opened nothing_asked a in record b { buffer = b.buffer ++ term_text prefix }
+prefixed prefix a = let b = opened nothing_asked a
+    in record b { buffer = b.buffer ++ term_text prefix }
 
 -- the top frame shows something behind a prefix of n bytes, once the buffer is saved
 unfoldable pub has_content_since : ℕ → State → Bool

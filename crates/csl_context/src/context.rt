@@ -1,10 +1,37 @@
 //! The context in which a cite is written.
-ghost use Rattle.std.specs.Prelude.{◌≡◌, ◌+◌, IsOk, OnOk, OnErr, IfOk, length, min, string_bytes, option_map};
+ghost use Rattle.std.specs.Prelude.{
+  ◌≡◌,
+  ◌+◌,
+  IsOk,
+  OnOk,
+  OnErr,
+  IfOk,
+  length,
+  min,
+  string_bytes,
+  option_map,
+};
 ghost use Rattle.csl_style_values.specs.ElementView.{affixes_view, options_view};
 ghost use Rattle.csl_lookup.specs.Lookup.{term_of};
 ghost use Rattle.csl_lookup.specs.SourceView.{lookup_view};
-ghost use Rattle.csl_context.specs.WritingState.{state, heights, begun, with_space, stripping, not_stripping};
-ghost use Rattle.csl_context.specs.Wording.{pushed, quotes_opened, quotes_closed, pulling_if_asked, chunks_pushed, linked, marked, suffixed};
+ghost use Rattle.csl_context.specs.WritingState.{
+  state,
+  heights,
+  begun,
+  with_space,
+  stripping,
+  not_stripping,
+};
+ghost use Rattle.csl_context.specs.Wording.{
+  pushed,
+  quotes_opened,
+  quotes_closed,
+  pulling_if_asked,
+  chunks_pushed,
+  linked,
+  marked,
+  suffixed,
+};
 ghost use Rattle.csl_context.specs.ContextView.{words_of, locator_of, IsOfSameCite};
 
 use crate::token::DisplayLoc;
@@ -41,7 +68,8 @@ pub fn begin_cite<'a, T, P: Drop>(
     properties: CiteProperties<'a, P>,
     options: &'a InheritableNameOptions,
 ) -> Result<Context<'a, T, P>, AllocError>
-    ensures empty { IfOk result (λ context. state context.writing ≡ begun (options_view options.now)) }
+    ensures empty { IfOk result
+        (λ context. state context.writing ≡ begun (options_view options.now)) }
     ensures style { IfOk result (λ context. context.style ≡ style.now) }
     ensures entry { IfOk result (λ context. context.entry.now ≡ entry.now) }
     ensures properties { IfOk result (λ context. context.properties ≡ properties.entry) }
@@ -56,9 +84,10 @@ pub fn begin_cite<'a, T, P: Drop>(
 }
 
 impl<'a, T, P> Context<'a, T, P> {
-    /// The term in words: the first of the form, and the forms that stand in for it, that some locale
-    /// has (CSL 1.0.2, terms). The variable `locator` means the term of what the cite's locator counts.
-    /// `None` where no locale has it, and where the term that is found has no words in this number.
+    /// The term in words: the first of the form, and the forms that stand in for it, that some
+    /// locale has (CSL 1.0.2, terms). The variable `locator` means the term of what the cite's
+    /// locator counts. `None` where no locale has it, and where the term that is found has no words
+    /// in this number.
     pub fn term(&self, term: Term, form: TermForm, plural: bool) -> Option<&'a str>
         ensures { option_map (λ s. s.now) result
             ≡ term_of (words_of self.now) (locator_of self.now) term form plural }
@@ -68,8 +97,8 @@ impl<'a, T, P> Context<'a, T, P> {
         self.style.term(locator, term, form, plural)
     }
 
-    /// Makes sure that a space or a no-break space ends what was written: the buffer, or where that is
-    /// empty the last text of the top frame, if it has one.
+    /// Makes sure that a space or a no-break space ends what was written: the buffer, or where that
+    /// is empty the last text of the top frame, if it has one.
     ///
     /// # Errors
     ///
@@ -82,9 +111,9 @@ impl<'a, T, P> Context<'a, T, P> {
         self.writing.ensure_space()
     }
 
-    /// Writes `s`. Where it begins with a mark that closing quotes may pull in, the mark moves before
-    /// the quote that stands there; white space and repeated punctuation before `s` go; periods of `s`
-    /// that are to be stripped are left out.
+    /// Writes `s`. Where it begins with a mark that closing quotes may pull in, the mark moves
+    /// before the quote that stands there; white space and repeated punctuation before `s` go;
+    /// periods of `s` that are to be stripped are left out.
     ///
     /// # Errors
     ///
@@ -132,7 +161,8 @@ impl<'a, T, P> Context<'a, T, P> {
     ///
     /// Where memory is refused.
     pub fn push_transparent(&mut self, cite_idx: usize) -> Result<(), AllocError>
-        ensures done { OnOk result (state self.new.writing ≡ marked cite_idx (state self.old.writing)) }
+        ensures done { OnOk result
+            (state self.new.writing ≡ marked cite_idx (state self.old.writing)) }
         ensures heights { heights (state self.new.writing) ≡ heights (state self.old.writing) }
         ensures same { IsOfSameCite self.old self.new }
     {
@@ -153,8 +183,8 @@ impl<'a, T, P> Context<'a, T, P> {
         wording::push_quotes(&self.style, &mut self.writing)
     }
 
-    /// Writes the closing quote of the innermost open one, and the outer one where none is open; nothing
-    /// without a term.
+    /// Writes the closing quote of the innermost open one, and the outer one where none is open;
+    /// nothing without a term.
     ///
     /// # Errors
     ///
@@ -168,8 +198,8 @@ impl<'a, T, P> Context<'a, T, P> {
         wording::pop_quotes(&self.style, &mut self.writing)
     }
 
-    /// Lets the closing quotes that stand here pull in the punctuation that is written next, where the
-    /// locale has punctuation inside quotes.
+    /// Lets the closing quotes that stand here pull in the punctuation that is written next, where
+    /// the locale has punctuation inside quotes.
     pub fn may_pull_punctuation(&mut self)
         ensures done { state self.new.writing
             ≡ pulling_if_asked (words_of self.old) (state self.old.writing) }
@@ -197,8 +227,8 @@ impl<'a, T, P> Context<'a, T, P> {
         wording::stop_stripping_periods(&mut self.writing);
     }
 
-    /// Closes the frame that a prefix began, with the suffix unless the text ends with it. Where the
-    /// frame shows nothing but the prefix, it is dropped.
+    /// Closes the frame that a prefix began, with the suffix unless the text ends with it. Where
+    /// the frame shows nothing but the prefix, it is dropped.
     ///
     /// # Errors
     ///
@@ -210,12 +240,14 @@ impl<'a, T, P> Context<'a, T, P> {
     ) -> Result<(), AllocError>
         requires { prefix.0.frames + 1 ≡ length (state self.old.writing).frames }
         ensures done { OnOk result (state self.new.writing
-            ≡ suffixed (words_of self.old) (affixes_view affixes.now).suffix prefix.0.formats prefix.1
+            ≡ suffixed (words_of self.old) (affixes_view affixes.now).suffix
+            prefix.0.formats prefix.1
             (state self.old.writing)) }
         ensures height { OnOk result (length (state self.new.writing).frames ≡ prefix.0.frames) }
         ensures format_height { OnOk result (length (state self.new.writing).formats
             ≡ min prefix.0.formats (length (state self.old.writing).formats)) }
-        ensures refused { OnErr result (heights (state self.new.writing) ≡ heights (state self.old.writing)) }
+        ensures refused { OnErr result
+            (heights (state self.new.writing) ≡ heights (state self.old.writing)) }
         ensures same { IsOfSameCite self.old self.new }
     {
         wording::apply_suffix(
@@ -238,7 +270,8 @@ impl<'a, T, P> fmt::Write for Context<'a, T, P> {
     /// Writes `s` as `push_str` does. Fails where memory is refused.
     fn write_str(&mut self, s: &str) -> fmt::Result
         ensures ok { IsOk result → (state self.new.writing
-            ≡ pushed (words_of self.old) s.now (state self.old.writing)) × IsOfSameCite self.old self.new }
+            ≡ pushed (words_of self.old) s.now (state self.old.writing))
+            × IsOfSameCite self.old self.new }
         ensures heights { heights (state self.new.writing) ≡ heights (state self.old.writing) }
         ensures same { IsOfSameCite self.old self.new }
     {

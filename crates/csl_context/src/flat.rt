@@ -1,5 +1,28 @@
 //! Open frames whose children lie one behind the other.
-ghost use Rattle.std.specs.Prelude.{◌≡◌, ◌+◌, ◌-◌, ◌<◌, ◌≤◌, [], ◌∷◌, ◌++◌, length, take, drop, map, IfOk, OnOk, OnErr, Some, None, is_none, ◌&&◌, slice_get, option_map, false};
+ghost use Rattle.std.specs.Prelude.{
+  ◌≡◌,
+  ◌+◌,
+  ◌-◌,
+  ◌<◌,
+  ◌≤◌,
+  [],
+  ◌∷◌,
+  ◌++◌,
+  length,
+  take,
+  drop,
+  map,
+  IfOk,
+  OnOk,
+  OnErr,
+  Some,
+  None,
+  is_none,
+  ◌&&◌,
+  slice_get,
+  option_map,
+  false,
+};
 ghost use Rattle.std.specs.Option.{option_map_or, option_and_then};
 ghost use Rattle.csl_trees.specs.Child.{text, elem, kids_of};
 ghost use Rattle.csl_trees.specs.ChildView.{child_view};
@@ -7,7 +30,18 @@ ghost use Rattle.csl_trees.specs.Simplify.{join_last};
 ghost use Rattle.csl_trees.specs.Tree.{last_text};
 ghost use Rattle.csl_context.specs.Cuts.{cut};
 ghost use Rattle.csl_context.specs.Edits.{edited};
-ghost use Rattle.csl_context.specs.OpenFrames.{on_last_text, end_sole_text, on_end_sole_text, filled, on_filled, top, on_top, below, committed, shows_behind};
+ghost use Rattle.csl_context.specs.OpenFrames.{
+  on_last_text,
+  end_sole_text,
+  on_end_sole_text,
+  filled,
+  on_filled,
+  top,
+  on_top,
+  below,
+  committed,
+  shows_behind,
+};
 ghost use Rattle.csl_context.specs.Quotes.{quotes_view};
 ghost use Rattle.csl_context.specs.Steps.{ends_quoted, pulled, spaced};
 
@@ -47,11 +81,12 @@ impl Model for FlatFrames {
 
     ghost view = { λ frames. cut frames.counts.items frames.children };
 
-    ghost invariant = { λ frames. (frames.start ≡ sum frames.counts.items) × (frames.start ≤ length frames.children) × (vec_len frames.counts + 1 < 2 ^ 64) };
+    ghost invariant = { λ frames. (frames.start ≡ sum frames.counts.items)
+        × (frames.start ≤ length frames.children) × (vec_len frames.counts + 1 < 2 ^ 64) };
 }
 
 impl FlatFrames {
-    /// One frame without children, in the room of these lists.
+    /// One frame without children, in the memory of these lists.
     pub(crate) fn within(mut children: Vec<ElemChild>, mut counts: Vec<usize>) -> FlatFrames
         ensures { result ≡ [] ∷ [] }
     {
@@ -90,8 +125,8 @@ impl FlatFrames {
         Ok(())
     }
 
-    /// Closes the top frame into the one below, which gets what it gives: an element, where it is set off
-    /// or stands for something, and else its children.
+    /// Closes the top frame into the one below, which gets what it gives: an element, where it is
+    /// set off or stands for something, and else its children.
     ///
     /// # Errors
     ///
@@ -130,7 +165,8 @@ impl FlatFrames {
         display: Option<Display>,
         meta: Option<ElemMeta>,
     ) -> Result<(), AllocError>
-        ensures done { OnOk result (self.new ≡ on_top (λ cs. elem (kids_of cs) display meta ∷ []) self.old) }
+        ensures done { OnOk result
+            (self.new ≡ on_top (λ cs. elem (kids_of cs) display meta ∷ []) self.old) }
         ensures height { length self.new ≡ length self.old }
     {
         wrap(&mut self.children, self.start, display, meta)
@@ -155,8 +191,8 @@ impl FlatFrames {
         edit_last_text(&mut self.children, edit);
     }
 
-    /// Puts a mark before the closing quote at the end of the topmost frame that has children. Tells
-    /// whether there is one.
+    /// Puts a mark before the closing quote at the end of the topmost frame that has children.
+    /// Tells whether there is one.
     ///
     /// # Errors
     ///
@@ -198,13 +234,15 @@ impl FlatFrames {
     ///
     /// Where memory is refused: there are as many frames as before.
     pub(crate) fn push_child(&mut self, child: ElemChild) -> Result<(), AllocError>
-        ensures done { OnOk result (self.new ≡ on_top (λ cs. cs ++ child_view child ∷ []) self.old) }
+        ensures done { OnOk result
+            (self.new ≡ on_top (λ cs. cs ++ child_view child ∷ []) self.old) }
         ensures height { length self.new ≡ length self.old }
     {
         push_child(&mut self.children, child)
     }
 
-    /// Adds a text to the top frame, joined to the last child where that is a text of its formatting.
+    /// Adds a text to the top frame, joined to the last child where that is a text of its
+    /// formatting.
     ///
     /// # Errors
     ///
@@ -216,7 +254,8 @@ impl FlatFrames {
         formatting: Formatting,
     ) -> Result<(), AllocError>
         ensures done { OnOk result (self.new
-            ≡ on_top (λ cs. join_last cs (text (record { text = more.now; formatting = formatting })))
+            ≡ on_top (λ cs. join_last cs
+            (text (record { text = more.now; formatting = formatting })))
             self.old) }
         ensures height { length self.new ≡ length self.old }
     {
@@ -263,7 +302,7 @@ impl FlatFrames {
         children
     }
 
-    /// The bottom frame, as a tree of its own, and the room of the lists.
+    /// The bottom frame, as a tree of its own, and the memory of the lists.
     ///
     /// # Errors
     ///

@@ -4,7 +4,7 @@
 pub mod context;
 mod flat;
 mod pile;
-pub mod room;
+pub mod spare_memory;
 mod text;
 pub mod token;
 mod tree_end;

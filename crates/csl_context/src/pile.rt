@@ -1,5 +1,19 @@
 //! A stack whose bottom takes no memory.
-ghost use Rattle.std.specs.Prelude.{◌≡◌, ◌+◌, ◌-◌, ◌<◌, [], ◌∷◌, ◌++◌, length, take, slice_get, Some, OnOk, OnErr};
+ghost use Rattle.std.specs.Prelude.{
+  ◌≡◌,
+  ◌+◌,
+  ◌-◌,
+  ◌<◌,
+  [],
+  ◌∷◌,
+  ◌++◌,
+  length,
+  take,
+  slice_get,
+  Some,
+  OnOk,
+  OnErr,
+};
 
 use std::alloc::{AllocError, Global};
 use std::marker::Model;

@@ -1,9 +1,39 @@
 //! What is done to a text, and to the text before a piece that is written.
-ghost use Rattle.std.specs.Prelude.{◌≡◌, ◌++◌, ◌-◌, ◌&&◌, length, take, string_bytes, nat_eq, option_map, IfOk, OnOk, OnErr, IsTrue};
+ghost use Rattle.std.specs.Prelude.{
+  ◌≡◌,
+  ◌++◌,
+  ◌-◌,
+  ◌&&◌,
+  length,
+  take,
+  string_bytes,
+  nat_eq,
+  option_map,
+  IfOk,
+  OnOk,
+  OnErr,
+  IsTrue,
+};
 ghost use Rattle.std.specs.Bool.{OnTrue};
 ghost use Rattle.std.specs.List.{ends_with};
 ghost use Rattle.std.specs.Str.{IsCharBoundary, trim_end, chars};
-ghost use Rattle.csl_context.specs.Steps.{is_tight, opens_tight, is_mark, opens_with_mark, has_letter, without_ending, without_periods, kept_of, ends_in_space, spaced, is_seen, visible_from, quote_at_end, ends_quoted, pulled};
+ghost use Rattle.csl_context.specs.Steps.{
+  is_tight,
+  opens_tight,
+  is_mark,
+  opens_with_mark,
+  has_letter,
+  without_ending,
+  without_periods,
+  kept_of,
+  ends_in_space,
+  spaced,
+  is_seen,
+  visible_from,
+  quote_at_end,
+  ends_quoted,
+  pulled,
+};
 ghost use Rattle.csl_context.specs.Quotes.{quotes_view};
 
 use std::alloc::AllocError;
@@ -126,7 +156,8 @@ pub(crate) fn add_space(text: &mut String) -> Result<(), AllocError>
 }
 
 fn push_kept(text: &mut String, c: char, after_period: bool) -> Result<(), AllocError>
-    ensures { OnOk result (string_bytes text.new ≡ string_bytes text.old ++ kept_of after_period c) }
+    ensures { OnOk result
+        (string_bytes text.new ≡ string_bytes text.old ++ kept_of after_period c) }
 {
     if c == '.' && !after_period {
         return Ok(());

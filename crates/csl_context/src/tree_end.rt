@@ -1,5 +1,20 @@
 //! Changes at the end of a tree, and what it shows.
-ghost use Rattle.std.specs.Prelude.{◌≡◌, ◌++◌, ◌≤◌, ◌∷◌, [], string_bytes, length, take, drop, map, IfOk, OnOk, OnErr, false};
+ghost use Rattle.std.specs.Prelude.{
+  ◌≡◌,
+  ◌++◌,
+  ◌≤◌,
+  ◌∷◌,
+  [],
+  string_bytes,
+  length,
+  take,
+  drop,
+  map,
+  IfOk,
+  OnOk,
+  OnErr,
+  false,
+};
 ghost use Rattle.std.specs.Option.{option_map_or};
 ghost use Rattle.std.specs.Str.{IsCharBoundary};
 ghost use Rattle.csl_trees.specs.Child.{elem, kids_of};
@@ -9,7 +24,20 @@ ghost use Rattle.csl_trees.specs.Tree.{child_has_content};
 ghost use Rattle.std.specs.List.{list_any};
 ghost use Rattle.csl_context.specs.Steps.{ends_quoted, pulled, spaced};
 ghost use Rattle.csl_context.specs.Quotes.{quotes_view};
-ghost use Rattle.csl_context.specs.OpenFrames.{on_last_text, sole_text, kids_sole_text, on_sole_text, kids_on_sole_text, end_sole_text, on_end_sole_text, on_last_child, takes, extended, child_shows, shows_behind};
+ghost use Rattle.csl_context.specs.OpenFrames.{
+  on_last_text,
+  sole_text,
+  kids_sole_text,
+  on_sole_text,
+  kids_on_sole_text,
+  end_sole_text,
+  on_end_sole_text,
+  on_last_child,
+  takes,
+  extended,
+  child_shows,
+  shows_behind,
+};
 ghost use Rattle.csl_context.specs.Edits.{edited};
 
 use crate::text::{ClosingQuotes, ends_in_space, is_visible_from, len_before, pull, trimmed_len};
@@ -106,7 +134,8 @@ fn pull_in_child(
     mark: &str,
 ) -> Result<bool, AllocError>
     ensures moved { IfOk result (λ moved. moved
-        ≡ option_map_or (ends_quoted (quotes_view quotes.entry)) (sole_text (child_view child.old)) false) }
+        ≡ option_map_or (ends_quoted (quotes_view quotes.entry))
+        (sole_text (child_view child.old)) false) }
     ensures child { OnOk result (child_view child.new
         ≡ on_sole_text (pulled (quotes_view quotes.entry) mark.now) (child_view child.old)) }
 {
@@ -127,7 +156,8 @@ fn pull_in_only(
     mark: &str,
 ) -> Result<bool, AllocError>
     ensures moved { IfOk result (λ moved. moved
-        ≡ option_map_or (ends_quoted (quotes_view quotes.entry)) (kids_sole_text (kids_of tree.old)) false) }
+        ≡ option_map_or (ends_quoted (quotes_view quotes.entry))
+        (kids_sole_text (kids_of tree.old)) false) }
     ensures tree { OnOk result (kids_of tree.new
         ≡ kids_on_sole_text (pulled (quotes_view quotes.entry) mark.now) (kids_of tree.old)) }
 {
@@ -238,7 +268,8 @@ fn takes(child: &ElemChild, formatting: Formatting) -> bool
 
 /// Whether the last child is a text in this formatting.
 pub(crate) fn ends_in(children: &[ElemChild], formatting: Formatting) -> bool
-    ensures { result ≡ option_map_or (takes formatting) (last_child (map child_view children.now)) false }
+    ensures { result ≡ option_map_or (takes formatting)
+        (last_child (map child_view children.now)) false }
 {
     match children.last() {
         Some(child) => takes(child, formatting),

@@ -1,9 +1,36 @@
 //! Calls of a writing context that ask the style's locales for terms.
-ghost use Rattle.std.specs.Prelude.{◌≡◌, ◌+◌, OnOk, OnErr, IfOk, length, min, string_bytes, option_map};
+ghost use Rattle.std.specs.Prelude.{
+  ◌≡◌,
+  ◌+◌,
+  OnOk,
+  OnErr,
+  IfOk,
+  length,
+  min,
+  string_bytes,
+  option_map,
+};
 ghost use Rattle.csl_context.specs.Quotes.{quotes_view};
 ghost use Rattle.csl_lookup.specs.SourceView.{lookup_view};
 ghost use Rattle.csl_context.specs.WritingState.{state, heights};
-ghost use Rattle.csl_context.specs.Wording.{plain_term, closing_quotes, pushed, term_pushed, opening_quote, closing_quote, quotes_opened, quotes_closed, pulling_if_asked, chunk_pushed, chunks_pushed, joined_values, linked, marked, with_suffix, suffixed};
+ghost use Rattle.csl_context.specs.Wording.{
+  plain_term,
+  closing_quotes,
+  pushed,
+  term_pushed,
+  opening_quote,
+  closing_quote,
+  quotes_opened,
+  quotes_closed,
+  pulling_if_asked,
+  chunk_pushed,
+  chunks_pushed,
+  joined_values,
+  linked,
+  marked,
+  with_suffix,
+  suffixed,
+};
 
 use crate::text::ClosingQuotes;
 use crate::token::DisplayLoc;
@@ -134,7 +161,8 @@ pub fn pop_quotes(
 /// Lets closing quotes pull punctuation in, where the locale has it inside quotes.
 #[tactic(auto, unfolding(crate::specs::Wording::pulling_if_asked))]
 pub fn may_pull_punctuation(style: &StyleLocales<'_>, writing: &mut WritingContext<'_>)
-    ensures done { state writing.new ≡ pulling_if_asked (lookup_view style.now) (state writing.old) }
+    ensures done { state writing.new
+        ≡ pulling_if_asked (lookup_view style.now) (state writing.old) }
     ensures heights { heights (state writing.new) ≡ heights (state writing.old) }
 {
     if style.punctuation_in_quotes() {
@@ -234,7 +262,8 @@ fn push_suffix(
     suffix: Option<&str>,
 ) -> Result<(), AllocError>
     ensures done { OnOk result (state writing.new
-        ≡ with_suffix (lookup_view style.now) (option_map (λ s. s.now) suffix.entry) (state writing.old)) }
+        ≡ with_suffix (lookup_view style.now) (option_map (λ s. s.now) suffix.entry)
+        (state writing.old)) }
     ensures heights { heights (state writing.new) ≡ heights (state writing.old) }
 {
     match suffix {
@@ -248,8 +277,8 @@ fn push_suffix(
     }
 }
 
-/// Closes the frame that a prefix began, with its suffix. Where it shows nothing but the prefix, it is
-/// dropped.
+/// Closes the frame that a prefix began, with its suffix. Where it shows nothing but the prefix, it
+/// is dropped.
 ///
 /// # Errors
 ///
@@ -263,7 +292,8 @@ pub fn apply_suffix(
 ) -> Result<(), AllocError>
     requires { prefix.0.frames + 1 ≡ length (state writing.old).frames }
     ensures done { OnOk result (state writing.new
-        ≡ suffixed (lookup_view style.now) (option_map (λ s. s.now) suffix.entry) prefix.0.formats prefix.1
+        ≡ suffixed (lookup_view style.now) (option_map (λ s. s.now) suffix.entry)
+        prefix.0.formats prefix.1
         (state writing.old)) }
     ensures height { OnOk result (length (state writing.new).frames ≡ prefix.0.frames) }
     ensures format_height { OnOk result (length (state writing.new).formats

@@ -1,5 +1,19 @@
 //! The writing context: texts that are written one after another into trees that are still open.
-ghost use Rattle.std.specs.Prelude.{◌≡◌, ◌+◌, ◌<◌, ◌≤◌, OnOk, OnErr, IfOk, length, min, slice_get, Some, false, option_map};
+ghost use Rattle.std.specs.Prelude.{
+  ◌≡◌,
+  ◌+◌,
+  ◌<◌,
+  ◌≤◌,
+  OnOk,
+  OnErr,
+  IfOk,
+  length,
+  min,
+  slice_get,
+  Some,
+  false,
+  option_map,
+};
 ghost use Rattle.std.specs.Str.{IsCharBoundary};
 ghost use Rattle.csl_trees.specs.ChildView.{child_view};
 ghost use Rattle.csl_style_values.specs.ElementView.{affixes_view, options_view};
@@ -9,13 +23,52 @@ ghost use Rattle.std.specs.Bool.{OnTrue};
 ghost use Rattle.std.specs.Option.{option_map_or};
 ghost use Rattle.csl_context.specs.Steps.{ends_quoted, pulled, term_text};
 ghost use Rattle.csl_values.specs.Formatting.{nothing_asked};
-ghost use Rattle.csl_context.specs.WritingState.{state, heights, begun, is_saved, saved, on_text_before, trimmed_for, unrepeated_for, appended, quoted_text, on_quoted_text, may_pull, after_pull, left_by_pull, written, with_child, formatting, after_push_str, verbatim, with_space, asks_nothing, formatted, cut_formats, unformatted, opened, closed_elem, discarded, prefixed, has_content_since, ends_so, pulling, deeper, less_deep, delimited, undelimited, with_options, without_options, flushed};
+ghost use Rattle.csl_context.specs.WritingState.{
+  state,
+  heights,
+  begun,
+  is_saved,
+  saved,
+  on_text_before,
+  trimmed_for,
+  unrepeated_for,
+  appended,
+  quoted_text,
+  on_quoted_text,
+  may_pull,
+  after_pull,
+  left_by_pull,
+  written,
+  with_child,
+  formatting,
+  after_push_str,
+  verbatim,
+  with_space,
+  asks_nothing,
+  formatted,
+  cut_formats,
+  unformatted,
+  opened,
+  closed_elem,
+  discarded,
+  prefixed,
+  has_content_since,
+  ends_so,
+  pulling,
+  deeper,
+  less_deep,
+  delimited,
+  undelimited,
+  with_options,
+  without_options,
+  flushed,
+};
 
 pub(crate) mod rendering;
 
 use crate::flat::FlatFrames;
 use crate::pile::Pile;
-use crate::room::Room;
+use crate::spare_memory::SpareMemory;
 use crate::text::{
     ClosingQuotes, add_space, ends_with, has_letter, opens_tight, opens_with_mark, pull,
     push_without_periods,
@@ -60,23 +113,23 @@ impl<'a> WritingContext<'a> {
     ) -> Result<WritingContext<'a>, AllocError>
         ensures { IfOk result (λ context. state context ≡ begun (options_view options.now)) }
     {
-        let room = Room::new(alloc)?;
-        Ok(WritingContext::in_room(alloc, options, room))
+        let memory = SpareMemory::new(alloc)?;
+        Ok(WritingContext::in_spare_memory(alloc, options, memory))
     }
 
-    /// The same in the room that another context left.
-    pub fn in_room(
+    /// The same in the memory that another context left.
+    pub fn in_spare_memory(
         alloc: Global,
         options: &'a InheritableNameOptions,
-        room: Room,
+        memory: SpareMemory,
     ) -> WritingContext<'a>
         ensures { state result ≡ begun (options_view options.now) }
     {
-        let Room {
+        let SpareMemory {
             mut text,
             children,
             counts,
-        } = room;
+        } = memory;
         text.clear();
         WritingContext {
             alloc,
@@ -179,10 +232,12 @@ impl<'a> WritingContext<'a> {
         }
     }
 
-    // Puts a mark before the closing quote of the text that may pull it in. Tells whether there is one.
+    // Puts a mark before the closing quote of the text that may pull it in. Tells whether there is
+    // one.
     fn pull_mark(&mut self, quotes: ClosingQuotes<'_>, mark: &str) -> Result<bool, AllocError>
         ensures moved { IfOk result (λ moved. moved
-            ≡ option_map_or (ends_quoted (quotes_view quotes.entry)) (quoted_text (state self.old)) false) }
+            ≡ option_map_or (ends_quoted (quotes_view quotes.entry))
+            (quoted_text (state self.old)) false) }
         ensures done { OnOk result (state self.new
             ≡ on_quoted_text (pulled (quotes_view quotes.entry) mark.now) (state self.old)) }
         ensures heights { heights (state self.new) ≡ heights (state self.old) }
@@ -194,7 +249,8 @@ impl<'a> WritingContext<'a> {
         }
     }
 
-    // Pulls the first character of `s` into the quotes before it, where it may be. Gives what is left.
+    // Pulls the first character of `s` into the quotes before it, where it may be. Gives what is
+    // left.
     fn pull<'s>(&mut self, quotes: ClosingQuotes<'_>, s: &'s str) -> Result<&'s str, AllocError>
         ensures left { IfOk result (λ left. left.now
             ≡ left_by_pull (quotes_view quotes.entry) s.now (state self.old)) }
@@ -238,8 +294,8 @@ impl<'a> WritingContext<'a> {
         Ok(())
     }
 
-    /// Writes `s`. Where it begins with a mark that closing quotes may pull in, the mark moves before
-    /// the quote that stands there; white space and repeated punctuation before `s` go.
+    /// Writes `s`. Where it begins with a mark that closing quotes may pull in, the mark moves
+    /// before the quote that stands there; white space and repeated punctuation before `s` go.
     ///
     /// # Errors
     ///
@@ -276,7 +332,8 @@ impl<'a> WritingContext<'a> {
     /// Where memory is refused.
     #[tactic(auto, unfolding(crate::specs::WritingState::with_child))]
     pub(crate) fn push_child(&mut self, child: ElemChild) -> Result<(), AllocError>
-        ensures done { OnOk result (state self.new ≡ with_child (child_view child) (saved (state self.old))) }
+        ensures done { OnOk result
+            (state self.new ≡ with_child (child_view child) (saved (state self.old))) }
         ensures heights { heights (state self.new) ≡ heights (state self.old) }
     {
         self.save()?;
@@ -290,8 +347,8 @@ impl<'a> WritingContext<'a> {
         self.formats.top()
     }
 
-    /// Makes sure that a space or a no-break space ends what was written: the buffer, or where that is
-    /// empty the last text of the top frame, if it has one.
+    /// Makes sure that a space or a no-break space ends what was written: the buffer, or where that
+    /// is empty the last text of the top frame, if it has one.
     ///
     /// # Errors
     ///
@@ -372,7 +429,8 @@ impl<'a> WritingContext<'a> {
         ensures frames { IfOk result (λ loc. loc.frames ≡ length (state self.old).frames) }
         ensures formats { IfOk result (λ loc. loc.formats ≡ length (state self.old).formats) }
         ensures done { OnOk result (state self.new ≡ opened format (state self.old)) }
-        ensures height { OnOk result (length (state self.new).frames ≡ length (state self.old).frames + 1) }
+        ensures height { OnOk result
+            (length (state self.new).frames ≡ length (state self.old).frames + 1) }
         ensures more_formats { OnOk result
             (length (state self.old).formats ≤ length (state self.new).formats) }
         ensures refused { OnErr result (heights (state self.new) ≡ heights (state self.old)) }
@@ -396,7 +454,8 @@ impl<'a> WritingContext<'a> {
         ensures frames { IfOk result (λ loc. loc.frames ≡ length (state self.old).frames) }
         ensures formats { IfOk result (λ loc. loc.formats ≡ length (state self.old).formats) }
         ensures done { OnOk result (state self.new ≡ opened nothing_asked (state self.old)) }
-        ensures height { OnOk result (length (state self.new).frames ≡ length (state self.old).frames + 1) }
+        ensures height { OnOk result
+            (length (state self.new).frames ≡ length (state self.old).frames + 1) }
         ensures same_formats { OnOk result (length (state self.new).formats
             ≡ length (state self.old).formats) }
         ensures refused { OnErr result (heights (state self.new) ≡ heights (state self.old)) }
@@ -410,8 +469,8 @@ impl<'a> WritingContext<'a> {
         Ok(loc)
     }
 
-    /// Closes the top frame: it goes to the one below as an element, where it is set off or stands for
-    /// something, and else as its children. The formatting goes back to that before the frame.
+    /// Closes the top frame: it goes to the one below as an element, where it is set off or stands
+    /// for something, and else as its children. The formatting goes back to that before the frame.
     ///
     /// # Errors
     ///
@@ -424,7 +483,8 @@ impl<'a> WritingContext<'a> {
         meta: Option<ElemMeta>,
     ) -> Result<(), AllocError>
         requires { loc.frames + 1 ≡ length (state self.old).frames }
-        ensures done { OnOk result (state self.new ≡ closed_elem loc.formats display meta (state self.old)) }
+        ensures done { OnOk result
+            (state self.new ≡ closed_elem loc.formats display meta (state self.old)) }
         ensures height { OnOk result (length (state self.new).frames ≡ loc.frames) }
         ensures format_height { OnOk result (length (state self.new).formats
             ≡ min loc.formats (length (state self.old).formats)) }
@@ -456,20 +516,22 @@ impl<'a> WritingContext<'a> {
         Ok(())
     }
 
-    /// Opens a frame that begins with the prefix, as it stands. Gives the frame's token and the length of
-    /// the prefix in bytes, 0 where there is none.
+    /// Opens a frame that begins with the prefix, as it stands. Gives the frame's token and the
+    /// length of the prefix in bytes, 0 where there is none.
     ///
     /// # Errors
     ///
     /// Where memory is refused; the stacks are as high as before.
     pub fn apply_prefix(&mut self, affixes: &Affixes) -> Result<(DisplayLoc, usize), AllocError>
         ensures frames { IfOk result (λ prefix. prefix.0.frames ≡ length (state self.old).frames) }
-        ensures formats { IfOk result (λ prefix. prefix.0.formats ≡ length (state self.old).formats) }
+        ensures formats { IfOk result
+            (λ prefix. prefix.0.formats ≡ length (state self.old).formats) }
         ensures offset { IfOk result (λ prefix. prefix.1
             ≡ length (term_text (affixes_view affixes.now).prefix)) }
         ensures done { OnOk result (state self.new
             ≡ prefixed (affixes_view affixes.now).prefix (state self.old)) }
-        ensures height { OnOk result (length (state self.new).frames ≡ length (state self.old).frames + 1) }
+        ensures height { OnOk result
+            (length (state self.new).frames ≡ length (state self.old).frames + 1) }
         ensures same_formats { OnOk result (length (state self.new).formats
             ≡ length (state self.old).formats) }
         ensures refused { OnErr result (heights (state self.new) ≡ heights (state self.old)) }
@@ -477,9 +539,9 @@ impl<'a> WritingContext<'a> {
         begin_prefix(self, affixes.prefix.as_deref())
     }
 
-    /// Whether the top frame, which `apply_prefix` opened, shows anything behind its prefix: a character
-    /// of its first text that begins behind the prefix and is not white space, or another child with
-    /// content.
+    /// Whether the top frame, which `apply_prefix` opened, shows anything behind its prefix: a
+    /// character of its first text that begins behind the prefix and is not white space, or another
+    /// child with content.
     ///
     /// # Errors
     ///
@@ -487,7 +549,8 @@ impl<'a> WritingContext<'a> {
     #[tactic(auto, unfolding(crate::specs::WritingState::has_content_since))]
     pub fn has_content_since(&mut self, prefix: &(DisplayLoc, usize)) -> Result<bool, AllocError>
         requires { prefix.now.0.frames + 1 ≡ length (state self.old).frames }
-        ensures shown { IfOk result (λ shown. shown ≡ has_content_since prefix.now.1 (state self.old)) }
+        ensures shown { IfOk result
+            (λ shown. shown ≡ has_content_since prefix.now.1 (state self.old)) }
         ensures done { OnOk result (state self.new ≡ saved (state self.old)) }
         ensures heights { heights (state self.new) ≡ heights (state self.old) }
     {
@@ -597,24 +660,24 @@ impl<'a> WritingContext<'a> {
         Ok(self.frames.finish())
     }
 
-    /// The same as a tree that takes no more memory than it needs, and the room that is left.
+    /// The same as a tree that takes no more memory than it needs, and the memory that is left.
     ///
     /// # Errors
     ///
     /// Where memory is refused.
     #[tactic(auto, unfolding(crate::specs::WritingState::flushed))]
-    pub fn flush_apart(mut self) -> Result<(ElemChildren, Room), AllocError>
+    pub fn flush_apart(mut self) -> Result<(ElemChildren, SpareMemory), AllocError>
         requires { length (state self).formats ≡ 1 }
         ensures { IfOk result (λ apart. flushed (state self.entry) ≡ Some apart.0) }
     {
         self.save()?;
         let (tree, children, counts) = self.frames.finish_apart()?;
-        let room = Room {
+        let memory = SpareMemory {
             text: self.buf,
             children,
             counts,
         };
-        Ok((tree, room))
+        Ok((tree, memory))
     }
 }
 

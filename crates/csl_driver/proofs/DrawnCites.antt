@@ -6,7 +6,7 @@ use Rattle.std.proofs.lemmas.Bool.{or_left}
 use Rattle.csl_style_values.specs.Style.{CitationValue}
 use Rattle.csl_style_values.specs.declared.style.Collapse.{Collapse}
 use Rattle.csl_style_values.specs.declared.style.Collapse.TheVariants.{CitationNumber, Year, YearSuffix, YearSuffixRanged}
-use Rattle.csl_collapse.specs.Collapsed.{collapsed, collapsed_by, collapsed_cites, drawn_together}
+use Rattle.csl_collapse.specs.Collapsed.{collapsed, collapsed_by, collapsed_cites, collapsed_finally}
 use Rattle.csl_collapse.specs.NumberLaws.{CanBeReadBack, is_hidden}
 use Rattle.csl_collapse.specs.NumberRuns.{is_inner, shown_number}
 use Rattle.csl_collapse.specs.Stretches.{after_collapse}
@@ -77,7 +77,7 @@ module _ {E P : Type 0} where
   stays-without (Some kind) citation cites is = cc
 
   -- drawn together where no cite has a purpose, and else as they were
-  pub read-back : ((c : CiteRender E P) → CanBeReadBack c.items (collapsed c).items c.request.style.citation.collapse) → (c : CiteRender E P) → IsReadBack c (drawn_together c)
+  pub read-back : ((c : CiteRender E P) → CanBeReadBack c.items (collapsed c).items c.request.style.citation.collapse) → (c : CiteRender E P) → IsReadBack c (collapsed_finally c)
   read-back law c = by (has_no_purpose c.items) refl
     where
       by : (b : Bool) → has_no_purpose c.items ≡ b → IsReadBack c (if b then collapsed c else c)

@@ -10,9 +10,9 @@ use Rattle.std.proofs.Math.ListN.{length-map}
 use Rattle.std.proofs.lemmas.Bool.{or_left, or_right}
 use Rattle.csl_assembly.specs.declared.rendered.Rendered.{Rendered}
 use Rattle.csl_writers.specs.Writing.{Writing}
-use Rattle.csl_collapse.specs.Collapsed.{collapsed, drawn_together}
+use Rattle.csl_collapse.specs.Collapsed.{collapsed, collapsed_finally}
 use Rattle.csl_collapse.specs.NumberLaws.{CanBeReadBack}
-use Rattle.csl_driver.specs.Answer.{Job, entries_listed, final_number, in_final_order, in_the_end, numbered_finally, order_in_use, rendered_first}
+use Rattle.csl_driver.specs.Answer.{Job, entries_listed, final_number, in_final_order, in_the_end, numbered_finally, used_order, rendered_first}
 use Rattle.csl_driver.specs.AnswerLaws.{AreInOrder, ComeFrom, HaveNumbersOnce, IsBroughtTogether, IsReadBack, IsSettled, KeepsLaws, entries_in, number_in, numbers_in, unsettled}
 use Rattle.csl_driver.specs.AreCitesOf.{AreCitesOf}
 use Rattle.csl_driver.specs.ListedOnce.{ListsEachOnce}
@@ -188,7 +188,7 @@ module _ {E P : Type 0} (eq : E → E → Bool) (laws : IsEquivalence eq) (each_
     same-number : (e : E) → is_in eq e (cited_finally in_order) ≡ true → number_of e ≡ account_number e
     same-number e within =
         sym ((λ i. number_in eq (is.entries i) (is.numbers i) e)
-        ∙ at-place eq laws number_of (number-alike eq laws job.offset (numbered_finally eq (order_in_use job.wanted) job.requests in_order)) e (distinct eq (cited job.requests))
+        ∙ at-place eq laws number_of (number-alike eq laws job.offset (numbered_finally eq (used_order job.wanted) job.requests in_order)) e (distinct eq (cited job.requests))
         (is_in-distinct eq laws e (cited job.requests) ∙ sym (same-cited e) ∙ within))
 
     placed : in_end ≡ with_final_properties eq payload_eq account_number in_order
@@ -198,33 +198,33 @@ module _ {E P : Type 0} (eq : E → E → Bool) (laws : IsEquivalence eq) (each_
     listed-once : ListsEachOnce eq writing job (entries_in r.1) in_end r.0.bibliography
     listed-once =
         let entries : List E = distinct eq (cited job.requests) in
-        let listed = each_once (order_in_use job.wanted) (cited job.requests) in
+        let listed = each_once (used_order job.wanted) (cited job.requests) in
         let stand = final-stand eq laws writing (table_of eq job.requests) job.requests in_order ordered payload_eq number_of in
         subst (λ es. ListsEachOnce eq writing job es in_end r.0.bibliography) (sym is.entries)
         (lists-each-once eq laws writing job entries in_end (each_once None (cited job.requests)).once listed.once
         (λ e. listed.same e ∙ sym (is_in-distinct eq laws e (cited job.requests)))
-        (firsts-found eq laws in_end job.requests (order_in_use job.wanted) (table_of eq job.requests) refl stand)
+        (firsts-found eq laws in_end job.requests (used_order job.wanted) (table_of eq job.requests) refl stand)
         r.0.bibliography (ap (λ (a : Rendered). a.bibliography) is.ok))
 
     module _ (brought : (c : CiteRender E P) → HasFinalOrder (is_grouped c.request.style.citation) c.items (grouped c).items)
         (drawn : (c : CiteRender E P) → CanBeReadBack c.items (collapsed c).items c.request.style.citation.collapse) where
-      are-read-back : AllZip IsReadBack in_end (map drawn_together in_end)
-      are-read-back = zip-mapped IsReadBack drawn_together (read-back drawn) in_end
+      are-read-back : AllZip IsReadBack in_end (map collapsed_finally in_end)
+      are-read-back = zip-mapped IsReadBack collapsed_finally (read-back drawn) in_end
 
       abbrev citations-come : ComeFrom eq payload_eq writing job account_number told r.0.citations
       citations-come = record {
         ordered = in_order;
         settled = in_end;
-        drawn = map drawn_together in_end;
+        drawn = map collapsed_finally in_end;
         final_orders = zip-mapped IsBroughtTogether grouped (λ c. record { same_request = grouped-request c; final_order = brought c }) told;
         settles = settled-cites;
         positions = placed;
         own_cites = settled-own eq payload_eq writing mode job brought number_of;
         runs = are-read-back;
-        numbered = drawn-numbered eq payload_eq account_number in_order (map drawn_together in_end) (subst (λ cs. AllZip IsReadBack cs (map drawn_together in_end)) placed are-read-back);
+        numbered = drawn-numbered eq payload_eq account_number in_order (map collapsed_finally in_end) (subst (λ cs. AllZip IsReadBack cs (map collapsed_finally in_end)) placed are-read-back);
         asked_for = drawn-requests in_end ∙ (final-stand eq laws writing (table_of eq job.requests) job.requests in_order ordered payload_eq number_of).of;
         made = ap (λ (a : Rendered). a.citations) is.ok;
-        shows = ap (λ (a : Rendered). map (λ c. entries_shown c.citation) a.citations) is.ok ∙ citations-shown writing (map drawn_together in_end);
+        shows = ap (λ (a : Rendered). map (λ c. entries_shown c.citation) a.citations) is.ok ∙ citations-shown writing (map collapsed_finally in_end);
       }
 
       laws-of-rounds : IsLawful mode eq writing firsts all_tables (rounds mode eq writing firsts) → IsLawful mode eq writing firsts all_tables r.1.rounds
@@ -254,12 +254,12 @@ module _ {E P : Type 0} (eq : E → E → Bool) (laws : IsEquivalence eq) (each_
         rounds = laws-of-rounds (lawful mode job.requests (first_properties eq payload_eq (number eq job.offset (entries_listed eq job.wanted job.requests)) job.requests));
         cited_entries = is.entries;
         numbers = subst (λ es. HaveNumbersOnce eq job.offset es r.1.numbers.items) (sym is.entries)
-            (subst (HaveNumbersOnce eq job.offset (distinct eq (cited job.requests))) (sym is.numbers) (by-order job.requests in_order same-cited job.offset (order_in_use job.wanted)));
+            (subst (HaveNumbersOnce eq job.offset (distinct eq (cited job.requests))) (sym is.numbers) (by-order job.requests in_order same-cited job.offset (used_order job.wanted)));
         citations = citations-come;
         numbers_in_order = λ none. (λ i. map (number_in eq (is.entries i) (is.numbers i)) (distinct eq (cited_finally in_order)))
-            ∙ in-order job.requests in_order same-cited job.offset (order_in_use job.wanted) none;
+            ∙ in-order job.requests in_order same-cited job.offset (used_order job.wanted) none;
         numbers_by_order = λ order used. (λ i. map (number_in eq (is.entries i) (is.numbers i)) (bibliography_order eq (Some order) (cited job.requests)))
-            ∙ in-given-order job.requests in_order same-cited job.offset (order_in_use job.wanted) order used;
+            ∙ in-given-order job.requests in_order same-cited job.offset (used_order job.wanted) order used;
         bibliography = listed-once;
       }
 

@@ -12,16 +12,16 @@ module _ {E P : Type 0} (eq : E → E → Bool) (job : Job E P) where
   module _ {R S : Type 0} (holds : R → Type 0) (other : S → Type 0) where
     -- an answer of which something else follows
     pub answered-too : (r : R) (s : S) → (holds r → other s) → Finishes holds eq job (Ok r) → Finishes other eq job (Ok s)
-    answered-too r s so f = record { answer = so f.answer; no_ring = f.no_ring; fits = f.fits; refused = tt }
+    answered-too r s so f = record { answer = so f.answer; possible = f.possible; refused = tt }
 
     -- the same refusal
     pub refused-too : (e : DriverError) → Finishes holds eq job (Err e) → Finishes other eq job (Err e)
-    refused-too e f = record { answer = tt; no_ring = tt; fits = tt; refused = f.refused }
+    refused-too e f = record { answer = tt; possible = tt; refused = f.refused }
 
   module _ {R : Type 0} (holds : R → Type 0) (e : DriverError) where
     -- a refusal that has its reason
     pub refused-for : Refuses eq job.requests job.wanted.style job.offset e → Finishes holds eq job (Err e)
-    refused-for why = record { answer = tt; no_ring = tt; fits = tt; refused = why }
+    refused-for why = record { answer = tt; possible = tt; refused = why }
 
     pub out_of_memory : (a : AllocError) → e ≡ OutOfMemory a → Finishes holds eq job (Err e)
     out_of_memory a is = refused-for (subst (Refuses eq job.requests job.wanted.style job.offset) (sym is) tt)

@@ -8,7 +8,7 @@ use Rattle.csl_style_values.specs.Ring.{HasNoRing, IsFirstRing}
 use Rattle.csl_style_values.specs.Style.{StyleValue}
 use Rattle.csl_passes.specs.Request.{Request}
 use Rattle.csl_driver.specs.Rings.{NoRingIn, IsFirstRingOf}
-use Rattle.csl_driver.specs.declared.error.RingPlace.TheVariants as places
+use Rattle.csl_driver.specs.declared.error.RingLocation.TheVariants as places
 
 module _ {E P : Type 0} where
   module _ {X : Type 0} (view : X → Request E P) (xs : List X) (k : ℕ) (x : X) (within : k < length xs) (here : x ≡ get_or xs k x) where

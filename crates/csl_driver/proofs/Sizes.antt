@@ -11,7 +11,7 @@ use Rattle.std.proofs.lemmas.List.Sums.{sum_by-cons}
 use Rattle.csl_writers.specs.Writing.{Writing}
 use Rattle.csl_style_values.specs.Style.{CitationValue}
 use Rattle.csl_style_values.specs.declared.style.Collapse.{Collapse}
-use Rattle.csl_collapse.specs.Collapsed.{collapsed, collapsed_cites, drawn_together}
+use Rattle.csl_collapse.specs.Collapsed.{collapsed, collapsed_cites, collapsed_finally}
 use Rattle.csl_driver.specs.Answer.{Job, entries_listed, final_number, in_final_order, in_the_end, rendered_first}
 use Rattle.csl_driver.proofs.FirstPlaced.{first-cited}
 use Rattle.csl_entries.specs.Entries.{number}
@@ -61,7 +61,7 @@ module _ {E P : Type 0} where
   collapsed-length None citation cites = refl
   collapsed-length (Some kind) citation cites = length-map (enumerate_from 0 cites) _ ∙ length-enumerate_from 0 cites
 
-  drawn-size : (c : CiteRender E P) → size (drawn_together c) ≡ size c
+  drawn-size : (c : CiteRender E P) → size (collapsed_finally c) ≡ size c
   drawn-size c = by (has_no_purpose c.items)
     where
       by : (b : Bool) → size (if b then collapsed c else c) ≡ size c
@@ -87,11 +87,11 @@ module _ {E P : Type 0} (eq : E → E → Bool) (payload_eq : P → P → Bool) 
       sum-mapped size (request_at writing (last_states mode eq writing firsts)) (λ c. length-map c.items _) firsts
 
   -- as many as the requests have
-  pub last-size : sum_by size (map drawn_together (in_the_end eq payload_eq writing mode job)) ≡ length (cites_of job.requests)
+  pub last-size : sum_by size (map collapsed_finally (in_the_end eq payload_eq writing mode job)) ≡ length (cites_of job.requests)
   last-size =
       let told = disambiguated mode eq writing (rendered_first eq payload_eq writing job) in
       let number_of = final_number eq payload_eq writing mode job in
-      sum-mapped size drawn_together drawn-size (in_the_end eq payload_eq writing mode job)
+      sum-mapped size collapsed_finally drawn-size (in_the_end eq payload_eq writing mode job)
       ∙ sum-changed size (λ k c. record c { items = with_final_items eq payload_eq number_of (items_before (in_final_order eq payload_eq writing mode job) k) c.items })
       (λ k c. length-map (enumerate_from 0 c.items) _ ∙ length-enumerate_from 0 c.items) 0 (map grouped told)
       ∙ sum-mapped size grouped grouped-size told ∙ told-size ∙ first-size

@@ -5,7 +5,7 @@ use Rattle.std.specs.Cmp.{IsEquivalence}
 use Rattle.std.specs.List.{AllZip, enumerate_from}
 use Rattle.std.proofs.lemmas.List.Elements.{All-cons, All-head, All-nil, All-tail}
 use Rattle.csl_writers.specs.Writing.{Writing}
-use Rattle.csl_collapse.specs.Collapsed.{collapsed, drawn_together}
+use Rattle.csl_collapse.specs.Collapsed.{collapsed, collapsed_finally}
 use Rattle.csl_driver.specs.Answer.{Job, entries_listed, rendered_first}
 use Rattle.csl_driver.specs.AreCitesOf.{AreCitesOf}
 use Rattle.csl_driver.proofs.FirstPlaced.{first-cited, first-placed, first-places, first-requests}
@@ -79,7 +79,7 @@ grouped-request c = by (is_grouped c.request.style.citation)
     by true = refl
     by false = refl
 
-drawn-request : {E P : Type 0} (c : CiteRender E P) → (drawn_together c).request ≡ c.request
+drawn-request : {E P : Type 0} (c : CiteRender E P) → (collapsed_finally c).request ≡ c.request
 drawn-request c = by (has_no_purpose c.items)
   where
     by : (b : Bool) → (if b then collapsed c else c).request ≡ c.request
@@ -87,8 +87,8 @@ drawn-request c = by (has_no_purpose c.items)
     by false = refl
 
 -- drawing together keeps the requests
-pub drawn-requests : {E P : Type 0} (cites : List (CiteRender E P)) → map (λ c. c.request) (map drawn_together cites) ≡ map (λ c. c.request) cites
-drawn-requests cites = same-mapped drawn_together (λ c. c.request) drawn-request cites
+pub drawn-requests : {E P : Type 0} (cites : List (CiteRender E P)) → map (λ c. c.request) (map collapsed_finally cites) ≡ map (λ c. c.request) cites
+drawn-requests cites = same-mapped collapsed_finally (λ c. c.request) drawn-request cites
 
 -- what is asked of requests holds of the requests of their cites
 pub of-requests : {E P : Type 0} (Q : Request E P → Type 0) (cites : List (CiteRender E P)) (requests : List (Request E P))

@@ -8,9 +8,9 @@ use Rattle.std.proofs.lemmas.List.Concat.{length-flat_map}
 use Rattle.std.proofs.lemmas.List.Elements.{filter-append}
 use Rattle.std.proofs.lemmas.List.Sums.{sum_by-cons}
 use Rattle.csl_assembly.specs.CitationTree.{citation_tasks}
-use Rattle.csl_collapse.specs.Collapsed.{drawn_together}
+use Rattle.csl_collapse.specs.Collapsed.{collapsed_finally}
 use Rattle.csl_driver.specs.Account.{cost, listed_count, rerendered, where_listed}
-use Rattle.csl_driver.specs.Answer.{Job, entries_listed, listed_first_cites, in_final_order, in_the_end, order_in_use, rendered_first}
+use Rattle.csl_driver.specs.Answer.{Job, entries_listed, listed_first_cites, in_final_order, in_the_end, used_order, rendered_first}
 use Rattle.csl_driver.specs.WriterTasks.{begun_tasks, last_tasks, listed_tasks, tasks, where_wanted}
 use Rattle.csl_driver.proofs.FirstPlaced.{first-cited}
 use Rattle.csl_driver.proofs.ListedCount.{firsts-counted}
@@ -110,7 +110,7 @@ module _ {E P : Type 0} (eq : E → E → Bool) (laws : IsEquivalence eq) (paylo
       let ordered = ordered-stand laws writing payload_eq job {table = table} refl {begun = firsts} refl mode {told = _} {ordered = in_final_order eq payload_eq writing mode job} refl refl in
       let stand = final-stand eq laws writing table job.requests (in_final_order eq payload_eq writing mode job) ordered payload_eq _ in
       wanted-count job.wanted.style.bibliography _ _
-      (length-map (listed_first_cites eq payload_eq writing mode job) _ ∙ firsts-counted eq laws in_end job.requests (order_in_use job.wanted) table refl stand)
+      (length-map (listed_first_cites eq payload_eq writing mode job) _ ∙ firsts-counted eq laws in_end job.requests (used_order job.wanted) table refl stand)
 
   -- as much as the account says
   pub task-count : length (tasks eq payload_eq writing mode job) ≡ cost eq payload_eq writing mode job
@@ -118,11 +118,11 @@ module _ {E P : Type 0} (eq : E → E → Bool) (laws : IsEquivalence eq) (paylo
       let begun : List (TaskValue E P) = begun_tasks eq payload_eq job in
       let again : List (TaskValue E P) = round_tasks mode eq writing firsts in
       let listed : List (TaskValue E P) = listed_tasks eq payload_eq writing mode job in
-      let last : List (TaskValue E P) = last_tasks (map drawn_together in_end) in
+      let last : List (TaskValue E P) = last_tasks (map collapsed_finally in_end) in
       let first_seam = length-append begun (again ++ (listed ++ last)) in
       let second_seam = length-append again (listed ++ last) in
       let third_seam = length-append listed last in
-      let in_last = last-count (map drawn_together in_end) ∙ last-size eq payload_eq writing mode job in
+      let in_last = last-count (map collapsed_finally in_end) ∙ last-size eq payload_eq writing mode job in
       let in_listed = listed-count in
       let in_again = rounds-count in
       let in_begun = begun-count in

@@ -30,8 +30,8 @@ module _ {E P : Type 0} (eq : E → E → Bool) (payload_eq : P → P → Bool) 
   rerendered = rerenders (cited job.requests)
       (round_tables mode eq writing (rendered_first eq payload_eq writing job))
 
-  -- the renderings: two for each cite, hidden or not; those of the rounds; and one for each entry of the
-  -- bibliography, where there is one
+  -- the renderings: two for each cite, hidden or not; those of the rounds; and one for each entry
+  -- of the bibliography, where there is one
   abbrev pub cost : ℕ
   cost = 2 * length (cites_of job.requests) + rerendered + listed_count eq job.wanted job.requests
 

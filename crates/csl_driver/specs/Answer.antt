@@ -1,12 +1,12 @@
 -- The whole answer, from the whole list of requests.
-use Rattle.std.specs.Prelude.{ℕ, Bool, List, map, Option, None, Some, if◌then◌else◌, option_map}
+use Rattle.std.specs.Prelude.{ℕ, Bool, List, map, Option, None, Some, if◌then◌else◌, is_some, option_map}
 use Rattle.std.specs.List.{enumerate_from, filter_map}
 use Rattle.csl_assembly.specs.BibliographyItems.{bibliography_of}
 use Rattle.csl_assembly.specs.CitationTree.{citation_tree}
 use Rattle.csl_assembly.specs.declared.rendered.Rendered.{Rendered}
 use Rattle.csl_assembly.specs.declared.rendered.RenderedCitation.{RenderedCitation}
-use Rattle.csl_collapse.specs.Collapsed.{drawn_together}
-use Rattle.csl_entries.specs.Entries.{used_order, bibliography_order, distinct, number}
+use Rattle.csl_collapse.specs.Collapsed.{collapsed_finally}
+use Rattle.csl_entries.specs.Entries.{bibliography_order, distinct, number}
 use Rattle.csl_grouping.specs.Blocks.{grouped}
 use Rattle.csl_passes.specs.Renders.{CiteRender, ItemRender}
 use Rattle.csl_passes.specs.Request.{Request, Wanted, cited, wanted_source}
@@ -24,17 +24,18 @@ pub record Job (E P : Type 0) : Type 0 where
   pub offset : ℕ
 
 -- the order that the bibliography goes by, if it goes by one
-abbrev pub order_in_use : {E : Type 0} → Wanted E → Option (List E)
-order_in_use wanted = used_order wanted.style wanted.order
+abbrev pub used_order : {E : Type 0} → Wanted E → Option (List E)
+used_order wanted = if is_some wanted.style.bibliography then wanted.order else None
 
 module _ {E P : Type 0} (eq : E → E → Bool) where
   -- the bibliography's entries
   abbrev pub entries_listed : Wanted E → List (Request E P) → List E
-  entries_listed wanted requests = bibliography_order eq (order_in_use wanted) (cited requests)
+  entries_listed wanted requests = bibliography_order eq (used_order wanted) (cited requests)
 
-  -- the entries by which the final numbers go: the bibliography's where an order is used, else those of the
-  -- cites in their final order
-  abbrev pub numbered_finally : Option (List E) → List (Request E P) → List (CiteRender E P) → List E
+  -- the entries by which the final numbers go: the bibliography's where an order is used, else
+  -- those of the cites in their final order
+  abbrev pub numbered_finally : Option (List E) → List (Request E P)
+      → List (CiteRender E P) → List E
   numbered_finally None requests cites = distinct eq (cited_finally cites)
   numbered_finally (Some order) requests cites = bibliography_order eq (Some order) (cited requests)
 
@@ -48,7 +49,8 @@ module _ {E P : Type 0} (writing : Writing E P) where
   abbrev pub citations_of : List (CiteRender E P) → List RenderedCitation
   citations_of cites = map (λ c. citation_of c.0 c.1) (enumerate_from 0 cites)
 
-module _ {E P : Type 0} (eq : E → E → Bool) (payload_eq : P → P → Bool) (writing : Writing E P) where
+module _ {E P : Type 0} (eq : E → E → Bool) (payload_eq : P → P → Bool)
+    (writing : Writing E P) where
   -- the cites of all requests, rendered by their first properties; their numbers are those of the
   -- bibliography
   abbrev pub rendered_first : Job E P → List (CiteRender E P)
@@ -65,7 +67,7 @@ module _ {E P : Type 0} (eq : E → E → Bool) (payload_eq : P → P → Bool) 
     -- the number of an entry in the end
     abbrev pub final_number : E → ℕ
     final_number = number eq job.offset
-        (numbered_finally eq (order_in_use job.wanted) job.requests in_final_order)
+        (numbered_finally eq (used_order job.wanted) job.requests in_final_order)
 
     -- the cites with their final positions and numbers
     abbrev pub in_the_end : List (CiteRender E P)
@@ -73,14 +75,15 @@ module _ {E P : Type 0} (eq : E → E → Bool) (payload_eq : P → P → Bool) 
 
     -- the first cites, in the final order, of the bibliography's entries
     abbrev pub listed_first_cites : List (ItemRender E P)
-    listed_first_cites = filter_map (first_item eq in_the_end) (entries_listed eq job.wanted job.requests)
+    listed_first_cites = filter_map (first_item eq in_the_end)
+        (entries_listed eq job.wanted job.requests)
 
-    -- the whole answer: one citation for each request, and the bibliography where the style that was asked
-    -- for has one
+    -- the whole answer: one citation for each request, and the bibliography where the style that
+    -- was asked for has one
     abbrev pub rendered : Rendered
     rendered = record {
       bibliography = option_map
           (λ b. bibliography_of writing (wanted_source job.wanted) b listed_first_cites)
           job.wanted.style.bibliography;
-      citations = citations_of writing (map drawn_together in_the_end);
+      citations = citations_of writing (map collapsed_finally in_the_end);
     }

@@ -8,7 +8,7 @@ use Rattle.csl_assembly.specs.declared.rendered.RenderedCitation.{RenderedCitati
 use Rattle.csl_style_values.specs.declared.style.Collapse.TheVariants.{CitationNumber}
 use Rattle.csl_writers.specs.Writing.{Writing}
 use Rattle.csl_collapse.specs.NumberLaws.{CanBeReadBack, is_hidden}
-use Rattle.csl_driver.specs.Answer.{Job, citations_of, order_in_use, rendered_first}
+use Rattle.csl_driver.specs.Answer.{Job, citations_of, used_order, rendered_first}
 use Rattle.csl_driver.specs.ListedOnce.{ListsEachOnce}
 use Rattle.csl_driver.specs.ShownEntries.{entries_shown}
 use Rattle.csl_driver.specs.declared.account.Account.{Account}
@@ -65,7 +65,8 @@ module _ {E P : Type 0} where
   -- the cites of a request, and the same in a final order
   pub record IsBroughtTogether (cites grouped : CiteRender E P) : Type 0 where
     pub same_request : grouped.request ≡ cites.request
-    pub final_order : HasFinalOrder (is_grouped cites.request.style.citation) cites.items grouped.items
+    pub final_order : HasFinalOrder (is_grouped cites.request.style.citation) cites.items
+        grouped.items
 
   -- the cites of a request, and the same with other positions and numbers
   pub record IsSettled (cites settled : CiteRender E P) : Type 0 where
@@ -75,7 +76,8 @@ module _ {E P : Type 0} where
   -- the cites of a request, and the same collapsed, which can be read back where none has a purpose
   pub record IsReadBack (cites drawn : CiteRender E P) : Type 0 where
     pub same_request : drawn.request ≡ cites.request
-    -- they are the same cites in the same order, but for what is hidden, for overrides and for verdicts
+    -- they are the same cites in the same order, but for what is hidden, for overrides and for
+    -- verdicts
     pub same_cites : map uncollapsed drawn.items ≡ map uncollapsed cites.items
     -- what was hidden stays hidden
     pub hidden_stays : (k : ℕ) → is_hidden cites.items k ≡ true → is_hidden drawn.items k ≡ true
@@ -89,11 +91,12 @@ module _ {E P : Type 0} where
         → CanBeReadBack cites.items drawn.items cites.request.style.citation.collapse
 
 module _ {E P : Type 0} (eq : E → E → Bool) (payload_eq : P → P → Bool) where
-  -- how the citations of an answer came from the cites as they were disambiguated, where entries have these
-  -- numbers
+  -- how the citations of an answer came from the cites as they were disambiguated, where entries
+  -- have these numbers
   pub record ComeFrom (writing : Writing E P) (job : Job E P) (number_of : E → ℕ)
       (told : List (CiteRender E P)) (citations : List RenderedCitation) : Type 0 where
-    -- the cites of each request in a final order, then with final positions and numbers, then collapsed
+    -- the cites of each request in a final order, then with final positions and numbers, then
+    -- collapsed
     pub ordered : List (CiteRender E P)
     pub settled : List (CiteRender E P)
     pub drawn : List (CiteRender E P)
@@ -111,7 +114,8 @@ module _ {E P : Type 0} (eq : E → E → Bool) (payload_eq : P → P → Bool) 
     pub asked_for : map (λ c. c.request) drawn ≡ job.requests
     pub made : citations ≡ citations_of writing drawn
     -- each citation shows those of its cites that aren't hidden, each once, in this order
-    pub shows : map (λ c. entries_shown c.citation) citations ≡ map (λ c. places_of (shown c.items)) drawn
+    pub shows : map (λ c. entries_shown c.citation) citations
+        ≡ map (λ c. places_of (shown c.items)) drawn
 
 -- the entries of an account, and the number that it has for each
 abbrev pub entries_in : {E : Type 0} → Account E → List E
@@ -121,13 +125,16 @@ abbrev pub numbers_in : {E : Type 0} → (E → E → Bool) → Account E → E 
 numbers_in eq account = number_in eq (entries_in account) account.numbers.items
 
 -- what holds of every answer and its account
-pub record KeepsLaws {E P : Type 0} (eq : E → E → Bool) (payload_eq : P → P → Bool) (writing : Writing E P)
+pub record KeepsLaws {E P : Type 0} (eq : E → E → Bool) (payload_eq : P → P → Bool)
+    (writing : Writing E P)
     (mode : RoundMode) (job : Job E P) (r : Rendered × Account E) : Type 0 where
-  -- the tables of states: the empty one, one more for each round that marked, and last the account's states
+  -- the tables of states: the empty one, one more for each round that marked, and last the
+  -- account's states
   pub tables : List (StateTable E)
   pub first_is_empty : slice_get tables 0 ≡ Some no_states
   pub one_for_each_round : r.1.rounds ≡ min (length tables - 1) (2 ^ 128 - 1)
-  pub last_is_told : r.1.states.items ≡ map (λ e. told_by (last_table tables e.now)) r.1.entries.items
+  pub last_is_told : r.1.states.items
+      ≡ map (λ e. told_by (last_table tables e.now)) r.1.entries.items
   -- states go on from table to table, suffixes stay, nothing is left, and ranks rise
   pub rounds : IsLawful mode eq writing (rendered_first eq payload_eq writing job) tables r.1.rounds
   -- the account's entries are the distinct ones that are cited, in the order of their first cites
@@ -137,12 +144,13 @@ pub record KeepsLaws {E P : Type 0} (eq : E → E → Bool) (payload_eq : P → 
   pub citations : ComeFrom eq payload_eq writing job (numbers_in eq r.1)
       (last_shown mode eq writing (rendered_first eq payload_eq writing job) tables) r.0.citations
   -- where no order is used, numbers go by the entries' first cites in these orders
-  pub numbers_in_order : order_in_use job.wanted ≡ None
+  pub numbers_in_order : used_order job.wanted ≡ None
       → AreInOrder eq job.offset (entries_in r.1) r.1.numbers.items
       (distinct eq (cited_finally citations.ordered))
   -- and else by the bibliography's entries
-  pub numbers_by_order : (order : List E) → order_in_use job.wanted ≡ Some order
+  pub numbers_by_order : (order : List E) → used_order job.wanted ≡ Some order
       → AreInOrder eq job.offset (entries_in r.1) r.1.numbers.items
       (bibliography_order eq (Some order) (cited job.requests))
   -- the bibliography lists each of the account's entries once, and no other
-  pub bibliography : ListsEachOnce eq writing job (entries_in r.1) citations.settled r.0.bibliography
+  pub bibliography : ListsEachOnce eq writing job (entries_in r.1) citations.settled
+      r.0.bibliography

@@ -1,4 +1,5 @@
--- For the code: cites that were rendered, and the requests and the table of entries that they belong to.
+-- For the code: cites that were rendered, and the requests and the table of entries that they
+-- belong to.
 use Rattle.std.specs.Prelude.{◌≡◌, Bool, List, map}
 use Rattle.csl_entries.specs.Entries.{is_in}
 use Rattle.csl_entries.specs.PlacedItems.{ArePlaced}
@@ -8,7 +9,8 @@ use Rattle.csl_passes.specs.Request.{Request}
 use Rattle.csl_positions.specs.FinalProperties.{cited_finally}
 
 pub record AreCitesOf {E P : Type 0} (eq : E → E
-    → Bool) (table : Table E) (requests : List (Request E P)) (cites : List (CiteRender E P)) : Type 0 where
+    → Bool) (table : Table E) (requests : List (Request E P))
+    (cites : List (CiteRender E P)) : Type 0 where
   -- they are those of the requests, one after another
   pub of : map (λ c. c.request) cites ≡ requests
   -- each knows where its entry stands in the table

@@ -9,8 +9,8 @@ use Rattle.csl_entries.specs.Table.{table_of}
 use Rattle.csl_entries.specs.TableView.{table_view}
 use Rattle.csl_passes.specs.Request.{Request, cited}
 
--- the number that follows the offset by where the entry at a place stands in a listing; behind all where it
--- isn't listed
+-- the number that follows the offset by where the entry at a place stands in a listing; behind all
+-- where it isn't listed
 abbrev pub listed_number : Listed → ℕ → ℕ → ℕ
 listed_number l offset p = offset + unwrap_or (slice_get l.numbers p) (length l.order)
 
@@ -23,6 +23,7 @@ numbers_at l offset count = map (listed_number l offset) (range_with_len 0 count
 pub record IsCitedBy {E P : Type 0} (eq : E → E
     → Bool) (requests : List (Request E P)) (order : Option (List E)) (c : Cited E) : Type 0 where
   pub table : table_view c.table ≡ table_of eq requests
-  pub listed : IsListingOf eq (distinct eq (cited requests)) (bibliography_order eq order (cited requests))
+  pub listed : IsListingOf eq (distinct eq (cited requests))
+      (bibliography_order eq order (cited requests))
       (listing_view c.listing)
   pub fits : c.offset + length (distinct eq (cited requests)) < 2 ^ 64

@@ -13,5 +13,4 @@ pub mod Promised
 pub mod JobView
 pub mod DraftView
 pub mod WriterTasks
-pub mod Finished
 pub mod OwnError

@@ -42,7 +42,8 @@ module _ {E P : Type 0} (eq : E → E → Bool) (writing : Writing E P) where
     pub as_many : IfSome bibliography (λ b. length b.items ≡ length entries)
     -- each item has the key of the entry of its cite
     pub keys : IfSome bibliography (λ b. keys_of b ≡ map (λ i. key_of i.entry) firsts)
-    -- so, where equal entries have equal keys, they have the keys of the entries in the bibliography's order
+    -- so, where equal entries have equal keys, they have the keys of the entries in the
+    -- bibliography's order
     pub keys_in_order : EqualHaveEqualKeys
         → IfSome bibliography (λ b. keys_of b
         ≡ map key_of (entries_listed eq job.wanted job.requests))

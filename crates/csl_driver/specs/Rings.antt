@@ -1,4 +1,5 @@
--- Why the driver refuses: a style whose macros call each other in a ring, or numbers that grow too large.
+-- Why the driver refuses: a style whose macros call each other in a ring, or numbers that grow too
+-- large.
 use Rattle.std.specs.Prelude.{◌≡◌, ℕ, ◌+◌, ◌≤◌, ◌^◌, Bool, List, length, take, slice_get, Some, All}
 use Rattle.csl_style_values.specs.Ring.{HasNoRing, IsFirstRing}
 use Rattle.csl_style_values.specs.Style.{StyleValue}
@@ -6,8 +7,8 @@ use Rattle.csl_entries.specs.Entries.{distinct}
 use Rattle.csl_passes.specs.Request.{Request, cited}
 use Rattle.csl_driver.specs.declared.error.DriverError.{DriverError}
 use Rattle.csl_driver.specs.declared.error.DriverError.TheVariants as errors
-use Rattle.csl_driver.specs.declared.error.RingPlace.{RingPlace}
-use Rattle.csl_driver.specs.declared.error.RingPlace.TheVariants as places
+use Rattle.csl_driver.specs.declared.error.RingLocation.{RingLocation}
+use Rattle.csl_driver.specs.declared.error.RingLocation.TheVariants as places
 
 module _ {E P : Type 0} where
   -- no request's style has a ring
@@ -18,15 +19,17 @@ module _ {E P : Type 0} where
   abbrev pub NoRingAtAll : List (Request E P) → StyleValue → Type 0
   NoRingAtAll requests style = NoRingIn requests × HasNoRing style.macros
 
-  -- the style at this place is the first that has a ring, the requests' in order and then that of the
-  -- bibliography, and the i-th is its first macro on a ring
-  abbrev pub IsFirstRingOf : List (Request E P) → StyleValue → RingPlace → ℕ → Type 0
+  -- the style at this place is the first that has a ring, the requests' in order and then that of
+  -- the bibliography, and the i-th is its first macro on a ring
+  abbrev pub IsFirstRingOf : List (Request E P) → StyleValue → RingLocation → ℕ → Type 0
   IsFirstRingOf requests style (places.Request k) i =
       (r : Request E P) × (slice_get requests k ≡ Some r) × NoRingIn (take k requests)
       × IsFirstRing r.style.macros (Some i)
-  IsFirstRingOf requests style places.Bibliography i = NoRingIn requests × IsFirstRing style.macros (Some i)
+  IsFirstRingOf requests style places.Bibliography i = NoRingIn requests
+      × IsFirstRing style.macros (Some i)
 
-  -- a refusal for a ring names the first one, and none is for the numbers; memory may run out anywhere
+  -- a refusal for a ring names the first one, and none is for the numbers; memory may run out
+  -- anywhere
   abbrev pub RefusesRing : List (Request E P) → StyleValue → DriverError → Type 0
   RefusesRing requests style (errors.MacroRing place i) = IsFirstRingOf requests style place i
   RefusesRing requests style errors.NumberOverflow = ⊥
@@ -36,15 +39,17 @@ module _ {E P : Type 0} where
   abbrev pub Overflows : (E → E → Bool) → List (Request E P) → ℕ → Type 0
   Overflows eq requests offset = 2 ^ 64 ≤ offset + length (distinct eq (cited requests))
 
-  -- each refusal has its reason: too large a number where no style has a ring, and otherwise a ring or memory
+  -- each refusal has its reason: too large a number where no style has a ring, and otherwise a ring
+  -- or memory
   abbrev pub Refuses : (E → E → Bool) → List (Request E P) → StyleValue → ℕ → DriverError → Type 0
   Refuses eq requests style offset errors.NumberOverflow = NoRingAtAll requests style
       × Overflows eq requests offset
   Refuses eq requests style offset refusal = RefusesRing requests style refusal
 
--- a citation that stands for itself is refused for the first macro on a ring, at the place of a first
--- request, and for nothing else but want of memory
+-- a citation that stands for itself is refused for the first macro on a ring, at the place of a
+-- first request, and for nothing else but want of memory
 abbrev pub RefusesAlone : StyleValue → DriverError → Type 0
-RefusesAlone style (errors.MacroRing place i) = (place ≡ places.Request 0) × IsFirstRing style.macros (Some i)
+RefusesAlone style (errors.MacroRing place i) = (place ≡ places.Request 0)
+    × IsFirstRing style.macros (Some i)
 RefusesAlone style errors.NumberOverflow = ⊥
 RefusesAlone style (errors.OutOfMemory a) = Unit {0}

@@ -45,7 +45,8 @@ module _ {E P : Type 0} (writing : Writing E P) where
 
   -- the trees of the cites that aren't hidden and have content
   abbrev pub lone_trees : Source → List (RequestedCite E P) → List (List Child)
-  lone_trees source cites = filter has_content (map (lone_tree source) (filter (λ c. not c.hidden) cites))
+  lone_trees source cites =
+      filter has_content (map (lone_tree source) (filter (λ c. not c.hidden) cites))
 
   -- these trees between the layout's prefix and suffix, joined by its delimiter, or else by `, `
   abbrev pub standalone : Request E P → List Child

@@ -3,7 +3,7 @@ use Rattle.std.specs.Prelude.{Bool, List, [], ◌++◌, Option, None, Some, map}
 use Rattle.std.specs.List.{enumerate_from, flat_map}
 use Rattle.csl_assembly.specs.BibliographyItems.{bibliography_tasks}
 use Rattle.csl_assembly.specs.CitationTree.{citation_tasks}
-use Rattle.csl_collapse.specs.Collapsed.{drawn_together}
+use Rattle.csl_collapse.specs.Collapsed.{collapsed_finally}
 use Rattle.csl_driver.specs.Answer.{Job, entries_listed, listed_first_cites, in_the_end, rendered_first}
 use Rattle.csl_entries.specs.Entries.{number}
 use Rattle.csl_passes.specs.Renders.{CiteRender}
@@ -37,7 +37,10 @@ module _ {E P : Type 0} (eq : E → E → Bool) (payload_eq : P → P → Bool) 
         (bibliography_tasks (wanted_source job.wanted)
         (listed_first_cites eq payload_eq writing mode job))
 
-    -- all that is asked for: the first renders, those of the rounds, the bibliography, the citations
+    -- all that is asked for: the first renders, those of the rounds, the bibliography, the
+    -- citations
     abbrev pub tasks : List (TaskValue E P)
-    tasks = begun_tasks job ++ (round_tasks mode eq writing (rendered_first eq payload_eq writing job)
-        ++ (listed_tasks ++ last_tasks (map drawn_together (in_the_end eq payload_eq writing mode job))))
+    tasks = begun_tasks job
+        ++ (round_tasks mode eq writing (rendered_first eq payload_eq writing job)
+        ++ (listed_tasks ++ last_tasks
+        (map collapsed_finally (in_the_end eq payload_eq writing mode job))))

@@ -28,8 +28,8 @@ pub struct Account<'a, T> {
 }
 
 impl<'d, 'o, 'a, T: EntryLike, P> Draft<'d, 'o, 'a, T, P> {
-    /// The account of an answer, after these rounds and so many renderings. The numbers are those of the
-    /// entries, by their places, and behind them that of the next.
+    /// The account of an answer, after these rounds and so many renderings. The numbers are those
+    /// of the entries, by their places, and behind them that of the next.
     pub(crate) fn account(
         self,
         alloc: Global,

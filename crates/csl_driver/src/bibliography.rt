@@ -1,7 +1,11 @@
 //! The bibliography of an answer.
 ghost use Rattle.std.specs.Prelude.{◌≡◌, IfOk, OnOk, option_map};
 ghost use Rattle.std.specs.List.{filter_map};
-ghost use Rattle.csl_assembly.specs.BibliographyItems.{bibliography_of, bibliography_tasks, cites_at};
+ghost use Rattle.csl_assembly.specs.BibliographyItems.{
+  bibliography_of,
+  bibliography_tasks,
+  cites_at,
+};
 ghost use Rattle.csl_driver.specs.Answer.{entries_listed};
 ghost use Rattle.csl_driver.specs.AreCitesOf.{AreCitesOf};
 ghost use Rattle.csl_driver.specs.DraftView.{job_in, table_in};
@@ -31,7 +35,8 @@ impl<'d, 'o, 'a, T: EntryLike, P: Drop> Draft<'d, 'o, 'a, T, P> {
         writer: &mut W,
         counter: &mut Renders,
     ) -> Result<Option<RenderedBibliography>, W::Error>
-        requires cites { AreCitesOf T.eq (table_in self) (job_in self).requests (renders_view cites.now) }
+        requires cites { AreCitesOf T.eq (table_in self) (job_in self).requests
+            (renders_view cites.now) }
         ensures bibliography { let job = job_in self.entry in
             IfOk result (λ r. r
             ≡ option_map (λ b. bibliography_of (writing_of T.answers (W.state writer.old))
@@ -64,7 +69,8 @@ impl<'d, 'o, 'a, T: EntryLike, P: Drop> Draft<'d, 'o, 'a, T, P> {
         alloc: Global,
         cites: &[SpeculativeCiteRender<'_, 'a, T, P>],
     ) -> Result<Vec<(usize, usize)>, AllocError>
-        requires cites { AreCitesOf T.eq (table_in self) (job_in self).requests (renders_view cites.now) }
+        requires cites { AreCitesOf T.eq (table_in self) (job_in self).requests
+            (renders_view cites.now) }
         ensures { let job = job_in self.entry in
             IfOk result (λ v. cites_at (renders_view cites.now) v.items
             ≡ filter_map (first_item T.eq (renders_view cites.now))

@@ -4,7 +4,7 @@ ghost use Rattle.csl_style_values.specs.StyleView.{style_view};
 ghost use Rattle.csl_entries.specs.ListingView.{listing_view};
 ghost use Rattle.csl_entries.specs.TableView.{table_view};
 ghost use Rattle.csl_passes.specs.RequestView.{order_view, requests_view, wanted_view};
-ghost use Rattle.csl_driver.specs.Answer.{order_in_use};
+ghost use Rattle.csl_driver.specs.Answer.{used_order};
 ghost use Rattle.csl_driver.specs.Cited.{IsCitedBy, listed_number, numbers_at};
 ghost use Rattle.csl_driver.specs.Rings.{Refuses};
 
@@ -12,7 +12,7 @@ use crate::error::DriverError;
 use csl_base::entry::EntryLike;
 use csl_entries::listing::Listing;
 use csl_entries::table::EntryTable;
-use csl_passes::acyclic::{AcyclicRequests, AcyclicWanted};
+use csl_passes::acyclic::{AcyclicBibliographyRequest, AcyclicRequests};
 use csl_passes::request::{BibliographyRequest, Order};
 use std::alloc::{AllocError, Global};
 
@@ -29,7 +29,7 @@ pub(crate) struct Cited<'a, T: EntryLike> {
 pub(crate) fn used_order<'o, 'a, T>(
     wanted: &BibliographyRequest<'o, 'a, T>,
 ) -> Option<Order<'o, 'a, T>>
-    ensures { order_view result ≡ order_in_use (wanted_view wanted.now) }
+    ensures { order_view result ≡ used_order (wanted_view wanted.now) }
 {
     match (&wanted.style.bibliography, &wanted.order) {
         (Some(_), Some(order)) => Some(Order(order.0)),
@@ -42,11 +42,11 @@ impl<'a, T: EntryLike> Cited<'a, T> {
     pub(crate) fn by_requests<P>(
         alloc: Global,
         requests: AcyclicRequests<'_, 'a, T, P>,
-        wanted: AcyclicWanted<'_, '_, 'a, T>,
+        wanted: AcyclicBibliographyRequest<'_, '_, 'a, T>,
         offset: usize,
     ) -> Result<Cited<'a, T>, DriverError>
         ensures known { IfOk result (IsCitedBy T.eq (requests_view requests.entry.requests.now)
-            (order_in_use (wanted_view wanted.entry.wanted.now))) }
+            (used_order (wanted_view wanted.entry.wanted.now))) }
         ensures offset { IfOk result (λ c. c.offset ≡ offset) }
         ensures refused { IfErr result (Refuses T.eq (requests_view requests.entry.requests.now)
             (wanted_view wanted.entry.wanted.now).style offset) }
@@ -63,10 +63,11 @@ impl<'a, T: EntryLike> Cited<'a, T> {
         })
     }
 
-    /// The numbers that a listing gives the entries, by their places in the table, and behind them that
-    /// which the next entry would have.
+    /// The numbers that a listing gives the entries, by their places in the table, and behind them
+    /// that which the next entry would have.
     pub(crate) fn numbers(&self, alloc: Global, listing: &Listing) -> Result<Vec<usize>, AllocError>
-        requires fits { (p : ℕ) → listed_number (listing_view listing.now) self.now.offset p < 2 ^ 64 }
+        requires fits { (p : ℕ)
+            → listed_number (listing_view listing.now) self.now.offset p < 2 ^ 64 }
         ensures { IfOk result (λ v. v.items
             ≡ numbers_at (listing_view listing.now) self.now.offset
             (length (table_view self.now.table).entries)) }

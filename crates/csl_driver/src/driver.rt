@@ -16,8 +16,8 @@ pub struct BibliographyDriver<'a, T, P> {
     pub(crate) alloc: Global,
 }
 
-/// Drops requests one by one: a list of lists that hold references to a type parameter can't be dropped as
-/// a whole.
+/// Drops requests one by one: a list of lists that hold references to a type parameter can't be
+/// dropped as a whole.
 fn discard<T, P: Drop>(mut requests: Vec<CitationRequest<'_, T, P>>) {
     while let Some(_request) = requests.pop() {}
     requests.destroy_empty();
@@ -63,14 +63,15 @@ impl<'a, T, P: Drop> BibliographyDriver<'a, T, P> {
         }
     }
 
-    /// Takes a request, behind those that came before. It is refused only where the list of requests
-    /// couldn't grow; then it comes back as it was, and the driver is as it was.
+    /// Takes a request, behind those that came before. It is refused only where the list of
+    /// requests couldn't grow; then it comes back as it was, and the driver is as it was.
     pub fn citation(
         &mut self,
         mut request: CitationRequest<'a, T, P>,
     ) -> Result<(), CitationRefused<'a, T, P>>
         ensures added { OnOk result
-            (driver_view self.new ≡ with_request (driver_view self.old) (request_view request.entry)) }
+            (driver_view self.new
+            ≡ with_request (driver_view self.old) (request_view request.entry)) }
         ensures refused { IfErr result (λ e. e.request ≡ request.entry) }
         ensures unchanged { OnErr result (driver_view self.new ≡ driver_view self.old) }
     {

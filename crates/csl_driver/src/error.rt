@@ -9,7 +9,10 @@ use std::alloc::AllocError;
 pub enum DriverError {
     /// The macros of a style call each other in a ring: the style's place, and the place in its
     /// macros of the first one that lies on a ring.
-    MacroRing { place: RingPlace, macro_idx: usize },
+    MacroRing {
+        place: RingLocation,
+        macro_index: usize,
+    },
     /// The offset and the number of distinct entries together are above the greatest `usize`.
     NumberOverflow,
     /// There was no memory left.
@@ -18,16 +21,17 @@ pub enum DriverError {
 
 /// Where a style was handed in.
 #[derive(Clone, Copy, Debug, PartialEq, Eq)]
-pub enum RingPlace {
+pub enum RingLocation {
     /// With the request of this place, from 0.
     Request(usize),
     /// With the request for a bibliography.
     Bibliography,
 }
 
-/// A law: `==` of refusals, and of where a style with a ring was handed in, is true exactly of equal values.
+/// A law: `==` of refusals, and of where a style with a ring was handed in, is true exactly of
+/// equal values.
 pub fn error_equality_decides()
-    ensures place { TellsEqual ⟦<RingPlace as PartialEq>⟧.eq }
+    ensures place { TellsEqual ⟦<RingLocation as PartialEq>⟧.eq }
     ensures error { TellsEqual ⟦<DriverError as PartialEq>⟧.eq }
 {}
 

@@ -1,12 +1,17 @@
 //! The whole answer, from all requests at once.
 ghost use Rattle.std.specs.Prelude.{◌≡◌, ◌+◌, length, map, OnOk, IfErr, IfOk};
-ghost use Rattle.csl_collapse.specs.Collapsed.{drawn_together};
-ghost use Rattle.csl_driver.specs.Answer.{citations_of, numbered_finally, order_in_use, rendered, rendered_first};
+ghost use Rattle.csl_collapse.specs.Collapsed.{collapsed_finally};
+ghost use Rattle.csl_driver.specs.Answer.{
+  citations_of,
+  numbered_finally,
+  used_order,
+  rendered,
+  rendered_first,
+};
 ghost use Rattle.csl_driver.specs.AreCitesOf.{AreCitesOf};
 ghost use Rattle.csl_driver.specs.JobView.{job_of};
 ghost use Rattle.csl_driver.specs.DraftView.{job_in, table_in};
-ghost use Rattle.csl_driver.specs.Finished.{FinishesWith, WhereDriverRefuses};
-ghost use Rattle.csl_driver.specs.Promised.{Finishes, IsAnswer};
+ghost use Rattle.csl_driver.specs.Promised.{Finishes, FinishesWith, IsAnswer, WhereDriverRefuses};
 ghost use Rattle.csl_driver.specs.WriterTasks.{begun_tasks, last_tasks, tasks};
 ghost use Rattle.csl_entries.specs.Entries.{number};
 ghost use Rattle.csl_grouping.specs.Blocks.{grouped};
@@ -28,7 +33,7 @@ use csl_assembly::citation::citation_tree;
 use csl_assembly::rendered::{Rendered, RenderedCitation};
 use csl_base::entry::EntryLike;
 use csl_base::seq::Seq;
-use csl_collapse::collapse::draw_together;
+use csl_collapse::collapse::collapse_cites;
 use csl_grouping::grouping::group_cites;
 use csl_passes::acyclic::AcyclicRequest;
 use csl_passes::renders::{Cites, SpeculativeCiteRender};
@@ -47,18 +52,19 @@ use std::alloc::{AllocError, Global};
 impl<'a, T: EntryLike, P: Eq + Drop> BibliographyDriver<'a, T, P> {
     /// Answers all requests: a citation for each, and the bibliography, where its style has one.
     ///
-    /// Cites that read alike are disambiguated, cites of one author are grouped, and runs of numbers and years
-    /// are collapsed, as their styles ask for (CSL 1.0.2, disambiguation, cite grouping, cite collapsing);
-    /// positions and numbers are those of the final order. Each cite is written for its purpose, by its
-    /// locator; a cite of the year alone is its date text. The entries of the bibliography are those of the
-    /// handed order that are cited, and then all that are cited, with repeated authors substituted and first
-    /// fields apart where its style asks for it. Where an order is handed in and the style has a bibliography
-    /// its order gives the numbers, else that of the cites; they begin at the offset.
+    /// Cites that read alike are disambiguated, cites of one author are grouped, and runs of
+    /// numbers and years are collapsed, as their styles ask for (CSL 1.0.2, disambiguation, cite
+    /// grouping, cite collapsing); positions and numbers are those of the final order. Each cite is
+    /// written for its purpose, by its locator; a cite of the year alone is its date text. The
+    /// entries of the bibliography are those of the handed order that are cited, and then all that
+    /// are cited, with repeated authors substituted and first fields apart where its style asks for
+    /// it. Where an order is handed in and the style has a bibliography its order gives the
+    /// numbers, else that of the cites; they begin at the offset.
     ///
     /// # Errors
-    /// `MacroRing` exactly where a style has macros that call each other in a ring; `NumberOverflow`
-    /// exactly where none has, and the offset and the number of distinct entries together are above
-    /// `usize::MAX`; `OutOfMemory` where memory runs out, at any point.
+    /// `MacroRing` exactly where a style has macros that call each other in a ring;
+    /// `NumberOverflow` exactly where none has, and the offset and the number of distinct entries
+    /// together are above `usize::MAX`; `OutOfMemory` where memory runs out, at any point.
     pub fn finish(self, request: BibliographyRequest<'_, 'a, T>) -> Result<Rendered, DriverError>
         ensures { Finishes
             (λ r. r ≡ rendered T.eq P.eq (layout_writing T.answers) RoundMode.Three
@@ -69,11 +75,12 @@ impl<'a, T: EntryLike, P: Eq + Drop> BibliographyDriver<'a, T, P> {
         Ok(rendered)
     }
 
-    /// Answers all requests, as `finish` does, and tells what it cost and how its entries are numbered and
-    /// disambiguated.
+    /// Answers all requests, as `finish` does, and tells what it cost and how its entries are
+    /// numbered and disambiguated.
     ///
-    /// The renderings are two for each cite of each request, hidden or not; one in each round that marked
-    /// for each cite whose entry it marked; and, where there is a bibliography, one for each of its entries.
+    /// The renderings are two for each cite of each request, hidden or not; one in each round that
+    /// marked for each cite whose entry it marked; and, where there is a bibliography, one for each
+    /// of its entries.
     ///
     /// # Errors
     /// Those of `finish`.
@@ -89,11 +96,12 @@ impl<'a, T: EntryLike, P: Eq + Drop> BibliographyDriver<'a, T, P> {
         Ok(self.finish_with(request, RoundMode::Three, &mut LayoutWriter::new())?)
     }
 
-    /// Answers all requests, as `finish_counted` does, but for the rounds in which cites are disambiguated:
-    /// these go on until none marks. In a round each ambiguous group is tried in all ways, and a mark counts
-    /// only where it is greater than the state of its entry; a group waits for the next round where an entry
-    /// of it was marked in this one. Each round that marks raises the rank of some entry and lowers none, so
-    /// of n distinct entries, where no first name has more than F forms, at most n(3F + 3) rounds mark.
+    /// Answers all requests, as `finish_counted` does, but for the rounds in which cites are
+    /// disambiguated: these go on until none marks. In a round each ambiguous group is tried in all
+    /// ways, and a mark counts only where it is greater than the state of its entry; a group waits
+    /// for the next round where an entry of it was marked in this one. Each round that marks raises
+    /// the rank of some entry and lowers none, so of n distinct entries, where no first name has
+    /// more than F forms, at most n(3F + 3) rounds mark.
     ///
     /// # Errors
     /// Those of `finish`.
@@ -102,18 +110,21 @@ impl<'a, T: EntryLike, P: Eq + Drop> BibliographyDriver<'a, T, P> {
         request: BibliographyRequest<'_, 'a, T>,
     ) -> Result<(Rendered, Account<'a, T>), DriverError>
         ensures { Finishes
-            (IsAnswer T.eq P.eq (layout_writing T.answers) RoundMode.Full (job_of self.entry request.entry))
+            (IsAnswer T.eq P.eq (layout_writing T.answers) RoundMode.Full
+            (job_of self.entry request.entry))
             T.eq (job_of self.entry request.entry) result }
     {
         Ok(self.finish_with(request, RoundMode::Full, &mut LayoutWriter::new())?)
     }
 
-    /// Answers all requests, as `finish_counted` does or, in mode full, as `finish_full` does, with cites,
-    /// items and dates as this writer writes them. The account counts how often it was asked.
+    /// Answers all requests, as `finish_counted` does or, in mode full, as `finish_full` does, with
+    /// cites, items and dates as this writer writes them. The account counts how often it was
+    /// asked.
     ///
     /// # Errors
-    /// `Driver` where `finish` refuses before anything is rendered, so that the writer wasn't asked for
-    /// anything; `Writer`, with the writer's own error, where it refuses, and where memory runs out later on.
+    /// `Driver` where `finish` refuses before anything is rendered, so that the writer wasn't asked
+    /// for anything; `Writer`, with the writer's own error, where it refuses, and where memory runs
+    /// out later on.
     pub fn finish_with<W: CiteWriter<T, P>>(
         self,
         request: BibliographyRequest<'_, 'a, T>,
@@ -126,13 +137,14 @@ impl<'a, T: EntryLike, P: Eq + Drop> BibliographyDriver<'a, T, P> {
         ensures asked { OnOk result (W.state writer.new
             ≡ asked_for (tasks T.eq P.eq (writing_of T.answers (W.state writer.old)) mode
             (job_of self.entry request.entry)) (W.state writer.old)) }
-        ensures unasked { IfErr result (WhereDriverRefuses (W.state writer.new ≡ W.state writer.old)) }
+        ensures unasked { IfErr result
+            (WhereDriverRefuses (W.state writer.new ≡ W.state writer.old)) }
     {
         self.answer_with(&request, mode, writer)
     }
 
-    /// Answers all requests with so many rounds, as this writer writes: rings are refused, the entries that
-    /// are cited are listed, and what is then known is finished.
+    /// Answers all requests with so many rounds, as this writer writes: rings are refused, the
+    /// entries that are cited are listed, and what is then known is finished.
     ///
     /// # Errors
     /// Those of `finish_with`.
@@ -149,7 +161,8 @@ impl<'a, T: EntryLike, P: Eq + Drop> BibliographyDriver<'a, T, P> {
         ensures asked { OnOk result (W.state writer.new
             ≡ asked_for (tasks T.eq P.eq (writing_of T.answers (W.state writer.old)) mode
             (job_of self.now request.now)) (W.state writer.old)) }
-        ensures unasked { IfErr result (WhereDriverRefuses (W.state writer.new ≡ W.state writer.old)) }
+        ensures unasked { IfErr result
+            (WhereDriverRefuses (W.state writer.new ≡ W.state writer.old)) }
     {
         let alloc = self.alloc;
         let (requests, wanted) = without_rings(alloc, &self.citations, request)?;
@@ -167,16 +180,17 @@ impl<'a, T: EntryLike, P: Eq + Drop> BibliographyDriver<'a, T, P> {
 }
 
 impl<'d, 'o, 'a, T: EntryLike, P: Eq + Drop> Draft<'d, 'o, 'a, T, P> {
-    /// The answer, and its account. The cites are rendered a first time, disambiguated and grouped, and their
-    /// entries numbered in their final order; then the bibliography is written, and from the collapsed cites
-    /// the citations.
+    /// The answer, and its account. The cites are rendered a first time, disambiguated and grouped,
+    /// and their entries numbered in their final order; then the bibliography is written, and from
+    /// the collapsed cites the citations.
     pub(crate) fn finish<W: CiteWriter<T, P>>(
         self,
         alloc: Global,
         mode: RoundMode,
         writer: &mut W,
     ) -> Result<(Rendered, Account<'a, T>), W::Error>
-        ensures answer { IfOk result (IsAnswer T.eq P.eq (writing_of T.answers (W.state writer.old)) mode
+        ensures answer { IfOk result
+            (IsAnswer T.eq P.eq (writing_of T.answers (W.state writer.old)) mode
             (job_in self.entry)) }
         ensures asked { OnOk result (W.state writer.new
             ≡ asked_for (tasks T.eq P.eq (writing_of T.answers (W.state writer.old)) mode
@@ -203,8 +217,8 @@ impl<'d, 'o, 'a, T: EntryLike, P: Eq + Drop> Draft<'d, 'o, 'a, T, P> {
         Ok((rendered, account))
     }
 
-    /// The cites of all requests, rendered by their first properties. Their numbers are those of the
-    /// bibliography.
+    /// The cites of all requests, rendered by their first properties. Their numbers are those of
+    /// the bibliography.
     fn first_renders<W: CiteWriter<T, P>>(
         self,
         alloc: Global,
@@ -212,9 +226,11 @@ impl<'d, 'o, 'a, T: EntryLike, P: Eq + Drop> Draft<'d, 'o, 'a, T, P> {
         counter: &mut Renders,
     ) -> Result<Cites<'d, 'a, T, P>, W::Error>
         ensures cites { IfOk result (λ c. renders_view c.by_request.items
-            ≡ rendered_first T.eq P.eq (writing_of T.answers (W.state writer.old)) (job_in self.entry)) }
+            ≡ rendered_first T.eq P.eq (writing_of T.answers (W.state writer.old))
+            (job_in self.entry)) }
         ensures asked { OnOk result (desk (W.state writer.new) counter.new
-            ≡ after (begun_tasks T.eq P.eq (job_in self.entry)) (desk (W.state writer.old) counter.old)) }
+            ≡ after (begun_tasks T.eq P.eq (job_in self.entry))
+            (desk (W.state writer.old) counter.old)) }
     {
         let table = &self.cited.table;
         let numbers = self.cited.numbers(alloc, &self.cited.listing)?;
@@ -223,20 +239,22 @@ impl<'d, 'o, 'a, T: EntryLike, P: Eq + Drop> Draft<'d, 'o, 'a, T, P> {
         Ok(cites)
     }
 
-    /// The numbers of the entries in the end, by their places in the table: those of the bibliography where
-    /// an order is used, else those of the cites in their final order. Behind them stands the number that the
-    /// next entry would have.
+    /// The numbers of the entries in the end, by their places in the table: those of the
+    /// bibliography where an order is used, else those of the cites in their final order. Behind
+    /// them stands the number that the next entry would have.
     fn final_numbers(
         self,
         alloc: Global,
         cites: &[SpeculativeCiteRender<'_, 'a, T, P>],
     ) -> Result<Vec<usize>, AllocError>
-        requires cites { AreCitesOf T.eq (table_in self) (job_in self).requests (renders_view cites.now) }
-        ensures long { IfOk result (λ v. length v.items ≡ length (table_in self.entry).entries + 1) }
+        requires cites { AreCitesOf T.eq (table_in self) (job_in self).requests
+            (renders_view cites.now) }
+        ensures long { IfOk result
+            (λ v. length v.items ≡ length (table_in self.entry).entries + 1) }
         ensures numbers { let job = job_in self.entry in
             IfOk result (λ v. numbered_by T.eq v.items (table_in self.entry).entries
             ≡ number T.eq job.offset
-            (numbered_finally T.eq (order_in_use job.wanted) job.requests (renders_view cites.now))) }
+            (numbered_finally T.eq (used_order job.wanted) job.requests (renders_view cites.now))) }
     {
         match used_order(self.wanted.wanted) {
             Some(_) => self.cited.numbers(alloc, &self.cited.listing),
@@ -291,9 +309,9 @@ fn group_all<T, P>(
 
 /// Collapses the cites of each request in which none has a purpose.
 fn collapse_all<T, P>(cites: &mut [SpeculativeCiteRender<'_, '_, T, P>])
-    ensures { renders_view cites.new ≡ map drawn_together (renders_view cites.old) }
+    ensures { renders_view cites.new ≡ map collapsed_finally (renders_view cites.old) }
 {
     for r in 0..cites.len() {
-        draw_together(&mut cites[r]);
+        collapse_cites(&mut cites[r]);
     }
 }

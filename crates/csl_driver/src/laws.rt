@@ -17,15 +17,16 @@ pub use csl_entries::laws::{bibliography_holds_each_once, numbers_have_no_gaps};
 pub use csl_grouping::laws::{final_order_laws, grouped_in_final_order};
 pub use csl_name_marks::laws::name_marks_go_on;
 pub use csl_passes::laws::{
-    first_equality_decides, item_equality_decides, items_copy_equal, properties_equality_decides,
-    request_equality_decides, wanted_equality_decides,
+    bibliography_request_equality_decides, first_equality_decides, item_equality_decides,
+    items_copy_equal, properties_equality_decides, request_equality_decides,
 };
 pub use csl_round_laws::laws::runs_are_lawful;
 
-/// A law of every answer and its account, whatever is asked: there are tables of states, from the empty one
-/// to the account's, along which states go on, suffixes stay, nothing is left, and (in mode full) ranks rise;
-/// the entries of the account have the numbers from the offset on, each once; and each citation comes from
-/// the cites of its request in a final order, whose collapsed runs can be read back.
+/// A law of every answer and its account, whatever is asked: there are tables of states, from the
+/// empty one to the account's, along which states go on, suffixes stay, nothing is left, and (in
+/// mode full) ranks rise; the entries of the account have the numbers from the offset on, each
+/// once; and each citation comes from the cites of its request in a final order, whose collapsed
+/// runs can be read back.
 pub fn answers_keep_laws<T: EntryLike, P: Eq>()
     ensures { (writing : Writing T P) (mode : RoundMode) (job : Job T P) (r : Rendered × Account T)
         → IsExactly T.eq P.eq writing mode job r → KeepsLaws T.eq P.eq writing mode job r }

@@ -1,5 +1,5 @@
-//! The passes over the cites of all requests, and the types on which they work. Each meets its definition
-//! on any data of these types.
+//! The passes over the cites of all requests, and the types on which they work. Each meets its
+//! definition on any data of these types.
 pub use csl_ambiguity::ambiguity::find_ambiguous_sets;
 pub use csl_ambiguity::choose::disambiguate_with_choose;
 pub use csl_ambiguity::suffixes::disambiguate_year_suffix;

@@ -8,10 +8,17 @@ ghost use Rattle.csl_driver.specs.Rings.{RefusesAlone};
 ghost use Rattle.csl_assembly.specs.LastTree.{tree_by_purpose};
 ghost use Rattle.csl_assembly.specs.ShownView.{shown_views};
 ghost use Rattle.csl_lookup.specs.PropertiesView.{properties_view};
-ghost use Rattle.csl_driver.specs.StandaloneCitation.{behind, lone_delimiter, lone_task, lone_tree, lone_trees, standalone};
+ghost use Rattle.csl_driver.specs.StandaloneCitation.{
+  behind,
+  lone_delimiter,
+  lone_task,
+  lone_tree,
+  lone_trees,
+  standalone,
+};
 ghost use Rattle.csl_writing.specs.LayoutWriting.{layout_writing};
 
-use crate::error::{DriverError, RingPlace};
+use crate::error::{DriverError, RingLocation};
 use csl_assembly::assemble::{ShownCite, assembled};
 use csl_assembly::last_tree::tree_by_purpose;
 use csl_base::elem::ElemChildren;
@@ -106,13 +113,13 @@ fn delimiter_of(layout: &Layout) -> &str
 /// A citation that stands for itself, as for a preview.
 ///
 /// Cites that are hidden or have no content are left out; where none is left the citation is empty.
-/// The others stand between the layout's prefix and suffix, joined by its delimiter, or by `, ` where
-/// it has none, and aren't marked. Each is written with the number 0 and as if no other had been
-/// written before.
+/// The others stand between the layout's prefix and suffix, joined by its delimiter, or by `, `
+/// where it has none, and aren't marked. Each is written with the number 0 and as if no other had
+/// been written before.
 ///
 /// # Errors
-/// `MacroRing`, at `RingPlace::Request(0)`, exactly where the style has macros that call each other in
-/// a ring; `OutOfMemory` where memory runs out, at any point.
+/// `MacroRing`, at `RingLocation::Request(0)`, exactly where the style has macros that call each
+/// other in a ring; `OutOfMemory` where memory runs out, at any point.
 pub fn standalone_citation<T: EntryLike, P: Drop>(
     alloc: Global,
     request: CitationRequest<'_, T, P>,
@@ -122,9 +129,9 @@ pub fn standalone_citation<T: EntryLike, P: Drop>(
     ensures no_ring { OnOk result (HasNoRing (request_view request.entry).style.macros) }
     ensures refused { IfErr result (RefusesAlone (request_view request.entry).style) }
 {
-    if let Some(macro_idx) = request.source().ring(alloc)? {
-        let place = RingPlace::Request(0);
-        return Err(DriverError::MacroRing { place, macro_idx });
+    if let Some(macro_index) = request.source().ring(alloc)? {
+        let place = RingLocation::Request(0);
+        return Err(DriverError::MacroRing { place, macro_index });
     }
     let acyclic = AcyclicRequest { request: &request };
     let cites = lone_cites(alloc, acyclic)?;

@@ -1,11 +1,6 @@
 -- Lists of entries up to their own equality, and the order and the numbers that they get.
-use Rattle.std.specs.Prelude.{ℕ, ◌+◌, Bool, not, List, [], ◌∷◌, ◌++◌, filter, fold, if◌then◌else◌, is_some, Option, Some, None}
+use Rattle.std.specs.Prelude.{ℕ, ◌+◌, Bool, not, List, [], ◌∷◌, ◌++◌, filter, fold, if◌then◌else◌, Option, Some, None}
 use Rattle.std.specs.List.{list_any, position_or_len}
-use Rattle.csl_style_values.specs.Style.{StyleValue}
-
--- the order that a bibliography of this style goes by, if it goes by one
-abbrev pub used_order : {E : Type 0} → StyleValue → Option (List E) → Option (List E)
-used_order style order = if is_some style.bibliography then order else None
 
 module _ {E : Type 0} (eq : E → E → Bool) where
   -- each member at its first place only
@@ -21,7 +16,8 @@ module _ {E : Type 0} (eq : E → E → Bool) where
   abbrev pub place : E → List E → ℕ
   place e xs = position_or_len (eq e) xs
 
-  -- the bibliography's entries, each once: those of the handed order that are cited, then all that are cited
+  -- the bibliography's entries, each once: those of the handed order that are cited, then all that
+  -- are cited
   abbrev pub bibliography_order : Option (List E) → List E → List E
   bibliography_order None cited = distinct cited
   bibliography_order (Some order) cited = distinct (filter (λ e. is_in e cited) order ++ cited)

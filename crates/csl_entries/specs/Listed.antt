@@ -28,8 +28,8 @@ module _ {E : Type 0} (eq : E → E → Bool) where
     pub listed : l ≡ listed_by entries order
     pub same : (e : E) → is_in eq e order ≡ is_in eq e entries
     pub count : length order ≡ length entries
-    -- by its place an entry has the number of its place in the order, and that behind all where it isn't
-    -- among them
+    -- by its place an entry has the number of its place in the order, and that behind all where it
+    -- isn't among them
     pub numbered : (e : E) → unwrap_or (slice_get l.numbers (place eq e entries)) (length l.order)
         ≡ place eq e order
 

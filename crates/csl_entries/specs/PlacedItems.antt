@@ -1,5 +1,5 @@
--- For the code: rendered cites, which know their places in their requests, and where their entries stand in a
--- table.
+-- For the code: rendered cites, which know their places in their requests, and where their entries
+-- stand in a table.
 use Rattle.std.specs.Prelude.{◌≡◌, ℕ, Bool, List, All, Some, slice_get}
 use Rattle.std.specs.List.{AllZip}
 use Rattle.csl_entries.specs.Entries.{place}

@@ -1,5 +1,18 @@
 //! The order of the bibliography, and the numbers of the cited entries.
-ghost use Rattle.std.specs.Prelude.{◌≡◌, ◌<◌, [], All, None, IfOk, OnOk, length, nat_eq, replicate, unwrap_or, slice_get};
+ghost use Rattle.std.specs.Prelude.{
+  ◌≡◌,
+  ◌<◌,
+  [],
+  All,
+  None,
+  IfOk,
+  OnOk,
+  length,
+  nat_eq,
+  replicate,
+  unwrap_or,
+  slice_get,
+};
 ghost use Rattle.std.specs.List.{filter_map, position, range_with_len};
 ghost use Rattle.std.specs.Option.{option_map_or};
 ghost use Rattle.csl_entries.specs.Entries.{with_all_new, with_new};
@@ -13,8 +26,8 @@ use csl_base::entry::EntryLike;
 use csl_passes::request::Order;
 use std::alloc::{AllocError, Global};
 
-/// An order of entries, each once, and where each stands in it. Entries are named by their places in
-/// a table.
+/// An order of entries, each once, and where each stands in it. Entries are named by their places
+/// in a table.
 #[derive(Drop)]
 pub struct Listing {
     order: Vec<usize>,
@@ -38,8 +51,10 @@ impl Listing {
     fn list(&mut self, place: usize) -> Result<(), AllocError>
         requires within { place < length self.old.numbers.items }
         requires sound { IsListing self.old }
-        ensures listed { OnOk result (self.new.order.items ≡ with_new nat_eq self.old.order.items place) }
-        ensures count { OnOk result (length self.new.numbers.items ≡ length self.old.numbers.items) }
+        ensures listed { OnOk result
+            (self.new.order.items ≡ with_new nat_eq self.old.order.items place) }
+        ensures count { OnOk result
+            (length self.new.numbers.items ≡ length self.old.numbers.items) }
         ensures sound { OnOk result (IsListing self.new) }
     {
         if self.numbers[place].is_none() {
@@ -60,10 +75,11 @@ impl Listing {
         ensures listed { OnOk result (self.new.order.items
             ≡ option_map_or (with_new nat_eq self.old.order.items)
             (position (T.eq entry.now) (table_view table.now).entries) self.old.order.items) }
-        ensures count { OnOk result (length self.new.numbers.items ≡ length self.old.numbers.items) }
+        ensures count { OnOk result
+            (length self.new.numbers.items ≡ length self.old.numbers.items) }
         ensures sound { OnOk result (IsListing self.new) }
     {
-        match table.place_of(entry) {
+        match table.index_of(entry) {
             Some(place) => self.list(place),
             None => Ok(()),
         }
@@ -79,8 +95,10 @@ impl Listing {
         requires sound { IsListing self.old }
         ensures listed { OnOk result (self.new.order.items
             ≡ with_all_new nat_eq self.old.order.items
-            (filter_map (λ e. position (T.eq e) (table_view table.now).entries) (entries_view order.now))) }
-        ensures count { OnOk result (length self.new.numbers.items ≡ length self.old.numbers.items) }
+            (filter_map (λ e. position (T.eq e) (table_view table.now).entries)
+            (entries_view order.now))) }
+        ensures count { OnOk result
+            (length self.new.numbers.items ≡ length self.old.numbers.items) }
         ensures sound { OnOk result (IsListing self.new) }
     {
         for entry in order {
@@ -101,7 +119,8 @@ impl Listing {
             ≡ with_all_new nat_eq self.old.order.items
             (filter_map (λ e. position (T.eq e) (table_view table.now).entries)
             (unwrap_or (order_view order.entry) []))) }
-        ensures count { OnOk result (length self.new.numbers.items ≡ length self.old.numbers.items) }
+        ensures count { OnOk result
+            (length self.new.numbers.items ≡ length self.old.numbers.items) }
         ensures sound { OnOk result (IsListing self.new) }
     {
         match order {
@@ -114,8 +133,10 @@ impl Listing {
     fn list_others(&mut self) -> Result<(), AllocError>
         requires sound { IsListing self.old }
         ensures listed { OnOk result (self.new.order.items
-            ≡ with_all_new nat_eq self.old.order.items (range_with_len 0 (length self.old.numbers.items))) }
-        ensures count { OnOk result (length self.new.numbers.items ≡ length self.old.numbers.items) }
+            ≡ with_all_new nat_eq self.old.order.items
+            (range_with_len 0 (length self.old.numbers.items))) }
+        ensures count { OnOk result
+            (length self.new.numbers.items ≡ length self.old.numbers.items) }
         ensures sound { OnOk result (IsListing self.new) }
     {
         for place in 0..self.numbers.len() {
@@ -130,7 +151,8 @@ impl Listing {
         requires sound { IsListing self.old }
         ensures listed { OnOk result (self.new.order.items
             ≡ with_all_new nat_eq self.old.order.items places.now) }
-        ensures count { OnOk result (length self.new.numbers.items ≡ length self.old.numbers.items) }
+        ensures count { OnOk result
+            (length self.new.numbers.items ≡ length self.old.numbers.items) }
         ensures sound { OnOk result (IsListing self.new) }
     {
         for place in places {
@@ -140,7 +162,7 @@ impl Listing {
     }
 
     /// The entries at these places in their order, each once. So many entries have a place.
-    pub fn of_places(alloc: Global, count: usize, places: &[usize]) -> Result<Listing, AllocError>
+    pub fn of_indices(alloc: Global, count: usize, places: &[usize]) -> Result<Listing, AllocError>
         requires within { All (λ p. p < count) places.now }
         ensures { IfOk result (λ l. listing_view l ≡ listed_places count places.now) }
     {
@@ -155,7 +177,8 @@ impl Listing {
         table: &EntryTable<'a, T>,
         order: Option<Order<'_, 'a, T>>,
     ) -> Result<Listing, AllocError>
-        ensures { IfOk result (λ l. ListsAll T.eq (order_view order.entry) (table_view table.now).entries
+        ensures { IfOk result
+            (λ l. ListsAll T.eq (order_view order.entry) (table_view table.now).entries
             (listing_view l)) }
     {
         let mut listing = Listing::new(alloc, table.len())?;

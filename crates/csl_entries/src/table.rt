@@ -46,8 +46,8 @@ fn place_items<'a, T: EntryLike, P>(
     Ok(places)
 }
 
-/// The distinct entries that requests cite, in the order of their first cites, and for each cite the
-/// place of its entry among these.
+/// The distinct entries that requests cite, in the order of their first cites, and for each cite
+/// the place of its entry among these.
 #[derive(Drop)]
 pub struct EntryTable<'a, T: EntryLike> {
     entries: IndexSet<&'a T>,
@@ -61,7 +61,8 @@ impl<'a, T: EntryLike> EntryTable<'a, T> {
         alloc: Global,
         requests: &[CitationRequest<'a, T, P>],
     ) -> Result<EntryTable<'a, T>, AllocError>
-        ensures { IfOk result (λ table. table_view table ≡ table_of T.eq (requests_view requests.now)) }
+        ensures { IfOk result
+            (λ table. table_view table ≡ table_of T.eq (requests_view requests.now)) }
     {
         let mut entries = IndexSet::new(alloc);
         let mut places = Vec::with_capacity(alloc, requests.len())?;
@@ -95,7 +96,7 @@ impl<'a, T: EntryLike> EntryTable<'a, T> {
     }
 
     /// The place of an entry that is equal to this one, if there is one.
-    pub fn place_of(&self, entry: &'a T) -> Option<usize>
+    pub fn index_of(&self, entry: &'a T) -> Option<usize>
         ensures { result ≡ position (T.eq entry.now) (table_view self.now).entries }
     {
         self.entries.get_index_of(&entry)

@@ -5,7 +5,7 @@ use Rattle.std.specs.List.{enumerate_from, flat_map}
 use Rattle.std.specs.Option.{option_eq}
 use Rattle.std.proofs.lemmas.List.{map-append}
 use Rattle.std.proofs.lemmas.List.Elements.{filter_agree}
-use Rattle.csl_trees.specs.EqualTrees.{same_elem}
+use Rattle.csl_trees.specs.SameElem.{same_elem}
 use Rattle.csl_trees.specs.Tree.{find_elem, has_names}
 use Rattle.csl_trees.specs.declared.elem.Elem.{Elem}
 use Rattle.csl_entries.specs.Entries.{is_in}

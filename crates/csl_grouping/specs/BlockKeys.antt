@@ -1,6 +1,6 @@
 -- What the cites of a block have in common.
 use Rattle.std.specs.Prelude.{ℕ, Bool, true, false, None, Some, nat_eq}
-use Rattle.csl_trees.specs.EqualTrees.{same_elem}
+use Rattle.csl_trees.specs.SameElem.{same_elem}
 use Rattle.csl_trees.specs.Tree.{find_elem, has_names}
 use Rattle.csl_trees.specs.declared.elem.Elem.{Elem}
 use Rattle.csl_passes.specs.Renders.{ItemRender}

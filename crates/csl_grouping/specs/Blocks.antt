@@ -7,7 +7,8 @@ use Rattle.csl_entries.specs.Entries.{distinct, place}
 use Rattle.csl_passes.specs.Renders.{ItemRender, CiteRender}
 use Rattle.csl_grouping.specs.BlockKeys.{BlockKey, is_named, key_of, same_key}
 
--- a request is grouped where its style has a cite group delimiter, or a collapse and a layout delimiter
+-- a request is grouped where its style has a cite group delimiter, or a collapse and a layout
+-- delimiter
 abbrev pub is_grouped : CitationValue → Bool
 is_grouped citation = is_some citation.cite_group_delimiter
     || (is_some citation.collapse && is_some citation.layout.delimiter)
@@ -27,7 +28,8 @@ module _ {E P : Type 0} where
 
   -- the index of a block: its place among those with names
   abbrev pub block_index : List (ItemRender E P) → BlockKey → Option ℕ
-  block_index cites key = if is_named key then Some (place same_key key (filter is_named (block_keys cites)))
+  block_index cites key = if is_named key
+      then Some (place same_key key (filter is_named (block_keys cites)))
       else None
 
   -- the places of the cites in their final order: block after block
@@ -38,18 +40,21 @@ module _ {E P : Type 0} where
   abbrev pub with_block : Option (List ℕ) → Option ℕ → ItemRender E P → ItemRender E P
   with_block delimiter index c = record c { delimiter_override = delimiter; group = index }
 
-  -- the cites of a block with its index, and with the delimiter as the override of each but the first
+  -- the cites of a block with its index, and with the delimiter as the override of each but the
+  -- first
   abbrev pub in_block : Option (List ℕ) → Option ℕ → List (ItemRender E P) → List (ItemRender E P)
   in_block delimiter index [] = []
   in_block delimiter index (c ∷ cs) = with_block None index c ∷ map (with_block delimiter index) cs
 
   abbrev pub grouped_cites : Option (List ℕ) → List (ItemRender E P) → List (ItemRender E P)
   grouped_cites delimiter cites =
-      flat_map (λ key. in_block delimiter (block_index cites key) (map (λ p. p.1) (block cites key)))
+      flat_map (λ key. in_block delimiter (block_index cites key)
+      (map (λ p. p.1) (block cites key)))
       (block_keys cites)
 
   -- the cites of a request, in blocks where its style asks for that
   abbrev pub grouped : CiteRender E P → CiteRender E P
   grouped r =
       let citation = r.request.style.citation in
-      if is_grouped citation then record r { items = grouped_cites (group_delimiter citation) r.items } else r
+      if is_grouped citation
+      then record r { items = grouped_cites (group_delimiter citation) r.items } else r

@@ -1,4 +1,5 @@
--- What a caller may rely on of the cites of a request after grouping, without reading how blocks are made.
+-- What a caller may rely on of the cites of a request after grouping, without reading how blocks
+-- are made.
 use Rattle.std.specs.Prelude.{◌≡◌, ℕ, Bool, true, false, List, Some, length, map, slice_get}
 use Rattle.std.specs.List.{range_with_len}
 use Rattle.std.specs.List.Sorted.{IsPermutation}
@@ -7,7 +8,8 @@ use Rattle.csl_passes.specs.Renders.{ItemRender}
 use Rattle.csl_grouping.specs.Laws.{StandsTogether, bare, places_with}
 
 -- the cites of a request, those after grouping, and whether the style groups cites
-pub record HasFinalOrder {E P : Type 0} (groups : Bool) (cites grouped : List (ItemRender E P)) : Type 0 where
+pub record HasFinalOrder {E P : Type 0} (groups : Bool)
+    (cites grouped : List (ItemRender E P)) : Type 0 where
   -- the final order of cites: places of the request
   pub final_order : List ℕ
   -- each place of the request stands in it once

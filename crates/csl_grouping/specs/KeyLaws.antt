@@ -1,7 +1,7 @@
 -- For the code: equality and hash of the keys of blocks are lawful.
 use Rattle.std.proofs.Common.{◌≡◌, Bool, true, false, refl, ap, sym, subst, true≢false}
 use Rattle.std.specs.Cmp.{IsEquivalence, unsigned_Decides}
-use Rattle.csl_trees.specs.EqualTrees.{elem_Decides}
+use Rattle.csl_trees.proofs.EqualTrees.{elem_Decides}
 use Rattle.std.specs.Hash as fed
 use Rattle.csl_trees.specs.contracts.elem.ElemHash.TheImpl as elem_hash
 use Rattle.csl_grouping.specs.Steps.{key_view}

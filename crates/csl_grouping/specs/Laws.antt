@@ -2,7 +2,7 @@
 use Rattle.std.specs.Prelude.{◌≡◌, ℕ, List, ◌++◌, None, Some, filter, map, slice_get}
 use Rattle.std.specs.List.{enumerate_from}
 use Rattle.std.specs.Option.{option_eq}
-use Rattle.csl_trees.specs.EqualTrees.{same_elem}
+use Rattle.csl_trees.specs.SameElem.{same_elem}
 use Rattle.csl_trees.specs.Tree.{find_elem, has_names}
 use Rattle.csl_trees.specs.declared.elem.Elem.{Elem}
 use Rattle.csl_passes.specs.Renders.{ItemRender}
@@ -10,7 +10,8 @@ use Rattle.csl_grouping.specs.Blocks.{final_order, with_block}
 
 -- the part stands in the order without gaps
 abbrev pub StandsTogether : List ℕ → List ℕ → Type 0
-StandsTogether order part = (before : List ℕ) × (after : List ℕ) × (order ≡ before ++ (part ++ after))
+StandsTogether order part = (before : List ℕ) × (after : List ℕ)
+    × (order ≡ before ++ (part ++ after))
 
 module _ {E P : Type 0} where
   -- the places of the cites with this as their first names element, in the request's order

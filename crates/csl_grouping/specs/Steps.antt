@@ -22,7 +22,8 @@ module _ {A : Type 0} where
 -- a place added to the block of its key, which comes last where there is none
 abbrev pub with_place : List (BlockKey × List ℕ) → BlockKey → ℕ → List (BlockKey × List ℕ)
 with_place [] key k = (key, k ∷ []) ∷ []
-with_place (b ∷ bs) key k = if same_key key b.0 then (b.0, b.1 ++ k ∷ []) ∷ bs else b ∷ with_place bs key k
+with_place (b ∷ bs) key k = if same_key key b.0 then (b.0, b.1 ++ k ∷ []) ∷ bs
+    else b ∷ with_place bs key k
 
 -- where the cites of a block go: each behind the one before, but for the first
 abbrev pub placed_block : Option ℕ → List ℕ → List Placed
@@ -38,8 +39,10 @@ placed_blocks g (b ∷ bs) = placed_block (if is_named b.0 then Some g else None
     ++ placed_blocks (if is_named b.0 then g + 1 else g) bs
 
 -- a cite marked as one of its block
-abbrev pub marked_in_block : {E P : Type 0} → Option (List ℕ) → Placed → ItemRender E P → ItemRender E P
-marked_in_block delimiter placed c = with_block (if placed.follows then delimiter else None) placed.group c
+abbrev pub marked_in_block : {E P : Type 0} → Option (List ℕ) → Placed → ItemRender E P
+    → ItemRender E P
+marked_in_block delimiter placed c =
+    with_block (if placed.follows then delimiter else None) placed.group c
 
 -- cites marked one by one, as far as the list goes
 abbrev pub all_marked : {E P : Type 0} → Option (List ℕ) → List Placed → List (ItemRender E P)

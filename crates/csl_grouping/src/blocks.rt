@@ -2,7 +2,14 @@
 ghost use Rattle.std.specs.Prelude.{◌≡◌, ◌+◌, ◌<◌, ◌++◌, None, Some, if◌then◌else◌, OnOk, IfOk};
 ghost use Rattle.csl_passes.specs.RendersView.{item_view, items_view};
 ghost use Rattle.csl_grouping.specs.BlockKeys.{is_named, key_of};
-ghost use Rattle.csl_grouping.specs.Steps.{blocks_of, blocks_view, key_view, placed_block, placed_blocks, with_place};
+ghost use Rattle.csl_grouping.specs.Steps.{
+  blocks_of,
+  blocks_view,
+  key_view,
+  placed_block,
+  placed_blocks,
+  with_place,
+};
 
 use csl_base::elem::Elem;
 use csl_passes::renders::SpeculativeItemRender;
@@ -108,7 +115,8 @@ fn blocks_of<'r, T, P>(
     alloc: Global,
     items: &'r [SpeculativeItemRender<'_, T, P>],
 ) -> Result<IndexMap<Key<'r>, Vec<usize>>, AllocError>
-    ensures { IfOk result (λ blocks. blocks_view blocks.entries ≡ blocks_of (items_view items.now)) }
+    ensures { IfOk result
+        (λ blocks. blocks_view blocks.entries ≡ blocks_of (items_view items.now)) }
 {
     let mut blocks = IndexMap::new(alloc);
     for (k, cite) in items.iter().enumerate() {
@@ -137,8 +145,8 @@ fn push_block(
     Ok(())
 }
 
-/// Adds the cites of the block of a key, where the next block with names has this index; gives the index
-/// of the one behind.
+/// Adds the cites of the block of a key, where the next block with names has this index; gives the
+/// index of the one behind.
 fn push_named(
     order: &mut Vec<Placed>,
     key: &Key<'_>,
@@ -169,7 +177,8 @@ fn order_of(
     blocks: &IndexMap<Key<'_>, Vec<usize>>,
     count: usize,
 ) -> Result<Vec<Placed>, AllocError>
-    ensures { IfOk result (λ order. order.items ≡ placed_blocks 0 (blocks_view blocks.now.entries)) }
+    ensures { IfOk result
+        (λ order. order.items ≡ placed_blocks 0 (blocks_view blocks.now.entries)) }
 {
     let mut order = Vec::with_capacity(alloc, count)?;
     let mut next = 0;
@@ -185,7 +194,8 @@ pub(crate) fn block_order<T, P>(
     alloc: Global,
     items: &[SpeculativeItemRender<'_, T, P>],
 ) -> Result<Vec<Placed>, AllocError>
-    ensures { IfOk result (λ order. order.items ≡ placed_blocks 0 (blocks_of (items_view items.now))) }
+    ensures { IfOk result
+        (λ order. order.items ≡ placed_blocks 0 (blocks_of (items_view items.now))) }
 {
     let blocks = blocks_of(alloc, items)?;
     order_of(alloc, &blocks, items.len())

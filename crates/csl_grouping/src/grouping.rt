@@ -1,5 +1,17 @@
 //! Grouping (CSL 1.0.2, cite grouping).
-ghost use Rattle.std.specs.Prelude.{◌≡◌, ◌≤◌, None, Some, if◌then◌else◌, length, map, option_map, IfOk, OnErr, OnOk};
+ghost use Rattle.std.specs.Prelude.{
+  ◌≡◌,
+  ◌≤◌,
+  None,
+  Some,
+  if◌then◌else◌,
+  length,
+  map,
+  option_map,
+  IfOk,
+  OnErr,
+  OnOk,
+};
 ghost use Rattle.csl_style_values.specs.StyleView.{citation_view};
 ghost use Rattle.csl_passes.specs.RendersView.{item_view, items_view, render_view};
 ghost use Rattle.csl_grouping.specs.Blocks.{group_delimiter, grouped, grouped_cites, is_grouped};
@@ -12,14 +24,14 @@ use csl_base::style::Citation;
 use csl_passes::renders::{SpeculativeCiteRender, SpeculativeItemRender};
 use std::alloc::{AllocError, Global};
 
-/// Brings the cites of a request together whose first names elements are equal, where its style has a cite
-/// group delimiter, or a collapse and a layout delimiter; else nothing changes (CSL 1.0.2,
+/// Brings the cites of a request together whose first names elements are equal, where its style has
+/// a cite group delimiter, or a collapse and a layout delimiter; else nothing changes (CSL 1.0.2,
 /// `cite-group-delimiter`).
 ///
-/// Such cites form a block in their order, which stands where its first cite stood. A cite without names is
-/// a block of its own and has no index; the other blocks are counted from 0. The group delimiter, else the
-/// layout's, becomes the override of each cite right behind another of its block; the others have none. All
-/// else moves with its cite.
+/// Such cites form a block in their order, which stands where its first cite stood. A cite without
+/// names is a block of its own and has no index; the other blocks are counted from 0. The group
+/// delimiter, else the layout's, becomes the override of each cite right behind another of its
+/// block; the others have none. All else moves with its cite.
 ///
 /// # Errors
 /// Where memory is refused. Then the request is as it was.
@@ -43,7 +55,8 @@ pub fn group_cites<T, P>(
 /// What stands between the cites of a block, where a style groups cites.
 fn delimiter_of_groups(citation: &Citation) -> Option<&str>
     ensures { option_map (λ s. s.now) result
-        ≡ (if is_grouped (citation_view citation.now) then group_delimiter (citation_view citation.now)
+        ≡ (if is_grouped (citation_view citation.now)
+        then group_delimiter (citation_view citation.now)
         else None) }
 {
     match citation.cite_group_delimiter.as_deref() {
@@ -91,7 +104,8 @@ fn mark<'a, T, P>(
     delimiter: &'a str,
 )
     requires { length placed.now ≤ length items.old }
-    ensures { items_view items.new ≡ all_marked (Some delimiter.now) placed.now (items_view items.old) }
+    ensures { items_view items.new
+        ≡ all_marked (Some delimiter.now) placed.now (items_view items.old) }
 {
     for i in 0..placed.len() {
         mark_cite(&mut items[i], placed[i], delimiter);
@@ -104,7 +118,8 @@ fn mark_cite<'a, T, P>(
     placed: Placed,
     delimiter: &'a str,
 )
-    ensures { item_view cite.new ≡ marked_in_block (Some delimiter.now) placed (item_view cite.old) }
+    ensures { item_view cite.new
+        ≡ marked_in_block (Some delimiter.now) placed (item_view cite.old) }
 {
     cite.delim_override = if placed.follows {
         Some(delimiter)

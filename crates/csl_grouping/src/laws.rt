@@ -8,8 +8,8 @@ ghost use Rattle.csl_grouping.specs.Blocks.{final_order, grouped, grouped_cites,
 ghost use Rattle.csl_grouping.specs.FinalOrder.{HasFinalOrder};
 ghost use Rattle.csl_grouping.specs.Laws.{IsInFinalOrder, StandsTogether, places_with};
 
-/// Each place of a request stands in the final order once; cites with equal first names elements stand
-/// together, in the request's order; and grouping puts the cites in that order.
+/// Each place of a request stands in the final order once; cites with equal first names elements
+/// stand together, in the request's order; and grouping puts the cites in that order.
 pub fn final_order_laws<T, P>()
     ensures once { (cites : List (ItemRender T P))
         → IsPermutation (range_with_len 0 (length cites)) (final_order cites) }
@@ -22,5 +22,6 @@ pub fn final_order_laws<T, P>()
 /// The cites of every request have a final order after grouping.
 pub fn grouped_in_final_order<T, P>()
     ensures { (render : CiteRender T P)
-        → HasFinalOrder (is_grouped render.request.style.citation) render.items (grouped render).items }
+        → HasFinalOrder (is_grouped render.request.style.citation) render.items
+        (grouped render).items }
 {}

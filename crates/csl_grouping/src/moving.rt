@@ -17,8 +17,8 @@ pub(crate) fn places_below(alloc: Global, n: usize) -> Result<Vec<usize>, AllocE
     Ok(places)
 }
 
-/// Moves the members so that at each place stands the one that stood at that place of the order. It takes no
-/// memory: the other two lists are for its own use, and begin as the places in order.
+/// Moves the members so that at each place stands the one that stood at that place of the order. It
+/// takes no memory: the other two lists are for its own use, and begin as the places in order.
 pub(crate) fn rearrange<X>(
     items: &mut [X],
     order: &[usize],
@@ -46,7 +46,8 @@ fn bring<X>(items: &mut [X], standing: &mut [usize], found_at: &mut [usize], i: 
     ensures items { items.new ≡ swap items.old i (slice_index found_at.old place) }
     ensures standing { standing.new ≡ swap standing.old i (slice_index found_at.old place) }
     ensures found_at { found_at.new
-        ≡ slice_set (slice_set found_at.old (slice_index standing.old i) (slice_index found_at.old place))
+        ≡ slice_set (slice_set found_at.old (slice_index standing.old i)
+        (slice_index found_at.old place))
         place i }
 {
     let from = found_at[place];

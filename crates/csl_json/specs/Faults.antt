@@ -1,5 +1,5 @@
 -- Where the JSON is wrong.
-use Rattle.std.specs.Prelude.{◌≡◌, List, [], ◌∷◌, Option, Some, None, Result, Ok, Err, option_and_then, string_bytes}
+use Rattle.std.specs.Prelude.{◌≡◌, List, [], ◌∷◌, Option, Some, None, Result, Ok, Err, option_and_then, string_bytes, codes}
 use Rattle.serde_json.specs.Data.{Data, null, boolean, number, string, array, object}
 use Rattle.serde_json.specs.Find.{get, at}
 use Rattle.csl_json.specs.declared.fault.Step.{Step}
@@ -38,7 +38,7 @@ kind (object ms) = found.Object
 
 -- this is what the value is, or what it lacks
 abbrev pub IsFound : Found → Data → Type 0
-IsFound found.MissingId d = (kind d ≡ found.Object) × (get (105 ∷ 100 ∷ []) d ≡ None)
+IsFound found.MissingId d = (kind d ≡ found.Object) × (get (codes "id") d ≡ None)
 IsFound f d = kind d ≡ f
 
 -- there is a part, and this was found there

@@ -13,5 +13,6 @@ use Rattle.csl_json.specs.Faults.{IsFaultOf}
 abbrev pub IsErrorIn : ReferencesError → List ℕ → Type 0
 IsErrorIn (errors.NoUtf8 byte) bytes = ¬ (IsUtf8 bytes) × (byte ≡ utf8_valid_len bytes)
 IsErrorIn (errors.NoJson line column) bytes = read bytes ≡ None
-IsErrorIn (errors.Fault fault) bytes = (whole : Data) × (read bytes ≡ Some whole) × IsFaultOf fault.value whole
+IsErrorIn (errors.Fault fault) bytes = (whole : Data) × (read bytes ≡ Some whole)
+    × IsFaultOf fault.value whole
 IsErrorIn errors.OutOfMemory bytes = Unit {0}

@@ -23,7 +23,8 @@ SomeLayout Such style =
 -- elements nest no deeper than allowed, and are no more than allowed
 abbrev pub AreWithinLimits : Limits → List Macro → List Element → Type 0
 AreWithinLimits limits macros es =
-    (nests_within macros limits.depth es ≡ true) × (count_to macros limits.depth es ≤ limits.elements)
+    (nests_within macros limits.depth es ≡ true)
+    × (count_to macros limits.depth es ≤ limits.elements)
 
 -- elements exceed a limit
 abbrev pub Exceed : Excess → Limits → List Macro → List Element → Type 0

@@ -1,4 +1,5 @@
--- How deep the elements of a layout nest, and how many there are, where each call of a macro is written out.
+-- How deep the elements of a layout nest, and how many there are, where each call of a macro is
+-- written out.
 use Rattle.std.specs.Prelude.{ℕ, zero, suc, ◌+◌, List, [], ◌∷◌, ◌++◌, Bool, true, false}
 use Rattle.std.specs.List.{list_all, sum_by}
 use Rattle.std.specs.Option.{option_map_or}
@@ -26,11 +27,13 @@ children_of macros (group_element children delimiter look) = items children
 children_of macros (choose_element branches) = branch_items branches
 children_of macros _ = []
 
--- they nest at most so deep: no elements nest within 0, and else what stands in each nests one less deep
+-- they nest at most so deep: no elements nest within 0, and else what stands in each nests one less
+-- deep
 abbrev pub nests_within : List Macro → ℕ → List Element → Bool
 nests_within macros zero [] = true
 nests_within macros zero (e ∷ es) = false
-nests_within macros (suc depth) es = list_all (λ e. nests_within macros depth (children_of macros e)) es
+nests_within macros (suc depth) es =
+    list_all (λ e. nests_within macros depth (children_of macros e)) es
 
 -- how many there are down to that depth: each, and what stands in it
 abbrev pub count_to : List Macro → ℕ → List Element → ℕ

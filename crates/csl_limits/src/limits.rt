@@ -1,7 +1,12 @@
 //! How deep the elements of a layout may nest, and how many there may be, with macros written out.
 ghost use Rattle.std.specs.Prelude.{[], ◌∷◌, IfErr, OnOk};
 ghost use Rattle.csl_values.specs.Tells.{TellsEqual};
-ghost use Rattle.csl_style_values.specs.ElementView.{branches_view, element_view, elements_view, target_view};
+ghost use Rattle.csl_style_values.specs.ElementView.{
+  branches_view,
+  element_view,
+  elements_view,
+  target_view,
+};
 ghost use Rattle.csl_styles.specs.PreparedView.{prepared_view};
 ghost use Rattle.csl_limits.specs.Limited.{ChecksLayout, Counted, Exceeds, IsWithinLimits};
 ghost use Rattle.csl_limits.specs.Nesting.{branch_items, called, children_of, items};
@@ -9,11 +14,12 @@ ghost use Rattle.csl_limits.specs.Nesting.{branch_items, called, children_of, it
 use csl_base::element::{ChooseBranch, LayoutRenderingElement, TextTarget};
 use csl_styles::prepared::PreparedStyle;
 
-/// What a layout may hold, where each call of a macro stands for the macro's children. An element of a
-/// group, of a branch of a choice or of a macro stands one deeper than the group, the choice or the call.
+/// What a layout may hold, where each call of a macro stands for the macro's children. An element
+/// of a group, of a branch of a choice or of a macro stands one deeper than the group, the choice
+/// or the call.
 ///
-/// The time and the memory that a cite takes grow with these elements, with what each of them holds and with
-/// the texts of its entry, and the depth of its tree grows with theirs.
+/// The time and the memory that a cite takes grow with these elements, with what each of them holds
+/// and with the texts of its entry, and the depth of its tree grows with theirs.
 #[derive(Clone, Copy, PartialEq, Eq, Debug)]
 pub struct Limits {
     /// How deep the elements of a layout may nest: 1 where none may stand in another.
@@ -38,15 +44,16 @@ pub fn limits_equality_decides()
 {}
 
 impl Limits {
-    /// Whether each layout of the style is within the limits. It looks at no more elements than they allow,
-    /// and takes no memory.
+    /// Whether each layout of the style is within the limits. It looks at no more elements than
+    /// they allow, and takes no memory.
     ///
     /// # Errors
     ///
     /// Which limit a layout exceeds: the first that is found from left to right.
     pub fn check(&self, style: &PreparedStyle<'_>) -> Result<(), Excess>
         ensures within { OnOk result (IsWithinLimits self.now (prepared_view style.now)) }
-        ensures exceeded { IfErr result (λ which. Exceeds which self.now (prepared_view style.now)) }
+        ensures exceeded { IfErr result
+            (λ which. Exceeds which self.now (prepared_view style.now)) }
     {
         let sheet = style.style();
         self.check_layout(style, &sheet.citation.layout.elements)?;
@@ -77,7 +84,8 @@ fn count_all(
     depth: usize,
     left: usize,
 ) -> Result<usize, Excess>
-    ensures { Counted (prepared_view style.now).macros depth (items (elements_view elements.now)) left
+    ensures { Counted (prepared_view style.now).macros depth
+        (items (elements_view elements.now)) left
         result }
 {
     let mut left = left;
@@ -95,7 +103,8 @@ fn count_one(
     depth: usize,
     left: usize,
 ) -> Result<usize, Excess>
-    ensures { Counted (prepared_view style.now).macros depth (element_view element.now ∷ []) left result }
+    ensures { Counted (prepared_view style.now).macros depth (element_view element.now ∷ [])
+        left result }
 {
     if depth == 0 {
         return Err(Excess::Depth);

@@ -8,7 +8,8 @@ use Rattle.csl_lists.specs.contracts.stack.NonEmptyStack.{the_row}
 -- the place of the last item that passes
 abbrev pub topmost : {T : Type 0} → (T → Bool) → List T → Option ℕ
 topmost p [] = None
-topmost p (x ∷ xs) = option_or (option_map (λ i. suc i) (topmost p xs)) (if p x then Some 0 else None)
+topmost p (x ∷ xs) = option_or (option_map (λ i. suc i) (topmost p xs)) (if p x
+    then Some 0 else None)
 
 -- the list with that item replaced, if there is one
 abbrev pub put_topmost : {T : Type 0} → (T → Bool) → List T → T → List T
@@ -35,8 +36,8 @@ IsTopmostAccepted {T} may_give xs i = (x : T) × (slice_get xs i ≡ Some x) × 
 abbrev pub LendsItem : (T : RattleType) → MutBor (List T.Denot) → ℕ → MutBor T.Denot → Fml
 LendsItem T stack i r = Lends (the_row T) T stack r (slice_set stack.now i)
 
--- the same with the topmost item that a closure accepts, whatever the closure does, and at whatever test it
--- computes; without one the stack ends as it was
+-- the same with the topmost item that a closure accepts, whatever the closure does, and at whatever
+-- test it computes; without one the stack ends as it was
 abbrev pub LendsTopmost : (T : RattleType) → (Bor T.Denot → Bool → Type 0) → MutBor (List T.Denot)
     → Option (MutBor T.Denot) → Fml
 LendsTopmost T may_give stack r =

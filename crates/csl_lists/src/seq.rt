@@ -2,7 +2,14 @@
 ghost use Rattle.std.specs.Prelude.{◌≡◌, List, [], ◌∷◌, ◌++◌, OnOk, map};
 ghost use Rattle.std.specs.List.{AllZip};
 ghost use Rattle.std.proofs.Common.{rules};
-ghost use Rattle.std.specs.Cmp.Lexicographic.{pointwise, slice_cmp, slice_partial_cmp, lists_po, lists_agrees, lists_ties};
+ghost use Rattle.std.specs.Cmp.Lexicographic.{
+  pointwise,
+  slice_cmp,
+  slice_partial_cmp,
+  lists_po,
+  lists_agrees,
+  lists_ties,
+};
 ghost use Rattle.std.specs.Cmp.Rules.{comparing, hashing};
 ghost use Rattle.std.specs.Hash as fed;
 ghost use Rattle.std.proofs.lemmas.Cmp.{lists_equiv, lists_total};

@@ -1,7 +1,39 @@
 //! A stack that always has a bottom.
-ghost use Rattle.std.specs.Prelude.{◌≡◌, ℕ, false, All, ◌+◌, ◌-◌, ◌<◌, List, [], ◌∷◌, ◌++◌, length, take, slice_get, Some, None, IfOk, IfSome, OnOk, OnErr, IfErr, Bool, option_map, option_and_then};
+ghost use Rattle.std.specs.Prelude.{
+  ◌≡◌,
+  ℕ,
+  false,
+  All,
+  ◌+◌,
+  ◌-◌,
+  ◌<◌,
+  List,
+  [],
+  ◌∷◌,
+  ◌++◌,
+  length,
+  take,
+  slice_get,
+  Some,
+  None,
+  IfOk,
+  IfSome,
+  OnOk,
+  OnErr,
+  IfErr,
+  Bool,
+  option_map,
+  option_and_then,
+};
 ghost use Rattle.std.specs.Borrow.{sem};
-ghost use Rattle.csl_lists.specs.Stack.{topmost, AnswersAs, Gave, IsTopmostAccepted, LendsItem, LendsTopmost};
+ghost use Rattle.csl_lists.specs.Stack.{
+  topmost,
+  AnswersAs,
+  Gave,
+  IsTopmostAccepted,
+  LendsItem,
+  LendsTopmost,
+};
 
 use std::alloc::{AllocError, AllocFailed, Global};
 use std::marker::Model;
@@ -89,13 +121,14 @@ impl<T> NonEmptyStack<T> {
         &mut self.items[top]
     }
 
-    /// The topmost item that satisfies a test, for writing; none where no item does. The other items
-    /// stay as they are. The test is asked from the top down, until it accepts an item.
+    /// The topmost item that satisfies a test, for writing; none where no item does. The other
+    /// items stay as they are. The test is asked from the top down, until it accepts an item.
     pub fn last_mut_predicate<F: Fn(&T) -> bool>(&mut self, f: F) -> Option<&mut T>
         requires { F.IsAlwaysCallable f }
         ensures* writes_back { sem 𝓛 (LendsTopmost T.row (F.post f) self.entry result) }
         ensures value { (p : T → Bool) → AnswersAs (F.post f) p
-            → option_map (λ x. x.now) result ≡ option_and_then (slice_get self.old) (topmost p self.old) }
+            → option_map (λ x. x.now) result
+            ≡ option_and_then (slice_get self.old) (topmost p self.old) }
         ensures accepted { IfSome result (λ x. (i : ℕ) × IsTopmostAccepted (F.post f) self.old i
             × (slice_get self.old i ≡ Some x.now)) }
         ensures refused { result ≡ None → All (Gave (F.post f) false) self.old }

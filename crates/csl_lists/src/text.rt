@@ -1,5 +1,18 @@
 //! A text that contracts see as its bytes.
-ghost use Rattle.std.specs.Prelude.{◌≡◌, ◌≤◌, ℕ, List, length, take, string_bytes, bytes_eq, ◌++◌, IsOk, IfOk, OnOk};
+ghost use Rattle.std.specs.Prelude.{
+  ◌≡◌,
+  ◌≤◌,
+  ℕ,
+  List,
+  length,
+  take,
+  string_bytes,
+  bytes_eq,
+  ◌++◌,
+  IsOk,
+  IfOk,
+  OnOk,
+};
 ghost use Rattle.std.specs.Str.{IsCharBoundary};
 ghost use Rattle.std.proofs.Common.{rules};
 ghost use Rattle.std.specs.Cmp.Rules.{comparing, hashing};

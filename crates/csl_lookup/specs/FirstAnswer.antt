@@ -8,7 +8,8 @@ use Rattle.csl_style_values.specs.StyleView.{locale_view}
 
 module _ {R : Type 0} where
   -- f may answer r of a locale that stands for l
-  abbrev pub Gives : {F : Type 0} → Shared F (Bor Locale × Unit {0}) (Option R) → F → LocaleValue → Option R
+  abbrev pub Gives : {F : Type 0} → Shared F (Bor Locale × Unit {0}) (Option R) → F
+      → LocaleValue → Option R
       → Type 0
   Gives g f l r = (locale : Locale) × (locale_view locale ≡ l) × FnReturnsAt g f locale r
 

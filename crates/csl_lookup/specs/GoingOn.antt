@@ -10,8 +10,8 @@ use Rattle.csl_lookup.specs.declared.state.DisambiguateState.{DisambiguateState}
 abbrev pub NoFormFalls : List DisambiguatedNameForm → List DisambiguatedNameForm → Type 0
 NoFormFalls = AllZip (λ a b. extent a ≤ extent b)
 
--- a state goes on to a later one: its kind goes up or stays in the order none, names, choice, suffix; from
--- names to names no form falls; and a suffix stays
+-- a state goes on to a later one: its kind goes up or stays in the order none, names, choice,
+-- suffix; from names to names no form falls; and a suffix stays
 abbrev pub GoesOnTo : DisambiguateState → DisambiguateState → Type 0
 GoesOnTo (DisambiguateState.NameDisambiguation forms) (DisambiguateState.NameDisambiguation later) =
     NoFormFalls forms.forms later.forms
@@ -36,5 +36,6 @@ GreaterIsOne = (a b : DisambiguateState) → (greater a b ≡ a) ⊎ (greater a 
 
 -- a state that goes on to another than itself comes farther
 abbrev pub GoesFarther : Type 0
-GoesFarther = (most : ℕ) (s m : DisambiguateState) → length (forms_of s).forms ≤ most → GoesOnTo s m → (s ≡ m)
+GoesFarther = (most : ℕ) (s m : DisambiguateState) → length (forms_of s).forms ≤ most
+    → GoesOnTo s m → (s ≡ m)
     ⊎ (rank most s < rank most m)

@@ -11,7 +11,8 @@ use Rattle.csl_style_values.specs.Style.{TermValue, LocaleValue, StyleValue}
 use Rattle.csl_styles.specs.Terms.{locale_of, term_in}
 use Prim.Native.Char.{code}
 
--- what is looked up in: the style's own locales, the locale files, and the code of the locale in use
+-- what is looked up in: the style's own locales, the locale files, and the code of the locale in
+-- use
 pub record Lookup : Type 0 where
   pub own : List LocaleValue
   pub files : List LocaleValue
@@ -61,7 +62,8 @@ asked_own k =
 abbrev pub asked_files : Lookup → List LocaleValue
 asked_files k =
     option_to_list (locale_of (Some k.code) k.files)
-    ++ option_to_list (option_and_then (λ dialect. locale_of (Some dialect) k.files) (primary_dialect k.code))
+    ++ option_to_list (option_and_then (λ dialect. locale_of (Some dialect) k.files)
+    (primary_dialect k.code))
     ++ option_to_list (locale_of (Some en_us) k.files)
 
 -- the locales that are asked, in their order

@@ -58,7 +58,8 @@ suffix_rank s = unwrap_or (year_suffix s) 0
 
 -- states are in order by their kinds, then their forms and suffixes
 abbrev pub state_cmp : DisambiguateState → DisambiguateState → Ordering
-state_cmp = then_cmp (on kind_of nat_cmp) (then_cmp (on suffix_rank nat_cmp) (on forms_of properties_cmp))
+state_cmp = then_cmp (on kind_of nat_cmp)
+    (then_cmp (on suffix_rank nat_cmp) (on forms_of properties_cmp))
 
 abbrev pub greater : DisambiguateState → DisambiguateState → DisambiguateState
 greater = ord_max state_cmp

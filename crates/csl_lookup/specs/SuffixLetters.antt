@@ -9,14 +9,15 @@ letter n = code "a" + n % 26
 -- the letters of n, where there are at most `most` before the last
 abbrev pub letters_within : ℕ → ℕ → List ℕ
 letters_within zero n = letter n ∷ []
-letters_within (suc most) n = (if nat_lt n 26 then [] else letters_within most (n / 26 - 1)) ++ letter n ∷ []
+letters_within (suc most) n = (if nat_lt n 26 then [] else letters_within most (n / 26 - 1))
+    ++ letter n ∷ []
 
 -- `a` to `z`, and then, before each of these letters, the letters of what is before: `aa`, `ab`
 unfoldable pub suffix_letters : ℕ → List ℕ
 suffix_letters n = letters_within n n
 
--- what letters are worth: `a` is 1 and `z` 26, and each letter more makes what is before it worth 26 times as
--- much
+-- what letters are worth: `a` is 1 and `z` 26, and each letter more makes what is before it worth
+-- 26 times as much
 abbrev pub worth : List ℕ → ℕ
 worth = fold (λ sum l. sum * 26 + (l - code "a" + 1)) 0
 

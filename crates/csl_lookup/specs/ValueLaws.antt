@@ -15,7 +15,8 @@ module _ {A : Type 0} where
 
   -- neither of the two is greater than what they are joined to
   abbrev pub IsNeverBelow : (A → A → Ordering) → (A → A → A) → Type 0
-  IsNeverBelow cmp join = (a b : A) → (is_gt (cmp a (join a b)) ≡ false) × (is_gt (cmp b (join a b)) ≡ false)
+  IsNeverBelow cmp join = (a b : A)
+      → (is_gt (cmp a (join a b)) ≡ false) × (is_gt (cmp b (join a b)) ≡ false)
 
   -- twice is as good as once
   abbrev pub IsOnce : (A → A) → Type 0

@@ -2,19 +2,33 @@
 ghost use Rattle.std.specs.Prelude.{◌≡◌};
 ghost use Rattle.csl_values.specs.Ordered.{IsValueOrder};
 ghost use Rattle.csl_values.specs.Tells.{TellsEqual, TellsSeen};
-ghost use Rattle.csl_lookup.specs.PropertiesView.{payload_view, locator_view, properties_view, speculative_view};
+ghost use Rattle.csl_lookup.specs.PropertiesView.{
+  payload_view,
+  locator_view,
+  properties_view,
+  speculative_view,
+};
 ghost use Rattle.csl_lookup.specs.declared.locator.LocatorPayload.{LocatorPayload};
 ghost use Rattle.csl_lookup.specs.declared.locator.SpecificLocator.{SpecificLocator};
 ghost use Rattle.csl_lookup.specs.declared.properties.CertainCiteProperties.{CertainCiteProperties};
 ghost use Rattle.csl_lookup.specs.declared.properties.CiteProperties.{CiteProperties};
-ghost use Rattle.csl_lookup.specs.declared.properties.SpeculativeCiteProperties.{SpeculativeCiteProperties};
+ghost use Rattle.csl_lookup.specs.declared.properties.SpeculativeCiteProperties.{
+  SpeculativeCiteProperties,
+};
 ghost use Rattle.csl_lookup.specs.declared.state.DisambiguateState.{DisambiguateState};
 ghost use Rattle.csl_lookup.specs.declared.state.IdentifierUsage.{IdentifierUsage};
 ghost use Rattle.csl_lookup.specs.GoingOn.{GoesFarther, GoesOn, GreaterIsOne};
 ghost use Rattle.csl_lookup.specs.NoProperties.{nothing_certain};
 ghost use Rattle.csl_lookup.specs.States.{with_label, with_number, state_cmp, greater};
 ghost use Rattle.csl_lookup.specs.SuffixLetters.{SuffixesDiffer};
-ghost use Rattle.csl_lookup.specs.ValueLaws.{IsCommutative, IsAssociative, IsIdempotent, IsNeverBelow, IsOnce, Commute};
+ghost use Rattle.csl_lookup.specs.ValueLaws.{
+  IsCommutative,
+  IsAssociative,
+  IsIdempotent,
+  IsNeverBelow,
+  IsOnce,
+  Commute,
+};
 
 use crate::brackets::Brackets;
 use crate::locator::{LocatorPayload, SpecificLocator, TransparentLocator};
@@ -42,8 +56,9 @@ pub fn states_have_a_greatest()
     forms_are_in_order();
 }
 
-/// A law: a state goes on to itself, and on and on; of two states the greater is one of them; and a state
-/// that goes on to another comes farther, by its kind and by how much of its names is written.
+/// A law: a state goes on to itself, and on and on; of two states the greater is one of them; and a
+/// state that goes on to another comes farther, by its kind and by how much of its names is
+/// written.
 pub fn states_go_on()
     ensures on_and_on { GoesOn }
     ensures greater_is_one { GreaterIsOne }
@@ -60,15 +75,19 @@ pub fn suffixes_differ()
 /// A law: a copy of a state, of a locator and its payload, and of the properties of a cite is equal
 /// to it.
 pub fn copies_are_equal<P: Drop>()
-    ensures state { (a b : DisambiguateState) → ⟦<DisambiguateState as Clone>⟧.is_clone a b → b ≡ a }
+    ensures state { (a b : DisambiguateState)
+        → ⟦<DisambiguateState as Clone>⟧.is_clone a b → b ≡ a }
     ensures shared { (a b : P) → ⟦<TransparentLocator<P> as Clone>⟧.is_clone a b → b ≡ a }
-    ensures payload { (a b : LocatorPayload P) → ⟦<LocatorPayload<'static, P> as Clone>⟧.is_clone a b
+    ensures payload { (a b : LocatorPayload P)
+        → ⟦<LocatorPayload<'static, P> as Clone>⟧.is_clone a b
         → b ≡ a }
-    ensures locator { (a b : SpecificLocator P) → ⟦<SpecificLocator<'static, P> as Clone>⟧.is_clone a b
+    ensures locator { (a b : SpecificLocator P)
+        → ⟦<SpecificLocator<'static, P> as Clone>⟧.is_clone a b
         → b ≡ a }
     ensures speculative { (a b : SpeculativeCiteProperties P)
         → ⟦<SpeculativeCiteProperties<'static, P> as Clone>⟧.is_clone a b → b ≡ a }
-    ensures properties { (a b : CiteProperties P) → ⟦<CiteProperties<'static, P> as Clone>⟧.is_clone a b
+    ensures properties { (a b : CiteProperties P)
+        → ⟦<CiteProperties<'static, P> as Clone>⟧.is_clone a b
         → b ≡ a }
 {}
 
@@ -98,13 +117,14 @@ pub fn equality_decides<P: PartialEq>()
         → TellsSeen properties_view ⟦<CiteProperties<'static, P> as PartialEq>⟧.eq }
 {}
 
-/// A law: at first a cite has written no identifier, nothing tells its entry apart, and it stands in
-/// no note, neither near another nor first, at place 0.
+/// A law: at first a cite has written no identifier, nothing tells its entry apart, and it stands
+/// in no note, neither near another nor first, at place 0.
 pub fn defaults_are_none()
     ensures usage { (u : IdentifierUsage) → ⟦<IdentifierUsage as Default>⟧.is_default u
         → u ≡ IdentifierUsage.None }
     ensures state { (s : DisambiguateState) → ⟦<DisambiguateState as Default>⟧.is_default s
         → s ≡ DisambiguateState.None }
-    ensures certain { (c : CertainCiteProperties) → ⟦<CertainCiteProperties as Default>⟧.is_default c
+    ensures certain { (c : CertainCiteProperties)
+        → ⟦<CertainCiteProperties as Default>⟧.is_default c
         → c ≡ nothing_certain }
 {}

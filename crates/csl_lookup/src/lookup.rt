@@ -1,5 +1,15 @@
 //! Look-up of terms in the locales of a style (CSL 1.0.2, locale fallback).
-ghost use Rattle.std.specs.Prelude.{◌≡◌, [], ◌∷◌, IfOk, None, bytes_eq, map, option_map, option_to_list};
+ghost use Rattle.std.specs.Prelude.{
+  ◌≡◌,
+  [],
+  ◌∷◌,
+  IfOk,
+  None,
+  bytes_eq,
+  map,
+  option_map,
+  option_to_list,
+};
 ghost use Rattle.csl_style_values.specs.ElementView.{elements_view};
 ghost use Rattle.csl_values.specs.Found.{first_value};
 ghost use Rattle.csl_style_values.specs.Ring.{body_of, IsFirstRing, HasNoRing};
@@ -94,8 +104,8 @@ impl<'a> StyleLocales<'a> {
         }
     }
 
-    /// Whether a year-suffix text stands in either layout of the style, at any depth, through macros
-    /// too.
+    /// Whether a year-suffix text stands in either layout of the style, at any depth, through
+    /// macros too.
     ///
     /// # Errors
     ///
@@ -244,7 +254,8 @@ fn answer_of<'a, F: Fn(&'a Locale) -> Option<R>, R>(
 ) -> Option<R>
     requires { F.IsAlwaysCallable f.now }
     ensures { FirstAnswer (Gives F.Fn f.now)
-        (option_to_list (locale_of (option_map (λ t. t.now) language.entry) (map locale_view locales.now)))
+        (option_to_list (locale_of (option_map (λ t. t.now) language.entry)
+        (map locale_view locales.now)))
         result }
 {
     let locale = locale_of(locales, language)?;
@@ -299,7 +310,8 @@ fn forms_from(form: TermForm) -> &'static [TermForm]
 
 // The first term of a locale that has this name and form.
 fn term_in(locale: &Locale, name: Term, form: TermForm) -> Option<&LocalizedTerm>
-    ensures { option_map (λ t. term_view t.now) result ≡ term_in name form (locale_view locale.now) }
+    ensures { option_map (λ t. term_view t.now) result
+        ≡ term_in name form (locale_view locale.now) }
 {
     for term in &locale.terms {
         if term.name == name && term.form == form {

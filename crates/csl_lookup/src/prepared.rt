@@ -18,7 +18,8 @@ pub(crate) fn term_by_tables<'a>(
     form: TermForm,
 ) -> Option<&'a LocalizedTerm>
     ensures { option_map (λ t. term_view t.now) result
-        ≡ found.first_answer (term_in name form) (found.asked (prepared_lookup prepared.entry code.now)) }
+        ≡ found.first_answer (term_in name form)
+        (found.asked (prepared_lookup prepared.entry code.now)) }
 {
     match own_term(prepared, code, name, form) {
         Some(term) => Some(term),
@@ -34,7 +35,8 @@ fn own_term<'a>(
     form: TermForm,
 ) -> Option<&'a LocalizedTerm>
     ensures { option_map (λ t. term_view t.now) result
-        ≡ found.first_answer (term_in name form) (found.asked_own (prepared_lookup prepared.entry code.now)) }
+        ≡ found.first_answer (term_in name form)
+        (found.asked_own (prepared_lookup prepared.entry code.now)) }
 {
     let own = prepared.style;
     if own.style().locale.is_empty() {

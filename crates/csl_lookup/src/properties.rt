@@ -69,7 +69,8 @@ impl<'a, P> SpeculativeCiteProperties<'a, P> {
 impl<'a, P: Drop> SpeculativeCiteProperties<'a, P> {
     /// The same without the locator, which an entry of a bibliography has none of.
     pub fn for_bibliography(self) -> SpeculativeCiteProperties<'a, P>
-        ensures { speculative_view result ≡ record (speculative_view self.entry) { locator = None } }
+        ensures { speculative_view result
+            ≡ record (speculative_view self.entry) { locator = None } }
     {
         SpeculativeCiteProperties {
             locator: None,

@@ -1,6 +1,13 @@
 //! How a cite stands among the others: its identifier, its disambiguation, its position.
 ghost use Rattle.std.specs.Prelude.{◌≡◌};
-ghost use Rattle.csl_lookup.specs.States.{with_label, with_number, may_get_names, may_get_suffix, year_suffix, greater};
+ghost use Rattle.csl_lookup.specs.States.{
+  with_label,
+  with_number,
+  may_get_names,
+  may_get_suffix,
+  year_suffix,
+  greater,
+};
 
 use csl_base::names::NameDisambiguationProperties;
 

@@ -20,7 +20,8 @@ pub fn write_year<W: fmt::Write>(
     ad: &str,
     bc: &str,
 ) -> fmt::Result
-    ensures { IsOk result → WritesInCalls W.write_str_gives w.old (year_text year short ad.now bc.now) w.new }
+    ensures { IsOk result
+        → WritesInCalls W.write_str_gives w.old (year_text year short ad.now bc.now) w.new }
 {
     let distance = u64::from(year.unsigned_abs());
     if year <= 0 {

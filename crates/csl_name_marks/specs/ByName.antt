@@ -48,17 +48,19 @@ shown_by_all group = flat_map shown_by group
 
 -- one more who holds the person at this place changes no answer
 abbrev pub IsTold : Person → Place → List Holder → Type 0
-IsTold q place hs = (p : Person) (other : Place) → same_person p q ≡ false → same_place other place ≡ false
+IsTold q place hs = (p : Person) (other : Place) → same_person p q ≡ false
+    → same_place other place ≡ false
     → is_other_held p other hs ≡ true
 
--- the holders tell of each other person, at another place than this, what one more who holds `added` here
--- would
+-- the holders tell of each other person, at another place than this, what one more who holds
+-- `added` here would
 abbrev pub TellWithout : Person → Person → Place → List Holder → Type 0
-TellWithout p added place hs = same_person p added ≡ false → (other : Place) → same_place other place ≡ false
+TellWithout p added place hs = same_person p added ≡ false → (other : Place)
+    → same_place other place ≡ false
     → is_other_held p other hs ≡ true
 
--- the holders tell of each person but `added`, elsewhere than at a place, what one more who holds `added`
--- here would
+-- the holders tell of each person but `added`, elsewhere than at a place, what one more who holds
+-- `added` here would
 abbrev pub TellElsewhere : Place → Person → Place → List Holder → Type 0
 TellElsewhere elsewhere added place hs = same_place elsewhere place ≡ false → (p : Person)
     → same_person p added ≡ false → is_other_held p elsewhere hs ≡ true
@@ -81,13 +83,15 @@ module _ {S : Type 0} where
         → is_other_held p place (holders by_name name) ≡ is_other_named name p place shown
 
   -- what was told by these names is now told by more
-  abbrev pub TellsMore : HashMap SharedName (Vec Holder Global) S → HashMap SharedName (Vec Holder Global) S
+  abbrev pub TellsMore : HashMap SharedName (Vec Holder Global) S
+      → HashMap SharedName (Vec Holder Global) S
       → List (SharedName × Holder) → Type 0
   TellsMore old new more = (shown : List (SharedName × Holder)) → AreByName old shown
       → AreByName new (shown ++ more)
 
--- the form of a person: full where another one has its initials, else with initials where another one has its
--- family name
+-- the form of a person: full where another one has its initials, else with initials where another
+-- one has its family name
 abbrev pub fuller_by : Bool → Bool → DisambiguatedNameForm → DisambiguatedNameForm
 fuller_by named same form = if named
-    then (if same then DisambiguatedNameForm.LongFull else DisambiguatedNameForm.LongInitialized) else form
+    then (if same then DisambiguatedNameForm.LongFull
+    else DisambiguatedNameForm.LongInitialized) else form

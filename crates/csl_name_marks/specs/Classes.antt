@@ -31,7 +31,8 @@ module _ (rule : Option DisambiguationRule) where
 
   -- the first i persons of both are the same, cut by this rule
   abbrev pub alike_by : ℕ → NamedCite → NamedCite → Bool
-  alike_by i x y = same_persons (cut_by_rule rule (take i x.persons)) (cut_by_rule rule (take i y.persons))
+  alike_by i x y = same_persons (cut_by_rule rule (take i x.persons))
+      (cut_by_rule rule (take i y.persons))
 
   module _ (group : List NamedCite) where
     -- no other member is like this one
@@ -52,4 +53,5 @@ module _ (rule : Option DisambiguationRule) where
 
 -- the steps of the members of these rules
 abbrev pub step_by : List (Option DisambiguationRule) → List NamedCite → ℕ → NamedCite → Option ℕ
-step_by rules group greatest x = if list_any (same_rule x.rule) rules then step group greatest x else None
+step_by rules group greatest x = if list_any (same_rule x.rule) rules
+    then step group greatest x else None

@@ -12,8 +12,8 @@ without_given p = record p { given_name = None }
 abbrev pub initialized : Person → Person
 initialized p = record p { given_name = Some (given_initials p.given_name) }
 
--- what is kept of a person, who is the first of a cite or a later one; no rule stands for a style that adds
--- no given names
+-- what is kept of a person, who is the first of a cite or a later one; no rule stands for a style
+-- that adds no given names
 abbrev pub kept : Option DisambiguationRule → Bool → Person → Person
 kept None is_first p = without_given p
 kept (Some DisambiguationRule.AllNames) is_first p = p

@@ -9,8 +9,8 @@ use Rattle.csl_passes.specs.Request.{Request}
 use Rattle.csl_name_marks.specs.NameMarks.{name_marks}
 
 module _ {E P : Type 0} where
-  -- the mark stands at a place of the group, at a cite without a state or in a state of names, which goes on
-  -- to the mark
+  -- the mark stands at a place of the group, at a cite without a state or in a state of names,
+  -- which goes on to the mark
   pub record IsNameMark (cites : List (CiteRender E P)) (group : List Place) (mark : Place
       × DisambiguateState) : Type 0 where
     pub in_group : Contains group mark.0

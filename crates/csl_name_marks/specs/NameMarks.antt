@@ -21,7 +21,8 @@ after_step group x own forms i =
     add_name i (if is_by_cite x.rule && is_own_step i own then raise group x i forms else forms)
 
 -- the mark of a member that has forms to start from: those that it has after all steps of its group
-abbrev pub mark : List NamedCite → List ℕ → NamedCite → Option ℕ → Option (Place × DisambiguateState)
+abbrev pub mark : List NamedCite → List ℕ → NamedCite → Option ℕ
+    → Option (Place × DisambiguateState)
 mark group steps x own =
     option_map (λ start. (
       x.place,
@@ -30,7 +31,8 @@ mark group steps x own =
     )) x.start
 
 -- the marks of a group with these steps: none where there are no steps
-abbrev pub marks_after : List NamedCite → List ℕ → (NamedCite → Option ℕ) → List (Place × DisambiguateState)
+abbrev pub marks_after : List NamedCite → List ℕ → (NamedCite → Option ℕ)
+    → List (Place × DisambiguateState)
 marks_after group [] step_of = []
 marks_after group (i ∷ is) step_of = filter_map (λ x. mark group (i ∷ is) x (step_of x)) group
 

@@ -17,8 +17,8 @@ use Rattle.csl_name_marks.specs.declared.named_cite.NamedCite.{NamedCite}
 abbrev pub rule_of : CitationValue → Option DisambiguationRule
 rule_of c = if c.disambiguate_add_givenname then Some c.givenname_disambiguation_rule else None
 
--- the forms from which more names are written: those of a name state, else those of the first render; none in
--- another state
+-- the forms from which more names are written: those of a name state, else those of the first
+-- render; none in another state
 abbrev pub start : DisambiguateState → Option NameDisambiguationProperties
     → Option NameDisambiguationProperties
 start DisambiguateState.None first = first
@@ -37,7 +37,8 @@ module _ {E P : Type 0} where
   }
 
   abbrev pub named_cite_at : List (CiteRender E P) → Place → Option NamedCite
-  named_cite_at cites place = option_map (λ cite. named_cite place cite.0 cite.1) (cite_at cites place)
+  named_cite_at cites place =
+      option_map (λ cite. named_cite place cite.0 cite.1) (cite_at cites place)
 
   abbrev pub named_cites : List (CiteRender E P) → List Place → List NamedCite
   named_cites cites group = filter_map (named_cite_at cites) group
@@ -53,4 +54,5 @@ greatest (n ∷ ns) = max n (greatest ns)
 
 -- how many names may be tried: as many as some member has where names are added, else one
 abbrev pub greatest_step : Bool → List NamedCite → ℕ
-greatest_step adds_names group = if adds_names then greatest (map (λ x. length x.persons) group) else 1
+greatest_step adds_names group = if adds_names
+    then greatest (map (λ x. length x.persons) group) else 1

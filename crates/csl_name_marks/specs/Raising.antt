@@ -16,8 +16,8 @@ is_namesake p q = bytes_eq p.name q.name && not (same_person p q)
 abbrev pub same_initials : Person → Person → Bool
 same_initials p q = bytes_eq (given_initials p.given_name) (given_initials q.given_name)
 
--- the form of p among its namesakes: full where one has its initials, else with initials; as it was where
--- there is none
+-- the form of p among its namesakes: full where one has its initials, else with initials; as it was
+-- where there is none
 abbrev pub fuller : Person → List Person → DisambiguatedNameForm → DisambiguatedNameForm
 fuller p [] form = form
 fuller p (q ∷ qs) form = if list_any (same_initials p) (q ∷ qs) then DisambiguatedNameForm.LongFull
@@ -33,10 +33,11 @@ raised p qs form = fuller p (filter (is_namesake p) qs) form
 abbrev pub raised_at : ℕ → Option Person → List Person → Forms → Forms
 raised_at place None qs forms = forms
 raised_at place (Some p) qs forms =
-    unwrap_or (option_map (λ form. slice_set forms place (raised p qs form)) (slice_get forms place)) forms
+    unwrap_or (option_map (λ form. slice_set forms place (raised p qs form))
+    (slice_get forms place)) forms
 
--- name i of a member, counted from one, raised among all persons of the other members; nothing where it has
--- no such person or no such form
+-- name i of a member, counted from one, raised among all persons of the other members; nothing
+-- where it has no such person or no such form
 abbrev pub raise : List NamedCite → NamedCite → ℕ → Forms → Forms
 raise group x zero forms = forms
 raise group x (suc place) forms =

@@ -1,6 +1,21 @@
 //! Who is named by a family name in a group, and who by it and by initials.
 ghost use Rattle.std.specs.Prelude.{◌≡◌, ◌∷◌, [], true, IfOk, OnOk, if◌then◌else◌};
-ghost use Rattle.csl_name_marks.specs.ByName.{TellsMore, AreByName, Grows, IsTold, TellElsewhere, TellWithout, by_family, by_initials, holders, is_other_held, names_of, same_name, shown_by_all, shown_by};
+ghost use Rattle.csl_name_marks.specs.ByName.{
+  TellsMore,
+  AreByName,
+  Grows,
+  IsTold,
+  TellElsewhere,
+  TellWithout,
+  by_family,
+  by_initials,
+  holders,
+  is_other_held,
+  names_of,
+  same_name,
+  shown_by_all,
+  shown_by,
+};
 ghost use Rattle.csl_name_marks.specs.declared.by_name.SharedName.{SharedName as SharedNameValue};
 
 use crate::named_cite::NamedCite;

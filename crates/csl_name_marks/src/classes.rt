@@ -1,5 +1,16 @@
 //! The members of a group that read alike, as classes with numbers.
-ghost use Rattle.std.specs.Prelude.{◌≡◌, ◌<◌, ◌+◌, ℕ, All, IfOk, length, nat_eq, slice_index, vec_len};
+ghost use Rattle.std.specs.Prelude.{
+  ◌≡◌,
+  ◌<◌,
+  ◌+◌,
+  ℕ,
+  All,
+  IfOk,
+  length,
+  nat_eq,
+  slice_index,
+  vec_len,
+};
 ghost use Rattle.std.specs.List.{count_by};
 ghost use Rattle.csl_name_marks.specs.Classes.{AreClasses, kept_at};
 
@@ -33,8 +44,8 @@ fn kept_at(
     }
 }
 
-/// The classes of members by one person more, from those by their first `i` persons. A class has the
-/// number of its first member's key among the distinct keys.
+/// The classes of members by one person more, from those by their first `i` persons. A class has
+/// the number of its first member's key among the distinct keys.
 pub(crate) fn next_classes(
     alloc: Global,
     rule: Option<DisambiguationRule>,

@@ -3,7 +3,12 @@ ghost use Rattle.std.specs.Prelude.{◌≡◌, All, IfOk};
 ghost use Rattle.csl_passes.specs.Places.{IsPlace};
 ghost use Rattle.csl_passes.specs.RendersView.{item_view, renders_view};
 ghost use Rattle.csl_passes.specs.RequestView.{request_view};
-ghost use Rattle.csl_name_marks.specs.NamedCites.{first_adds_names, greatest_step, named_cite, named_cites};
+ghost use Rattle.csl_name_marks.specs.NamedCites.{
+  first_adds_names,
+  greatest_step,
+  named_cite,
+  named_cites,
+};
 
 use crate::named_cite::{NamedCite, rule_of, start_of};
 use crate::persons::persons_of;
@@ -17,7 +22,8 @@ fn named_cite<T, P>(
     request: &CitationRequest<'_, T, P>,
     item: &SpeculativeItemRender<'_, T, P>,
 ) -> Result<NamedCite, AllocError>
-    ensures { IfOk result (λ m. m ≡ named_cite place (request_view request.now) (item_view item.now)) }
+    ensures { IfOk result
+        (λ m. m ≡ named_cite place (request_view request.now) (item_view item.now)) }
 {
     let state = &item.cite_props.speculative.disambiguation;
     Ok(NamedCite {

@@ -5,8 +5,8 @@ ghost use Rattle.csl_passes.specs.Renders.{CiteRender, Place};
 
 use csl_lookup::laws::states_go_on;
 
-/// A law: each name mark stands at a place of its group, at a cite without a state or in a state of names,
-/// and that state goes on to it: it has as many forms, and none writes less of its name.
+/// A law: each name mark stands at a place of its group, at a cite without a state or in a state of
+/// names, and that state goes on to it: it has as many forms, and none writes less of its name.
 pub fn name_marks_go_on<T, P>()
     ensures { (cites : List (CiteRender T P)) (group : List Place) → NameMarksGoOn cites group }
 {

@@ -6,7 +6,13 @@ ghost use Rattle.csl_passes.specs.Places.{AreDistinct, IsPlace};
 ghost use Rattle.csl_passes.specs.RendersView.{renders_view};
 ghost use Rattle.csl_name_marks.specs.ByName.{AreByName, shown_by_all};
 ghost use Rattle.csl_name_marks.specs.Classes.{StandApart};
-ghost use Rattle.csl_name_marks.specs.NameMarks.{after_step, is_by_cite, mark, marks_after, name_marks};
+ghost use Rattle.csl_name_marks.specs.NameMarks.{
+  after_step,
+  is_by_cite,
+  mark,
+  marks_after,
+  name_marks,
+};
 ghost use Rattle.csl_name_marks.specs.Steps.{step, steps};
 
 use crate::by_name::{ByName, by_name};
@@ -126,12 +132,13 @@ fn group_marks(alloc: Global, group: &[NamedCite], greatest: usize) -> Result<Ma
 /// The marks that tell the cites of a group apart by more of their names, in the group's order. No
 /// marks for an empty group.
 ///
-/// A member whose state leaves room for more names is known by `i` names where its first `i` persons,
-/// cut by the rule of its style, differ from those of each other member. The least such `i` is its
-/// step; it is at most the greatest number of persons where the style of the first request adds names,
-/// and else 1. At each step of the group each member that has forms gets name `i` written; one whose
-/// own step it is, and whose style adds given names by cite, gets that name's form raised first. The
-/// mark of a member is the state that it has after all steps; it may be that which it had.
+/// A member whose state leaves room for more names is known by `i` names where its first `i`
+/// persons, cut by the rule of its style, differ from those of each other member. The least such
+/// `i` is its step; it is at most the greatest number of persons where the style of the first
+/// request adds names, and else 1. At each step of the group each member that has forms gets name
+/// `i` written; one whose own step it is, and whose style adds given names by cite, gets that
+/// name's form raised first. The mark of a member is the state that it has after all steps; it may
+/// be that which it had.
 ///
 /// The places have to be those of cites, none twice.
 ///
@@ -145,7 +152,8 @@ pub fn disambiguate_names<T, P>(
 ) -> Result<Marks, AllocError>
     requires exist { All (IsPlace (renders_view cites.now)) group.now.items }
     requires distinct { AreDistinct group.now.items }
-    ensures { IfOk result (λ marks. marks.items ≡ name_marks (renders_view cites.now) group.now.items) }
+    ensures { IfOk result
+        (λ marks. marks.items ≡ name_marks (renders_view cites.now) group.now.items) }
 {
     let members = named_cites(alloc, cites, group)?;
     let greatest = greatest_step(first_adds_names(cites), &members);

@@ -55,8 +55,8 @@ fn copied_or_none(
     }
 }
 
-/// The forms from which more names are written: those of a state of names, and without a state those
-/// of the first render.
+/// The forms from which more names are written: those of a state of names, and without a state
+/// those of the first render.
 pub(crate) fn start_of(
     state: &DisambiguateState,
     first_name: &Option<NameDisambiguationProperties>,

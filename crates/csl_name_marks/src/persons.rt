@@ -64,7 +64,8 @@ fn add_tree(found: &mut Vec<Person>, tree: &ElemChildren) -> Result<(), AllocErr
 #[cycle(add)]
 fn add_child(found: &mut Vec<Person>, child: &ElemChild) -> Result<(), AllocError>
     ensures { OnOk result (found.new.items
-        ≡ found.old.items ++ flat_map (λ e. named_by e.meta) (child_elements (child_view child.now))) }
+        ≡ found.old.items ++ flat_map (λ e. named_by e.meta)
+        (child_elements (child_view child.now))) }
 {
     match child {
         ElemChild::Elem(elem) => {

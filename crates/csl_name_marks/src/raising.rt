@@ -1,7 +1,15 @@
 //! How far given names are written to tell persons apart.
 ghost use Rattle.std.specs.Prelude.{◌≡◌, IfOk, OnOk};
 ghost use Rattle.std.specs.List.{flat_map};
-ghost use Rattle.csl_name_marks.specs.ByName.{AreByName, by_family, by_initials, fuller_by, holders, is_other_held, shown_by_all};
+ghost use Rattle.csl_name_marks.specs.ByName.{
+  AreByName,
+  by_family,
+  by_initials,
+  fuller_by,
+  holders,
+  is_other_held,
+  shown_by_all,
+};
 ghost use Rattle.csl_name_marks.specs.Raising.{raise, raised};
 ghost use Rattle.csl_name_marks.specs.Steps.{others};
 
@@ -11,8 +19,8 @@ use csl_base::entry::Person;
 use csl_base::names::{DisambiguatedNameForm, NameDisambiguationProperties};
 use std::alloc::{AllocError, Global};
 
-/// The form of a person at a place, among those whom the names hold. The names of those who share its
-/// initials are asked only where it has namesakes.
+/// The form of a person at a place, among those whom the names hold. The names of those who share
+/// its initials are asked only where it has namesakes.
 fn fuller(
     alloc: Global,
     person: &Person,
@@ -55,8 +63,8 @@ fn raised_in_group(
     }
 }
 
-/// Raises the form of a member's name `i`, counted from 1. Nothing changes at 0, where the member has
-/// no such person, and where there is no such form.
+/// Raises the form of a member's name `i`, counted from 1. Nothing changes at 0, where the member
+/// has no such person, and where there is no such form.
 pub(crate) fn raise(
     alloc: Global,
     member: &NamedCite,
@@ -66,7 +74,8 @@ pub(crate) fn raise(
     forms: &mut NameDisambiguationProperties,
 ) -> Result<(), AllocError>
     requires { AreByName by_name.now (shown_by_all group.now) }
-    ensures { OnOk result (forms.new ≡ record { forms = raise group.now member.now i forms.old.forms }) }
+    ensures { OnOk result
+        (forms.new ≡ record { forms = raise group.now member.now i forms.old.forms }) }
 {
     if i == 0 {
         return Ok(());

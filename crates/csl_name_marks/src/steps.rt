@@ -2,7 +2,15 @@
 ghost use Rattle.std.specs.Prelude.{◌≡◌, ◌+◌, filter, length, map, zip, IfOk};
 ghost use Rattle.std.specs.List.{list_any, range_with_len};
 ghost use Rattle.std.specs.Option.{option_or};
-ghost use Rattle.csl_name_marks.specs.Classes.{AreClasses, StandApart, first_step, is_alone, step_after, step_by, waits_for_step};
+ghost use Rattle.csl_name_marks.specs.Classes.{
+  AreClasses,
+  StandApart,
+  first_step,
+  is_alone,
+  step_after,
+  step_by,
+  waits_for_step,
+};
 ghost use Rattle.csl_name_marks.specs.Steps.{is_own_step, same_place, step};
 
 use crate::classes::{class_sizes, next_classes};
@@ -79,7 +87,8 @@ fn steps_after(
     requires classes { AreClasses rule group.now i classes.now }
     requires long { length steps.now ≡ length group.now }
     ensures { IfOk result (λ v. v.items
-        ≡ map (λ p. step_after rule i p.0 p.1 (is_alone rule group.now i p.0)) (zip group.now steps.now)) }
+        ≡ map (λ p. step_after rule i p.0 p.1 (is_alone rule group.now i p.0))
+        (zip group.now steps.now)) }
 {
     let sizes = class_sizes(alloc, classes)?;
     let mut found = Vec::new(alloc);
@@ -101,7 +110,8 @@ fn with_steps_of(
     requires apart { StandApart group.now }
     requires long { length steps.items ≡ length group.now }
     ensures { IfOk result (λ v. v.items
-        ≡ map (λ p. option_or p.1 (first_step rule group.now greatest p.0)) (zip group.now steps.items)) }
+        ≡ map (λ p. option_or p.1 (first_step rule group.now greatest p.0))
+        (zip group.now steps.items)) }
 {
     let mut steps = steps;
     let mut classes = vec![in alloc; 0; group.len()]?;

@@ -8,7 +8,8 @@ module _ {E P : Type 0} where
   -- the cite at a place, with its request, if there is one
   abbrev pub cite_at : List (CiteRender E P) → Place → Option (Request E P × ItemRender E P)
   cite_at cites place =
-      option_and_then (λ cite. option_map (λ item. (cite.request, item)) (slice_get cite.items place.1))
+      option_and_then (λ cite.
+      option_map (λ item. (cite.request, item)) (slice_get cite.items place.1))
       (slice_get cites place.0)
 
   -- a cite stands at the place

@@ -16,7 +16,8 @@ module _ {P : Type 0} (eq : P → P → Bool) where
   -- the same locator: of one kind and with one payload; or none on both sides
   abbrev pub same_locators : Option (LocatorValue P) → Option (LocatorValue P) → Bool
   same_locators None None = true
-  same_locators (Some a) (Some b) = (locator_eq.ghosts).eq a.kind b.kind && same_payload a.payload b.payload
+  same_locators (Some a) (Some b) = (locator_eq.ghosts).eq a.kind b.kind
+      && same_payload a.payload b.payload
   same_locators _ _ = false
 
   -- the position of a cite with this locator that repeats the last one, or doesn't

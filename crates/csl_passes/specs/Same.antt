@@ -28,7 +28,8 @@ module _ {T P : Type 0} (entry_eq : T → T → Bool) (payload_eq : P → P → 
     pub note_number : a.note_number ≡ b.note_number
 
 -- of requests for a bibliography
-pub record IsSameWanted {T : Type 0} (entry_eq : T → T → Bool) (a b : BibliographyRequest T) : Type 0 where
+pub record IsSameWanted {T : Type 0} (entry_eq : T → T
+    → Bool) (a b : BibliographyRequest T) : Type 0 where
   pub style : style_view a.style.now ≡ style_view b.style.now
   pub locale : option_map code_view a.locale ≡ option_map code_view b.locale
   pub locales : map locale_view a.locale_files.now ≡ map locale_view b.locale_files.now

@@ -1,5 +1,5 @@
--- Requests beside which nothing is kept that was prepared of their styles: each of their fields may be
--- written.
+-- Requests beside which nothing is kept that was prepared of their styles: each of their fields may
+-- be written.
 use Rattle.std.specs.Prelude.{IsNone}
 use Rattle.csl_passes.specs.declared.request.BibliographyRequest.{BibliographyRequest}
 use Rattle.csl_passes.specs.declared.request.CitationRequest.{CitationRequest}

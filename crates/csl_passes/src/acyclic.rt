@@ -22,7 +22,7 @@ pub struct AcyclicRequests<'r, 'a, T, P> {
 }
 
 /// A request for a bibliography whose style has none either.
-pub struct AcyclicWanted<'w, 'o, 'a, T> {
+pub struct AcyclicBibliographyRequest<'w, 'o, 'a, T> {
     pub wanted: &'w BibliographyRequest<'o, 'a, T>,
     pub ghost no_ring: { HasNoRing (wanted_view wanted.now).style.macros },
 }
@@ -74,19 +74,19 @@ impl<'r, 'a, T, P> AcyclicRequests<'r, 'a, T, P> {
     }
 }
 
-impl<'w, 'o, 'a, T> Clone for AcyclicWanted<'w, 'o, 'a, T> {
+impl<'w, 'o, 'a, T> Clone for AcyclicBibliographyRequest<'w, 'o, 'a, T> {
     ghost is_clone = { λ s r. r ≡ s };
 
     ghost is_infallible = { λ _. ⊤ };
 
-    fn clone(&self) -> Result<AcyclicWanted<'w, 'o, 'a, T>, AllocError> {
+    fn clone(&self) -> Result<AcyclicBibliographyRequest<'w, 'o, 'a, T>, AllocError> {
         Ok(*self)
     }
 }
 
-impl<'w, 'o, 'a, T> Copy for AcyclicWanted<'w, 'o, 'a, T> {}
+impl<'w, 'o, 'a, T> Copy for AcyclicBibliographyRequest<'w, 'o, 'a, T> {}
 
-impl<'w, 'o, 'a, T> AcyclicWanted<'w, 'o, 'a, T> {
+impl<'w, 'o, 'a, T> AcyclicBibliographyRequest<'w, 'o, 'a, T> {
     /// The style of the bibliography, with its locales.
     pub fn source(self) -> StyleLocales<'w>
         ensures source { source_view result ≡ wanted_source (wanted_view self.entry.wanted.now) }

@@ -2,8 +2,8 @@
 use csl_lookup::properties::CertainCiteProperties;
 use csl_lookup::state::IbidState;
 
-/// What is known of a cite when it is rendered first, beside its entry: its place among the cites of the
-/// document, as they were handed in.
+/// What is known of a cite when it is rendered first, beside its entry: its place among the cites
+/// of the document, as they were handed in.
 #[derive(Clone, Copy, PartialEq, Eq)]
 pub struct FirstProperties {
     pub certain: CertainCiteProperties,

@@ -32,10 +32,12 @@ pub fn item_equality_decides<'a, T: PartialEq + 'a, P: PartialEq + 'a>()
     state_equality_decides();
 }
 
-/// A law: `==` of requests for citations is true exactly where cites are equal by their own `==`, and
-/// styles, locales and note numbers are the same, as plain data. What was prepared isn't looked at.
+/// A law: `==` of requests for citations is true exactly where cites are equal by their own `==`,
+/// and styles, locales and note numbers are the same, as plain data. What was prepared isn't looked
+/// at.
 pub fn request_equality_decides<'a, T: PartialEq + 'a, P: PartialEq + 'a>()
-    ensures { (a b : CitationRequest T P) → Decides (⟦<CitationRequest<'a, T, P> as PartialEq>⟧.eq a b)
+    ensures { (a b : CitationRequest T P)
+        → Decides (⟦<CitationRequest<'a, T, P> as PartialEq>⟧.eq a b)
         (IsSameRequest T.eq P.eq a b) }
 {
     item_equality_decides::<T, P>();
@@ -43,28 +45,31 @@ pub fn request_equality_decides<'a, T: PartialEq + 'a, P: PartialEq + 'a>()
     style_equality_decides();
 }
 
-/// A law: `==` of requests for bibliographies is true exactly where styles and locales are the same,
-/// as plain data, and the entries of the orders are equal by their own `==`. What was prepared isn't
-/// looked at.
-pub fn wanted_equality_decides<'a, T: PartialEq + 'a>()
-    ensures { (a b : BibliographyRequest T) → Decides (⟦<BibliographyRequest<'a, 'a, T> as PartialEq>⟧.eq a b)
+/// A law: `==` of requests for bibliographies is true exactly where styles and locales are the
+/// same, as plain data, and the entries of the orders are equal by their own `==`. What was
+/// prepared isn't looked at.
+pub fn bibliography_request_equality_decides<'a, T: PartialEq + 'a>()
+    ensures { (a b : BibliographyRequest T)
+        → Decides (⟦<BibliographyRequest<'a, 'a, T> as PartialEq>⟧.eq a b)
         (IsSameWanted T.eq a b) }
 {
     locale_equality_decides();
     style_equality_decides();
 }
 
-/// A law: `==` of what is known of a cite when it is rendered first is true exactly of equal values.
+/// A law: `==` of what is known of a cite when it is rendered first is true exactly of equal
+/// values.
 pub fn first_equality_decides()
     ensures { TellsEqual ⟦<FirstProperties as PartialEq>⟧.eq }
 {
     state_equality_decides();
 }
 
-/// A law: `==` of the properties of a cite is true exactly where the plain data is equal, if that of
-/// the caller's own payloads is.
+/// A law: `==` of the properties of a cite is true exactly where the plain data is equal, if that
+/// of the caller's own payloads is.
 pub fn properties_equality_decides<'a, P: PartialEq + 'a>()
-    ensures { TellsEqual P.eq → TellsSeen properties_view ⟦<CiteProperties<'a, P> as PartialEq>⟧.eq }
+    ensures { TellsEqual P.eq
+        → TellsSeen properties_view ⟦<CiteProperties<'a, P> as PartialEq>⟧.eq }
 {
     state_equality_decides();
     equality_decides::<P>();

@@ -23,7 +23,8 @@ fn same_locators<P: PartialEq>(
     a: &Option<SpecificLocator<'_, P>>,
     b: &Option<SpecificLocator<'_, P>>,
 ) -> bool
-    ensures { result ≡ same_locators P.eq (option_map locator_view a.now) (option_map locator_view b.now) }
+    ensures { result ≡ same_locators P.eq (option_map locator_view a.now)
+        (option_map locator_view b.now) }
 {
     match (a, b) {
         (Some(a), Some(b)) => a.0 == b.0 && same_payload(&a.1, &b.1),
@@ -53,9 +54,9 @@ pub fn position_by<P: PartialEq>(
     }
 }
 
-/// The position of a cite against the last one before it. No last one, another entry and a hidden one
-/// give `Different`; an equal entry gives `Ibid` where the locators are equal, `Different` where they
-/// aren't and this cite has none, and else `IbidWithLocator`. It takes no memory.
+/// The position of a cite against the last one before it. No last one, another entry and a hidden
+/// one give `Different`; an equal entry gives `Ibid` where the locators are equal, `Different`
+/// where they aren't and this cite has none, and else `IbidWithLocator`. It takes no memory.
 pub fn with_last<T: PartialEq, P: PartialEq>(
     this: &CitationItem<'_, T, P>,
     last: Option<&CitationItem<'_, T, P>>,

@@ -21,7 +21,8 @@ pub struct SpeculativeItemRender<'a, T, P> {
     pub checked_disambiguate: bool,
     /// The forms of the names that its first render wrote first, if it wrote any.
     pub first_name: Option<NameDisambiguationProperties>,
-    /// What stands before it in place of the layout's delimiter, where it isn't the first that shows.
+    /// What stands before it in place of the layout's delimiter, where it isn't the first that
+    /// shows.
     pub delim_override: Option<&'a str>,
     /// The place of its block among those with names, from 0; none outside of blocks.
     pub group_idx: Option<usize>,
@@ -41,8 +42,8 @@ pub struct SpeculativeCiteRender<'r, 'a, T, P> {
     pub request: &'r CitationRequest<'a, T, P>,
 }
 
-/// The cites of all requests. They are dropped one by one: a list of lists that hold references to a type
-/// parameter can't be dropped as a whole.
+/// The cites of all requests. They are dropped one by one: a list of lists that hold references to
+/// a type parameter can't be dropped as a whole.
 pub struct Cites<'r, 'a, T, P> {
     pub by_request: Vec<SpeculativeCiteRender<'r, 'a, T, P>>,
 }
@@ -53,8 +54,8 @@ pub type AmbiguousGroup = Vec<(usize, usize)>;
 /// States for the entries of the cites at some places.
 pub type Marks = Vec<((usize, usize), DisambiguateState)>;
 
-/// Drops the cites one by one: a list that holds references to a type parameter can't be dropped as a
-/// whole.
+/// Drops the cites one by one: a list that holds references to a type parameter can't be dropped as
+/// a whole.
 fn discard<T, P: Drop>(mut items: Vec<SpeculativeItemRender<'_, T, P>>) {
     while let Some(_item) = items.pop() {}
     items.destroy_empty();

@@ -47,8 +47,8 @@ impl<'a, T, P> CitationRequest<'a, T, P> {
     ghost use Rattle.csl_passes.specs.RequestView.{cites_view, request_view};
     ghost use Rattle.csl_passes.specs.Unprepared.{IsUnprepared};
 
-    /// A request for a citation. The note number is kept only where the style's cites stand in notes.
-    /// Each public field may be written later.
+    /// A request for a citation. The note number is kept only where the style's cites stand in
+    /// notes. Each public field may be written later.
     pub fn new(
         items: Vec<CitationItem<'a, T, P>>,
         style: &'a IndependentStyle,
@@ -76,8 +76,8 @@ impl<'a, T, P> CitationRequest<'a, T, P> {
         }
     }
 
-    /// The request that `new` makes of the same style and files, which were prepared. Its files may be
-    /// written once it is `unprepared`.
+    /// The request that `new` makes of the same style and files, which were prepared. Its files may
+    /// be written once it is `unprepared`.
     pub fn of_prepared<'s: 'a>(
         items: Vec<CitationItem<'a, T, P>>,
         prepared: &'a PreparedStyle<'s>,
@@ -91,7 +91,8 @@ impl<'a, T, P> CitationRequest<'a, T, P> {
               style = prepared_view prepared.now;
               locale = option_map code_view locale;
               locales = map locale_view (locales_of files.now);
-              note_number = (if is_note (made_of prepared.now).settings.class then note_number else None);
+              note_number = (if is_note (made_of prepared.now).settings.class then note_number
+                  else None);
             } }
     {
         CitationRequest {
@@ -169,7 +170,8 @@ impl<'a, T, P> CitationRequest<'a, T, P> {
     }
 }
 
-/// The order in which a caller wants the bibliography's entries. It may lack, repeat or add entries.
+/// The order in which a caller wants the bibliography's entries. It may lack, repeat or add
+/// entries.
 #[derive(PartialEq, Eq, Drop)]
 pub struct Order<'o, 'a, T>(pub &'o [&'a T]);
 
@@ -196,8 +198,8 @@ impl<'o, 'a, T> BibliographyRequest<'o, 'a, T> {
     ghost use Rattle.csl_passes.specs.RequestView.{wanted_view};
     ghost use Rattle.csl_passes.specs.Unprepared.{WantsUnprepared};
 
-    /// A request for a bibliography in the order of the first cites. Its style, its locale and its files
-    /// may be written later.
+    /// A request for a bibliography in the order of the first cites. Its style, its locale and its
+    /// files may be written later.
     pub fn new(
         style: &'o IndependentStyle,
         locale: Option<LocaleCode>,
@@ -218,8 +220,8 @@ impl<'o, 'a, T> BibliographyRequest<'o, 'a, T> {
         }
     }
 
-    /// A request for a bibliography in this order; in that of the first cites where there is none. Its
-    /// style, its locale and its files may be written later.
+    /// A request for a bibliography in this order; in that of the first cites where there is none.
+    /// Its style, its locale and its files may be written later.
     pub fn ordered(
         style: &'o IndependentStyle,
         locale: Option<LocaleCode>,
@@ -241,8 +243,8 @@ impl<'o, 'a, T> BibliographyRequest<'o, 'a, T> {
         }
     }
 
-    /// The request that `ordered` makes of the same style and files, which were prepared. These two may be
-    /// written once it is `unprepared`.
+    /// The request that `ordered` makes of the same style and files, which were prepared. These two
+    /// may be written once it is `unprepared`.
     pub fn of_prepared<'s: 'o>(
         prepared: &'o PreparedStyle<'s>,
         locale: Option<LocaleCode>,
@@ -266,8 +268,8 @@ impl<'o, 'a, T> BibliographyRequest<'o, 'a, T> {
         }
     }
 
-    /// The same request, beside which nothing is kept that was prepared: its style, its locale and its
-    /// files may be written.
+    /// The same request, beside which nothing is kept that was prepared: its style, its locale and
+    /// its files may be written.
     pub fn unprepared(self) -> BibliographyRequest<'o, 'a, T>
         ensures view { wanted_view result ≡ wanted_view self.entry }
         ensures unprepared { WantsUnprepared result }

@@ -1,5 +1,5 @@
--- For the code: names one after the other, of which the last waits until it is known whether another follows,
--- and blocks, where another one before them may have given a part.
+-- For the code: names one after the other, of which the last waits until it is known whether
+-- another follows, and blocks, where another one before them may have given a part.
 use Rattle.std.specs.Prelude.{ℕ, zero, suc, List, [], ◌∷◌, ◌++◌, Bool, ◌||◌, Option, Some, None, if◌then◌else◌}
 use Rattle.csl_picking.specs.Pieces.{LeafValue, Part, leaf_part}
 use Rattle.csl_picking.specs.Picked.{gives}

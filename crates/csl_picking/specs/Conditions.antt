@@ -32,7 +32,8 @@ has_variable env (Variable.Standard standard.YearSuffix) = is_some (year_suffix 
 has_variable env (Variable.Standard v) = is_some (env.answers.text v)
 has_variable env (Variable.Number number.CitationNumber) = true
 has_variable env (Variable.Number number.Locator) = is_some env.cite.locator
-has_variable env (Variable.Number number.FirstReferenceNoteNumber) = is_some env.cite.first_note_number
+has_variable env (Variable.Number number.FirstReferenceNoteNumber) =
+    is_some env.cite.first_note_number
 has_variable env (Variable.Number v) = is_some (env.answers.number v)
 
 abbrev pub is_repeated : IbidState → Bool
@@ -67,4 +68,7 @@ is_disambiguate _ = false
 
 -- what is noted behind the test of a branch: each of its conditions was tested
 abbrev pub tested : List Condition → Notes → Notes
-tested cs n = record n { checked_disambiguate = n.checked_disambiguate || list_any is_disambiguate cs }
+tested cs n = record n {
+  checked_disambiguate = n.checked_disambiguate
+      || list_any is_disambiguate cs;
+}

@@ -44,9 +44,10 @@ pub record Env : Type 0 where
   -- the name options that hold where a names element has none of its own
   pub options : NameOptions
 
--- for an entry and what is read of a cite of it, where terms are looked up and these name options of a
--- style and of a layout hold
-abbrev pub env_for : Answers → ReadProperties → Lookup → NameOptions → NameOptions → Form → Bool → Bool → Env
+-- for an entry and what is read of a cite of it, where terms are looked up and these name options
+-- of a style and of a layout hold
+abbrev pub env_for : Answers → ReadProperties → Lookup → NameOptions → NameOptions → Form → Bool
+    → Bool → Env
 env_for answers cite lookup of_style of_layout form explicit_suffix is_bibliography = record {
   answers = answers;
   cite = cite;

@@ -58,5 +58,6 @@ forms_by r count =
 
 -- a state of names has forms of its own for the first names
 abbrev pub forms_in : DisambiguateState → Forms → Forms
-forms_in (state.NameDisambiguation own) forms = take (length forms) own.forms ++ drop (length own.forms) forms
+forms_in (state.NameDisambiguation own) forms = take (length forms) own.forms
+    ++ drop (length own.forms) forms
 forms_in _ forms = forms

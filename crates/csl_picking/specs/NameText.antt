@@ -16,7 +16,8 @@ whole_name (b ∷ bs) family = (b ∷ bs) ++ codes " " ++ family
 -- each initial followed by this text, and no white space at the end
 abbrev pub ended_initials : List ℕ → Option (List ℕ) → List ℕ
 ended_initials end None = []
-ended_initials end (Some given) = trim_end (flat_map (λ c. encode_utf8 c ++ end) (initials (chars given)))
+ended_initials end (Some given) =
+    trim_end (flat_map (λ c. encode_utf8 c ++ end) (initials (chars given)))
 
 -- a name in a form, where `end` follows each initial; none where the name only counts
 abbrev pub name_text : List ℕ → DisambiguatedNameForm → Person → Option (List ℕ)
@@ -24,7 +25,8 @@ name_text end DisambiguatedNameForm.Count p = None
 name_text end DisambiguatedNameForm.Short p = Some p.name
 name_text end DisambiguatedNameForm.LongInitialized p =
     Some (whole_name (ended_initials end p.given_name) p.name)
-name_text end DisambiguatedNameForm.LongFull p = Some (whole_name (unwrap_or p.given_name []) p.name)
+name_text end DisambiguatedNameForm.LongFull p =
+    Some (whole_name (unwrap_or p.given_name []) p.name)
 
 -- a blank name gives nothing
 abbrev pub name_leaf : List ℕ → DisambiguatedNameForm → Person → Option LeafValue

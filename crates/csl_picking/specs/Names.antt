@@ -47,7 +47,8 @@ stand_in answers n variables substitute =
 -- the blocks of an element, each the names of one variable
 abbrev pub blocks : Answers → Notes → List NameVariable → List NameVariable → List NameVariable
 blocks answers n variables substitute =
-    filter (is_present answers n) variables ++ option_to_list (stand_in answers n variables substitute)
+    filter (is_present answers n) variables
+    ++ option_to_list (stand_in answers n variables substitute)
 
 -- the editor stands for the author where the entry has editors and no author
 abbrev pub author_variable : Answers → NameVariable
@@ -63,7 +64,8 @@ is_variable v w = same_variable v (Variable.Name w)
 -- the blocks that are written in a form, where `writer` is the author's variable
 abbrev pub written_blocks : Form → NameVariable → List NameVariable → List NameVariable
 written_blocks Form.Full writer vs = vs
-written_blocks Form.SuppressAuthor writer vs = if list_any (is_variable (Variable.Name writer)) vs then []
+written_blocks Form.SuppressAuthor writer vs =
+    if list_any (is_variable (Variable.Name writer)) vs then []
     else vs
 written_blocks (Form.VarOnly v) writer vs = filter (is_variable v) vs
 written_blocks Form.OnlyFirstDate writer vs = []
@@ -93,7 +95,8 @@ abbrev pub last_joint : Terms → Rules → ℕ → List ℕ
 last_joint terms r count =
     elim r.and [
       | None ↦ r.name_delimiter
-      | Some and ↦ (if count == 2 then codes " " else r.name_delimiter) ++ and_words terms and ++ codes " "
+      | Some and ↦ (if count == 2 then codes " " else r.name_delimiter) ++ and_words terms and
+          ++ codes " "
     ]
 
 abbrev pub is_count : DisambiguatedNameForm → Bool
@@ -117,9 +120,11 @@ last_words terms r cut count = if cut then r.name_delimiter else last_joint term
 -- behind names that are cut, a space and the term
 abbrev pub et_al_parts : Terms → Bool → List Part
 et_al_parts terms false = []
-et_al_parts terms true = joint_part (codes " " ++ words_for terms OtherTerm.EtAl (codes "et al.")) ∷ []
+et_al_parts terms true =
+    joint_part (codes " " ++ words_for terms OtherTerm.EtAl (codes "et al.")) ∷ []
 
--- names, with what stands between and behind them; where some are cut the term stands also if none is written
+-- names, with what stands between and behind them; where some are cut the term stands also if none
+-- is written
 abbrev pub joined_names : Terms → Rules → Bool → List Part → List Part
 joined_names terms r cut ps =
     joined_parts r.name_delimiter (last_words terms r cut (length ps)) ps ++ et_al_parts terms cut
@@ -141,7 +146,8 @@ first_forms state n forms = if is_none n.first_name then forms_in state forms el
 
 abbrev pub first_block : Env → Rules → Notes → NameVariable → List Part
 first_block env r n v =
-    block_parts env.term r v (first_forms env.cite.state n (forms_by r (length (env.answers.names v))))
+    block_parts env.term r v
+    (first_forms env.cite.state n (forms_by r (length (env.answers.names v))))
     (env.answers.names v)
 
 -- the blocks that give a part, with a text between them
@@ -162,7 +168,8 @@ abbrev pub block_persons : Answers → NameVariable → List Person × NameVaria
 block_persons answers v = (answers.names v, v)
 
 abbrev pub names_node : Answers → Look → List NameVariable → NodeValue
-names_node answers look vs = plain_node look false false (Some (meta.Names (map (block_persons answers) vs)))
+names_node answers look vs =
+    plain_node look false false (Some (meta.Names (map (block_persons answers) vs)))
 
 -- forms are noted where none were noted before
 abbrev pub with_forms : Forms → Notes → Notes
@@ -179,7 +186,8 @@ abbrev pub noted_stand_in : Bool → Option NameVariable → Notes → Notes
 noted_stand_in true (Some v) n = record n { suppressed = with_suppressed v n.suppressed }
 noted_stand_in _ _ n = n
 
-abbrev pub pick_names : Env → List NameVariable → List NameVariable → NameOptions → Look → Notes → Picked
+abbrev pub pick_names : Env → List NameVariable → List NameVariable → NameOptions → Look
+    → Notes → Picked
 pick_names env variables substitute options look n =
     let r = rules_of (applied_options env.options options) in
     let vs = written_blocks env.form (author_variable env.answers)

@@ -9,7 +9,11 @@ use Rattle.csl_picking.specs.Picked.{Held}
 
 -- inside a node that was just opened nothing is called yet
 abbrev pub inside : NodeValue → Held → Held
-inside node h = record { tokens = h.tokens ++ opening node ∷ []; called = Called.None; noted = h.noted }
+inside node h = record {
+  tokens = h.tokens ++ opening node ∷ [];
+  called = Called.None;
+  noted = h.noted;
+}
 
 -- what is remembered of the place before the node
 abbrev pub remembered : Held → Opened
@@ -43,4 +47,5 @@ macro_closed o h = if is_empty_node o h then cut_back o h else closed_as h.calle
 
 abbrev pub group_closed : Opened → Held → Held
 group_closed o h =
-    if is_without_content h.called || is_empty_node o h then cut_back o h else closed_as Called.Filled o h
+    if is_without_content h.called || is_empty_node o h then cut_back o h
+    else closed_as Called.Filled o h

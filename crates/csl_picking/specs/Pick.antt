@@ -22,19 +22,24 @@ group_node look delimiter = record (plain_node look false false None) { delimite
 
 -- a text: a value, a term, a variable, or a macro
 abbrev pub pick_text : Env → Call → Target → Look → Bool → Bool → Notes → Picked
-pick_text env call (value_target t) look quotes strip n = pick_words env.form (Some t) look quotes strip n
+pick_text env call (value_target t) look quotes strip n =
+    pick_words env.form (Some t) look quotes strip n
 pick_text env call (term_target t form plural) look quotes strip n =
     pick_words env.form (env.term t form plural) look quotes strip n
 pick_text env call (standard_target v) look quotes strip n =
-    pick_variable env (meant env.is_bibliography env.cite.usage (Variable.Standard v)) look quotes strip n
-pick_text env call (macro_target name) look quotes strip n = call name (plain_node look quotes strip None) n
+    pick_variable env (meant env.is_bibliography env.cite.usage (Variable.Standard v)) look
+    quotes strip n
+pick_text env call (macro_target name) look quotes strip n =
+    call name (plain_node look quotes strip None) n
 
 -- what an element, a list of elements and a choice give, where `call` says what a macro gives
 abbrev mutual
   pub pick_with : Env → Call → Element → Notes → Picked
-  pick_with env call (text_element target quotes strip look) n = pick_text env call target look quotes strip n
+  pick_with env call (text_element target quotes strip look) n =
+      pick_text env call target look quotes strip n
   pick_with env call (number_element v look) n =
-      pick_variable env (meant env.is_bibliography env.cite.usage (Variable.Number v)) look false false n
+      pick_variable env (meant env.is_bibliography env.cite.usage (Variable.Number v)) look
+      false false n
   pick_with env call (date_element v look) n = pick_date env v look false false n
   pick_with env call (names_element variables substitute options look) n =
       pick_names env variables substitute options look n
@@ -55,7 +60,8 @@ abbrev mutual
       then pick_all_with env call children (tested conditions n)
       else pick_first_with env call bs (tested conditions n)
 
--- a call of a macro, where `inner` says what its children give; nothing where there is no such macro
+-- a call of a macro, where `inner` says what its children give; nothing where there is no such
+-- macro
 abbrev pub body_picked : (Elements → Notes → Picked) → Option Elements → NodeValue → Notes → Picked
 body_picked inner None node n = nothing n
 body_picked inner (Some elements) node n = in_macro node (inner elements n)

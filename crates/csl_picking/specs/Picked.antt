@@ -56,7 +56,8 @@ picked_group node inner =
 
 -- a macro is a node of what stands in it, and calls what is called there
 abbrev pub in_macro : NodeValue → Picked → Picked
-in_macro node inner = record { parts = node_of node inner.parts; called = inner.called; noted = inner.noted }
+in_macro node inner =
+    record { parts = node_of node inner.parts; called = inner.called; noted = inner.noted }
 
 -- what a picking holds at some place: what is picked so far, what was called, what is noted
 pub record Held : Type 0 where

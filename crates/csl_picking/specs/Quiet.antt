@@ -29,7 +29,8 @@ Keeps n m = (p : NameDisambiguationProperties) → n.first_name ≡ Some p → m
 
 -- a call gives nothing and notes nothing, and counts so
 abbrev pub GivesNothing : (NodeValue → Notes → Picked) → Called → Notes → Type 0
-GivesNothing call c n = (node : NodeValue) → call node n ≡ record { parts = []; called = c; noted = n }
+GivesNothing call c n = (node : NodeValue)
+    → call node n ≡ record { parts = []; called = c; noted = n }
 
 -- what the call of a macro at a depth counts as, where it is known
 abbrev pub told : QuietMacros → Name → ℕ → Option Called

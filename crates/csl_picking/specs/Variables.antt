@@ -78,10 +78,12 @@ locator_leaf cite = option_and_then (λ l. marked_text cite.initial_idx l.text) 
 abbrev pub variable_leaf : Env → Variable → Option LeafValue
 variable_leaf env (Variable.Standard standard.YearSuffix) =
     option_map suffix_leaf (year_suffix env.cite.state)
-variable_leaf env (Variable.Standard standard.Url) = option_map link_leaf (env.answers.text standard.Url)
+variable_leaf env (Variable.Standard standard.Url) =
+    option_map link_leaf (env.answers.text standard.Url)
 variable_leaf env (Variable.Standard standard.CitationLabel) = text_leaves env.answers.label
 variable_leaf env (Variable.Standard v) = chunked_leaves (env.answers.text v)
-variable_leaf env (Variable.Number number.CitationNumber) = Some (number_leaf (env.cite.citation_number + 1))
+variable_leaf env (Variable.Number number.CitationNumber) =
+    Some (number_leaf (env.cite.citation_number + 1))
 variable_leaf env (Variable.Number number.Locator) = locator_leaf env.cite
 variable_leaf env (Variable.Number number.FirstReferenceNoteNumber) =
     option_map number_leaf env.cite.first_note_number

@@ -1,6 +1,14 @@
 //! The tests of a choice's branches (CSL 1.0.2, choose).
 ghost use Rattle.std.specs.Prelude.{◌≡◌};
-ghost use Rattle.csl_picking.specs.Conditions.{is_choose, is_repeated, is_at, has_variable, holds, passes, tested};
+ghost use Rattle.csl_picking.specs.Conditions.{
+  is_choose,
+  is_repeated,
+  is_at,
+  has_variable,
+  holds,
+  passes,
+  tested,
+};
 ghost use Rattle.csl_picking.specs.InputView.{cite_facts, env_of};
 
 use crate::input::{CiteFacts, Input};
@@ -12,7 +20,8 @@ use csl_lookup::state::{DisambiguateState, IbidState};
 
 // Whether the cite has a variable: of its entry, or of its own properties.
 fn has_variable<T: EntryLike>(input: &Input<T>, variable: Variable) -> bool
-    ensures { result ≡ has_variable (env_of (T.answers input.now.entry.now) input.now.setting) variable }
+    ensures { result ≡ has_variable
+        (env_of (T.answers input.now.entry.now) input.now.setting) variable }
 {
     let (entry, cite) = (input.entry, &input.setting.cite);
     match variable {

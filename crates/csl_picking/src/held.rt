@@ -2,7 +2,16 @@
 ghost use Rattle.std.specs.Prelude.{◌≡◌, OnOk, IfOk};
 ghost use Rattle.csl_picking.specs.PiecesView.{node_view};
 ghost use Rattle.csl_picking.specs.HeldView.{held};
-ghost use Rattle.csl_picking.specs.Nodes.{inside, remembered, is_empty_node, is_without_content, cut_back, closed_as, macro_closed, group_closed};
+ghost use Rattle.csl_picking.specs.Nodes.{
+  inside,
+  remembered,
+  is_empty_node,
+  is_without_content,
+  cut_back,
+  closed_as,
+  macro_closed,
+  group_closed,
+};
 
 use crate::notes::{Called, Notes};
 use crate::pieces::{Node, Piece};
@@ -28,7 +37,8 @@ pub(crate) struct Opened {
 impl<'a> Picking<'a> {
     /// Opens a node. It is closed by one of the two calls below, or cut back where it is empty.
     pub(crate) fn open(&mut self, node: Node<'a>) -> Result<Opened, AllocError>
-        ensures inside { OnOk result (held self.new ≡ inside (node_view node.entry) (held self.old)) }
+        ensures inside { OnOk result
+            (held self.new ≡ inside (node_view node.entry) (held self.old)) }
         ensures opened { IfOk result (λ o. o ≡ remembered (held self.old)) }
     {
         let (before, called) = (self.pieces.len(), self.called);

@@ -1,7 +1,13 @@
 //! Which names an element writes (CSL 1.0.2, names, substitute).
 ghost use Rattle.std.specs.Prelude.{◌≡◌, IfOk, filter, find, option_map};
 ghost use Rattle.std.specs.List.{list_any, list_all};
-ghost use Rattle.csl_picking.specs.Names.{is_present, stand_in, blocks, is_variable, written_blocks};
+ghost use Rattle.csl_picking.specs.Names.{
+  is_present,
+  stand_in,
+  blocks,
+  is_variable,
+  written_blocks,
+};
 ghost use Rattle.csl_picking.specs.NamesView.{variables_view};
 
 use crate::notes::{Form, Notes};

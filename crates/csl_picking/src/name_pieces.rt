@@ -1,9 +1,38 @@
 //! The names of one variable, and what stands between and behind them (CSL 1.0.2, name, et-al).
-ghost use Rattle.std.specs.Prelude.{◌≡◌, ◌+◌, ◌<◌, ◌^◌, [], ◌∷◌, ◌++◌, IfOk, OnOk, false, Some, None, ◌||◌, map, length, codes, option_map, option_to_list};
+ghost use Rattle.std.specs.Prelude.{
+  ◌≡◌,
+  ◌+◌,
+  ◌<◌,
+  ◌^◌,
+  [],
+  ◌∷◌,
+  ◌++◌,
+  IfOk,
+  OnOk,
+  false,
+  Some,
+  None,
+  ◌||◌,
+  map,
+  length,
+  codes,
+  option_map,
+  option_to_list,
+};
 ghost use Rattle.std.specs.List.{list_any};
 ghost use Rattle.csl_values.specs.declared.taxonomy.OtherTerm.{OtherTerm};
 ghost use Rattle.csl_trees.specs.declared.elem.ElemMeta.TheVariants as meta;
-ghost use Rattle.csl_picking.specs.Names.{written_names, name_part, and_words, last_joint, is_count, joined_parts, last_words, et_al_parts, block_parts};
+ghost use Rattle.csl_picking.specs.Names.{
+  written_names,
+  name_part,
+  and_words,
+  last_joint,
+  is_count,
+  joined_parts,
+  last_words,
+  et_al_parts,
+  block_parts,
+};
 ghost use Rattle.csl_picking.specs.BlockRun.{before_parts, preceded, name_behind, waiting_parts};
 ghost use Rattle.csl_picking.specs.NamesView.{name_view};
 ghost use Rattle.csl_picking.specs.NameRulesView.{rules_view};
@@ -86,7 +115,8 @@ fn push_name<'a>(
     pieces: &mut Vec<Piece<'a>>,
 ) -> Result<(), AllocError>
     ensures { OnOk result (tokens_of pieces.new.items
-        ≡ tokens_of pieces.old.items ++ part_tokens (name_part variable (place, leaf_view leaf.entry))) }
+        ≡ tokens_of pieces.old.items
+        ++ part_tokens (name_part variable (place, leaf_view leaf.entry))) }
 {
     pieces.push(Piece::Open(Node {
         affixes: None,
@@ -141,7 +171,8 @@ fn push_last_name<'a>(
     ensures { let r = rules_view rules.now in
         OnOk result (tokens_of pieces.new.items
         ≡ tokens_of pieces.old.items
-        ++ tokens (name_behind (text_leaf (last_words (term_for setting.now) r is_cut (count + 1))) count
+        ++ tokens (name_behind
+        (text_leaf (last_words (term_for setting.now) r is_cut (count + 1))) count
         (name_part block.entry.variable (name_view name.entry)))) }
 {
     let (place, leaf) = name;
@@ -199,7 +230,8 @@ fn push_waiting<'a>(
 }
 
 // Adds the names that are written, with what stands between them, and tells whether there are any.
-// Each waits for the next one, since what stands before the last one is not what stands before others.
+// Each waits for the next one, since what stands before the last one is not what stands before
+// others.
 fn push_names<'a>(
     setting: &Setting<'a>,
     rules: &NameRules<'a>,
@@ -212,11 +244,13 @@ fn push_names<'a>(
         let names = written_names r.initial_end block.entry.forms.now block.entry.persons.now in
         OnOk result (tokens_of pieces.new.items
         ≡ tokens_of pieces.old.items
-        ++ tokens (joined_parts r.name_delimiter (last_words (term_for setting.now) r is_cut (length names))
+        ++ tokens (joined_parts r.name_delimiter
+        (last_words (term_for setting.now) r is_cut (length names))
         (map (name_part block.entry.variable) names))) }
     ensures given { IfOk result (λ b. b
         ≡ gives (map (name_part block.entry.variable)
-        (written_names (rules_view rules.now).initial_end block.entry.forms.now block.entry.persons.now))) }
+        (written_names (rules_view rules.now).initial_end block.entry.forms.now
+        block.entry.persons.now))) }
 {
     let alloc = *pieces.allocator();
     let (mut count, mut waiting) = (0, None);
@@ -248,10 +282,12 @@ pub(crate) fn push_block<'a>(
         ≡ tokens_of pieces.old.items
         ++ tokens (preceded (option_map (λ t. t.now) before.entry)
         (block_parts (term_for setting.now)
-        (rules_view rules.now) block.entry.variable block.entry.forms.now block.entry.persons.now))) }
+        (rules_view rules.now) block.entry.variable block.entry.forms.now
+        block.entry.persons.now))) }
     ensures given { IfOk result (λ b. b
         ≡ gives (block_parts (term_for setting.now)
-        (rules_view rules.now) block.entry.variable block.entry.forms.now block.entry.persons.now)) }
+        (rules_view rules.now) block.entry.variable block.entry.forms.now
+        block.entry.persons.now)) }
 {
     let start = pieces.len();
     let is_cut = are_cut(block.forms);
@@ -282,7 +318,8 @@ fn are_cut(forms: &[DisambiguatedNameForm]) -> bool
 // Adds a text before a block, if there is one.
 fn push_before<'a>(before: Option<&'a str>, pieces: &mut Vec<Piece<'a>>) -> Result<(), AllocError>
     ensures { OnOk result (tokens_of pieces.new.items
-        ≡ tokens_of pieces.old.items ++ tokens (before_parts (option_map (λ t. t.now) before.entry))) }
+        ≡ tokens_of pieces.old.items
+        ++ tokens (before_parts (option_map (λ t. t.now) before.entry))) }
 {
     match before {
         Some(words) => push_leaf(Leaf::Text(words), pieces),

@@ -4,7 +4,13 @@ ghost use Rattle.std.specs.Prelude.{◌≡◌, IfOk, option_map, unwrap_or};
 ghost use Rattle.std.specs.Option.{option_or};
 ghost use Rattle.csl_style_values.specs.ElementView.{text_view, options_view};
 ghost use Rattle.csl_picking.specs.Options.{applied_options};
-ghost use Rattle.csl_picking.specs.NameRules.{base_form, rules_of, written_count, forms_by, forms_in};
+ghost use Rattle.csl_picking.specs.NameRules.{
+  base_form,
+  rules_of,
+  written_count,
+  forms_by,
+  forms_in,
+};
 ghost use Rattle.csl_picking.specs.NameRulesView.{rules_view};
 
 use csl_base::element::{InheritableNameOptions, NameAnd, NameForm};
@@ -67,7 +73,8 @@ impl<'a> NameRules<'a> {
         style: &'a InheritableNameOptions,
     ) -> NameRules<'a>
         ensures { rules_view result
-            ≡ rules_of (applied_options (applied_options (options_view style.now) (options_view layout.now))
+            ≡ rules_of (applied_options
+            (applied_options (options_view style.now) (options_view layout.now))
             (options_view own.now)) }
     {
         let initial_end = option_text(

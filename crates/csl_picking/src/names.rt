@@ -1,8 +1,38 @@
 //! Names elements (CSL 1.0.2, names).
-ghost use Rattle.std.specs.Prelude.{◌≡◌, [], ◌∷◌, ◌++◌, IfOk, OnOk, false, Some, None, ◌||◌, unwrap_or, take, map, option_map, if◌then◌else◌};
+ghost use Rattle.std.specs.Prelude.{
+  ◌≡◌,
+  [],
+  ◌∷◌,
+  ◌++◌,
+  IfOk,
+  OnOk,
+  false,
+  Some,
+  None,
+  ◌||◌,
+  unwrap_or,
+  take,
+  map,
+  option_map,
+  if◌then◌else◌,
+};
 ghost use Rattle.csl_trees.specs.declared.elem.ElemMeta.TheVariants as meta;
 ghost use Rattle.csl_style_values.specs.ElementView.{options_view};
-ghost use Rattle.csl_picking.specs.Names.{stand_in, blocks, author_variable, plain_block, first_block, first_forms, with_forms, noted_stand_in, blocks_parts, block_persons, names_node, noted_forms, pick_names};
+ghost use Rattle.csl_picking.specs.Names.{
+  stand_in,
+  blocks,
+  author_variable,
+  plain_block,
+  first_block,
+  first_forms,
+  with_forms,
+  noted_stand_in,
+  blocks_parts,
+  block_persons,
+  names_node,
+  noted_forms,
+  pick_names,
+};
 ghost use Rattle.csl_picking.specs.BlockRun.{preceded, blocks_after};
 ghost use Rattle.csl_picking.specs.NameRulesView.{rules_view};
 ghost use Rattle.csl_picking.specs.Pieces.{opening, closing, tokens, plain_node};
@@ -114,7 +144,8 @@ fn first_own_forms(
     notes: &Notes,
     forms: &[DisambiguatedNameForm],
 ) -> Result<Option<Seq<DisambiguatedNameForm>>, AllocError>
-    ensures { IfOk result (λ own. unwrap_or own forms.now ≡ first_forms state.now notes.now forms.now) }
+    ensures { IfOk result
+        (λ own. unwrap_or own forms.now ≡ first_forms state.now notes.now forms.now) }
 {
     if notes.first_name.is_some() {
         return Ok(None);
@@ -168,7 +199,8 @@ fn push_first_block<'a, T: EntryLike>(
     ensures pieces { let env = env_of (T.answers input.now.entry.now) input.now.setting in
         OnOk result (tokens_of picking.new.pieces.items
         ≡ tokens_of picking.old.pieces.items
-        ++ tokens (preceded None (first_block env (rules_view rules.now) picking.old.notes variable))) }
+        ++ tokens (preceded None
+        (first_block env (rules_view rules.now) picking.old.notes variable))) }
     ensures given { IfOk result (λ b. b
         ≡ gives (first_block (env_of (T.answers input.now.entry.now) input.now.setting)
         (rules_view rules.now) picking.old.notes variable)) }
@@ -207,7 +239,8 @@ fn push_blocks<'a, T: EntryLike>(
         ≡ gives (blocks_parts (env_of (T.answers input.now.entry.now) input.now.setting)
         (rules_view rules.now) picking.old.notes blocks.now)) }
     ensures noted { OnOk result (picking.new.notes
-        ≡ noted_forms (T.answers input.now.entry.now) (rules_view rules.now) blocks.now picking.old.notes) }
+        ≡ noted_forms (T.answers input.now.entry.now) (rules_view rules.now) blocks.now
+        picking.old.notes) }
     ensures called { OnOk result (picking.new.called ≡ picking.old.called) }
 {
     let (first, others) = match blocks.split_first() {
@@ -224,7 +257,8 @@ fn names_meta<T: EntryLike>(
     entry: &T,
     blocks: &[NameVariable],
 ) -> Result<ElemMeta, AllocError>
-    ensures { IfOk result (λ m. m ≡ meta.Names (map (block_persons (T.answers entry.now)) blocks.now)) }
+    ensures { IfOk result
+        (λ m. m ≡ meta.Names (map (block_persons (T.answers entry.now)) blocks.now)) }
 {
     let mut persons = Vec::with_capacity(alloc, blocks.len())?;
     for variable in blocks {

@@ -1,15 +1,37 @@
 //! Picking: what a layout writes, from left to right, apart from writing it.
 ghost use Rattle.std.specs.Prelude.{◌≡◌, ℕ, ◌*◌, ◌<◌, OnOk, false};
-ghost use Rattle.csl_style_values.specs.ElementView.{element_view, elements_view, branches_view, target_view, text_view, look};
+ghost use Rattle.csl_style_values.specs.ElementView.{
+  element_view,
+  elements_view,
+  branches_view,
+  target_view,
+  text_view,
+  look,
+};
 ghost use Rattle.csl_style_values.specs.Element.{Name, macro_target};
 ghost use Rattle.csl_style_values.specs.Weight.{weight_all_with, weight_branches_with};
 ghost use Rattle.csl_picking.specs.Picked.{added};
 ghost use Rattle.csl_picking.specs.PiecesView.{node_view, shape_look};
-ghost use Rattle.csl_picking.specs.Pick.{Call, group_node, pick_all_with, pick_first_with, pick_layout, MacrosUnfold};
+ghost use Rattle.csl_picking.specs.Pick.{
+  Call,
+  group_node,
+  pick_all_with,
+  pick_first_with,
+  pick_layout,
+  MacrosUnfold,
+};
 ghost use Rattle.csl_picking.specs.Nodes.{macro_closed};
 ghost use Rattle.csl_picking.specs.Quiet.{Keeps, IsQuiet, IsOpened};
 ghost use Rattle.csl_picking.specs.Work.{step_view, done, inside_done, Fits, weight, step_work};
-ghost use Rattle.csl_picking.specs.Walk.{env_in, calls_in, plain_in, text_of, walk, WalkGoesOn, TakesElement};
+ghost use Rattle.csl_picking.specs.Walk.{
+  env_in,
+  calls_in,
+  plain_in,
+  text_of,
+  walk,
+  WalkGoesOn,
+  TakesElement,
+};
 ghost use Rattle.csl_picking.specs.HeldView.{held};
 ghost use Rattle.csl_picking.specs.InputView.{env_of, macros_in};
 
@@ -37,7 +59,8 @@ fn group_node<'a>(
     display: Option<Display>,
     delimiter: &'a Option<String>,
 ) -> Node<'a>
-    ensures { node_view result ≡ group_node (look affixes.now formatting display) (text_view delimiter.now) }
+    ensures { node_view result
+        ≡ group_node (look affixes.now formatting display) (text_view delimiter.now) }
 {
     let delimiter = delimiter.as_deref();
     Node {
@@ -94,7 +117,8 @@ fn pick_plain<'a, T: EntryLike>(
     element: &'a LayoutRenderingElement,
     picking: &mut Picking<'a>,
 ) -> Result<(), AllocError>
-    ensures { OnOk result (held picking.new ≡ plain_in T.answers input.now element.now (held picking.old)) }
+    ensures { OnOk result
+        (held picking.new ≡ plain_in T.answers input.now element.now (held picking.old)) }
 {
     match element {
         LayoutRenderingElement::Number {
@@ -331,7 +355,8 @@ fn close_macro<'a>(
     quiet: &mut QuietMacros<'a>,
     picking: &mut Picking<'a>,
 ) -> Result<(), AllocError>
-    ensures done { OnOk result (held picking.new ≡ macro_closed call.entry.opened (held picking.old)) }
+    ensures done { OnOk result
+        (held picking.new ≡ macro_closed call.entry.opened (held picking.old)) }
     ensures quiet { OnOk result ((calls : ℕ → Call)
         → IsOpened calls call.entry.name.now call.entry.depth call.entry.seen call.entry.opened
         (held picking.old) → IsQuiet calls quiet.old picking.old.notes
@@ -355,8 +380,10 @@ fn take_step<'a, T: EntryLike>(
     ensures steps { let env = env_in T.answers input.now in let ms = macros_in input.now.setting in
         let x = step_view step.entry in
         OnOk result (WalkGoesOn env ms (step_work ms x)
-        (walk steps.old.items (done env ms x (held picking.old))) (walk steps.new.items (held picking.new))) }
-    ensures quiet { OnOk result (IsQuiet (calls_in T.answers input.now) quiet.new picking.new.notes) }
+        (walk steps.old.items (done env ms x (held picking.old)))
+        (walk steps.new.items (held picking.new))) }
+    ensures quiet { OnOk result
+        (IsQuiet (calls_in T.answers input.now) quiet.new picking.new.notes) }
 {
     match step {
         Step::Elements(elements, depth) => {

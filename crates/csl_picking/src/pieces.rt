@@ -91,8 +91,10 @@ pub(crate) fn add_node<'a>(
 ) -> Result<bool, AllocError>
     ensures pieces { OnOk result (tokens_of pieces.new.items
         ≡ tokens_of pieces.old.items
-        ++ tokens (node_of (node_view node.entry) (leaves_of (option_map leaf_view leaf.entry) suffix))) }
-    ensures given { IfOk result (λ b. b ≡ gives (leaves_of (option_map leaf_view leaf.entry) suffix)) }
+        ++ tokens (node_of (node_view node.entry)
+        (leaves_of (option_map leaf_view leaf.entry) suffix))) }
+    ensures given { IfOk result
+        (λ b. b ≡ gives (leaves_of (option_map leaf_view leaf.entry) suffix)) }
 {
     if leaf.is_none() && suffix.is_none() {
         return Ok(false);

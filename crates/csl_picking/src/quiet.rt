@@ -91,7 +91,8 @@ impl<'a> QuietMacros<'a> {
         notes: &Notes,
     ) -> Result<(), AllocError>
         ensures { OnOk result ((call : ℕ → Call) → IsQuiet call self.old notes.now
-            → GivesNothing (call depth name.now) called notes.now → IsQuiet call self.new notes.now) }
+            → GivesNothing (call depth name.now) called notes.now
+            → IsQuiet call self.new notes.now) }
     {
         self.renew(notes);
         self.macros.insert((name, depth), called)?;

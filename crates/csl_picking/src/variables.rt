@@ -3,7 +3,30 @@ ghost use Rattle.std.specs.Prelude.{◌≡◌, OnOk, option_map};
 ghost use Rattle.std.specs.List.{list_any};
 ghost use Rattle.csl_lists.specs.Content.{text_has_content};
 ghost use Rattle.csl_picking.specs.Pieces.{leaves_of};
-ghost use Rattle.csl_picking.specs.Variables.{is_plain, is_kept, writes, chunk_has_content, text_leaves, chunked_leaves, locator_leaf, variable_leaf, suffix_behind, variable_meta, dated, noted_use, noted_behind, meant, pick_variable, pick_words, words_for, year_leaf, writes_year, writes_suffix_alone, date_leaves, pick_date};
+ghost use Rattle.csl_picking.specs.Variables.{
+  is_plain,
+  is_kept,
+  writes,
+  chunk_has_content,
+  text_leaves,
+  chunked_leaves,
+  locator_leaf,
+  variable_leaf,
+  suffix_behind,
+  variable_meta,
+  dated,
+  noted_use,
+  noted_behind,
+  meant,
+  pick_variable,
+  pick_words,
+  words_for,
+  year_leaf,
+  writes_year,
+  writes_suffix_alone,
+  date_leaves,
+  pick_date,
+};
 ghost use Rattle.csl_picking.specs.Suffix.{implicit_suffix};
 ghost use Rattle.csl_picking.specs.Picked.{added, called_with};
 ghost use Rattle.csl_picking.specs.PiecesView.{leaf_view, shape_look};
@@ -177,7 +200,8 @@ impl<'a> Setting<'a> {
 
     // The suffix that the first date or label adds.
     fn implicit_suffix(&self, notes: &Notes) -> Option<usize>
-        ensures { result ≡ implicit_suffix self.now.explicit_suffix self.now.cite.state.now notes.now }
+        ensures { result ≡ implicit_suffix self.now.explicit_suffix self.now.cite.state.now
+            notes.now }
     {
         if self.explicit_suffix || !notes.first_date {
             return None;

@@ -1,4 +1,5 @@
--- What holds of cites in their final order, in which the items of each request stand once they are grouped.
+-- What holds of cites in their final order, in which the items of each request stand once they are
+-- grouped.
 use Rattle.std.specs.Prelude.{◌≡◌, ℕ, Bool, false, List, [], ◌++◌, Option, None, Some, find, flat_map, map, option_and_then, option_map, slice_get, take}
 use Rattle.std.specs.List.{enumerate_from, last_or}
 use Rattle.std.specs.Option.{option_map_or}
@@ -54,7 +55,8 @@ module _ {E P : Type 0} (eq : E → E → Bool) where
   module _ (payload_eq : P → P → Bool) where
     -- the position of a cite against the last of those before it
     abbrev pub final_position : List (ItemRender E P) → ItemRender E P → IbidState
-    final_position before i = with_last eq payload_eq (as_cite i) (option_map as_cite (last_or None before))
+    final_position before i =
+        with_last eq payload_eq (as_cite i) (option_map as_cite (last_or None before))
 
     module _ (number_of : E → ℕ) where
       -- a cite with its position behind those before it, and the number of its entry
@@ -65,12 +67,13 @@ module _ {E P : Type 0} (eq : E → E → Bool) where
       }
 
       -- the cites of a request right behind these
-      abbrev pub with_final_items : List (ItemRender E P) → List (ItemRender E P) → List (ItemRender E P)
+      abbrev pub with_final_items : List (ItemRender E P) → List (ItemRender E P)
+          → List (ItemRender E P)
       with_final_items previous items =
           map (λ p. with_final (previous ++ take p.0 items) p.1) (enumerate_from 0 items)
 
-      -- all cites with their final properties: of a cite before, only those of its request and of the one
-      -- directly before that count
+      -- all cites with their final properties: of a cite before, only those of its request and of
+      -- the one directly before that count
       abbrev pub with_final_properties : List (CiteRender E P) → List (CiteRender E P)
       with_final_properties cites =
           map (λ p. record p.1 { items = with_final_items (items_before cites p.0) p.1.items })

@@ -33,23 +33,24 @@ module _ {E P : Type 0} (eq : E → E → Bool) where
   abbrev pub first_note : E → List (Request E P) → Option ℕ
   first_note e requests = option_and_then (λ r. r.note_number) (find (notes_entry e) requests)
 
-  -- the number of the first note that cites e: one of the requests `before`, or else r's own; none where r
-  -- stands in no note
+  -- the number of the first note that cites e: one of the requests `before`, or else r's own; none
+  -- where r stands in no note
   abbrev pub first_note_number : List (Request E P) → Request E P → E → Option ℕ
   first_note_number before r e = option_map (λ n. unwrap_or (first_note e before) n) r.note_number
 
-  -- r stands in a note, and of the requests before it one of the last, as many as its style says, cites e in
-  -- a note
+  -- r stands in a note, and of the requests before it one of the last, as many as its style says,
+  -- cites e in a note
   abbrev pub is_near_note : List (Request E P) → Request E P → E → Bool
   is_near_note before r e = is_some r.note_number
       && list_any (notes_entry e) (last_of r.style.citation.near_note_distance before)
 
-  -- no cite before cites e: none of the requests `before`, and none of the cites `earlier` of the same
-  -- request
+  -- no cite before cites e: none of the requests `before`, and none of the cites `earlier` of the
+  -- same request
   abbrev pub is_first : List (Request E P) → List (RequestedCite E P) → E → Bool
   is_first before earlier e = not (is_in eq e (cited before ++ entries_of earlier))
 
-  -- what is certain of the cite c of the request r behind the cites `earlier` of r and the requests `before`
+  -- what is certain of the cite c of the request r behind the cites `earlier` of r and the requests
+  -- `before`
   abbrev pub certain_properties : List (Request E P) → Request E P → List (RequestedCite E P)
       → RequestedCite E P → CertainCiteProperties
   certain_properties before r earlier c = record {
@@ -61,7 +62,8 @@ module _ {E P : Type 0} (eq : E → E → Bool) where
   }
 
   module _ (payload_eq : P → P → Bool) (number_of : E → ℕ) where
-    -- and what else is known of it: its number, and its position against the cite before it in the document
+    -- and what else is known of it: its number, and its position against the cite before it in the
+    -- document
     abbrev pub cite_properties : List (Request E P) → Request E P → List (RequestedCite E P)
         → RequestedCite E P → FirstProperties
     cite_properties before r earlier c = record {

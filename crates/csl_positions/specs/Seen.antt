@@ -23,8 +23,8 @@ is_within end n None = false
 is_within end n (Some k) = nat_le (end - k) n
 
 module _ {E P : Type 0} (eq : E → E → Bool) where
-  -- what is known of e: whether it is one of these entries, and what these requests say of the notes that
-  -- cite it
+  -- what is known of e: whether it is one of these entries, and what these requests say of the
+  -- notes that cite it
   abbrev pub seen_of : List E → List (Request E P) → E → Seen
   seen_of entries requests e = record {
     cited = is_in eq e entries;
@@ -34,7 +34,8 @@ module _ {E P : Type 0} (eq : E → E → Bool) where
 
   -- the table is that of the requests `before`, then r, and others
   abbrev pub IsTableOf : List (Request E P) → Request E P → Table E → Type 0
-  IsTableOf before r table = (after : List (Request E P)) × (table ≡ table_of eq (before ++ r ∷ after))
+  IsTableOf before r table = (after : List (Request E P))
+      × (table ≡ table_of eq (before ++ r ∷ after))
 
 module _ {E P : Type 0} where
   -- what is certain of a cite, from what is known of its entry, where the request stands at a place

@@ -1,5 +1,22 @@
 //! The properties of cites in their final order.
-ghost use Rattle.std.specs.Prelude.{◌≡◌, ◌<◌, ◌++◌, All, IfOk, None, OnOk, Some, fold, length, map, option_map, replicate, slice_get, slice_index, slice_index_or};
+ghost use Rattle.std.specs.Prelude.{
+  ◌≡◌,
+  ◌<◌,
+  ◌++◌,
+  All,
+  IfOk,
+  None,
+  OnOk,
+  Some,
+  fold,
+  length,
+  map,
+  option_map,
+  replicate,
+  slice_get,
+  slice_index,
+  slice_index_or,
+};
 ghost use Rattle.std.specs.List.{last_or};
 ghost use Rattle.csl_passes.specs.RendersView.{item_view, items_view, renders_view};
 ghost use Rattle.csl_entries.specs.Entries.{distinct, is_in, place};
@@ -10,8 +27,24 @@ ghost use Rattle.csl_entries.specs.PlacedItems.{ArePlaced};
 ghost use Rattle.csl_entries.specs.TableView.{table_view};
 ghost use Rattle.csl_passes.specs.Positions.{with_last};
 ghost use Rattle.csl_passes.specs.Renders.{ItemRender};
-ghost use Rattle.csl_positions.specs.FinalProperties.{AreFirstItems, as_cite, cited_finally, items_before, with_final_properties};
-ghost use Rattle.csl_positions.specs.FinalSteps.{IsPlacedWithin, all_set, first_position, items_at, led_to, placed_item, position_in, stands_of, with_first};
+ghost use Rattle.csl_positions.specs.FinalProperties.{
+  AreFirstItems,
+  as_cite,
+  cited_finally,
+  items_before,
+  with_final_properties,
+};
+ghost use Rattle.csl_positions.specs.FinalSteps.{
+  IsPlacedWithin,
+  all_set,
+  first_position,
+  items_at,
+  led_to,
+  placed_item,
+  position_in,
+  stands_of,
+  with_first,
+};
 
 use csl_base::entry::EntryLike;
 use csl_entries::listing::Listing;
@@ -36,7 +69,8 @@ fn push_places<T, P>(
     places: &[usize],
 ) -> Result<(), AllocError>
     requires { All (IsPlacedWithin places.now) (items_view items.now) }
-    ensures { OnOk result (all.new.items ≡ all.old.items ++ map (led_to places.now) (items_view items.now)) }
+    ensures { OnOk result
+        (all.new.items ≡ all.old.items ++ map (led_to places.now) (items_view items.now)) }
 {
     for item in items {
         all.push(place_led_to(item, places))?;
@@ -52,7 +86,8 @@ fn places_finally<'a, T: EntryLike, P>(
 ) -> Result<Vec<usize>, AllocError>
     requires placed { ArePlaced T.eq (table_view table.now) (renders_view cites.now) }
     ensures { IfOk result (λ v. v.items
-        ≡ map (λ e. place T.eq e (table_view table.now).entries) (cited_finally (renders_view cites.now))) }
+        ≡ map (λ e. place T.eq e (table_view table.now).entries)
+        (cited_finally (renders_view cites.now))) }
 {
     let places = table.places();
     let mut all = Vec::new(alloc);
@@ -79,7 +114,7 @@ pub fn final_listing<'a, T: EntryLike, P>(
         (distinct T.eq (cited_finally (renders_view cites.now))) (listing_view l)) }
 {
     let places = places_finally(alloc, cites, table)?;
-    Listing::of_places(alloc, table.len(), &places)
+    Listing::of_indices(alloc, table.len(), &places)
 }
 
 /// Notes where a cite stands as the first of its entry, unless one is noted.
@@ -101,7 +136,8 @@ fn note_firsts<T, P>(
 )
     requires within { All (IsPlacedWithin places.now) (items_view items.now) }
     requires led { All (λ i. led_to places.now i < length firsts.old) (items_view items.now) }
-    ensures { firsts.new ≡ fold with_first firsts.old (stands_of r places.now (items_view items.now)) }
+    ensures { firsts.new ≡ fold with_first firsts.old
+        (stands_of r places.now (items_view items.now)) }
 {
     for (k, item) in items.iter().enumerate() {
         note_first(firsts, place_led_to(item, places), (r, k));
@@ -115,8 +151,8 @@ fn no_firsts(alloc: Global, count: usize) -> Result<Vec<Option<(usize, usize)>>,
     vec![in alloc; None; count]
 }
 
-/// By the places of the entries in the table, the request of each one's first cite in the final order, and
-/// the cite's index there; none for an entry that no cite cites.
+/// By the places of the entries in the table, the request of each one's first cite in the final
+/// order, and the cite's index there; none for an entry that no cite cites.
 ///
 /// # Errors
 /// Where memory is refused.
@@ -155,7 +191,8 @@ fn position_behind<T: PartialEq, P: PartialEq>(
     position_by(repeats, &this.locator, &last.locator)
 }
 
-/// The last cite of the request directly before; none where it has none, or there is no such request.
+/// The last cite of the request directly before; none where it has none, or there is no such
+/// request.
 fn last_before<'x, 'a, T, P>(
     cites: &'x [SpeculativeCiteRender<'_, 'a, T, P>],
     r: usize,
@@ -234,7 +271,8 @@ fn set_items<T: PartialEq, P: PartialEq>(
     numbers: &[usize],
 )
     requires { All (IsPlacedWithin places.now) (items_view items.old) }
-    ensures { items_view items.new ≡ all_set T.eq P.eq first places.now numbers.now (items_view items.old) }
+    ensures { items_view items.new
+        ≡ all_set T.eq P.eq first places.now numbers.now (items_view items.old) }
 {
     for k in 0..items.len() {
         let ibid = position_at(items, k, first);
@@ -243,9 +281,9 @@ fn set_items<T: PartialEq, P: PartialEq>(
     }
 }
 
-/// Sets the position of each cite in the final order, against the one before it in its request or the last
-/// one of the request directly before, and the number of its entry, by the places of the entries in the
-/// table. Nothing else changes. Hidden cites count as shown. It takes no memory.
+/// Sets the position of each cite in the final order, against the one before it in its request or
+/// the last one of the request directly before, and the number of its entry, by the places of the
+/// entries in the table. Nothing else changes. Hidden cites count as shown. It takes no memory.
 pub fn set_final_properties<'a, T: EntryLike, P: PartialEq>(
     cites: &mut [SpeculativeCiteRender<'_, 'a, T, P>],
     table: &EntryTable<'a, T>,

@@ -1,12 +1,29 @@
-//! The properties of cites before anything is rendered (CSL 1.0.2, position and near-note-distance).
-ghost use Rattle.std.specs.Prelude.{◌≡◌, ◌<◌, ◌≤◌, ◌++◌, [], ◌∷◌, IfOk, OnOk, length, map, option_map};
+//! The properties of cites before anything is rendered (CSL 1.0.2, position and
+//! near-note-distance).
+ghost use Rattle.std.specs.Prelude.{
+  ◌≡◌,
+  ◌<◌,
+  ◌≤◌,
+  ◌++◌,
+  [],
+  ◌∷◌,
+  IfOk,
+  OnOk,
+  length,
+  map,
+  option_map,
+};
 ghost use Rattle.std.specs.List.{last_or};
 ghost use Rattle.std.specs.Option.{ForSome};
 ghost use Rattle.csl_entries.specs.Table.{table_of};
 ghost use Rattle.csl_entries.specs.TableView.{table_view};
 ghost use Rattle.csl_passes.specs.Request.{cited, cites_of, entries_of};
 ghost use Rattle.csl_passes.specs.RequestView.{cite_view, request_view, requests_view};
-ghost use Rattle.csl_positions.specs.FirstProperties.{first_properties, numbered_by, request_properties};
+ghost use Rattle.csl_positions.specs.FirstProperties.{
+  first_properties,
+  numbered_by,
+  request_properties,
+};
 ghost use Rattle.csl_positions.specs.Seen.{IsTableOf, certain_by, is_within, seen_of};
 
 use csl_base::entry::EntryLike;
@@ -83,7 +100,8 @@ fn request_properties<'a, T: EntryLike, P: PartialEq>(
         ≡ request_properties T.eq P.eq (numbered_by T.eq numbers.now (table_view table.now).entries)
         (requests_view before.now) (request_view request.now)) }
     ensures seen { OnOk result (seen.new
-        ≡ map (seen_of T.eq (cited (requests_view before.now) ++ entries_of (request_view request.now).cites)
+        ≡ map (seen_of T.eq (cited (requests_view before.now)
+        ++ entries_of (request_view request.now).cites)
         (requests_view before.now)) (table_view table.now).entries) }
 {
     let place = before.len();
@@ -113,7 +131,8 @@ fn note_entries<'a, T: EntryLike, P>(
     requires table { IsTableOf T.eq (requests_view before.now) (request_view request.now)
         (table_view table.now) }
     requires seen { seen.old ≡ map
-        (seen_of T.eq (cited (requests_view before.now) ++ entries_of (request_view request.now).cites)
+        (seen_of T.eq (cited (requests_view before.now)
+        ++ entries_of (request_view request.now).cites)
         (requests_view before.now)) (table_view table.now).entries }
     ensures { seen.new ≡ map (seen_of T.eq (cited (requests_view before.now)
         ++ entries_of (request_view request.now).cites) (requests_view before.now
@@ -128,10 +147,10 @@ fn note_entries<'a, T: EntryLike, P>(
     }
 }
 
-/// What is known of each cite before anything is rendered, by request and by place in it (CSL 1.0.2,
-/// position and near-note-distance). The table is that of the requests, and the numbers are those of its
-/// entries, by their places. A hidden cite counts as all others do, but none behind it repeats it. An error
-/// comes only where there is no memory.
+/// What is known of each cite before anything is rendered, by request and by place in it (CSL
+/// 1.0.2, position and near-note-distance). The table is that of the requests, and the numbers are
+/// those of its entries, by their places. A hidden cite counts as all others do, but none behind it
+/// repeats it. An error comes only where there is no memory.
 pub fn first_properties<'a, T: EntryLike, P: PartialEq>(
     alloc: Global,
     requests: &[CitationRequest<'a, T, P>],

@@ -75,7 +75,8 @@ module _ {E P : Type 0} (writing : Writing E P) where
   }
 
   -- those of all requests
-  abbrev pub first_renders : List (Request E P) → List (List FirstProperties) → List (CiteRender E P)
+  abbrev pub first_renders : List (Request E P) → List (List FirstProperties)
+      → List (CiteRender E P)
   first_renders requests firsts = map (λ r. first_renders_of r.0 r.1) (zip requests firsts)
 
 -- no cite is disambiguated yet

@@ -1,4 +1,5 @@
--- The marks of a round: states by which entries are disambiguated from now on, at the places of cites.
+-- The marks of a round: states by which entries are disambiguated from now on, at the places of
+-- cites.
 use Rattle.std.specs.Prelude.{◌≡◌, Bool, true, false, List, [], ◌∷◌, ◌++◌, Option, Some, None, filter, fold, if◌then◌else◌, map}
 use Rattle.std.specs.List.{flat_map, list_any}
 use Rattle.std.specs.Option.{option_map_or}
@@ -53,20 +54,21 @@ abbrev pub marks_of : MarkedGroups → List Mark
 marks_of groups = flat_map (λ g. g.1) groups
 
 module _ (by_names by_choice by_suffix : List Place → List Mark) where
-  -- what a group gets that is tried in all ways: its marks by names; its choose marks where it has none by
-  -- names; its suffixes where it has none of these either
+  -- what a group gets that is tried in all ways: its marks by names; its choose marks where it has
+  -- none by names; its suffixes where it has none of these either
   abbrev pub all_ways : List Place → List Mark
   all_ways group = or_others (by_names group) (or_others (by_choice group) (by_suffix group))
 
-  -- in mode three: the first group that can be marked is the last that is tried in all ways, and those behind
-  -- it get their marks by names alone
+  -- in mode three: the first group that can be marked is the last that is tried in all ways, and
+  -- those behind it get their marks by names alone
   abbrev pub by_three : List (List Place) → MarkedGroups
   by_three [] = []
   by_three (g ∷ gs) = if has_any (all_ways g) then (g, all_ways g) ∷ map (λ h. (h, by_names h)) gs
       else (g, []) ∷ by_three gs
 
   -- in mode full, behind groups with these marks: each group is tried in all ways, unless it waits
-  abbrev pub by_full : (List Mark → List Place → Bool) → List Mark → List (List Place) → MarkedGroups
+  abbrev pub by_full : (List Mark → List Place → Bool) → List Mark → List (List Place)
+      → MarkedGroups
   by_full waits marks [] = []
   by_full waits marks (g ∷ gs) =
       let own = if waits marks g then [] else all_ways g in

@@ -39,11 +39,12 @@ module _ {E P : Type 0} where
       greatest_state (map (λ m. m.1) (filter (λ m. cites_entry eq cites e m.0) marks))
 
   -- what a round marks that begins with these cites
-  abbrev pub marked_by : RoundMode → (E → E → Bool) → Writing E P → List (CiteRender E P) → StateTable E
+  abbrev pub marked_by : RoundMode → (E → E → Bool) → Writing E P → List (CiteRender E P)
+      → StateTable E
   marked_by mode eq writing cites = mark_of eq cites (round_marks mode eq writing.answers cites)
 
-  -- what is asked for where a cite is rendered again with this state of its entry; what else is known of it
-  -- stays
+  -- what is asked for where a cite is rendered again with this state of its entry; what else is
+  -- known of it stays
   abbrev pub again_task : Request E P → DisambiguateState → ItemRender E P → CiteTaskValue E P
   again_task request s i = record {
     source = source_of request;
@@ -55,7 +56,8 @@ module _ {E P : Type 0} where
   }
 
   -- where there is a state
-  abbrev pub tasks_with : Request E P → Option DisambiguateState → ItemRender E P → List (TaskValue E P)
+  abbrev pub tasks_with : Request E P → Option DisambiguateState → ItemRender E P
+      → List (TaskValue E P)
   tasks_with request None i = []
   tasks_with request (Some s) i = cite_task (again_task request s i) ∷ []
 
@@ -80,7 +82,8 @@ module _ {E P : Type 0} where
     with_any request (Some s) i = rendered_again request s i
 
     abbrev pub request_at : StateTable E → CiteRender E P → CiteRender E P
-    request_at table c = record c { items = map (λ i. with_any c.request (table i.entry) i) c.items }
+    request_at table c = record
+        c { items = map (λ i. with_any c.request (table i.entry) i) c.items }
 
     -- the cites whose entries the table has states for, rendered again with these; the others stay
     abbrev pub at_table : StateTable E → List (CiteRender E P) → List (CiteRender E P)

@@ -15,8 +15,8 @@ use Rattle.csl_round_laws.specs.Rounds.{StateTable, at_table, entries_cited, tol
 use Rattle.csl_round_laws.specs.Tables.{last_table, marks_at, most_forms}
 use Rattle.csl_round_laws.specs.declared.mode.RoundMode.{RoundMode}
 
--- where so many rounds marked, they came to an end by themselves: in mode three fewer than three, in mode
--- full any number
+-- where so many rounds marked, they came to an end by themselves: in mode three fewer than three,
+-- in mode full any number
 abbrev pub Ended : RoundMode → ℕ → Type 0
 Ended RoundMode.Three marked = marked < 3
 Ended RoundMode.Full marked = ⊤
@@ -24,7 +24,8 @@ Ended RoundMode.Full marked = ⊤
 -- no cite of an ambiguous group cites an entry equal to e
 abbrev pub IsInNoGroup : {E P : Type 0} → (E → E → Bool) → List (CiteRender E P) → E → Type 0
 IsInNoGroup eq cites e =
-    All (λ group. All (λ m. eq e (entry_of m) ≡ false) (members cites group)) (ambiguous_groups eq cites)
+    All (λ group. All (λ m. eq e (entry_of m) ≡ false) (members cites group))
+    (ambiguous_groups eq cites)
 
 module _ {E P : Type 0} (mode : RoundMode) (eq : E → E → Bool) (writing : Writing E P)
     (firsts : List (CiteRender E P)) where
@@ -50,7 +51,8 @@ module _ {E P : Type 0} (mode : RoundMode) (eq : E → E → Bool) (writing : Wr
     pub one_of_them : Contains own mark
     pub is_suffix : mark.1 ≡ YearSuffix suffix
 
-  -- the distinct entries that the group cites have the suffixes 0, 1, 2 and on, by their first cites in it
+  -- the distinct entries that the group cites have the suffixes 0, 1, 2 and on, by their first
+  -- cites in it
   abbrev pub HasSuffixesInOrder : StateTable E → StateTable E → List Place → Type 0
   HasSuffixesInOrder table next group =
       let entries = distinct eq (map entry_of (members (shown_at table) group)) in
@@ -74,21 +76,24 @@ module _ {E P : Type 0} (mode : RoundMode) (eq : E → E → Bool) (writing : Wr
       -- in each table equal entries have one state
       pub alike : All (λ t. (d e : E) → eq d e ≡ true → t d ≡ t e) tables
       -- at each table each cite is rendered with the state of its entry
-      pub rendered : All (λ t. All (λ i. i.properties.speculative.disambiguation ≡ told_by (t i.entry))
+      pub rendered : All (λ t.
+          All (λ i. i.properties.speculative.disambiguation ≡ told_by (t i.entry))
           (flat_map (λ c. c.items) (shown_at t))) tables
       -- from each table to the next the state of each entry goes on
       pub on : OfEachAndTheNext (λ t next. (e : E) → GoesOnTo (told_by (t e)) (told_by (next e)))
       -- no mark of a round is greater than the state that the round leaves
       pub no_mark_lost : OfEachAndTheNext
-          (λ t next. (e : E) → All (λ m. raises (told_by (next e)) m.1 ≡ false) (marks_of_entry t e))
+          (λ t next. (e : E) → All (λ m. raises (told_by (next e)) m.1 ≡ false)
+          (marks_of_entry t e))
       -- from each table to the next an entry keeps its state, or gets that of one of its marks
-      pub kept_or_marked : OfEachAndTheNext (λ t next. (e : E)
-          → (next e ≡ t e) ⊎ Any (λ m. next e ≡ Some m.1) (marks_of_entry t e))
+      pub kept_or_marked : OfEachAndTheNext
+          (λ t next. (e : E) → (next e ≡ t e) ⊎ Any (λ m. next e ≡ Some m.1) (marks_of_entry t e))
 
     -- the rounds that are counted are rounds that mark
     pub record RoundsMark : Type 0 where
       -- from each table to the next leads a round that has a mark
-      pub each_marks : OfEachAndTheNext (λ t next. has_any (marks_at mode eq writing firsts t) ≡ true)
+      pub each_marks : OfEachAndTheNext
+          (λ t next. has_any (marks_at mode eq writing firsts t) ≡ true)
       -- in mode three these are three at most
       pub three_at_most : mode ≡ RoundMode.Three → length tables - 1 ≤ 3
 
@@ -104,7 +109,8 @@ module _ {E P : Type 0} (mode : RoundMode) (eq : E → E → Bool) (writing : Wr
       pub in_order : OfEachAndTheNext
           (λ t next. (group : List Place) → GetsSuffixes t group → HasSuffixesInOrder t next group)
       -- an entry with a suffix had it in the table before, or gets it in a group
-      pub by_group : OfEachAndTheNext (λ t next. (e : E) (n : ℕ) → next e ≡ Some (YearSuffix n)
+      pub by_group : OfEachAndTheNext
+          (λ t next. (e : E) (n : ℕ) → next e ≡ Some (YearSuffix n)
           → (t e ≡ Some (YearSuffix n)) ⊎ GetsSuffixInGroup t next e)
       -- in mode three one group of a round gets suffixes
       pub one_group : mode ≡ RoundMode.Three → OfEachAndTheNext
@@ -135,7 +141,8 @@ module _ {E P : Type 0} (mode : RoundMode) (eq : E → E → Bool) (writing : Wr
       -- and that of some cited entry rises
       pub one_rises : OfEachAndTheNext
           (λ t next. Any (λ e. rank_at t e < rank_at next e) (entries_cited firsts))
-      -- of n distinct entries, where no first name has more than F forms, at most n times 3F + 3 rounds mark
+      -- of n distinct entries, where no first name has more than F forms, at most n times 3F + 3
+      -- rounds mark
       pub bound : length tables - 1
           ≤ length (distinct eq (entries_cited firsts)) * (3 * most_forms firsts + 3)
 

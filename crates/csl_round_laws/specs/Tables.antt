@@ -1,4 +1,5 @@
--- The rounds in which cites that read alike are disambiguated: the tables of states from the first on.
+-- The rounds in which cites that read alike are disambiguated: the tables of states from the first
+-- on.
 use Rattle.std.specs.Prelude.{ℕ, zero, suc, ◌+◌, ◌-◌, ◌*◌, Bool, List, [], ◌∷◌, length, map, slice_index_or, take, Option, Some, None, if◌then◌else◌}
 use Rattle.std.specs.List.{flat_map}
 use Rattle.csl_values.specs.declared.names.NameDisambiguationProperties.{NameDisambiguationProperties}
@@ -36,8 +37,8 @@ module _ {E P : Type 0} (mode : RoundMode) (eq : E → E → Bool) (writing : Wr
   tables_from (suc n) table = if has_any (marks_at table)
       then table ∷ tables_from n (with_marks (marked_at table) table) else table ∷ []
 
--- in mode three rounds end with the third; in mode full they end by themselves, since each that marks raises
--- the state of some entry, and states can't be raised more often than this
+-- in mode three rounds end with the third; in mode full they end by themselves, since each that
+-- marks raises the state of some entry, and states can't be raised more often than this
 abbrev pub most_rounds : {E P : Type 0} → RoundMode → (E → E → Bool) → List (CiteRender E P) → ℕ
 most_rounds RoundMode.Three eq firsts = 3
 most_rounds RoundMode.Full eq firsts =

@@ -1,4 +1,5 @@
-//! What the rounds are in which cites that read alike are disambiguated, and laws of every run of them.
+//! What the rounds are in which cites that read alike are disambiguated, and laws of every run of
+//! them.
 #![tactic(auto)]
 
 pub mod laws;

@@ -6,8 +6,8 @@ ghost use Rattle.csl_values.specs.Tells.{TellsEqual};
 pub enum RoundMode {
     /// In three at most. Each mark counts.
     Three,
-    /// In as many as mark. A mark counts only where it raises the state of its entry, and a group waits for
-    /// the next round where an entry of it was marked in this one.
+    /// In as many as mark. A mark counts only where it raises the state of its entry, and a group
+    /// waits for the next round where an entry of it was marked in this one.
     Full,
 }
 

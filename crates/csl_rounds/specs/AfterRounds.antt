@@ -9,9 +9,10 @@ use Rattle.csl_round_laws.specs.declared.mode.RoundMode.{RoundMode}
 use Rattle.csl_writers.specs.Desk.{Desk, after}
 use Rattle.csl_writers.specs.Writing.{Writing}
 
--- so many rounds marked these first renders, and the entries have these states now; of the desk what it was
--- before and what it is behind
-pub record AreAfterRounds {E P N : Type 0} (mode : RoundMode) (eq : E → E → Bool) (writing : Writing E P)
+-- so many rounds marked these first renders, and the entries have these states now; of the desk
+-- what it was before and what it is behind
+pub record AreAfterRounds {E P N : Type 0} (mode : RoundMode) (eq : E → E → Bool)
+    (writing : Writing E P)
     (firsts : List (CiteRender E P)) (entries : List E) (before : Desk E P N)
     (now : List (CiteRender E P)) (states : List (Option DisambiguateState)) (marked : ℕ)
     (behind : Desk E P N) : Type 0 where

@@ -17,6 +17,7 @@ pub record AreCitesOfTable {E P : Type 0} (eq : E → E → Bool) (table : Table
   pub listed : All (λ ps. All (λ p. p < length table.entries) ps) table.places
 
 -- cites stand at the places of a group, each at one of them
-pub record IsGroupOf {E P : Type 0} (cites : List (CiteRender E P)) (group : List Place) : Type 0 where
+pub record IsGroupOf {E P : Type 0} (cites : List (CiteRender E P))
+    (group : List Place) : Type 0 where
   pub exist : All (IsPlace cites) group
   pub distinct : AreDistinct group

@@ -36,7 +36,8 @@ module _ {E P : Type 0} (eq : E → E → Bool) (dated : Bool) (cites : List (Ci
 
   -- in mode full: the marks so far, and those of a group that doesn't wait
   abbrev pub with_counting : List Mark → List Place → List Mark
-  with_counting marks group = marks ++ (if waits eq cites marks group then [] else counting_ways group)
+  with_counting marks group = marks
+      ++ (if waits eq cites marks group then [] else counting_ways group)
 
 -- the greater of a mark and the state before it
 abbrev pub with_greater : Option DisambiguateState → DisambiguateState → Option DisambiguateState
@@ -82,7 +83,8 @@ abbrev pub state_at : List (Option DisambiguateState) → List ℕ → ℕ → O
 state_at states places k = option_and_then (λ p. slice_index_or states p None) (slice_get places k)
 
 module _ {E P : Type 0} where
-  -- what is asked for where a cite is rendered to be compared: for its purpose and by these properties
+  -- what is asked for where a cite is rendered to be compared: for its purpose and by these
+  -- properties
   abbrev pub compared_task : Request E P → E → Properties P → Option CitePurpose → CiteTaskValue E P
   compared_task request entry properties purpose = record {
     source = source_of request;
@@ -101,7 +103,8 @@ module _ {E P : Type 0} (states : List (Option DisambiguateState)) where
 
   abbrev pub document_tasks : List (List ℕ) → List (CiteRender E P) → List (TaskValue E P)
   document_tasks places cites = flat_map
-      (λ p. request_tasks p.1.request (slice_index_or places p.0 []) p.1.items) (enumerate_from 0 cites)
+      (λ p. request_tasks p.1.request (slice_index_or places p.0 []) p.1.items)
+      (enumerate_from 0 cites)
 
   module _ (writing : Writing E P) where
     -- the k-th cite of a request, rendered again where its entry has a state

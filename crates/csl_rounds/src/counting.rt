@@ -1,5 +1,19 @@
 //! Which marks count where rounds go on until none marks, and which groups wait.
-ghost use Rattle.std.specs.Prelude.{◌≡◌, ℕ, ◌<◌, ◌||◌, IfOk, false, filter, length, map, nat_eq, option_map, replicate, slice_index_or};
+ghost use Rattle.std.specs.Prelude.{
+  ◌≡◌,
+  ℕ,
+  ◌<◌,
+  ◌||◌,
+  IfOk,
+  false,
+  filter,
+  length,
+  map,
+  nat_eq,
+  option_map,
+  replicate,
+  slice_index_or,
+};
 ghost use Rattle.std.specs.List.{list_any};
 ghost use Rattle.std.specs.Option.{option_map_or};
 ghost use Rattle.csl_ambiguity.specs.Members.{member_at, state_of};
@@ -78,7 +92,8 @@ fn raises(state: &DisambiguateState, mark: &DisambiguateState) -> bool
 /// Whether some cite of a group cites an entry that is marked.
 pub(crate) fn waits(places: &[Vec<usize>], marked: &[bool], group: &AmbiguousGroup) -> bool
     ensures { result ≡ list_any
-        (λ at. is_marked marked.now (entry_place (map (λ ps. ps.items) places.now) at)) group.now.items }
+        (λ at. is_marked marked.now (entry_place (map (λ ps. ps.items) places.now) at))
+        group.now.items }
 {
     for at in group {
         if is_marked(marked, entry_place(places, *at)) {
@@ -101,7 +116,8 @@ fn is_marked(marked: &[bool], place: Option<usize>) -> bool
 /// Notes that the entries of these marks are marked.
 pub(crate) fn note(places: &[Vec<usize>], marked: &mut [bool], marks: &Marks)
     ensures long { length marked.new ≡ length marked.old }
-    ensures noted { AreMarked (map (λ ps. ps.items) places.now) marks.now.items marked.old marked.new }
+    ensures noted { AreMarked (map (λ ps. ps.items) places.now) marks.now.items marked.old
+        marked.new }
 {
     for mark in marks {
         note_at(marked, entry_place(places, mark.0));

@@ -3,7 +3,17 @@ ghost use Rattle.std.specs.Prelude.{◌≡◌, ◌∷◌, [], IfOk, OnOk, length
 ghost use Rattle.csl_lookup.specs.PropertiesView.{properties_view};
 ghost use Rattle.csl_passes.specs.RendersView.{item_view, render_view, renders_view};
 ghost use Rattle.csl_passes.specs.RequestView.{cite_view, request_view, requests_view};
-ghost use Rattle.csl_round_laws.specs.FirstRenders.{HasShapeOf, first_render, first_renders, first_renders_of, first_task, first_tasks, first_tasks_of, first_written_by, noted};
+ghost use Rattle.csl_round_laws.specs.FirstRenders.{
+  HasShapeOf,
+  first_render,
+  first_renders,
+  first_renders_of,
+  first_task,
+  first_tasks,
+  first_tasks_of,
+  first_written_by,
+  noted,
+};
 ghost use Rattle.csl_writers.specs.Desk.{after, desk};
 ghost use Rattle.csl_writers.specs.Tasks.{cite_task};
 ghost use Rattle.csl_writers.specs.Writing.{writing_of};
@@ -21,9 +31,9 @@ use csl_writers::pushed::push;
 use csl_writers::writer::CiteWriter;
 use std::alloc::Global;
 
-/// Renders each cite of each request once, hidden ones too, for its purpose and by what is known of it first:
-/// it has no locator, and nothing disambiguates its entry (CSL 1.0.2, disambiguation). `firsts` has a list for
-/// each request, as long as the request's items. Each rendering is counted.
+/// Renders each cite of each request once, hidden ones too, for its purpose and by what is known of
+/// it first: it has no locator, and nothing disambiguates its entry (CSL 1.0.2, disambiguation).
+/// `firsts` has a list for each request, as long as the request's items. Each rendering is counted.
 ///
 /// # Errors
 /// The writer's; a want of memory among others.
@@ -34,13 +44,15 @@ pub fn first_renders<'r, 'a, T: EntryLike, P: Drop, W: CiteWriter<T, P>>(
     writer: &mut W,
     counter: &mut Renders,
 ) -> Result<Cites<'r, 'a, T, P>, W::Error>
-    requires shape { HasShapeOf (requests_view requests.requests.now) (map (λ f. f.items) firsts.now) }
+    requires shape { HasShapeOf (requests_view requests.requests.now)
+        (map (λ f. f.items) firsts.now) }
     ensures cites { IfOk result (λ c. renders_view c.by_request.items
         ≡ first_renders (writing_of T.answers (W.state writer.old))
         (requests_view requests.entry.requests.now)
         (map (λ f. f.items) firsts.now)) }
     ensures asked { OnOk result (desk (W.state writer.new) counter.new
-        ≡ after (first_tasks (requests_view requests.entry.requests.now) (map (λ f. f.items) firsts.now))
+        ≡ after (first_tasks (requests_view requests.entry.requests.now)
+        (map (λ f. f.items) firsts.now))
         (desk (W.state writer.old) counter.old)) }
 {
     let mut cites = Cites::with_capacity(alloc, firsts.len())?;
@@ -89,7 +101,8 @@ fn first_render<'a, T: EntryLike, P: Drop, W: CiteWriter<T, P>>(
     counter: &mut Renders,
 ) -> Result<SpeculativeItemRender<'a, T, P>, W::Error>
     ensures cite { IfOk result (λ i. item_view i
-        ≡ first_render (writing_of T.answers (W.state writer.old)) (request_view request.entry.request.now)
+        ≡ first_render (writing_of T.answers (W.state writer.old))
+        (request_view request.entry.request.now)
         (cite_view item.now) first) }
     ensures asked { OnOk result (desk (W.state writer.new) counter.new
         ≡ after (cite_task (first_task (request_view request.entry.request.now)

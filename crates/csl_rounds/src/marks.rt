@@ -27,7 +27,8 @@ pub(crate) fn round_marks<'a, T: EntryLike, P>(
     mode: RoundMode,
 ) -> Result<Marks, AllocError>
     requires cites { AreCitesOfTable T.eq (table_view table.now) (renders_view cites.now) }
-    ensures { IfOk result (λ v. v.items ≡ round_marks mode T.eq T.answers (renders_view cites.now)) }
+    ensures { IfOk result
+        (λ v. v.items ≡ round_marks mode T.eq T.answers (renders_view cites.now)) }
 {
     match mode {
         RoundMode::Three => marks_of_three(alloc, cites),
@@ -35,9 +36,9 @@ pub(crate) fn round_marks<'a, T: EntryLike, P>(
     }
 }
 
-/// The marks of a round of three: those by names of every ambiguous group; and for the first group that
-/// can be marked in any way, where it has none by names, its choose marks, or its suffixes where there are
-/// none of these either.
+/// The marks of a round of three: those by names of every ambiguous group; and for the first group
+/// that can be marked in any way, where it has none by names, its choose marks, or its suffixes
+/// where there are none of these either.
 fn marks_of_three<T: EntryLike, P>(
     alloc: Global,
     cites: &[SpeculativeCiteRender<'_, '_, T, P>],
@@ -54,8 +55,8 @@ fn marks_of_three<T: EntryLike, P>(
     Ok(marks)
 }
 
-/// Adds the marks of a group to those of the groups before it: those by names, and others only where
-/// there is no mark yet.
+/// Adds the marks of a group to those of the groups before it: those by names, and others only
+/// where there is no mark yet.
 fn add_group<T: EntryLike, P>(
     alloc: Global,
     cites: &[SpeculativeCiteRender<'_, '_, T, P>],
@@ -77,8 +78,8 @@ fn add_group<T: EntryLike, P>(
     Ok(())
 }
 
-/// The marks of a round of as many as mark: of each ambiguous group in turn those that count, unless an
-/// entry of it was marked before in this round.
+/// The marks of a round of as many as mark: of each ambiguous group in turn those that count,
+/// unless an entry of it was marked before in this round.
 fn marks_of_full<'a, T: EntryLike, P>(
     alloc: Global,
     cites: &[SpeculativeCiteRender<'_, 'a, T, P>],
@@ -103,8 +104,8 @@ fn marks_of_full<'a, T: EntryLike, P>(
     Ok(marks)
 }
 
-/// The marks of a group that count: those by names; where there are none its choose marks; and its suffixes
-/// where there are none of these either.
+/// The marks of a group that count: those by names; where there are none its choose marks; and its
+/// suffixes where there are none of these either.
 fn counting_marks<T: EntryLike, P>(
     alloc: Global,
     cites: &[SpeculativeCiteRender<'_, '_, T, P>],

@@ -5,7 +5,13 @@ ghost use Rattle.csl_passes.specs.ByPlaces.{by_places};
 ghost use Rattle.csl_passes.specs.RequestView.{request_view};
 ghost use Rattle.csl_passes.specs.RendersView.{item_view, items_view, renders_view};
 ghost use Rattle.csl_rounds.specs.CitesOfTable.{AreCitesOfTable};
-ghost use Rattle.csl_rounds.specs.Gathered.{cite_again, document_again, document_tasks, request_tasks, state_at};
+ghost use Rattle.csl_rounds.specs.Gathered.{
+  cite_again,
+  document_again,
+  document_tasks,
+  request_tasks,
+  state_at,
+};
 ghost use Rattle.csl_round_laws.specs.Rounds.{again_task, rendered_again, tasks_with, with_any};
 ghost use Rattle.csl_writers.specs.Desk.{after, desk};
 ghost use Rattle.csl_writers.specs.Tasks.{cite_task};
@@ -21,7 +27,8 @@ use csl_writers::counter::Renders;
 use csl_writers::writer::CiteWriter;
 use std::alloc::Global;
 
-/// Renders the cites again whose entries have states. These stand by the places of the entries in the table.
+/// Renders the cites again whose entries have states. These stand by the places of the entries in
+/// the table.
 pub(crate) fn render_marked<'a, T: EntryLike, P, W: CiteWriter<T, P>>(
     alloc: Global,
     cites: &mut [SpeculativeCiteRender<'_, 'a, T, P>],
@@ -33,7 +40,8 @@ pub(crate) fn render_marked<'a, T: EntryLike, P, W: CiteWriter<T, P>>(
     requires cites { AreCitesOfTable T.eq (table_view table.now) (renders_view cites.old) }
     requires long { length states.now ≡ length (table_view table.now).entries }
     ensures again { OnOk result (renders_view cites.new
-        ≡ document_again states.now (writing_of T.answers (W.state writer.old)) (table_view table.now).places
+        ≡ document_again states.now (writing_of T.answers (W.state writer.old))
+        (table_view table.now).places
         (renders_view cites.old)) }
     ensures asked { OnOk result (desk (W.state writer.new) counter.new
         ≡ after (document_tasks states.now (table_view table.now).places (renders_view cites.old))
@@ -101,7 +109,8 @@ fn render_with<T: EntryLike, P, W: CiteWriter<T, P>>(
         (request_view request.entry.request.now) (option_map (λ s. s.now) state.entry)
         (item_view item.old)) }
     ensures asked { OnOk result (desk (W.state writer.new) counter.new
-        ≡ after (tasks_with (request_view request.entry.request.now) (option_map (λ s. s.now) state.entry)
+        ≡ after (tasks_with (request_view request.entry.request.now)
+        (option_map (λ s. s.now) state.entry)
         (item_view item.old))
         (desk (W.state writer.old) counter.old)) }
 {

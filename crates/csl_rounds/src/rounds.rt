@@ -8,7 +8,13 @@ ghost use Rattle.csl_rounds.specs.Gathered.{has_round_left};
 ghost use Rattle.csl_round_laws.specs.FirstRenders.{AreBegun};
 ghost use Rattle.csl_round_laws.specs.Rerenders.{AreStatesOf};
 ghost use Rattle.csl_round_laws.specs.RoundMarks.{has_any, round_marks};
-ghost use Rattle.csl_round_laws.specs.Rounds.{StateTable, again_tasks, at_table, marked_by, with_marks};
+ghost use Rattle.csl_round_laws.specs.Rounds.{
+  StateTable,
+  again_tasks,
+  at_table,
+  marked_by,
+  with_marks,
+};
 ghost use Rattle.csl_round_laws.specs.declared.mode.RoundMode.{RoundMode};
 ghost use Rattle.csl_writers.specs.Desk.{after, desk};
 ghost use Rattle.csl_writers.specs.Writing.{writing_of};
@@ -30,26 +36,27 @@ use std::alloc::Global;
 pub struct Rounds {
     /// How many of them marked; the greatest `u128` where more did.
     pub marked: u128,
-    /// The states that the entries have after them, by their places in the table; none where no round
-    /// marked the entry.
+    /// The states that the entries have after them, by their places in the table; none where no
+    /// round marked the entry.
     pub states: Vec<Option<DisambiguateState>>,
 }
 
-/// Disambiguates cites that read alike and cite different entries (CSL 1.0.2, disambiguation), in rounds.
+/// Disambiguates cites that read alike and cite different entries (CSL 1.0.2, disambiguation), in
+/// rounds.
 ///
-/// In mode three there are three rounds at most. Each ambiguous group is marked by names. The first group
-/// that can be marked in any way gets, where it has no marks by names, choose marks, or suffixes where it
-/// has none of these either. In mode full rounds go on until none marks. A mark counts only where it is
-/// greater than the state of its entry. Each ambiguous group gets the marks by names that count, or else the
-/// choose marks that count, or else the suffixes that count; but a group waits for the next round where an
-/// entry of it has a mark from an earlier group.
+/// In mode three there are three rounds at most. Each ambiguous group is marked by names. The first
+/// group that can be marked in any way gets, where it has no marks by names, choose marks, or
+/// suffixes where it has none of these either. In mode full rounds go on until none marks. A mark
+/// counts only where it is greater than the state of its entry. Each ambiguous group gets the marks
+/// by names that count, or else the choose marks that count, or else the suffixes that count; but a
+/// group waits for the next round where an entry of it has a mark from an earlier group.
 ///
-/// An entry with marks gets the greatest of them as its state, and each of its cites is rendered again
-/// with it, for its purpose and with no verdict. A round without marks is the last. Each rendering is
-/// counted: one in each round that marks for each cite whose entry it marks.
+/// An entry with marks gets the greatest of them as its state, and each of its cites is rendered
+/// again with it, for its purpose and with no verdict. A round without marks is the last. Each
+/// rendering is counted: one in each round that marks for each cite whose entry it marks.
 ///
-/// `cites` are those of the requests of which `table` is made. In mode full none of them may be disambiguated
-/// already.
+/// `cites` are those of the requests of which `table` is made. In mode full none of them may be
+/// disambiguated already.
 ///
 /// # Errors
 ///
@@ -65,7 +72,8 @@ pub fn disambiguate<'a, T: EntryLike, P, W: CiteWriter<T, P>>(
     requires cites { AreCitesOfTable T.eq (table_view table.now) (renders_view cites.old) }
     requires begun { mode ≡ RoundMode.Full → AreBegun (renders_view cites.old) }
     ensures { IfOk result (λ r. AreAfterRounds mode T.eq (writing_of T.answers (W.state writer.old))
-        (renders_view cites.old) (table_view table.now).entries (desk (W.state writer.old) counter.old)
+        (renders_view cites.old) (table_view table.now).entries
+        (desk (W.state writer.old) counter.old)
         (renders_view cites.new) r.states.items r.marked (desk (W.state writer.new) counter.new)) }
 {
     let mut rounds = Rounds {
@@ -92,8 +100,8 @@ fn has_round_left(mode: RoundMode, marked: u128) -> bool
     }
 }
 
-/// One round: the cites whose entries get marks are rendered again with these, which are their states from
-/// now on. Whether there were any.
+/// One round: the cites whose entries get marks are rendered again with these, which are their
+/// states from now on. Whether there were any.
 fn run_round<'a, T: EntryLike, P, W: CiteWriter<T, P>>(
     alloc: Global,
     cites: &mut [SpeculativeCiteRender<'_, 'a, T, P>],

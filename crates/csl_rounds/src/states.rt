@@ -1,5 +1,15 @@
 //! The states that entries get in a round, by the places of the entries.
-ghost use Rattle.std.specs.Prelude.{◌≡◌, IfOk, None, OnOk, length, map, replicate, slice_index_or, slice_set};
+ghost use Rattle.std.specs.Prelude.{
+  ◌≡◌,
+  IfOk,
+  None,
+  OnOk,
+  length,
+  map,
+  replicate,
+  slice_index_or,
+  slice_set,
+};
 ghost use Rattle.std.specs.Option.{option_or};
 ghost use Rattle.csl_rounds.specs.Gathered.{AreGreatest, entry_place, put_before, with_greater};
 
@@ -17,7 +27,8 @@ pub(crate) fn greatest_marks(
     count: usize,
     marks: Marks,
 ) -> Result<States, AllocError>
-    ensures { IfOk result (λ v. AreGreatest (map (λ ps. ps.items) places.now) marks.items count v.items) }
+    ensures { IfOk result
+        (λ v. AreGreatest (map (λ ps. ps.items) places.now) marks.items count v.items) }
 {
     let mut states = no_states(alloc, count)?;
     for (at, mark) in marks {
@@ -68,8 +79,8 @@ pub(crate) fn entry_place(places: &[Vec<usize>], at: (usize, usize)) -> Option<u
     of_request.get(cite).copied()
 }
 
-/// Puts the states of a round before those of the rounds before it: an entry that gets one has it from
-/// then on.
+/// Puts the states of a round before those of the rounds before it: an entry that gets one has it
+/// from then on.
 pub(crate) fn put_before(
     states: &[Option<DisambiguateState>],
     kept: &mut [Option<DisambiguateState>],

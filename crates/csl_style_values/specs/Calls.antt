@@ -24,4 +24,5 @@ abbrev mutual
 
   pub calls_of_branches : Branches → Names
   calls_of_branches (otherwise es) = calls_of_all es
-  calls_of_branches (branch conditions rule children bs) = calls_of_all children ++ calls_of_branches bs
+  calls_of_branches (branch conditions rule children bs) = calls_of_all children
+      ++ calls_of_branches bs

@@ -35,7 +35,8 @@ pub(crate) fn is_on_round(
     requires start { start < length rows.now }
     requires closed { IsClosed (map (λ row. row.items) rows.now) }
     ensures yes { IfOk result (λ b. b ≡ true → IsOnRound (map (λ row. row.items) rows.now) start) }
-    ensures no { IfOk result (λ b. b ≡ false → IsOnRound (map (λ row. row.items) rows.now) start → ⊥) }
+    ensures no { IfOk result (λ b. b ≡ false
+        → IsOnRound (map (λ row. row.items) rows.now) start → ⊥) }
 {
     let mut found = Vec::new(alloc);
     let mut marks = vec![in alloc; false; rows.len()]?;

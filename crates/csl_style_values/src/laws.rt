@@ -1,8 +1,24 @@
-//! Laws of equality: `==` of styles, of locales and of what they are made of tells equal plain data.
+//! Laws of equality: `==` of styles, of locales and of what they are made of tells equal plain
+//! data.
 ghost use Rattle.std.specs.Prelude.{◌≡◌};
 ghost use Rattle.std.specs.Bool.{Decides};
-ghost use Rattle.csl_style_values.specs.ElementView.{affixes_view, branch_view, element_view, macro_view, options_view, target_view};
-ghost use Rattle.csl_style_values.specs.StyleView.{bibliography_view, citation_view, code_view, layout_view, locale_view, style_view, term_view};
+ghost use Rattle.csl_style_values.specs.ElementView.{
+  affixes_view,
+  branch_view,
+  element_view,
+  macro_view,
+  options_view,
+  target_view,
+};
+ghost use Rattle.csl_style_values.specs.StyleView.{
+  bibliography_view,
+  citation_view,
+  code_view,
+  layout_view,
+  locale_view,
+  style_view,
+  term_view,
+};
 ghost use Rattle.csl_style_values.specs.declared.style.StyleSettings.{StyleSettings};
 ghost use Rattle.csl_values.specs.Tells.{TellsEqual, TellsSeen};
 
@@ -45,7 +61,8 @@ pub fn options_equality_decides()
     choice_equality_decides();
 }
 
-/// A law: `==` of elements, of branches and of macros is true exactly where the plain data is equal.
+/// A law: `==` of elements, of branches and of macros is true exactly where the plain data is
+/// equal.
 pub fn element_equality_decides()
     ensures element { TellsSeen element_view ⟦<LayoutRenderingElement as PartialEq>⟧.eq }
     ensures branch { TellsSeen branch_view ⟦<ChooseBranch as PartialEq>⟧.eq }

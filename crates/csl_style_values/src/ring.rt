@@ -1,9 +1,30 @@
 //! Rings of macros that call each other.
-ghost use Rattle.std.specs.Prelude.{◌≡◌, ◌+◌, ℕ, IfOk, None, map, take, not, true, false, ◌≤◌, option_map, length};
+ghost use Rattle.std.specs.Prelude.{
+  ◌≡◌,
+  ◌+◌,
+  ℕ,
+  IfOk,
+  None,
+  map,
+  take,
+  not,
+  true,
+  false,
+  ◌≤◌,
+  option_map,
+  length,
+};
 ghost use Rattle.std.specs.List.{filter_map};
 ghost use Rattle.csl_style_values.specs.Element.{Name};
 ghost use Rattle.csl_style_values.specs.NamedPlaces.{place_named};
-ghost use Rattle.csl_style_values.specs.Ring.{has_name, body_of, place_of_macro, call_places, IsFirstRing, HasNoRing};
+ghost use Rattle.csl_style_values.specs.Ring.{
+  has_name,
+  body_of,
+  place_of_macro,
+  call_places,
+  IsFirstRing,
+  HasNoRing,
+};
 ghost use Rattle.csl_style_values.specs.Calls.{calls_of_all};
 ghost use Rattle.csl_style_values.specs.ElementView.{elements_view, macros_view};
 
@@ -33,7 +54,7 @@ pub fn body_of<'a>(macros: &'a [CslMacro], name: &str) -> Option<&'a [LayoutRend
 /// # Errors
 ///
 /// Where memory is refused.
-pub fn first_places<'a>(
+pub fn first_indices<'a>(
     alloc: Global,
     macros: &'a [CslMacro],
 ) -> Result<HashMap<&'a str, usize>, AllocError>
@@ -75,7 +96,7 @@ fn call_places(alloc: Global, macros: &[CslMacro]) -> Result<Vec<Vec<usize>>, Al
     ensures { IfOk result (λ rows. map (λ row. row.items) rows.items
         ≡ call_places (macros_view macros.now)) }
 {
-    let places = first_places(alloc, macros)?;
+    let places = first_indices(alloc, macros)?;
     let mut rows = Vec::new(alloc);
     for each in macros {
         rows.push(called_places(alloc, &places, &each.children)?)?;
@@ -86,7 +107,8 @@ fn call_places(alloc: Global, macros: &[CslMacro]) -> Result<Vec<Vec<usize>>, Al
 // Whether no macro before `i` has that name.
 fn is_new_name(macros: &[CslMacro], i: usize, name: &str) -> bool
     requires { i ≤ length macros.now }
-    ensures { result ≡ not (has_name name.now (map (λ m. m.name) (macros_view (take i macros.now)))) }
+    ensures { result ≡ not (has_name name.now
+        (map (λ m. m.name) (macros_view (take i macros.now)))) }
 {
     for each in &macros[..i] {
         if each.name.as_str() == name {

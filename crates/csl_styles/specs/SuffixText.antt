@@ -39,11 +39,12 @@ abbrev pub suffix_in_body : (Name → Bool) → Option Elements → Bool
 suffix_in_body call None = false
 suffix_in_body call (Some elements) = suffix_in_all call elements
 
--- the same of a macro, where macros are followed at most so deep; the bound never matters, as the law below
--- says
+-- the same of a macro, where macros are followed at most so deep; the bound never matters, as the
+-- law below says
 abbrev pub suffix_in_macro : List Macro → ℕ → Name → Bool
 suffix_in_macro macros zero name = false
-suffix_in_macro macros (suc depth) name = suffix_in_body (suffix_in_macro macros depth) (body_of name macros)
+suffix_in_macro macros (suc depth) name =
+    suffix_in_body (suffix_in_macro macros depth) (body_of name macros)
 
 -- a year-suffix text stands in these elements, through macros too
 abbrev pub suffix_stands : List Macro → Elements → Bool
@@ -58,8 +59,8 @@ abbrev pub explicit_suffix : StyleValue → Bool
 explicit_suffix style = suffix_stands style.macros style.citation.layout.elements
     || suffix_in_bibliography style.macros style.bibliography
 
--- a call of a macro means the first macro of its name: the text stands in what is called where it stands in
--- that one's children
+-- a call of a macro means the first macro of its name: the text stands in what is called where it
+-- stands in that one's children
 abbrev pub suffix_called : List Macro → Name → Bool
 suffix_called macros name = option_map_or (suffix_stands macros) (body_of name macros) false
 

@@ -8,4 +8,5 @@ use Rattle.csl_values.specs.contracts.taxonomy.TermFormPartialEq.TheImpl as form
 
 -- the place that the map keeps for a name and a form
 abbrev pub term_placed : {S : Type 0} → HashMap (Term × TermForm) ℕ S → Term × TermForm → Option ℕ
-term_placed places key = get_by (λ k. (term_eq.ghosts).eq key.0 k.0 && (form_eq.ghosts).eq key.1 k.1) places
+term_placed places key =
+    get_by (λ k. (term_eq.ghosts).eq key.0 k.0 && (form_eq.ghosts).eq key.1 k.1) places

@@ -1,5 +1,5 @@
-//! What a style is asked at each cite: whether it writes year suffixes itself, a style that was looked at
-//! once, and the terms of locales.
+//! What a style is asked at each cite: whether it writes year suffixes itself, a style that was
+//! looked at once, and the terms of locales.
 #![tactic(auto)]
 
 pub mod locales;

@@ -6,7 +6,7 @@ ghost use Rattle.csl_style_values.specs.Ring.{place_of_macro};
 ghost use Rattle.csl_style_values.specs.StyleView.{style_view};
 
 use csl_base::element::LayoutRenderingElement;
-use csl_base::ring::first_places;
+use csl_base::ring::first_indices;
 use csl_base::style::IndependentStyle;
 use std::alloc::{AllocError, Global};
 use std::collections::HashMap;
@@ -16,7 +16,8 @@ use std::collections::HashMap;
 pub(crate) struct MacroTable<'a> {
     pub(crate) style: &'a IndependentStyle,
     places: HashMap<&'a str, usize>,
-    ghost table: { (name : Name) → place_named places name ≡ place_of_macro name (style_view style.now).macros },
+    ghost table: { (name : Name)
+        → place_named places name ≡ place_of_macro name (style_view style.now).macros },
 }
 
 impl<'a> MacroTable<'a> {
@@ -33,13 +34,14 @@ impl<'a> MacroTable<'a> {
     {
         Ok(MacroTable {
             style,
-            places: first_places(alloc, &style.macros)?,
+            places: first_indices(alloc, &style.macros)?,
         })
     }
 
     /// The children of the first macro of a name; none without such a macro.
     pub(crate) fn body_of(&self, name: &str) -> Option<&'a [LayoutRenderingElement]>
-        ensures { option_map (λ v. elements_view v.now) result ≡ body_of name.now (macros_of self.now) }
+        ensures { option_map (λ v. elements_view v.now) result
+            ≡ body_of name.now (macros_of self.now) }
     {
         let place = self.places.get(&name)?;
         Some(&self.style.macros[*place].children)

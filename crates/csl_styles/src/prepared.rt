@@ -17,9 +17,9 @@ use csl_base::style::IndependentStyle;
 use csl_base::taxonomy::{Term, TermForm};
 use std::alloc::{AllocError, Global};
 
-/// A style that was looked at once: none of its macros call each other in a ring, the first macro of
-/// each name and the first term of each name and form are found by tables, and it is known whether a
-/// year-suffix text stands in its layouts.
+/// A style that was looked at once: none of its macros call each other in a ring, the first macro
+/// of each name and the first term of each name and form are found by tables, and it is known
+/// whether a year-suffix text stands in its layouts.
 #[derive(Drop)]
 pub struct PreparedStyle<'a> {
     macros: MacroTable<'a>,
@@ -27,7 +27,8 @@ pub struct PreparedStyle<'a> {
     terms: TermTables<'a>,
     pub ghost no_ring: { HasNoRing (macros_of macros) },
     ghost suffix: { has_suffix ≡ explicit_suffix (style_view macros.style.now) },
-    ghost own: { locales_of terms ≡ macros.style.now.locale.items } by { Coded-set (coded_list locale_.the_row.coded) (locales_of terms) macros.style.now.locale.items },
+    ghost own: { locales_of terms ≡ macros.style.now.locale.items } by { Coded-set (coded_list locale_.the_row.coded) (locales_of terms)
+        macros.style.now.locale.items },
 }
 
 /// A prepared style, with the tables of the locale files that are asked for what its own locales
@@ -88,15 +89,16 @@ impl<'a> PreparedStyle<'a> {
         self.macros.body_of(name)
     }
 
-    /// Whether a year-suffix text stands in either of its layouts, at any depth, through macros too.
+    /// Whether a year-suffix text stands in either of its layouts, at any depth, through macros
+    /// too.
     pub fn explicit_suffix(&self) -> bool
         ensures { result ≡ explicit_suffix (prepared_view self.now) }
     {
         self.has_suffix
     }
 
-    /// The first term of this name and form that the first of the style's locales of a language has,
-    /// or of no language; none where that locale has none.
+    /// The first term of this name and form that the first of the style's locales of a language
+    /// has, or of no language; none where that locale has none.
     pub fn term_of(
         &self,
         language: Option<&str>,

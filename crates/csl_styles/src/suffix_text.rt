@@ -6,7 +6,16 @@ ghost use Rattle.csl_style_values.specs.Calls.{calls_of_all};
 ghost use Rattle.csl_style_values.specs.Ring.{body_of, macro_calls, HasNoRing};
 ghost use Rattle.csl_styles.specs.Gathered.{gather_new, gather_each};
 ghost use Rattle.csl_styles.specs.MacrosOf.{macros_of};
-ghost use Rattle.csl_styles.specs.SuffixText.{no_call, suffix_in_body, suffix_in, suffix_in_all, suffix_in_branches, suffix_stands, explicit_suffix, SuffixesUnfold};
+ghost use Rattle.csl_styles.specs.SuffixText.{
+  no_call,
+  suffix_in_body,
+  suffix_in,
+  suffix_in_all,
+  suffix_in_branches,
+  suffix_stands,
+  explicit_suffix,
+  SuffixesUnfold,
+};
 
 use crate::macros::MacroTable;
 use csl_base::calls::add_all_calls;
@@ -102,7 +111,8 @@ fn look_at<'a>(
     name: &str,
     names: &mut IndexSet<&'a str>,
 ) -> Result<bool, AllocError>
-    ensures found { IfOk result (λ b. b ≡ suffix_in_body no_call (body_of name.now (macros_of macros.now))) }
+    ensures found { IfOk result
+        (λ b. b ≡ suffix_in_body no_call (body_of name.now (macros_of macros.now))) }
     ensures gathered { IfOk result (λ b. b ≡ false
         → map (λ s. s.now) names.new.keys
         ≡ gather_each (macros_of macros.now) (macro_calls (macros_of macros.now) name.now)
@@ -128,7 +138,8 @@ fn suffix_stands<'a>(
     elements: &'a [LayoutRenderingElement],
 ) -> Result<bool, AllocError>
     requires { HasNoRing (macros_of macros.now) }
-    ensures { IfOk result (λ b. b ≡ suffix_stands (macros_of macros.now) (elements_view elements.now)) }
+    ensures { IfOk result
+        (λ b. b ≡ suffix_stands (macros_of macros.now) (elements_view elements.now)) }
 {
     if have_suffix(elements) {
         return Ok(true);

@@ -16,7 +16,8 @@ use std::collections::HashMap;
 pub struct TermTable<'a> {
     pub locale: &'a Locale,
     places: HashMap<(Term, TermForm), usize>,
-    ghost table: { (key : Term × TermForm) → term_placed places key ≡ place_of_term key.0 key.1 (locale_view locale.now) },
+    ghost table: { (key : Term × TermForm)
+        → term_placed places key ≡ place_of_term key.0 key.1 (locale_view locale.now) },
 }
 
 impl<'a> TermTable<'a> {

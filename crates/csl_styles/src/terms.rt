@@ -14,7 +14,8 @@ use std::alloc::{AllocError, Global};
 pub struct TermTables<'a> {
     locales: &'a [Locale],
     tables: Vec<TermTable<'a>>,
-    ghost each: { map (λ t. t.locale.now) tables.items ≡ locales.now } by { Coded-set (coded_list locale_.the_row.coded) (map (λ t. t.locale.now) tables.items) locales.now },
+    ghost each: { map (λ t. t.locale.now) tables.items ≡ locales.now } by { Coded-set (coded_list locale_.the_row.coded) (map (λ t. t.locale.now) tables.items)
+        locales.now },
 }
 
 impl<'a> TermTables<'a> {
@@ -55,7 +56,8 @@ impl<'a> TermTables<'a> {
     ) -> Option<&'a LocalizedTerm>
         ensures { option_map (λ t. term_view t.now) result
             ≡ option_and_then (term_in name form)
-            (locale_of (option_map (λ t. t.now) language.entry) (map locale_view (locales_of self.now))) }
+            (locale_of (option_map (λ t. t.now) language.entry)
+            (map locale_view (locales_of self.now))) }
     {
         for table in &self.tables {
             if is_language(table.locale, language) {

@@ -6,7 +6,7 @@ use Rattle.std.proofs.lemmas.Bool.{cases_Bool}
 use Rattle.std.specs.List.{common_prefix_len}
 use Rattle.std.specs.Cmp.Lexicographic.{pointwise}
 use Rattle.std.proofs.lemmas.List.{drop_all, length-map}
-use Rattle.csl_trees.specs.EqualTrees.{same_elem}
+use Rattle.csl_trees.specs.SameElem.{same_elem}
 use Rattle.csl_trees.specs.declared.elem.Elem.{Elem}
 
 none_right : (xs : List Elem) → common_prefix_len same_elem xs [] ≡ 0

@@ -28,16 +28,19 @@ abbrev pub next_base : SubsequentAuthorSubstituteRule → Option Elem → List C
 next_base rule base tree = option_or (stayed rule base tree) base
 
 -- the changes to trees, one after another
-abbrev pub plan : SubsequentAuthorSubstituteRule → Option Elem → List (List Child) → List (Option Change)
+abbrev pub plan : SubsequentAuthorSubstituteRule → Option Elem → List (List Child)
+    → List (Option Change)
 plan rule = scan (next_base rule) (planned rule)
 
 -- the tree after a change of its first names element
 abbrev pub tree_changed : Formatted → Option Change → List Child → List Child
 tree_changed substitute None tree = tree
 tree_changed substitute (Some change) tree =
-    elim (names_element tree) [ None ↦ tree | Some own ↦ put_names tree (elem_changed substitute change own) ]
+    elim (names_element tree)
+    [ None ↦ tree | Some own ↦ put_names tree (elem_changed substitute change own) ]
 
 -- the trees after as many changes
 abbrev pub trees_changed : Formatted → List (Option Change) → List (List Child) → List (List Child)
-trees_changed substitute (c ∷ cs) (x ∷ xs) = tree_changed substitute c x ∷ trees_changed substitute cs xs
+trees_changed substitute (c ∷ cs) (x ∷ xs) = tree_changed substitute c x
+    ∷ trees_changed substitute cs xs
 trees_changed substitute _ xs = xs

@@ -24,24 +24,26 @@ pub record KeepsAllButNames (old new : List Item) : Type 0 where
 
 -- the first item is as it was
 abbrev pub FirstStays : Type 0
-FirstStays = (substitute : Option (List ℕ)) (rule : SubsequentAuthorSubstituteRule) (items : List Item)
+FirstStays = (substitute : Option (List ℕ)) (rule : SubsequentAuthorSubstituteRule)
+    (items : List Item)
     → slice_get (substituted substitute rule items) 0 ≡ slice_get items 0
 
 -- the other items are as they were but for the children of their first names elements
 abbrev pub OnlyNamesChange : Type 0
-OnlyNamesChange = (substitute : Option (List ℕ)) (rule : SubsequentAuthorSubstituteRule) (items : List Item)
+OnlyNamesChange = (substitute : Option (List ℕ)) (rule : SubsequentAuthorSubstituteRule)
+    (items : List Item)
     → AllZip IsSameButNames items (substituted substitute rule items)
 
--- of these items, given with the latest first, e is the names element of one that wasn't replaced; those
--- after it have none, or were replaced when they were compared with e
+-- of these items, given with the latest first, e is the names element of one that wasn't replaced;
+-- those after it have none, or were replaced when they were compared with e
 abbrev pub IsLatestKept : SubsequentAuthorSubstituteRule → List Item → Elem → Type 0
 IsLatestKept rule items e =
     (after : List Item) × (item : Item) × (before : List Item) × (items ≡ after ++ item ∷ before)
     × (stayed rule (base rule before) item.0 ≡ Some e)
     × All (λ later. stayed rule (Some e) later.0 ≡ None) after
 
--- the base is the names element of the latest such item; there is none exactly where no item has a names
--- element
+-- the base is the names element of the latest such item; there is none exactly where no item has a
+-- names element
 abbrev pub BaseIsLatest : Type 0
 BaseIsLatest = (rule : SubsequentAuthorSubstituteRule) (items : List Item)
     → MatchOption (base rule items) (All (λ item. names_element item.0 ≡ None) items)

@@ -52,21 +52,23 @@ abbrev mutual
   pub kids_name_replaced : Formatted → Kids → List Child
   kids_name_replaced substitute no_kids = []
   kids_name_replaced substitute (kid c ks) =
-      cond (holds_name c) (name_replaced substitute c ∷ list_of ks) (c ∷ kids_name_replaced substitute ks)
+      cond (holds_name c) (name_replaced substitute c ∷ list_of ks)
+      (c ∷ kids_name_replaced substitute ks)
 
 -- the same among the children of a tree
 abbrev pub first_name_replaced : Formatted → List Child → List Child
 first_name_replaced substitute cs = kids_name_replaced substitute (kids_of cs)
 
--- the children up to the first that holds a name, then those up to the next such, and so on n times; all
--- where fewer do
+-- the children up to the first that holds a name, then those up to the next such, and so on n
+-- times; all where fewer do
 abbrev pub up_to_names : ℕ → List Child → List Child
 up_to_names zero cs = []
 up_to_names (suc n) cs = take (position_or_len holds_name cs + 1) cs
     ++ up_to_names n (drop (position_or_len holds_name cs + 1) cs)
 
--- the children after a change: the substitute alone; the substitute, and what is left without the names; the
--- substitute, and the children with the substitute in the first name of each; the same up to n names
+-- the children after a change: the substitute alone; the substitute, and what is left without the
+-- names; the substitute, and the children with the substitute in the first name of each; the same
+-- up to n names
 abbrev pub changed : Formatted → Change → List Child → List Child
 changed substitute SubstituteAlone cs = text substitute ∷ []
 changed substitute WithoutNames cs = text substitute ∷ without_names cs
@@ -76,4 +78,5 @@ changed substitute (FirstNamesReplaced n) cs =
 
 -- a names element after a change
 abbrev pub elem_changed : Formatted → Change → Elem → Elem
-elem_changed substitute change own = record own { children = changed substitute change own.children }
+elem_changed substitute change own =
+    record own { children = changed substitute change own.children }

@@ -27,8 +27,8 @@ module _ (rule : SubsequentAuthorSubstituteRule) where
   stayed base tree = option_and_then (λ own. if is_replaced base own then None
       else Some own) (names_element tree)
 
-  -- what an item after these is compared with, the latest given first: the names element of the latest that
-  -- has one and wasn't replaced
+  -- what an item after these is compared with, the latest given first: the names element of the
+  -- latest that has one and wasn't replaced
   abbrev pub base : List Item → Option Elem
   base [] = None
   base (item ∷ before) = option_or (stayed (base before) item.0) (base before)
@@ -38,13 +38,14 @@ module _ (text : Formatted) (rule : SubsequentAuthorSubstituteRule) where
   abbrev pub names_after : Elem → Elem → Elem
   names_after kept own = elem_changed text (change_by (rule_for rule own) kept own) own
 
-  -- an item's tree after substitution: its first names element is another where it is replaced, and else all
-  -- stays
+  -- an item's tree after substitution: its first names element is another where it is replaced, and
+  -- else all stays
   abbrev pub tree_after : Option Elem → List Child → List Child
   tree_after None tree = tree
   tree_after (Some kept) tree = elim (names_element tree) [
     | None ↦ tree
-    | Some own ↦ if is_replaced rule (Some kept) own then put_names tree (names_after kept own) else tree
+    | Some own ↦ if is_replaced rule (Some kept) own
+        then put_names tree (names_after kept own) else tree
   ]
 
   -- item k after substitution, against the base of the k items before it

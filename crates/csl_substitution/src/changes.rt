@@ -1,7 +1,7 @@
 //! When the names of an item are substituted, and by what.
 ghost use Rattle.std.specs.Prelude.{◌≡◌, Some, map, option_map};
 ghost use Rattle.std.specs.List.{common_prefix_len};
-ghost use Rattle.csl_trees.specs.EqualTrees.{same_elem};
+ghost use Rattle.csl_trees.specs.SameElem.{same_elem};
 ghost use Rattle.csl_substitution.specs.Changes.{change_of};
 ghost use Rattle.csl_substitution.specs.Names.{names_within};
 ghost use Rattle.csl_substitution.specs.Rules.{names_in_common, none_of, same_names};
@@ -25,7 +25,8 @@ pub(crate) enum Change {
 
 /// How many elements two lists have in common before the first that differs.
 fn prefix_in_common(kept: &[&Elem], own: &[&Elem]) -> usize
-    ensures { result ≡ common_prefix_len same_elem (map (λ e. e.now) kept.now) (map (λ e. e.now) own.now) }
+    ensures { result ≡ common_prefix_len same_elem (map (λ e. e.now) kept.now)
+        (map (λ e. e.now) own.now) }
 {
     let mut n = 0;
     while n < kept.len() && n < own.len() && is_same(kept[n], own[n]) {
@@ -73,7 +74,8 @@ pub(crate) fn change_of(
     }
 }
 
-/// What is done to an item with these names, compared with `kept`; nothing where the rule doesn't hold.
+/// What is done to an item with these names, compared with `kept`; nothing where the rule doesn't
+/// hold.
 fn change_against(
     rule: SubsequentAuthorSubstituteRule,
     kept: &Named<'_>,

@@ -4,7 +4,17 @@ ghost use Rattle.csl_trees.specs.Child.{text};
 ghost use Rattle.csl_trees.specs.ChildView.{child_view};
 ghost use Rattle.csl_trees.specs.Tree.{find_elem};
 ghost use Rattle.csl_substitution.specs.Names.{is_name};
-ghost use Rattle.csl_substitution.specs.Rewriting.{child_is_name, child_without_names, without_names, holds_name, name_replaced, first_name_replaced, up_to_names, changed, elem_changed};
+ghost use Rattle.csl_substitution.specs.Rewriting.{
+  child_is_name,
+  child_without_names,
+  without_names,
+  holds_name,
+  name_replaced,
+  first_name_replaced,
+  up_to_names,
+  changed,
+  elem_changed,
+};
 ghost use Rattle.csl_substitution.specs.Changes.{tree_changed};
 
 use crate::changes::Change;
@@ -117,8 +127,8 @@ fn replace_name(
     }
 }
 
-/// Puts the substitute into the first name in each of the children, until it is in `n`; the children
-/// after that are dropped.
+/// Puts the substitute into the first name in each of the children, until it is in `n`; the
+/// children after that are dropped.
 fn replace_names(
     alloc: Global,
     substitute: &Formatted,

@@ -1,5 +1,17 @@
 //! Substitution over all items of a bibliography.
-ghost use Rattle.std.specs.Prelude.{◌≡◌, ◌≤◌, ◌++◌, ◌∷◌, [], None, map, option_map, length, OnOk, IfOk};
+ghost use Rattle.std.specs.Prelude.{
+  ◌≡◌,
+  ◌≤◌,
+  ◌++◌,
+  ◌∷◌,
+  [],
+  None,
+  map,
+  option_map,
+  length,
+  OnOk,
+  IfOk,
+};
 ghost use Rattle.csl_substitution.specs.Laws.{KeepsAllButNames};
 ghost use Rattle.csl_substitution.specs.Substitution.{substituted};
 ghost use Rattle.csl_substitution.specs.ItemView.{rendered_items_view};
@@ -13,20 +25,21 @@ use csl_base::formatting::{Formatted, Formatting};
 use csl_base::style::SubsequentAuthorSubstituteRule;
 use std::alloc::{AllocError, Global};
 
-/// Puts the substitute in place of names that an item shares with one before it (CSL 1.0.2, reference
-/// grouping, `subsequent-author-substitute`). The items are the trees of a bibliography in its order,
-/// each with its key. Nothing changes without a substitute.
+/// Puts the substitute in place of names that an item shares with one before it (CSL 1.0.2,
+/// reference grouping, `subsequent-author-substitute`). The items are the trees of a bibliography
+/// in its order, each with its key. Nothing changes without a substitute.
 ///
-/// An item's names are the `Name` elements in its first names element; an item without a names element
-/// is passed over. It is compared with the latest item before it that has a names element and in which
-/// nothing was substituted. The first item never changes, and in the others at most the children of
-/// the first names element do.
+/// An item's names are the `Name` elements in its first names element; an item without a names
+/// element is passed over. It is compared with the latest item before it that has a names element
+/// and in which nothing was substituted. The first item never changes, and in the others at most
+/// the children of the first names element do.
 ///
-/// By `CompleteAll` and `CompleteEach` it is substituted where all names are equal, by `PartialEach` and
-/// `PartialFirst` where the first one is. The substitute then comes first in the names element. Behind
-/// it stands by `CompleteAll` what is left without the names, and by `CompleteEach` what was there, with
-/// the substitute in the first name of each child. So it does by `PartialEach` and `PartialFirst`, up
-/// to as many names as are equal from the first on, or up to one; the children after that are dropped.
+/// By `CompleteAll` and `CompleteEach` it is substituted where all names are equal, by
+/// `PartialEach` and `PartialFirst` where the first one is. The substitute then comes first in the
+/// names element. Behind it stands by `CompleteAll` what is left without the names, and by
+/// `CompleteEach` what was there, with the substitute in the first name of each child. So it does
+/// by `PartialEach` and `PartialFirst`, up to as many names as are equal from the first on, or up
+/// to one; the children after that are dropped.
 ///
 /// An item with a names element but no names goes by `CompleteAll`, whatever the rule: it is
 /// substituted where the two names elements are equal.
@@ -41,7 +54,8 @@ pub fn substitute_subsequent_authors(
     items: &mut [(ElemChildren, String)],
 ) -> Result<(), AllocError>
     ensures substituted { OnOk result (rendered_items_view items.new
-        ≡ substituted (option_map (λ s. s.now) substitute.entry) rule (rendered_items_view items.old)) }
+        ≡ substituted (option_map (λ s. s.now) substitute.entry) rule
+        (rendered_items_view items.old)) }
     ensures laws { OnOk result (KeepsAllButNames (rendered_items_view items.old)
         (rendered_items_view items.new)) }
 {
@@ -82,7 +96,8 @@ fn plan_next<'a>(
     ensures next { IfOk result (λ next. option_map (λ n. n.elem.now) next
         ≡ next_base rule (option_map (λ n. n.elem.now) base.entry) tree.now) }
     ensures added { OnOk result (changes.new.items
-        ≡ changes.old.items ++ planned rule (option_map (λ n. n.elem.now) base.entry) tree.now ∷ []) }
+        ≡ changes.old.items ++ planned rule (option_map (λ n. n.elem.now) base.entry)
+        tree.now ∷ []) }
 {
     match tree.find_names() {
         Some(elem) => {

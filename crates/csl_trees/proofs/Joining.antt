@@ -1,7 +1,7 @@
 -- Joining neighbours of one level, from either end.
 use Rattle.std.proofs.Common.{◌≡◌, Bool, true, false, cond, List, [], ◌∷◌, ◌++◌, map, refl, sym, ap, ◌∙◌, append_assoc, true≢false}
 use Rattle.csl_trees.specs.Child.{Child, text, elem, markup, link, transparent}
-use Rattle.csl_values.specs.EqualFormattings.{formattings_find}
+use Rattle.csl_values.proofs.EqualFormattings.{formattings_find}
 use Rattle.csl_trees.specs.Simplify.{same_formatting, joins, joined, join_first, join_last, level_joined, child_simple, simplified}
 
 -- the text of two neighbours joins what the second one joins

@@ -12,3 +12,4 @@ pub mod FirstPlace
 pub mod LastTextLaws
 pub mod FirstNamesLaws
 pub mod Lent
+pub mod EqualTrees

@@ -103,7 +103,8 @@ mutual
 
   pub kids_inj : (x y : Kids) → kids_code x ≡ kids_code y → x ≡ y
   kids_inj no_kids no_kids p = refl
-  kids_inj (kid c ks) (kid d ls) p = λ i. kid (child_inj c d (ap first p) i) (kids_inj ks ls (ap second p) i)
+  kids_inj (kid c ks) (kid d ls) p =
+      λ i. kid (child_inj c d (ap first p) i) (kids_inj ks ls (ap second p) i)
   kids_inj _ _ p = cc
 
 abbrev pub coded_child : Coded Child

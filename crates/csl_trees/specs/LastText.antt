@@ -15,7 +15,11 @@ abbrev mutual
   pub kids_put_last_text : Kids → Formatted → Kids
   kids_put_last_text no_kids w = no_kids
   kids_put_last_text (kid c ks) w =
-      elim ks [ no_kids ↦ kid (child_put_last_text c w) no_kids | kid _ _ ↦ kid c (kids_put_last_text ks w) ]
+      elim ks [
+        | no_kids ↦ kid (child_put_last_text c w) no_kids
+        | kid _ _ ↦ kid c
+            (kids_put_last_text ks w)
+      ]
 
 -- the tree with its last text replaced; the same tree where there is none
 abbrev pub put_last_text : List Child → Formatted → List Child

@@ -5,7 +5,7 @@ pub mod Tree
 pub mod Simplify
 pub mod SameTree
 pub mod TreeHash
-pub mod EqualTrees
+pub mod SameElem
 pub mod Elements
 pub mod Nested
 pub mod LastText

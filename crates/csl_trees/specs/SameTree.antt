@@ -46,7 +46,10 @@ module _ {K : Type 0} (E : K → K → Bool) (d : (x y : K) → Decides (E x y) 
   pub equivalence_of : IsEquivalence E
   equivalence_of = record {
     refl = λ x. (d x x).1 refl;
-    symm = λ x y. one_answer (E x y) (E y x) (d x y) (λ e. sym ((d y x).0 e), λ p. (d y x).1 (sym p));
+    symm = λ x y. one_answer (E x y) (E y x) (d x y) (
+      λ e. sym ((d y x).0 e),
+      λ p. (d y x).1 (sym p),
+    );
     congr = λ x y z e. ap (λ w. E w z) ((d x y).0 e);
   }
 

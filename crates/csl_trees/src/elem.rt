@@ -2,7 +2,18 @@
 ghost use Rattle.std.specs.Prelude.{◌≡◌, ℕ, Bool, ◌∷◌, [], ◌++◌, map, OnOk, IsOk, IfOk, option_map};
 ghost use Rattle.std.specs.Fmt.{WritesInCalls};
 ghost use Rattle.csl_trees.specs.ChildView.{child_view};
-ghost use Rattle.csl_trees.specs.Tree.{plain, child_plain, find_elem, last_text, child_last_text, no_children, has_names, child_find, has_content, child_has_content};
+ghost use Rattle.csl_trees.specs.Tree.{
+  plain,
+  child_plain,
+  find_elem,
+  last_text,
+  child_last_text,
+  no_children,
+  has_names,
+  child_find,
+  has_content,
+  child_has_content,
+};
 
 use csl_lists::seq::Seq;
 use csl_lists::text::Text;
@@ -100,8 +111,8 @@ impl ElemChildren {
         self.0.is_empty()
     }
 
-    /// Adds a child at the end. Where the room is used up it is doubled, and it begins with that for
-    /// one.
+    /// Adds a child at the end. Where the room is used up it is doubled, and it begins with that
+    /// for one.
     ///
     /// Fails where memory is refused.
     pub fn push(&mut self, child: ElemChild) -> Result<(), AllocError>
@@ -135,8 +146,8 @@ impl ElemChildren {
         Ok(())
     }
 
-    /// The last child where it is a text, and where it is an element, that of its children; `None` where the
-    /// last child is of another kind, or there is none.
+    /// The last child where it is a text, and where it is an element, that of its children; `None`
+    /// where the last child is of another kind, or there is none.
     #[cycle(last_text)]
     pub fn last_text(&self) -> Option<&Formatted>
         ensures { option_map (λ f. f.now) result ≡ last_text self.now }
@@ -157,8 +168,8 @@ impl ElemChildren {
         None
     }
 
-    /// Whether there is something to see: markup, a link, a `Transparent`, or a text that is not all white
-    /// space, at any depth.
+    /// Whether there is something to see: markup, a link, a `Transparent`, or a text that is not
+    /// all white space, at any depth.
     #[cycle(has_content)]
     pub fn has_content(&self) -> bool
         ensures { result ≡ has_content self.now }

@@ -3,7 +3,7 @@ ghost use Rattle.std.specs.Prelude.{◌≡◌, List};
 ghost use Rattle.std.specs.Bool.{Decides};
 ghost use Rattle.csl_trees.specs.Child.{Child};
 ghost use Rattle.csl_trees.specs.SameTree.{same_trees};
-ghost use Rattle.csl_trees.specs.EqualTrees.{same_child, same_elem};
+ghost use Rattle.csl_trees.specs.SameElem.{same_child, same_elem};
 ghost use Rattle.csl_trees.specs.declared.elem.Elem.{Elem};
 ghost use Rattle.csl_trees.specs.declared.elem.ElemChild.{ElemChild};
 

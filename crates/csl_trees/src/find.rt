@@ -11,12 +11,14 @@ ghost use Rattle.csl_trees.specs.declared.elem.Elem.{Elem};
 use crate::elem::{Elem, ElemChild, ElemChildren, ElemMeta};
 
 impl ElemChildren {
-    /// The first element in preorder that the test accepts: an element comes before those in it, and
-    /// those in it before those after it. `None` where it accepts none. The test has to accept any
-    /// element as its argument. `found` tells the answer of tests that answer equal elements alike.
+    /// The first element in preorder that the test accepts: an element comes before those in it,
+    /// and those in it before those after it. `None` where it accepts none. The test has to accept
+    /// any element as its argument. `found` tells the answer of tests that answer equal elements
+    /// alike.
     pub fn find_elem_by<F: Fn(&Elem) -> bool>(&self, test: F) -> Option<&Elem>
         requires { F.IsAlwaysCallable test }
-        ensures found { (p : Elem → Bool) → ((e : Bor Elem) (b : Bool) → F.post test e b → b ≡ p e.now)
+        ensures found { (p : Elem → Bool)
+            → ((e : Bor Elem) (b : Bool) → F.post test e b → b ≡ p e.now)
             → option_map (λ e. e.now) result ≡ find_elem p self.now }
         ensures accepted { IsFirstAccepted (F.post test) (elements self.now)
             (option_map (λ e. e.now) result) }
@@ -32,9 +34,9 @@ impl ElemChildren {
         find_in_tree(self, &|elem: &Elem| elem.has_meta(meta))
     }
 
-    /// Takes out the first child that is an element with some meta, and gives it; the children after
-    /// it move up. Elements further in are left where they are. `None` where no child is such an
-    /// element; then nothing changes. It takes no memory.
+    /// Takes out the first child that is an element with some meta, and gives it; the children
+    /// after it move up. Elements further in are left where they are. `None` where no child is such
+    /// an element; then nothing changes. It takes no memory.
     pub fn remove_any_meta(&mut self) -> Option<ElemChild>
         ensures value { option_map child_view result ≡ find child_has_any_meta self.old }
         ensures rest { self.new ≡ remove self.old (position_or_len child_has_any_meta self.old) }
@@ -47,7 +49,8 @@ impl ElemChildren {
 #[cycle(find)]
 fn find_in_tree<'a, F: Fn(&Elem) -> bool>(tree: &'a ElemChildren, test: &F) -> Option<&'a Elem>
     requires { F.IsAlwaysCallable test.now }
-    ensures found { (p : Elem → Bool) → ((e : Bor Elem) (b : Bool) → F.post test.now e b → b ≡ p e.now)
+    ensures found { (p : Elem → Bool)
+        → ((e : Bor Elem) (b : Bool) → F.post test.now e b → b ≡ p e.now)
         → option_map (λ e. e.now) result ≡ find_elem p tree.now }
     ensures accepted { IsFirstAccepted (F.post test.now) (elements tree.now)
         (option_map (λ e. e.now) result) }
@@ -63,7 +66,8 @@ fn find_in_tree<'a, F: Fn(&Elem) -> bool>(tree: &'a ElemChildren, test: &F) -> O
 #[cycle(find)]
 fn find_in_child<'a, F: Fn(&Elem) -> bool>(child: &'a ElemChild, test: &F) -> Option<&'a Elem>
     requires { F.IsAlwaysCallable test.now }
-    ensures found { (p : Elem → Bool) → ((e : Bor Elem) (b : Bool) → F.post test.now e b → b ≡ p e.now)
+    ensures found { (p : Elem → Bool)
+        → ((e : Bor Elem) (b : Bool) → F.post test.now e b → b ≡ p e.now)
         → option_map (λ e. e.now) result ≡ child_find p (child_view child.now) }
     ensures accepted { IsFirstAccepted (F.post test.now) (child_elements (child_view child.now))
         (option_map (λ e. e.now) result) }

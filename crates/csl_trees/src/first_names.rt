@@ -7,7 +7,17 @@ ghost use Rattle.csl_trees.specs.Child.{Child};
 ghost use Rattle.csl_trees.specs.ChildView.{child_view};
 ghost use Rattle.csl_trees.specs.Tree.{find_elem, has_names};
 ghost use Rattle.csl_trees.specs.FirstNames.{put_names};
-ghost use Rattle.csl_trees.specs.FirstNamesStep.{elem_without_names, first_holder, put_holder_child, holder_index, names_lie_deeper, own_elem, with_elem, holder_elem, put_holder_elem};
+ghost use Rattle.csl_trees.specs.FirstNamesStep.{
+  elem_without_names,
+  first_holder,
+  put_holder_child,
+  holder_index,
+  names_lie_deeper,
+  own_elem,
+  with_elem,
+  holder_elem,
+  put_holder_elem,
+};
 ghost use Rattle.csl_trees.specs.declared.elem.Elem.{Elem};
 ghost use Rattle.csl_trees.specs.contracts.elem.Elem as elem_;
 ghost use Rattle.csl_trees.specs.contracts.elem.ElemChild as child_;
@@ -31,7 +41,8 @@ impl ElemChildren {
 /// What a write of the first element of meta Names does: it is read again if its own meta is Names,
 /// it changes nothing where it writes what stood there, and nothing where there is no such element.
 pub fn first_names_laws()
-    ensures read_after_write { (cs : List Child) (w : Elem) → is_some (find_elem has_names cs) ≡ true
+    ensures read_after_write { (cs : List Child) (w : Elem)
+        → is_some (find_elem has_names cs) ≡ true
         → has_names w ≡ true → find_elem has_names (put_names cs w) ≡ Some w }
     ensures write_what_is_read { (cs : List Child) (e : Elem) → find_elem has_names cs ≡ Some e
         → put_names cs e ≡ cs }
@@ -39,8 +50,8 @@ pub fn first_names_laws()
         → put_names cs w ≡ cs }
 {}
 
-// The contract of this recursion is proved by hand, along its statements. The steps are functions of
-// their own, so that their proofs are found.
+// The contract of this recursion is proved by hand, along its statements. The steps are functions
+// of their own, so that their proofs are found.
 fn find_names_mut(tree: &mut ElemChildren) -> Option<&mut Elem>
     ensures* writes_back { sem 𝓛
         (LendsIf children_.the_row elem_.the_row tree.entry result (put_names tree.old) tree.old) }

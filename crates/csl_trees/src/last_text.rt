@@ -6,7 +6,15 @@ ghost use Rattle.csl_trees.specs.ChildView.{child_view};
 ghost use Rattle.csl_trees.specs.Tree.{last_text};
 ghost use Rattle.csl_trees.specs.Nested.{child_is_elem, inner, with_children};
 ghost use Rattle.csl_trees.specs.LastText.{put_last_text};
-ghost use Rattle.csl_trees.specs.LastTextStep.{own_text, with_text, ends_in_elem, last_child, put_last_child, end_text, put_end_text};
+ghost use Rattle.csl_trees.specs.LastTextStep.{
+  own_text,
+  with_text,
+  ends_in_elem,
+  last_child,
+  put_last_child,
+  end_text,
+  put_end_text,
+};
 ghost use Rattle.csl_values.specs.declared.formatting.Formatted.{Formatted};
 ghost use Rattle.csl_values.specs.contracts.formatting.Formatted as formatted_;
 ghost use Rattle.csl_trees.specs.contracts.elem.ElemChild as child_;
@@ -17,8 +25,8 @@ use csl_values::formatting::Formatted;
 
 impl ElemChildren {
     /// The last text, for writing: the last child, if it is a text, or the last text of the last
-    /// child, if that is an element. `None` where the tree ends in anything else. A write leaves the
-    /// rest of the tree as it is, and is what `last_text` gives next (`last_text_laws`).
+    /// child, if that is an element. `None` where the tree ends in anything else. A write leaves
+    /// the rest of the tree as it is, and is what `last_text` gives next (`last_text_laws`).
     pub fn last_text_mut(&mut self) -> Option<&mut Formatted>
         ensures* writes_back { sem 𝓛
             (LendsIf children_.the_row formatted_.the_row self.entry result
@@ -40,8 +48,8 @@ pub fn last_text_laws()
         → put_last_text cs w ≡ cs }
 {}
 
-// The contract of this recursion is proved by hand, along its statements. The steps are functions of
-// their own, so that their proofs are found.
+// The contract of this recursion is proved by hand, along its statements. The steps are functions
+// of their own, so that their proofs are found.
 fn last_text_mut(tree: &mut ElemChildren) -> Option<&mut Formatted>
     ensures* writes_back { sem 𝓛
         (LendsIf children_.the_row formatted_.the_row tree.entry result (put_last_text tree.old) tree.old) }

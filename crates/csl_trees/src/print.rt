@@ -8,8 +8,8 @@ use crate::elem::{ElemChild, ElemChildren};
 use std::alloc::AllocError;
 use std::fmt;
 
-/// Writes the plain text: that of texts, markup and links in their order, without formatting, and nothing
-/// for a `Transparent`.
+/// Writes the plain text: that of texts, markup and links in their order, without formatting, and
+/// nothing for a `Transparent`.
 impl fmt::Display for ElemChildren {
     ghost output = { λ children. Some (plain children) };
 

@@ -4,7 +4,15 @@ ghost use Rattle.csl_trees.specs.Child.{Child, kids_of};
 ghost use Rattle.csl_trees.specs.ChildView.{child_view};
 ghost use Rattle.csl_trees.specs.declared.elem.ElemChild.{ElemChild};
 ghost use Rattle.csl_trees.specs.Tree.{plain};
-ghost use Rattle.csl_trees.specs.Simplify.{simplified, child_simple, level_joined, join_last, joins, joined, Apart};
+ghost use Rattle.csl_trees.specs.Simplify.{
+  simplified,
+  child_simple,
+  level_joined,
+  join_last,
+  joins,
+  joined,
+  Apart,
+};
 
 use crate::elem::{ElemChild, ElemChildren};
 use std::alloc::AllocError;
@@ -13,7 +21,8 @@ use std::mem;
 impl ElemChildren {
     /// Joins adjacent texts of equal formatting at every depth, and changes nothing else.
     ///
-    /// Fails where memory is refused. Texts of the tree may be lost then, so it may only be dropped.
+    /// Fails where memory is refused. Texts of the tree may be lost then, so it may only be
+    /// dropped.
     #[cycle(simplify)]
     pub fn simplify_children(&mut self) -> Result<(), AllocError>
         ensures { OnOk result (self.new ≡ simplified self.old) }
@@ -66,7 +75,8 @@ impl ElemChild {
 
 /// Whether two of these children, one behind the other, are to be one.
 fn has_joints(children: &[ElemChild]) -> bool
-    ensures { result ≡ false → level_joined (map child_view children.now) ≡ map child_view children.now }
+    ensures { result ≡ false
+        → level_joined (map child_view children.now) ≡ map child_view children.now }
 {
     let mut last: Option<&ElemChild> = None;
     for child in children {
@@ -100,7 +110,8 @@ fn stays_apart(children: &[ElemChild], child: &ElemChild) -> bool
     ensures apart { result ≡ true
         → join_last (map child_view children.now) (child_view child.now)
         ≡ map child_view children.now ++ child_view child.now ∷ [] }
-    ensures joint { result ≡ false → (ds : List ElemChild) (d : ElemChild) → children.now ≡ ds ++ d ∷ []
+    ensures joint { result ≡ false → (ds : List ElemChild) (d : ElemChild)
+        → children.now ≡ ds ++ d ∷ []
         → joins (child_view d) (child_view child.now) ≡ true }
 {
     match children.last() {
@@ -124,8 +135,8 @@ pub fn append(children: &mut ElemChildren, child: ElemChild) -> Result<(), Alloc
     }
 }
 
-/// Joining adjacent texts keeps the plain text, leaves no two that are to be joined, and does nothing
-/// the second time.
+/// Joining adjacent texts keeps the plain text, leaves no two that are to be joined, and does
+/// nothing the second time.
 pub fn simplify_laws()
     ensures keeps_plain_text { (cs : List Child) → plain (simplified cs) ≡ plain cs }
     ensures leaves_none_to_join { (cs : List Child) → Apart (kids_of (simplified cs)) }

@@ -2,3 +2,4 @@
 pub mod Told
 pub mod Orders
 pub mod GivenNames
+pub mod EqualFormattings

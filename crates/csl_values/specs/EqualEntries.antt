@@ -88,19 +88,25 @@ plain_entries_find = record {
       λ i. record {
         key = texts_find.equal a.key b.key p.0 i;
         label = (options_find texts_find).equal a.label b.label q.0 i;
-        names = (lists_find (pairs_find name_variables_find (lists_find persons_find))).equal a.names b.names
+        names = (lists_find (pairs_find name_variables_find (lists_find persons_find))).equal
+            a.names b.names
             r.0 i;
-        dates = (lists_find (pairs_find date_variables_find dates_find)).equal a.dates b.dates s.0 i;
-        texts = (lists_find (pairs_find standard_variables_find chunked_strings_find)).equal a.texts b.texts
+        dates = (lists_find (pairs_find date_variables_find dates_find)).equal a.dates
+            b.dates s.0 i;
+        texts = (lists_find (pairs_find standard_variables_find chunked_strings_find)).equal
+            a.texts b.texts
             t.0 i;
-        numbers = (lists_find (pairs_find number_variables_find texts_find)).equal a.numbers b.numbers t.1 i;
+        numbers = (lists_find (pairs_find number_variables_find texts_find)).equal a.numbers
+            b.numbers t.1 i;
       };
   self = λ a.
       and-true _ _ (texts_find.self a.key)
       (and-true _ _ ((options_find texts_find).self a.label)
-      (and-true _ _ ((lists_find (pairs_find name_variables_find (lists_find persons_find))).self a.names)
+      (and-true _ _ ((lists_find
+      (pairs_find name_variables_find (lists_find persons_find))).self a.names)
       (and-true _ _ ((lists_find (pairs_find date_variables_find dates_find)).self a.dates)
-      (and-true _ _ ((lists_find (pairs_find standard_variables_find chunked_strings_find)).self a.texts)
+      (and-true _ _ ((lists_find
+      (pairs_find standard_variables_find chunked_strings_find)).self a.texts)
       ((lists_find (pairs_find number_variables_find texts_find)).self a.numbers)))));
 }
 

@@ -21,6 +21,7 @@ add_name (suc i) forms = unwrap_or
     (option_map (λ form. slice_set forms i (form_written form)) (slice_get forms i)) forms
 
 -- the forms end as they were, with form i set to the last value behind r
-abbrev pub LendsForm : MutBor NameDisambiguationProperties → ℕ → Option (MutBor DisambiguatedNameForm) → Fml
+abbrev pub LendsForm : MutBor NameDisambiguationProperties → ℕ
+    → Option (MutBor DisambiguatedNameForm) → Fml
 LendsForm names i r = LendsIf properties.the_row form.the_row names r
     (λ w. record { forms = slice_set names.now.forms i w }) names.now

@@ -4,7 +4,6 @@ pub mod Found
 pub mod PlainEntry
 pub mod Finds
 pub mod Tells
-pub mod EqualFormattings
 pub mod EqualEntries
 pub mod Forms
 pub mod Ordered

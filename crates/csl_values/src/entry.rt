@@ -74,7 +74,8 @@ pub trait EntryLike: Eq + Hash {
     fn citation_label(&self) -> Option<&str>
         ensures { option_map (λ t. t.now) result ≡ (answers self.now).label };
 
-    ghost equal_answer_equally: { (a : Self) (b : Self) → Self.eq a b ≡ true → answers a ≡ answers b };
+    ghost equal_answer_equally: { (a : Self) (b : Self) → Self.eq a b ≡ true
+        → answers a ≡ answers b };
 }
 
 /// The value of the first pair of a variable, if there is one.

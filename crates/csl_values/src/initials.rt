@@ -32,7 +32,8 @@ impl Person {
 }
 
 fn initials_of(alloc: Global, name: &str) -> Result<String, AllocError>
-    ensures { IfOk result (λ text. string_bytes text ≡ encode_utf8_all (initials (chars name.now))) }
+    ensures { IfOk result
+        (λ text. string_bytes text ≡ encode_utf8_all (initials (chars name.now))) }
 {
     let (mut initials, mut part_begins) = (String::new(alloc), true);
     for c in name.chars() {

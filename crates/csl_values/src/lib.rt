@@ -1,4 +1,5 @@
-//! What a source says and how it looks: variables, persons, dates, entries, name forms, formattings.
+//! What a source says and how it looks: variables, persons, dates, entries, name forms,
+//! formattings.
 #![tactic(auto)]
 
 pub mod entry;

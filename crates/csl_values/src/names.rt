@@ -6,7 +6,9 @@ ghost use Rattle.std.specs.Cmp.Lexicographic.{slice_cmp};
 ghost use Rattle.std.specs.Ordering.{nat_cmp};
 ghost use Rattle.csl_values.specs.Ordered.{IsValueOrder, extent, form_cmp, properties_cmp};
 ghost use Rattle.csl_values.specs.declared.names.DisambiguatedNameForm.{DisambiguatedNameForm};
-ghost use Rattle.csl_values.specs.declared.names.NameDisambiguationProperties.{NameDisambiguationProperties};
+ghost use Rattle.csl_values.specs.declared.names.NameDisambiguationProperties.{
+  NameDisambiguationProperties,
+};
 
 use csl_lists::seq::Seq;
 
@@ -69,7 +71,8 @@ impl NameDisambiguationProperties {
 pub fn forms_are_in_order()
     ensures extents { (a : DisambiguatedNameForm) → (b : DisambiguatedNameForm)
         → form_cmp a b ≡ nat_cmp (extent a) (extent b) }
-    ensures first_difference { (a : NameDisambiguationProperties) → (b : NameDisambiguationProperties)
+    ensures first_difference { (a : NameDisambiguationProperties)
+        → (b : NameDisambiguationProperties)
         → properties_cmp a b ≡ slice_cmp form_cmp a.forms b.forms }
     ensures forms { IsValueOrder form_cmp }
     ensures properties { IsValueOrder properties_cmp }

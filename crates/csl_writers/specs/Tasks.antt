@@ -5,7 +5,8 @@ use Rattle.csl_lookup.specs.Properties.{Properties}
 use Rattle.csl_lookup.specs.declared.purpose.CitePurpose.{CitePurpose}
 use Rattle.csl_lookup.specs.declared.state.CollapseVerdict.{CollapseVerdict}
 
--- where a cite stands that is written for the last time: the index of its request, and its own there
+-- where a cite stands that is written for the last time: the index of its request, and its own
+-- there
 abbrev pub LastPlace : Type 0
 LastPlace = Option (ℕ × ℕ)
 

@@ -37,6 +37,9 @@ module _ {E P N : Type 0} where
 
   -- two entries are written alike, whatever else is asked for
   pub record AreWrittenEqually (w : WriterState E P N) (a b : E) : Type 0 where
-    pub cite : (t : CiteTaskValue E P) → w.cite (record t { entry = a }) ≡ w.cite (record t { entry = b })
-    pub item : (t : ItemTaskValue E P) → w.item (record t { entry = a }) ≡ w.item (record t { entry = b })
-    pub date : (t : DateTaskValue E) → w.date (record t { entry = a }) ≡ w.date (record t { entry = b })
+    pub cite : (t : CiteTaskValue E P)
+        → w.cite (record t { entry = a }) ≡ w.cite (record t { entry = b })
+    pub item : (t : ItemTaskValue E P)
+        → w.item (record t { entry = a }) ≡ w.item (record t { entry = b })
+    pub date : (t : DateTaskValue E)
+        → w.date (record t { entry = a }) ≡ w.date (record t { entry = b })

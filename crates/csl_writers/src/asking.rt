@@ -25,7 +25,8 @@ pub fn written_cite<T: EntryLike, P, W: CiteWriter<T, P>>(
 ) -> Result<Cite, W::Error>
     ensures cite { IfOk result (λ c. c ≡ (W.state writer.old).cite (cite_task_view task.entry)) }
     ensures asked { OnOk result (desk (W.state writer.new) counter.new
-        ≡ after (cite_task (cite_task_view task.entry) ∷ []) (desk (W.state writer.old) counter.old)) }
+        ≡ after (cite_task (cite_task_view task.entry) ∷ [])
+        (desk (W.state writer.old) counter.old)) }
 {
     counter.add_one();
     writer.write_cite(alloc, &task)
@@ -44,7 +45,8 @@ pub fn written_item<T: EntryLike, P, W: CiteWriter<T, P>>(
 ) -> Result<Option<ElemChildren>, W::Error>
     ensures item { IfOk result (λ i. i ≡ (W.state writer.old).item (item_task_view task.entry)) }
     ensures asked { OnOk result (desk (W.state writer.new) counter.new
-        ≡ after (item_task (item_task_view task.entry) ∷ []) (desk (W.state writer.old) counter.old)) }
+        ≡ after (item_task (item_task_view task.entry) ∷ [])
+        (desk (W.state writer.old) counter.old)) }
 {
     counter.add_one();
     writer.write_item(alloc, &task)
@@ -63,7 +65,8 @@ pub fn written_date<T: EntryLike, P, W: CiteWriter<T, P>>(
 ) -> Result<ElemChildren, W::Error>
     ensures date { IfOk result (λ d. d ≡ (W.state writer.old).date (date_task_view task.entry)) }
     ensures asked { OnOk result (desk (W.state writer.new) counter.new
-        ≡ after (date_task (date_task_view task.entry) ∷ []) (desk (W.state writer.old) counter.old)) }
+        ≡ after (date_task (date_task_view task.entry) ∷ [])
+        (desk (W.state writer.old) counter.old)) }
 {
     counter.add_one();
     writer.write_date(alloc, &task)

@@ -11,8 +11,8 @@ use std::alloc::AllocError;
 
 /// A cite: of an entry, in a style with its locales, by what is known of the cite.
 ///
-/// Cites that are rendered to be compared have no place; a cite that is written for the last time has
-/// the index of its request and, behind it, its own in the items of that request, both from 0.
+/// Cites that are rendered to be compared have no place; a cite that is written for the last time
+/// has the index of its request and, behind it, its own in the items of that request, both from 0.
 pub struct CiteTask<'t, 'p, T, P> {
     pub source: StyleLocales<'t>,
     pub entry: &'t T,
@@ -23,8 +23,8 @@ pub struct CiteTask<'t, 'p, T, P> {
     pub ghost no_ring: { HasNoRing (source_view source).style.macros },
 }
 
-/// An item of the bibliography, by what is known of the first cite of its entry, which has no locator
-/// here.
+/// An item of the bibliography, by what is known of the first cite of its entry, which has no
+/// locator here.
 pub struct ItemTask<'t, 'p, T, P> {
     pub source: StyleLocales<'t>,
     pub entry: &'t T,
@@ -32,8 +32,8 @@ pub struct ItemTask<'t, 'p, T, P> {
     pub ghost no_ring: { HasNoRing (source_view source).style.macros },
 }
 
-/// The date of an entry, in place of a cite that is for the year alone. It is written for the last time,
-/// at this place.
+/// The date of an entry, in place of a cite that is for the year alone. It is written for the last
+/// time, at this place.
 pub struct DateTask<'t, T> {
     pub source: StyleLocales<'t>,
     pub entry: &'t T,

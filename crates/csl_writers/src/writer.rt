@@ -7,16 +7,23 @@ use std::alloc::{AllocError, Global};
 
 /// Writes cites, items of the bibliography and dates for a driver.
 ///
-/// What it writes follows from what it is asked for, however often and in whichever order it is asked,
-/// and equal entries are written equally. All that being asked may change is what the writer notes of it.
+/// What it writes follows from what it is asked for, however often and in whichever order it is
+/// asked, and equal entries are written equally. All that being asked may change is what the writer
+/// notes of it.
 ///
-/// A driver reads these parts of a tree: its plain text, by which cites are compared; the elements that
-/// stand for names, with their persons; and whether there are elements that stand for a date, for the
-/// number of the entry or for its label. A writer that marks no names is neither grouped nor disambiguated
-/// by names; without dates no suffixes are added and no years collapsed, and without numbers no runs.
+/// A driver reads these parts of a tree: its plain text, by which cites are compared; the elements
+/// that stand for names, with their persons; and whether there are elements that stand for a date,
+/// for the number of the entry or for its label. A writer that marks no names is neither grouped
+/// nor disambiguated by names; without dates no suffixes are added and no years collapsed, and
+/// without numbers no runs.
 pub trait CiteWriter<T: EntryLike, P> {
     ghost use Rattle.std.specs.Prelude.{◌≡◌, ◌∷◌, [], true, IfOk, OnOk};
-    ghost use Rattle.csl_writers.specs.Writing.{AreWrittenEqually, WriterState, asked_for, writing_of};
+    ghost use Rattle.csl_writers.specs.Writing.{
+      AreWrittenEqually,
+      WriterState,
+      asked_for,
+      writing_of,
+    };
     ghost use Rattle.csl_writers.specs.Tasks.{cite_task, date_task, item_task};
     ghost use Rattle.csl_writers.specs.TaskView.{cite_task_view, date_task_view, item_task_view};
 
@@ -41,7 +48,8 @@ pub trait CiteWriter<T: EntryLike, P> {
     ) -> Result<Cite, Self::Error>
         ensures cite { IfOk result (λ c. c ≡ (state self.old).cite (cite_task_view task.now)) }
         ensures asked { OnOk result
-            (state self.new ≡ asked_for (cite_task (cite_task_view task.now) ∷ []) (state self.old)) };
+            (state self.new ≡ asked_for (cite_task (cite_task_view task.now) ∷ [])
+            (state self.old)) };
 
     /// Writes an item of the bibliography; `None` where its style has none.
     ///
@@ -55,7 +63,8 @@ pub trait CiteWriter<T: EntryLike, P> {
     ) -> Result<Option<ElemChildren>, Self::Error>
         ensures item { IfOk result (λ i. i ≡ (state self.old).item (item_task_view task.now)) }
         ensures asked { OnOk result
-            (state self.new ≡ asked_for (item_task (item_task_view task.now) ∷ []) (state self.old)) };
+            (state self.new ≡ asked_for (item_task (item_task_view task.now) ∷ [])
+            (state self.old)) };
 
     /// Writes a date.
     ///
@@ -69,7 +78,8 @@ pub trait CiteWriter<T: EntryLike, P> {
     ) -> Result<ElemChildren, Self::Error>
         ensures date { IfOk result (λ d. d ≡ (state self.old).date (date_task_view task.now)) }
         ensures asked { OnOk result
-            (state self.new ≡ asked_for (date_task (date_task_view task.now) ∷ []) (state self.old)) };
+            (state self.new ≡ asked_for (date_task (date_task_view task.now) ∷ [])
+            (state self.old)) };
 
     ghost equal_written_equally: { (w : Self) (a : T) (b : T) → T.eq a b ≡ true
         → AreWrittenEqually (state w) a b };

@@ -61,13 +61,16 @@ rendered_item s bibliography =
 
 module _ {P : Type 0} where
   -- a cite of an entry in a style with its locales
-  unfoldable pub cite : Source → Answers → Properties P → Option CitePurpose → Option CollapseVerdict → Cite
+  unfoldable pub cite : Source → Answers → Properties P → Option CitePurpose
+      → Option CollapseVerdict → Cite
   cite source answers props = rendered_cite (subject source answers props)
 
   -- its tree
-  unfoldable pub cite_text : Source → Answers → Properties P → Option CitePurpose → Option CollapseVerdict
+  unfoldable pub cite_text : Source → Answers → Properties P → Option CitePurpose
+      → Option CollapseVerdict
       → List Child
-  cite_text source answers props purpose verdict = (cite source answers props purpose verdict).children
+  cite_text source answers props purpose verdict =
+      (cite source answers props purpose verdict).children
 
   -- the entry's item of the bibliography, where the style has one
   unfoldable pub bibliography_text : Source → Answers → Properties P → Option (List Child)

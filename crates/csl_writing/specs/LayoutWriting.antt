@@ -37,7 +37,8 @@ module _ {E P : Type 0} (answers : E → Answers) where
   }
 
 -- entries that answer alike are written alike
-pub layout_writes_equally : {E P N : Type 0} (answers : E → Answers) (a b : E) → answers a ≡ answers b
+pub layout_writes_equally : {E P N : Type 0} (answers : E → Answers) (a b : E)
+    → answers a ≡ answers b
     → AreWrittenEqually (layout_state {E = E} {P = P} answers {N = N}) a b
 layout_writes_equally answers a b e = record {
   cite = λ t. ap (λ x. cite t.source x t.properties t.purpose t.verdict) e;

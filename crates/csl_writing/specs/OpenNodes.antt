@@ -19,4 +19,5 @@ IsNested nodes height = (i : ℕ) (o : OpenNode) → slice_get nodes i ≡ Some 
 
 -- how far writing has come
 abbrev pub run_of : List OpenNode → Bool → WritingContext → Run
-run_of nodes after_part c = record { nodes = open_views nodes; after_part = after_part; written = state c }
+run_of nodes after_part c =
+    record { nodes = open_views nodes; after_part = after_part; written = state c }

@@ -16,15 +16,15 @@ leaf_written k (chunked_leaf t) a = chunks_pushed k t.0 a
 leaf_written k (link_leaf t) a = linked t.0 (joined_values t.0) a
 leaf_written k (mark_leaf cite) a = marked cite a
 
--- before the parts of a node: its prefix, a frame in its formatting, the opening quote, and periods are left
--- out
+-- before the parts of a node: its prefix, a frame in its formatting, the opening quote, and periods
+-- are left out
 unfoldable pub node_begun : Lookup → NodeValue → State → State
 node_begun k node a =
     let b = opened node.look.formatting (prefixed node.look.affixes.prefix a) in
     stripping node.strip_periods (if node.quotes then quotes_opened k b else b)
 
--- behind its parts, where there were so many formats before the node: no period is left out any more, the
--- closing quote, the frame is closed, and the suffix
+-- behind its parts, where there were so many formats before the node: no period is left out any
+-- more, the closing quote, the frame is closed, and the suffix
 unfoldable pub node_ended : Lookup → NodeValue → ℕ → State → State
 node_ended k node formats a =
     let b = if node.strip_periods then not_stripping a else a in
@@ -41,7 +41,8 @@ abbrev mutual
   pub part_written : Lookup → Part → State → State
   part_written k (leaf_part leaf) a = leaf_written k leaf a
   part_written k (node_part node ps) a =
-      node_ended k node (length a.formats) (joined_written k node.delimiter ps (node_begun k node a))
+      node_ended k node (length a.formats)
+      (joined_written k node.delimiter ps (node_begun k node a))
 
   -- parts with a delimiter between them
   pub joined_written : Lookup → Option (List ℕ) → Parts → State → State

@@ -11,8 +11,8 @@ pub record OpenValue : Type 0 where
   pub node : NodeValue
   pub formats : ℕ
 
--- the nodes that are open, the innermost last; whether a part stands before in the innermost; and what is
--- written
+-- the nodes that are open, the innermost last; whether a part stands before in the innermost; and
+-- what is written
 pub record Run : Type 0 where
   pub nodes : List OpenValue
   pub after_part : Bool
@@ -26,7 +26,8 @@ delimiter_of nodes = option_and_then (λ (o : OpenValue). o.node.delimiter) (inn
 
 -- the delimiter of the innermost node, where a part stands before
 unfoldable pub separated : Lookup → Run → State
-separated k r = if r.after_part then delimiter_pushed k (delimiter_of r.nodes) r.written else r.written
+separated k r = if r.after_part then delimiter_pushed k (delimiter_of r.nodes) r.written
+    else r.written
 
 unfoldable pub after_leaf : Lookup → LeafValue → Run → Run
 after_leaf k leaf r = record {

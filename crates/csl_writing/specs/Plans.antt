@@ -60,15 +60,15 @@ opens_with_space (Some t) = first_is is_whitespace (chars t)
 abbrev pub gap_steps : LayoutValue → List PlanStep
 gap_steps layout = if opens_with_space layout.prefix then [] else space_step ∷ []
 
--- the rest of a cite in a sentence: a label or a number as it is written without a purpose, else all but the
--- author
+-- the rest of a cite in a sentence: a label or a number as it is written without a purpose, else
+-- all but the author
 abbrev pub rest_section : Subject → Option CollapseVerdict → Notes → Section
 rest_section s verdict n =
     if has_labels s.source.style then regular_section s verdict n
     else citation_section s Form.SuppressAuthor n
 
--- what encloses the rest on one side: the layout's own affix, else the bracket, but where cites are labels or
--- numbers
+-- what encloses the rest on one side: the layout's own affix, else the bracket, but where cites are
+-- labels or numbers
 abbrev pub enclosing : StyleValue → Option (List ℕ) → List ℕ → Option (List ℕ)
 enclosing style (Some affix) bracket = Some affix
 enclosing style None bracket = if has_labels style then None else Some bracket
@@ -81,7 +81,8 @@ prose_plan s verdict n =
     let author = author_section s n in
     let rest = rest_section s verdict author.picked.noted in
     record {
-      steps = step_of author ∷ (gap_steps layout ++ text_steps (enclosing style layout.prefix (codes "("))
+      steps = step_of author
+          ∷ (gap_steps layout ++ text_steps (enclosing style layout.prefix (codes "("))
           ++ step_of rest ∷ text_steps (enclosing style layout.suffix (codes ")")));
       noted = rest.picked.noted;
     }

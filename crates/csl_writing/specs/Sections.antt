@@ -88,7 +88,8 @@ author_anew s form n = shown_or (citation_anew s form n) (author_listed s form n
 
 -- what names the author: as the citation writes it, else in these ways
 abbrev pub author_section : Subject → Notes → Section
-author_section s n = shown_or (citation_section s (author_form s) n) (author_anew s (author_form s) n)
+author_section s n = shown_or (citation_section s (author_form s) n)
+    (author_anew s (author_form s) n)
 
 -- the form of a cite that is collapsed
 abbrev pub verdict_form : Option CollapseVerdict → Form
@@ -100,8 +101,8 @@ verdict_form (Some CollapseVerdict.YearSuffix) = Form.OnlyYearSuffix
 abbrev pub regular_section : Subject → Option CollapseVerdict → Notes → Section
 regular_section s verdict n = citation_section s (verdict_form verdict) n
 
--- a cite as the bibliography's layout writes it, without its affixes; as without a purpose where there is no
--- bibliography
+-- a cite as the bibliography's layout writes it, without its affixes; as without a purpose where
+-- there is no bibliography
 abbrev pub full_section : Subject → Option CollapseVerdict → Notes → Section
 full_section s verdict n =
     elim s.source.style.bibliography [

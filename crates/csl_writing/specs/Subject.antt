@@ -46,7 +46,8 @@ module _ {P : Type 0} where
     source = source;
     answers = answers;
     cite = cite_of props;
-    explicit_suffix = is_some (year_suffix props.speculative.disambiguation) && explicit_suffix source.style;
+    explicit_suffix = is_some (year_suffix props.speculative.disambiguation)
+        && explicit_suffix source.style;
   }
 
 -- what a picking reads, under these name options and in this form, and whether it is an item of the

@@ -71,7 +71,8 @@ pub(crate) fn date_text<T: EntryLike>(
     alloc: Global,
     entry: &T,
 ) -> Result<ElemChildren, AllocError>
-    ensures { IfOk result (λ tree. tree ≡ text.date_text (source_view style.now) (T.answers entry.now)) }
+    ensures { IfOk result
+        (λ tree. tree ≡ text.date_text (source_view style.now) (T.answers entry.now)) }
 {
     let text = date_words(style, alloc, date_of_entry(entry))?;
     let formatting = Formatting::default();

@@ -1,7 +1,7 @@
 //! The writer that writes what the layouts of styles say.
 use crate::date::date_text;
 use crate::lookup::StyleContext;
-use crate::spare::SpareRoom;
+use crate::spare::Spare;
 use csl_base::elem::ElemChildren;
 use csl_base::entry::EntryLike;
 use csl_writers::cite::Cite;
@@ -9,18 +9,18 @@ use csl_writers::task::{CiteTask, DateTask, ItemTask};
 use csl_writers::writer::CiteWriter;
 use std::alloc::{AllocError, Global};
 
-/// Writes cites, items of the bibliography and dates by the layouts of their styles. It keeps the room
-/// that a rendering took memory for, for the next one.
+/// Writes cites, items of the bibliography and dates by the layouts of their styles. It keeps the
+/// memory that a rendering took memory for, for the next one.
 #[derive(Drop)]
 pub struct LayoutWriter {
-    spare: SpareRoom,
+    spare: Spare,
 }
 
 impl LayoutWriter {
     /// A writer that has written nothing yet; it takes no memory.
     pub fn new() -> LayoutWriter {
         LayoutWriter {
-            spare: SpareRoom::none(),
+            spare: Spare::none(),
         }
     }
 }

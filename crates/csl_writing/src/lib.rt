@@ -1,6 +1,8 @@
-//! Rendering of the citation driver: a cite and an item of the bibliography, picked and then written.
+//! Rendering of the citation driver: a cite and an item of the bibliography, picked and then
+//! written.
 //!
-//! What stands below is passed on: the small values of a cite, and the context in which it is written.
+//! What stands below is passed on: the small values of a cite, and the context in which it is
+//! written.
 #![tactic(auto)]
 
 pub use csl_context::{context, token, writing};

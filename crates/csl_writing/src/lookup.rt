@@ -86,7 +86,8 @@ impl<'a> StyleContext<'a> {
     /// takes no memory.
     pub fn lookup_locale<F: Fn(&'a Locale) -> Option<R> + Drop, R>(&self, f: F) -> Option<R>
         requires { F.IsAlwaysCallable f }
-        ensures { FirstAnswer (Gives F.Fn f) (found.asked (found.lookup (context_source self.now))) result }
+        ensures { FirstAnswer (Gives F.Fn f)
+            (found.asked (found.lookup (context_source self.now))) result }
     {
         self.locales.lookup_locale(f)
     }
@@ -111,7 +112,8 @@ impl<'a> StyleContext<'a> {
         properties: CiteProperties<'a, P>,
         options: &'a InheritableNameOptions,
     ) -> Result<Context<'a, T, P>, AllocError>
-        ensures empty { IfOk result (λ context. state context.writing ≡ begun (options_view options.now)) }
+        ensures empty { IfOk result
+            (λ context. state context.writing ≡ begun (options_view options.now)) }
         ensures style { IfOk result (λ context. context.style ≡ self.now.locales) }
         ensures entry { IfOk result (λ context. context.entry.now ≡ entry.now) }
         ensures properties { IfOk result (λ context. context.properties ≡ properties.entry) }

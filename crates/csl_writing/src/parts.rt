@@ -1,14 +1,46 @@
 //! Writing of what a layout picks.
-ghost use Rattle.std.specs.Prelude.{◌≡◌, ◌+◌, OnOk, IfOk, length, option_map, if◌then◌else◌, List, true, false};
+ghost use Rattle.std.specs.Prelude.{
+  ◌≡◌,
+  ◌+◌,
+  OnOk,
+  IfOk,
+  length,
+  option_map,
+  if◌then◌else◌,
+  List,
+  true,
+  false,
+};
 ghost use Rattle.std.specs.Fmt.{decimal};
 ghost use Rattle.csl_lookup.specs.SourceView.{lookup_view};
 ghost use Rattle.csl_picking.specs.Pieces.{Part, tokens};
 ghost use Rattle.csl_picking.specs.PiecesView.{leaf_view, node_view, token_of, tokens_of};
 ghost use Rattle.csl_context.specs.Steps.{term_text};
 ghost use Rattle.csl_context.specs.WritingState.{state};
-ghost use Rattle.csl_context.specs.Wording.{quotes_opened, quotes_closed, pulling_if_asked, linked, joined_values};
-ghost use Rattle.csl_writing.specs.PartsWritten.{leaf_written, node_begun, node_ended, delimiter_pushed, parts_written};
-ghost use Rattle.csl_writing.specs.PieceRun.{innermost, delimiter_of, separated, after_leaf, after_opening, closed_run, after_token, after_tokens};
+ghost use Rattle.csl_context.specs.Wording.{
+  quotes_opened,
+  quotes_closed,
+  pulling_if_asked,
+  linked,
+  joined_values,
+};
+ghost use Rattle.csl_writing.specs.PartsWritten.{
+  leaf_written,
+  node_begun,
+  node_ended,
+  delimiter_pushed,
+  parts_written,
+};
+ghost use Rattle.csl_writing.specs.PieceRun.{
+  innermost,
+  delimiter_of,
+  separated,
+  after_leaf,
+  after_opening,
+  closed_run,
+  after_token,
+  after_tokens,
+};
 ghost use Rattle.csl_writing.specs.OpenNodes.{open_view, open_views, IsNested, run_of};
 
 use crate::open_node::OpenNode;
@@ -48,7 +80,8 @@ fn open_quotes(
     asked: bool,
 ) -> Result<(), AllocError>
     ensures done { OnOk result (state writing.new
-        ≡ (if asked then quotes_opened (lookup_view style.now) (state writing.old) else state writing.old)) }
+        ≡ (if asked then quotes_opened (lookup_view style.now) (state writing.old)
+        else state writing.old)) }
     ensures height { length (state writing.new).frames ≡ length (state writing.old).frames }
 {
     if asked {
@@ -74,8 +107,8 @@ fn close_quotes(
     Ok(())
 }
 
-// What comes before the parts of a node. Gives the frame that its prefix began, the prefix's length, and
-// the frame in its formatting.
+// What comes before the parts of a node. Gives the frame that its prefix began, the prefix's
+// length, and the frame in its formatting.
 #[tactic(auto, unfolding(crate::specs::PartsWritten::node_begun))]
 fn begin_node(
     style: &StyleLocales<'_>,
@@ -90,7 +123,8 @@ fn begin_node(
     ensures same_formats { IfOk result (λ begun. begun.2.formats ≡ begun.0.formats) }
     ensures offset { IfOk result (λ begun. begun.1
         ≡ length (term_text (node_view node.now).look.affixes.prefix)) }
-    ensures height { OnOk result (length (state writing.new).frames ≡ length (state writing.old).frames + 2) }
+    ensures height { OnOk result
+        (length (state writing.new).frames ≡ length (state writing.old).frames + 2) }
 {
     let (prefix, offset) = begin_prefix(writing, prefix_of(node))?;
     let elem = writing.push_elem(node.formatting)?;
@@ -228,7 +262,8 @@ fn write_leaf(
     leaf: &Leaf<'_>,
 ) -> Result<(), AllocError>
     ensures done { OnOk result (run_of nodes.now true writing.new
-        ≡ after_leaf (lookup_view style.now) (leaf_view leaf.now) (run_of nodes.now after_part writing.old)) }
+        ≡ after_leaf (lookup_view style.now) (leaf_view leaf.now)
+        (run_of nodes.now after_part writing.old)) }
     ensures height { length (state writing.new).frames ≡ length (state writing.old).frames }
 {
     separate(style, writing, nodes, after_part)?;
@@ -340,7 +375,8 @@ pub(crate) fn write_pieces<'a>(
     pieces: Vec<Piece<'a>>,
 ) -> Result<(), AllocError>
     ensures { (parts : List Part) → tokens_of pieces.entry.items ≡ tokens parts
-        → OnOk result (state writing.new ≡ parts_written (lookup_view style.now) parts (state writing.old)) }
+        → OnOk result (state writing.new
+        ≡ parts_written (lookup_view style.now) parts (state writing.old)) }
 {
     let mut nodes = Vec::with_capacity(allocator(writing), DEPTH)?;
     write_all(style, writing, &mut nodes, pieces)?;

@@ -32,7 +32,8 @@ pub(crate) fn write_section(
     section: Section<'_>,
 ) -> Result<Notes, AllocError>
     ensures { (value : sections.Section) → IsSection section.entry value
-        → IfOk result (IsCarriedOut (lookup_view style.now) (plans.plan_of value) (state writing.old)
+        → IfOk result (IsCarriedOut (lookup_view style.now) (plans.plan_of value)
+        (state writing.old)
         (state writing.new)) }
 {
     let Section {
@@ -83,7 +84,8 @@ fn write_gap(
     writing: &mut WritingContext<'_>,
     layout: &Layout,
 ) -> Result<(), AllocError>
-    ensures { OnOk result (IsWritten (lookup_view style.now) (plans.gap_steps (layout_view layout.now))
+    ensures { OnOk result
+        (IsWritten (lookup_view style.now) (plans.gap_steps (layout_view layout.now))
         (state writing.old) (state writing.new)) }
 {
     if opens_with_space(&layout.prefix) {
@@ -161,7 +163,8 @@ impl<'a, T: EntryLike> Subject<'a, T> {
         writing: &mut WritingContext<'_>,
     ) -> Result<Notes, AllocError>
         ensures { IfOk result (IsCarriedOut (lookup_view self.now.context)
-            (plans.prose_plan (subject_view T.answers self.now) verdict (first_notes self.now.cite.usage))
+            (plans.prose_plan (subject_view T.answers self.now) verdict
+            (first_notes self.now.cite.usage))
             (state writing.old) (state writing.new)) }
     {
         let style = &self.context;

@@ -16,7 +16,7 @@ use crate::first_field::put_first_field_first;
 use crate::lookup::StyleContext;
 use crate::purposes::write_section;
 use crate::section::first_notes;
-use crate::spare::SpareRoom;
+use crate::spare::Spare;
 use crate::subject::{Subject, cite_facts};
 use csl_base::elem::ElemChildren;
 use csl_base::entry::EntryLike;
@@ -70,17 +70,17 @@ fn render_cite<T: EntryLike>(
     alloc: Global,
     purpose: Option<CitePurpose>,
     verdict: Option<CollapseVerdict>,
-    spare: &mut SpareRoom,
+    spare: &mut Spare,
 ) -> Result<Cite, AllocError>
     ensures { IfOk result (λ c. c
         ≡ rendered.rendered_cite (subject_view T.answers subject.now) purpose verdict) }
 {
     let style = subject.context.style;
-    let room = spare.take(alloc)?;
-    let mut writing = WritingContext::in_room(alloc, &style.settings.options, room);
+    let memory = spare.take(alloc)?;
+    let mut writing = WritingContext::in_spare_memory(alloc, &style.settings.options, memory);
     let notes = subject.write_cite(alloc, purpose, verdict, &mut writing)?;
-    let (tree, room) = writing.flush_apart()?;
-    spare.leave(room);
+    let (tree, memory) = writing.flush_apart()?;
+    spare.leave(memory);
     let children = arrange(alloc, style, purpose, tree)?;
     Ok(Cite {
         children,
@@ -94,10 +94,11 @@ fn render_item<'a, T: EntryLike>(
     subject: &Subject<'a, T>,
     alloc: Global,
     bibliography: &'a Bibliography,
-    spare: &mut SpareRoom,
+    spare: &mut Spare,
 ) -> Result<ElemChildren, AllocError>
     ensures { IfOk result (λ tree. tree
-        ≡ rendered.rendered_item (subject_view T.answers subject.now) (bibliography_view bibliography.now)) }
+        ≡ rendered.rendered_item (subject_view T.answers subject.now)
+        (bibliography_view bibliography.now)) }
 {
     let style = &subject.context;
     let notes = first_notes(subject.cite.usage);
@@ -105,22 +106,24 @@ fn render_item<'a, T: EntryLike>(
     let layout = &bibliography.layout;
     let before = layout.prefix.as_deref();
     let behind = layout.suffix.as_deref();
-    let room = spare.take(alloc)?;
-    let mut writing = WritingContext::in_room(alloc, &style.style.settings.options, room);
+    let memory = spare.take(alloc)?;
+    let mut writing = WritingContext::in_spare_memory(alloc, &style.style.settings.options, memory);
     let prefix = begin_prefix(&mut writing, before)?;
     let _noted = write_section(style, &mut writing, section)?;
     apply_suffix(style, &mut writing, behind, prefix)?;
-    let (tree, room) = writing.flush_apart()?;
-    spare.leave(room);
+    let (tree, memory) = writing.flush_apart()?;
+    spare.leave(memory);
     Ok(tree)
 }
 
 impl<'a> StyleContext<'a> {
-    // Whether the cite has a year suffix, and a text that writes it stands in a layout of the style.
+    // Whether the cite has a year suffix, and a text that writes it stands in a layout of the
+    // style.
     fn writes_suffix(&self, alloc: Global, state: &DisambiguateState) -> Result<bool, AllocError>
         requires { HasNoRing (context_source self.now).style.macros }
         ensures { IfOk result (λ b. b
-            ≡ (is_some (year_suffix state.now) && suffixes.explicit_suffix (context_source self.now).style)) }
+            ≡ (is_some (year_suffix state.now)
+            && suffixes.explicit_suffix (context_source self.now).style)) }
     {
         match state {
             DisambiguateState::YearSuffix(_) => self.locales.explicit_suffix(alloc),
@@ -139,7 +142,7 @@ impl<'a> StyleContext<'a> {
         props: &CiteProperties<'_, P>,
         purpose: Option<CitePurpose>,
         verdict: Option<CollapseVerdict>,
-        spare: &mut SpareRoom,
+        spare: &mut Spare,
     ) -> Result<Cite, AllocError>
         requires { HasNoRing (context_source self.now).style.macros }
         ensures { IfOk result (λ c. c
@@ -187,14 +190,7 @@ impl<'a> StyleContext<'a> {
         ensures count { counter.new ≡ counted counter.old }
     {
         counter.add_one();
-        self.cite_of(
-            alloc,
-            entry,
-            props,
-            purpose,
-            verdict,
-            &mut SpareRoom::none(),
-        )
+        self.cite_of(alloc, entry, props, purpose, verdict, &mut Spare::none())
     }
 
     /// The tree of the cite that `do_citation` renders from the same arguments; counts a rendering,
@@ -222,7 +218,7 @@ impl<'a> StyleContext<'a> {
         ensures count { counter.new ≡ counted counter.old }
     {
         counter.add_one();
-        let mut spare = SpareRoom::none();
+        let mut spare = Spare::none();
         let cite = self.cite_of(alloc, entry, props, purpose, verdict, &mut spare)?;
         Ok(cite.children)
     }
@@ -259,12 +255,13 @@ impl<'a> StyleContext<'a> {
         entry: &T,
         props: &CiteProperties<'_, P>,
         bibliography: &Bibliography,
-        spare: &mut SpareRoom,
+        spare: &mut Spare,
     ) -> Result<ElemChildren, AllocError>
         requires { HasNoRing (context_source self.now).style.macros }
         ensures { IfOk result (λ tree. tree
             ≡ rendered.rendered_item
-            (plain.subject (context_source self.now) (T.answers entry.now) (properties_view props.now))
+            (plain.subject (context_source self.now) (T.answers entry.now)
+            (properties_view props.now))
             (bibliography_view bibliography.now)) }
     {
         let writes = self.writes_suffix(alloc, &props.speculative.disambiguation)?;
@@ -284,7 +281,7 @@ impl<'a> StyleContext<'a> {
         alloc: Global,
         entry: &T,
         props: &CiteProperties<'_, P>,
-        spare: &mut SpareRoom,
+        spare: &mut Spare,
     ) -> Result<Option<ElemChildren>, AllocError>
         requires { HasNoRing (context_source self.now).style.macros }
         ensures { IfOk result (λ item. item
@@ -326,6 +323,6 @@ impl<'a> StyleContext<'a> {
         ensures count { counter.new ≡ counted counter.old }
     {
         counter.add_one();
-        self.listed(alloc, entry, props, &mut SpareRoom::none())
+        self.listed(alloc, entry, props, &mut Spare::none())
     }
 }

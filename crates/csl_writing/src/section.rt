@@ -79,7 +79,8 @@ fn pick_section<'a, T: EntryLike>(
     notes: Notes,
 ) -> Result<Section<'a>, AllocError>
     ensures { IfOk result (λ s. IsSection s
-        (sections.picked_section formatting (env_of (T.answers input.now.entry.now) input.now.setting)
+        (sections.picked_section formatting
+        (env_of (T.answers input.now.entry.now) input.now.setting)
         (macros_in input.now.setting) (elements_view elements.now) notes)) }
 {
     let mut picking = Picking {
@@ -250,7 +251,8 @@ impl<'a, T: EntryLike> Subject<'a, T> {
     ) -> Result<Section<'a>, AllocError>
         requires { elements_view alone.now ≡ sections.names_alone }
         ensures { IfOk result (λ s. IsSection s
-            (sections.author_anew (subject_view T.answers self.now) form (first_notes self.now.cite.usage))) }
+            (sections.author_anew (subject_view T.answers self.now) form
+            (first_notes self.now.cite.usage))) }
     {
         let notes = first_notes(self.cite.usage);
         let anew = self.citation_anew(alloc, form, notes)?;
@@ -270,7 +272,8 @@ impl<'a, T: EntryLike> Subject<'a, T> {
         requires names { elements_view alone.now ≡ sections.names_alone }
         requires form { form ≡ sections.author_form (subject_view T.answers self.now) }
         ensures { IfOk result (λ s. IsSection s
-            (sections.author_section (subject_view T.answers self.now) (first_notes self.now.cite.usage))) }
+            (sections.author_section (subject_view T.answers self.now)
+            (first_notes self.now.cite.usage))) }
     {
         let notes = first_notes(self.cite.usage);
         let usual = self.citation_section(alloc, form, notes)?;
@@ -289,7 +292,8 @@ impl<'a, T: EntryLike> Subject<'a, T> {
     ) -> Result<Section<'a>, AllocError>
         requires { elements_view alone.now ≡ sections.names_alone }
         ensures { IfOk result (λ s. IsSection s
-            (sections.author_section (subject_view T.answers self.now) (first_notes self.now.cite.usage))) }
+            (sections.author_section (subject_view T.answers self.now)
+            (first_notes self.now.cite.usage))) }
     {
         let form = Form::VarOnly(Variable::Name(author_variable(self.entry)));
         self.author_in_form(alloc, alone, form)

@@ -1,29 +1,29 @@
-//! Room that a rendering leaves for the next one.
-use csl_context::room::Room;
+//! Memory that a rendering leaves for the next one.
+use csl_context::spare_memory::SpareMemory;
 use std::alloc::{AllocError, Global};
 
 /// What a rendering took memory for, kept for the next one.
 #[derive(Drop)]
-pub(crate) struct SpareRoom {
-    room: Option<Room>,
+pub(crate) struct Spare {
+    memory: Option<SpareMemory>,
 }
 
-impl SpareRoom {
-    /// No room yet; it takes no memory.
-    pub(crate) fn none() -> SpareRoom {
-        SpareRoom { room: None }
+impl Spare {
+    /// None yet; it takes no memory.
+    pub(crate) fn none() -> Spare {
+        Spare { memory: None }
     }
 
-    /// The room that was left, or new one.
-    pub(crate) fn take(&mut self, alloc: Global) -> Result<Room, AllocError> {
-        match self.room.take() {
-            Some(room) => Ok(room),
-            None => Room::new(alloc),
+    /// The memory that was left, or new one.
+    pub(crate) fn take(&mut self, alloc: Global) -> Result<SpareMemory, AllocError> {
+        match self.memory.take() {
+            Some(memory) => Ok(memory),
+            None => SpareMemory::new(alloc),
         }
     }
 
-    /// Leaves room.
-    pub(crate) fn leave(&mut self, room: Room) {
-        self.room = Some(room);
+    /// Leaves memory for the next rendering.
+    pub(crate) fn leave(&mut self, memory: SpareMemory) {
+        self.memory = Some(memory);
     }
 }

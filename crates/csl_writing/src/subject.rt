@@ -64,7 +64,8 @@ pub(crate) struct Subject<'a, T> {
 impl<'a, T: EntryLike> Subject<'a, T> {
     /// The cite as if it repeated no other.
     pub(crate) fn as_different(&self) -> Subject<'a, T>
-        ensures { subject_view T.answers result ≡ plain.as_different (subject_view T.answers self.now) }
+        ensures { subject_view T.answers result
+            ≡ plain.as_different (subject_view T.answers self.now) }
     {
         Subject {
             entry: self.entry,

@@ -1,7 +1,7 @@
 -- What a call for a text does.
 use Rattle.std.specs.Prelude.{◌≡◌, ◌≢◌, ℕ, ◌<◌, ◌≤◌, ◌⊎◌, List, ◌++◌, length, drop, Option, None, Result, Ok, Err, String, string_bytes}
 use Rattle.std.specs.declared.alloc.Global.{Global}
-use Rattle.csl_driver.specs.declared.error.RingPlace.{RingPlace}
+use Rattle.csl_driver.specs.declared.error.RingLocation.{RingLocation}
 use Rattle.csl_assembly.specs.declared.rendered.Rendered.{Rendered}
 use Rattle.json_document.specs.Form.{Document}
 use Rattle.cite_document.specs.Run.{answer, HasAnswer, HasFirstRing, HasTooLargeNumbers, IsDocumentThat}
@@ -10,23 +10,27 @@ use Rattle.cite_document.specs.declared.error.RunError.{RunError}
 
 -- some style of the document has a ring
 abbrev pub HasRing : Document → Type 0
-HasRing d = (place : RingPlace) × (i : ℕ) × HasFirstRing place i d
+HasRing d = (place : RingLocation) × (i : ℕ) × HasFirstRing place i d
 
 -- the buffer begins with the text, and the rest of it is as before
 abbrev pub Fills : List ℕ → List ℕ → List ℕ → Type 0
-Fills text before after = (length text ≤ length before) × (after ≡ text ++ drop (length text) before)
+Fills text before after = (length text ≤ length before)
+    × (after ≡ text ++ drop (length text) before)
 
--- A call that ended with the status `code` and told the length `needed`. The bytes that it was given are the
--- document of `read`, or none; it was asked for the text that `text_of` makes of the answer; and the buffer
--- held `before` and then `after`.
+-- A call that ended with the status `code` and told the length `needed`. The bytes that it was
+-- given are the document of `read`, or none; it was asked for the text that `text_of` makes of the
+-- answer; and the buffer held `before` and then `after`.
 pub record Called (text_of : Rendered
-    → List ℕ) (read : Option Document) (code : ℕ) (before after : List ℕ) (needed : ℕ) : Type 0 where
-  pub answered : code ≡ 0 → IsDocumentThat read (λ d. HasAnswer d × Fills (text_of (answer d)) before after
+    → List ℕ) (read : Option Document) (code : ℕ) (before after : List ℕ)
+    (needed : ℕ) : Type 0 where
+  pub answered : code ≡ 0
+      → IsDocumentThat read (λ d. HasAnswer d × Fills (text_of (answer d)) before after
       × (needed ≡ length (text_of (answer d))))
   pub no_document : code ≡ 2 → read ≡ None
   pub ring : code ≡ 3 → IsDocumentThat read HasRing
   pub overflow : code ≡ 4 → IsDocumentThat read HasTooLargeNumbers
-  pub too_small : code ≡ 6 → IsDocumentThat read (λ d. HasAnswer d × (needed ≡ length (text_of (answer d)))
+  pub too_small : code ≡ 6
+      → IsDocumentThat read (λ d. HasAnswer d × (needed ≡ length (text_of (answer d)))
       × (length before < needed))
   pub kept : code ≢ 0 → after ≡ before
   pub nothing_needed : code ≢ 0 → code ≢ 6 → needed ≡ 0
@@ -42,5 +46,6 @@ PlacesText text code before after needed =
 
 -- so does a text, if there is one; else the status tells why there is none
 abbrev pub HandsOut : Result (String Global) RunError → ℕ → List ℕ → List ℕ → ℕ → Type 0
-HandsOut (Ok text) code before after needed = PlacesText (string_bytes text) code before after needed
+HandsOut (Ok text) code before after needed =
+    PlacesText (string_bytes text) code before after needed
 HandsOut (Err e) code before after needed = (code ≡ status e) × (after ≡ before) × (needed ≡ 0)

@@ -8,9 +8,12 @@ use Rattle.csl_limits.specs.declared.limits.Excess.TheVariants as excess
 use Rattle.csl_limits.specs.declared.limits.Limits.{Limits}
 use Rattle.cite_document.specs.Limited.{AreStylesThat}
 
--- A call that ended with the status `code`. The bytes that it was given hold the styles of `styles`, or none.
-pub record KeepsLimits (limits : Limits) (styles : Option (List StyleValue)) (code : ℕ) : Type 0 where
-  pub within : code ≡ 0 → AreStylesThat styles (All (λ s. HasNoRing s.macros → IsWithinLimits limits s))
+-- A call that ended with the status `code`. The bytes that it was given hold the styles of
+-- `styles`, or none.
+pub record KeepsLimits (limits : Limits) (styles : Option (List StyleValue))
+    (code : ℕ) : Type 0 where
+  pub within : code ≡ 0
+      → AreStylesThat styles (All (λ s. HasNoRing s.macros → IsWithinLimits limits s))
   pub no_document : code ≡ 2 → styles ≡ None
   pub too_deep : code ≡ 7 → AreStylesThat styles (Any (Exceeds excess.Depth limits))
   pub too_many : code ≡ 8 → AreStylesThat styles (Any (Exceeds excess.Elements limits))

@@ -1,6 +1,7 @@
 //! Documents answered for callers in C, and for whatever calls C.
 //!
-//! Each call stands alone: it is given a document and a buffer for what it has to say, and keeps nothing.
+//! Each call stands alone: it is given a document and a buffer for what it has to say, and keeps
+//! nothing.
 #![tactic(auto)]
 
 mod buffer;
@@ -27,7 +28,8 @@ use host_document::driving::drive_bytes;
 use host_document::faults::print_driven_fault_bytes;
 use std::alloc::Global;
 
-/// Puts what the document prints into the buffer, and tells how many bytes that takes. Gives the status.
+/// Puts what the document prints into the buffer, and tells how many bytes that takes. Gives the
+/// status.
 #[unsafe(no_mangle)]
 pub extern "C" fn gamhilon_render_text(
     alloc: Global,
@@ -41,8 +43,8 @@ pub extern "C" fn gamhilon_render_text(
     hand_out(&text, buffer, needed)
 }
 
-/// Puts the answer to the document, as JSON, into the buffer, and tells how many bytes that takes. Gives
-/// the status.
+/// Puts the answer to the document, as JSON, into the buffer, and tells how many bytes that takes.
+/// Gives the status.
 #[unsafe(no_mangle)]
 pub extern "C" fn gamhilon_render_json(
     alloc: Global,
@@ -56,8 +58,8 @@ pub extern "C" fn gamhilon_render_json(
     hand_out(&text, buffer, needed)
 }
 
-/// Puts the first fault of the document, as JSON, into the buffer, and tells how many bytes that takes: none
-/// where the document has no fault. Gives the status.
+/// Puts the first fault of the document, as JSON, into the buffer, and tells how many bytes that
+/// takes: none where the document has no fault. Gives the status.
 #[unsafe(no_mangle)]
 pub extern "C" fn gamhilon_find_fault(
     alloc: Global,
@@ -65,7 +67,8 @@ pub extern "C" fn gamhilon_find_fault(
     buffer: &mut [u8],
     needed: &mut usize,
 ) -> u32
-    ensures { FindsFault (form document.now) (value_in document.now) result buffer.old buffer.new needed.new }
+    ensures { FindsFault (form document.now) (value_in document.now) result buffer.old buffer.new
+        needed.new }
 {
     let text = print_fault_bytes(alloc, document);
     hand_out(&text, buffer, needed)
@@ -79,7 +82,8 @@ pub extern "C" fn gamhilon_check_limits(
     depth: usize,
     elements: usize,
 ) -> u32
-    ensures { KeepsLimits (record { depth = depth; elements = elements }) (styles_in document.now) result }
+    ensures { KeepsLimits (record { depth = depth; elements = elements })
+        (styles_in document.now) result }
 {
     match check_limits(alloc, document, &Limits { depth, elements }) {
         Ok(()) => ANSWERED,
@@ -87,7 +91,8 @@ pub extern "C" fn gamhilon_check_limits(
     }
 }
 
-/// Puts the place of the first ring of macros into `ring`, where the document has one. Gives the status.
+/// Puts the place of the first ring of macros into `ring`, where the document has one. Gives the
+/// status.
 #[unsafe(no_mangle)]
 pub extern "C" fn gamhilon_find_ring(alloc: Global, document: &[u8], ring: &mut GamhilonRing) -> u32
     ensures { FindsRing (form document.now) result ring.old ring.new }
@@ -96,8 +101,8 @@ pub extern "C" fn gamhilon_find_ring(alloc: Global, document: &[u8], ring: &mut 
     hand_out_ring(&answer, ring)
 }
 
-/// Puts what comes of the driven document, as JSON, into the buffer, and tells how many bytes that takes: the
-/// answer with what its host has written, or what is missing of that. Gives the status.
+/// Puts what comes of the driven document, as JSON, into the buffer, and tells how many bytes that
+/// takes: the answer with what its host has written, or what is missing of that. Gives the status.
 #[unsafe(no_mangle)]
 pub extern "C" fn gamhilon_drive(
     alloc: Global,
@@ -111,8 +116,8 @@ pub extern "C" fn gamhilon_drive(
     hand_out(&text, buffer, needed)
 }
 
-/// Puts the first fault of the driven document, as JSON, into the buffer, and tells how many bytes that takes:
-/// none where it has no fault. Gives the status.
+/// Puts the first fault of the driven document, as JSON, into the buffer, and tells how many bytes
+/// that takes: none where it has no fault. Gives the status.
 #[unsafe(no_mangle)]
 pub extern "C" fn gamhilon_find_driven_fault(
     alloc: Global,
@@ -120,7 +125,8 @@ pub extern "C" fn gamhilon_find_driven_fault(
     buffer: &mut [u8],
     needed: &mut usize,
 ) -> u32
-    ensures { FindsFault (driven_form document.now) (value_in document.now) result buffer.old buffer.new
+    ensures { FindsFault (driven_form document.now) (value_in document.now) result
+        buffer.old buffer.new
         needed.new }
 {
     let text = print_driven_fault_bytes(alloc, document);

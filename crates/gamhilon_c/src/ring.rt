@@ -3,7 +3,7 @@ ghost use Rattle.std.specs.Prelude.{◌≡◌};
 ghost use Rattle.gamhilon_c.specs.Ring.{HandsOutRing, NotesRing, ring_numbers};
 
 use cite_document::error::RunError;
-use csl_driver::error::RingPlace;
+use csl_driver::error::RingLocation;
 use csl_driver::rendered::Rendered;
 
 /// Where the macros of a style call each other in a ring.
@@ -15,22 +15,22 @@ pub struct GamhilonRing {
     /// The place of the request whose style it is, from 0; 0 where it is that of the bibliography.
     pub request: usize,
     /// The place of the first macro on a ring, among the macros of its style, from 0.
-    pub macro_place: usize,
+    pub macro_index: usize,
 }
 
-fn ring_at(place: RingPlace, macro_place: usize) -> GamhilonRing
-    ensures { result ≡ ring_numbers place macro_place }
+fn ring_at(place: RingLocation, macro_index: usize) -> GamhilonRing
+    ensures { result ≡ ring_numbers place macro_index }
 {
     match place {
-        RingPlace::Request(request) => GamhilonRing {
+        RingLocation::Request(request) => GamhilonRing {
             of_bibliography: 0,
             request,
-            macro_place,
+            macro_index,
         },
-        RingPlace::Bibliography => GamhilonRing {
+        RingLocation::Bibliography => GamhilonRing {
             of_bibliography: 1,
             request: 0,
-            macro_place,
+            macro_index,
         },
     }
 }
@@ -38,8 +38,8 @@ fn ring_at(place: RingPlace, macro_place: usize) -> GamhilonRing
 fn note_ring(error: &RunError, ring: &mut GamhilonRing)
     ensures { NotesRing error.now ring.old ring.new }
 {
-    if let RunError::MacroRing { place, macro_idx } = error {
-        *ring = ring_at(*place, *macro_idx);
+    if let RunError::MacroRing { place, macro_index } = error {
+        *ring = ring_at(*place, *macro_index);
     }
 }
 

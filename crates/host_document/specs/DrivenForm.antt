@@ -17,7 +17,8 @@ pub record DrivenDocument : Type 0 where
   pub document : Document
   pub table : TaskKey → Option Cite
 
--- what was written of these styles and entries, by what was asked for; nothing where the key is absent
+-- what was written of these styles and entries, by what was asked for; nothing where the key is
+-- absent
 abbrev pub written_at : List NamedStyle → List PlainEntry → Data → Option (TaskKey → Option Cite)
 written_at styles entries = optional (λ key. None) (table_form styles entries) (codes "written")
 
@@ -30,11 +31,12 @@ driven_by styles entries o = do
 
 -- an object of the keys of a driven document
 abbrev pub driven_top_form : Data → Option Data
-driven_top_form d = object_with (codes "styles" ∷ codes "entries" ∷ codes "requests" ∷ codes "bibliography"
+driven_top_form d = object_with
+    (codes "styles" ∷ codes "entries" ∷ codes "requests" ∷ codes "bibliography"
     ∷ codes "offset" ∷ codes "rounds" ∷ codes "written" ∷ []) d
 
--- the driven document that a value is, or none; a name finds the style of that name, and a key the first
--- entry that has it
+-- the driven document that a value is, or none; a name finds the style of that name, and a key the
+-- first entry that has it
 unfoldable pub driven_document_form : Data → Option DrivenDocument
 driven_document_form d = do
   o ← driven_top_form d

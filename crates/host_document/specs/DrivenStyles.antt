@@ -43,7 +43,8 @@ no_layout = record {
 
 abbrev pub driven_citation_keys : List (List ℕ)
 driven_citation_keys =
-    codes "prefix" ∷ codes "suffix" ∷ codes "delimiter" ∷ codes "add_givenname" ∷ codes "givenname_rule"
+    codes "prefix" ∷ codes "suffix" ∷ codes "delimiter" ∷ codes "add_givenname"
+    ∷ codes "givenname_rule"
     ∷ codes "add_names" ∷ codes "add_year_suffix" ∷ codes "cite_group_delimiter"
     ∷ codes "year_suffix_delimiter" ∷ codes "after_collapse_delimiter" ∷ codes "collapse"
     ∷ codes "near_note_distance" ∷ []
@@ -84,7 +85,8 @@ driven_citation name o = do
 
 abbrev pub driven_bibliography_keys : List (List ℕ)
 driven_bibliography_keys =
-    codes "hanging_indent" ∷ codes "second_field_align" ∷ codes "line_spacing" ∷ codes "entry_spacing"
+    codes "hanging_indent" ∷ codes "second_field_align" ∷ codes "line_spacing"
+    ∷ codes "entry_spacing"
     ∷ codes "substitute" ∷ codes "substitute_rule" ∷ []
 
 -- how a style writes its bibliography
@@ -112,7 +114,8 @@ driven_bibliography_form d = do
 -- ---- styles
 
 abbrev pub driven_style_keys : List (List ℕ)
-driven_style_keys = codes "class" ∷ codes "default_locale" ∷ codes "citation" ∷ codes "bibliography" ∷ []
+driven_style_keys = codes "class" ∷ codes "default_locale" ∷ codes "citation"
+    ∷ codes "bibliography" ∷ []
 
 -- the style of this name
 unfoldable pub driven_style_form : List ℕ → Data → Option StyleValue

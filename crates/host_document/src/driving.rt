@@ -25,7 +25,8 @@ use std::alloc::Global;
 
 /// What comes of what a document asks for, with what is in this table.
 fn drive_job(alloc: Global, job: &Job<'_>, table: &Table) -> Result<String, RunError>
-    ensures { Drives result (Some (record { document = document_view job.now; table = found table.now })) }
+    ensures { Drives result
+        (Some (record { document = document_view job.now; table = found table.now })) }
 {
     let files = TermTables::new(alloc, job.locales)?;
     let driver = filled_driver(alloc, &job.requests, &files, job.offset)?;
@@ -34,8 +35,8 @@ fn drive_job(alloc: Global, job: &Job<'_>, table: &Table) -> Result<String, RunE
     Ok(driven_text(alloc, driven)?)
 }
 
-/// What comes of what the value asks for, of these styles and entries, with what it says was written. The
-/// value is dropped before anything is answered.
+/// What comes of what the value asks for, of these styles and entries, with what it says was
+/// written. The value is dropped before anything is answered.
 #[tactic(auto, unfolding(crate::specs::DrivenForm::driven_by))]
 fn drive_of<'e>(
     alloc: Global,
@@ -62,12 +63,12 @@ fn drive_value(alloc: Global, value: Value) -> Result<String, RunError>
     drive_of(alloc, value, &styles, &entries)
 }
 
-/// What comes of the driven document of these bytes, as JSON: `{"answer": ..}`, where all that is asked for
-/// was written, and else `{"missing": [..]}`, the tasks that are missing, each once.
+/// What comes of the driven document of these bytes, as JSON: `{"answer": ..}`, where all that is
+/// asked for was written, and else `{"missing": [..]}`, the tasks that are missing, each once.
 ///
 /// # Errors
-/// `Document` where the bytes are no driven document; `MacroRing` and `NumberOverflow` where the driver
-/// refuses it; `OutOfMemory` where memory is refused.
+/// `Document` where the bytes are no driven document; `MacroRing` and `NumberOverflow` where the
+/// driver refuses it; `OutOfMemory` where memory is refused.
 #[tactic(auto, unfolding(crate::specs::DrivenForm::driven_form))]
 pub fn drive_bytes(alloc: Global, bytes: &[u8]) -> Result<String, RunError>
     ensures { Drives result (driven_form bytes.now) }

@@ -43,9 +43,10 @@ fn read_bytes(alloc: Global, bytes: &[u8]) -> Result<(), ReadError>
     read_through(alloc, &value)
 }
 
-/// The first fault of the bytes, where they are no driven document: the first that is met when the styles are
-/// read, then the entries, the requests, the bibliography, the rest, and last what was written; and of each
-/// object first its keys and then its members in the order in which the form names them.
+/// The first fault of the bytes, where they are no driven document: the first that is met when the
+/// styles are read, then the entries, the requests, the bibliography, the rest, and last what was
+/// written; and of each object first its keys and then its members in the order in which the form
+/// names them.
 ///
 /// # Errors
 /// Where memory is refused.
@@ -60,7 +61,8 @@ pub fn first_driven_fault(alloc: Global, bytes: &[u8]) -> Result<Option<Fault>, 
     }
 }
 
-/// The first fault of the bytes as JSON, where they are no driven document; and no text where they are one.
+/// The first fault of the bytes as JSON, where they are no driven document; and no text where they
+/// are one.
 ///
 /// # Errors
 /// `OutOfMemory` where memory is refused, and no other.

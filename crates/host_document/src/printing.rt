@@ -32,7 +32,8 @@ fn write_comma(out: &mut String, later: bool) -> Result<(), AllocError>
 }
 
 fn write_task(out: &mut String, alloc: Global, task: &TaskKey) -> Result<(), AllocError>
-    ensures { OnOk result (string_bytes out.new ≡ string_bytes out.old ++ compact_text (task_data task.now)) }
+    ensures { OnOk result
+        (string_bytes out.new ≡ string_bytes out.old ++ compact_text (task_data task.now)) }
 {
     let text = print_task(alloc, task)?;
     out.push_str(text.as_str())

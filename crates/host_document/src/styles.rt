@@ -1,18 +1,35 @@
-//! Reading driven styles: those of a host, which have a name in place of layouts. Where a style says
-//! nothing, it has what an ordinary style has by default.
+//! Reading driven styles: those of a host, which have a name in place of layouts. Where a style
+//! says nothing, it has what an ordinary style has by default.
 ghost use Rattle.std.specs.Prelude.{◌≡◌, IfOk, codes, option_and_then, option_map, pos};
 ghost use Rattle.serde_json.specs.Data.{object as object_of};
 ghost use Rattle.serde_json.specs.Find.{as_object};
 ghost use Rattle.serde_json.specs.View.{view, members_view};
 ghost use Rattle.csl_style_values.specs.ElementView.{options_view};
 ghost use Rattle.csl_style_values.specs.PlainLook.{no_formatting, no_options};
-ghost use Rattle.csl_style_values.specs.StyleView.{layout_view, citation_view, bibliography_view, style_view};
+ghost use Rattle.csl_style_values.specs.StyleView.{
+  layout_view,
+  citation_view,
+  bibliography_view,
+  style_view,
+};
 ghost use Rattle.host_table.specs.HostStyle.{one_text};
 ghost use Rattle.json_values.specs.Reads.{Faults, Reads};
 ghost use Rattle.json_values.specs.Words.{member_form, object_with, optional, where_present};
 ghost use Rattle.json_styles.specs.NamedStyleView.{named_style_view, named_styles_view};
 ghost use Rattle.json_styles.specs.Styles.{line_spacing, non_zero, single, spacing};
-ghost use Rattle.host_document.specs.DrivenStyles.{affixes_form, driven_bibliography_form, driven_bibliography_keys, driven_citation, driven_citation_form, driven_citation_keys, driven_members, driven_style_form, driven_style_keys, driven_styles_form, no_layout};
+ghost use Rattle.host_document.specs.DrivenStyles.{
+  affixes_form,
+  driven_bibliography_form,
+  driven_bibliography_keys,
+  driven_citation,
+  driven_citation_form,
+  driven_citation_keys,
+  driven_members,
+  driven_style_form,
+  driven_style_keys,
+  driven_styles_form,
+  no_layout,
+};
 
 use csl_base::element::InheritableNameOptions;
 use csl_base::formatting::StyleFormatting;
@@ -135,7 +152,8 @@ fn layout_of(alloc: Global, name: &str, object: &Value) -> Result<Layout, ReadEr
 
 /// The value, which has to be an object with no keys but those of a citation.
 fn citation_object(alloc: Global, value: &Value) -> Result<&Value, ReadError>
-    ensures read { Reads (λ v. view v.now) result (object_with driven_citation_keys (view value.now)) }
+    ensures read { Reads (λ v. view v.now) result
+        (object_with driven_citation_keys (view value.now)) }
     ensures fault { Faults result (view value.now) }
     ensures same { IfOk result (λ v. v.now ≡ value.now) }
 {
@@ -378,7 +396,8 @@ fn styles_in(alloc: Global, value: &Value) -> Result<Vec<NamedStyle>, ReadError>
 /// The driven styles of the document, by name. Of a name that stands twice the last is kept.
 #[tactic(auto, using(json_values::proofs::Ways::fails_outside), unfolding(crate::specs::DrivenStyles::driven_styles_form))]
 pub fn driven_styles_of(alloc: Global, object: &Value) -> Result<Vec<NamedStyle>, ReadError>
-    ensures read { Reads (λ v. named_styles_view v.items) result (driven_styles_form (view object.now)) }
+    ensures read { Reads (λ v. named_styles_view v.items) result
+        (driven_styles_form (view object.now)) }
     ensures fault { Faults result (view object.now) }
 {
     match object.get("styles") {

@@ -2,8 +2,7 @@
 use Rattle.std.specs.Prelude.{◌≡◌, ◌≤◌, Bool, List, [], Option, All, Contains, IsSome}
 use Rattle.csl_values.specs.Answers.{Answers}
 use Rattle.csl_driver.specs.Answer.{Job}
-use Rattle.csl_driver.specs.Finished.{CanBeAnswered}
-use Rattle.csl_driver.specs.Promised.{IsAnswer}
+use Rattle.csl_driver.specs.Promised.{CanBeAnswered, IsAnswer}
 use Rattle.csl_driver.specs.WriterTasks.{tasks}
 use Rattle.csl_driver.specs.declared.account.Account.{Account}
 use Rattle.csl_assembly.specs.declared.rendered.Rendered.{Rendered}
@@ -28,8 +27,8 @@ module _ {E P : Type 0} (eq : E → E → Bool) (payload_eq : P → P → Bool) 
     pub answer : IsAnswer eq payload_eq (table_writing table answers) mode job r
     pub there : All (λ task. IsSome (table (task_key answers task))) asked_for_all
 
-  -- these are asked for, and the table lacks them; they are of the earliest stage of all such keys, and all
-  -- such keys of that stage
+  -- these are asked for, and the table lacks them; they are of the earliest stage of all such keys,
+  -- and all such keys of that stage
   pub record IsLacking (missing : List TaskKey) : Type 0 where
     pub possible : CanBeAnswered eq job
     pub each : All (IsMissingOf table answers asked_for_all) missing

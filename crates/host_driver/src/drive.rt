@@ -23,15 +23,17 @@ use std::alloc::Global;
 pub enum Driven<'a, T> {
     /// The answer and its account, where the table has all that is asked for.
     Answer(Rendered, Account<'a, T>),
-    /// What is asked for and the table lacks, each once: the host writes it, and asks again. It is all of
-    /// the earliest stage (`TaskKey::stage`) of what is lacked; what is of a later one isn't named yet.
+    /// What is asked for and the table lacks, each once: the host writes it, and asks again. It is
+    /// all of the earliest stage (`TaskKey::stage`) of what is lacked; what is of a later one isn't
+    /// named yet.
     Missing(IndexSet<TaskKey>),
 }
 
-/// Answers all requests of a driver with what a host has written. The driver stays for the next call.
+/// Answers all requests of a driver with what a host has written. The driver stays for the next
+/// call.
 ///
-/// Called again and again with what was missing, it answers after at most three calls more than rounds
-/// mark. That is tested, and not proved.
+/// Called again and again with what was missing, it answers after at most three calls more than
+/// rounds mark. That is tested, and not proved.
 ///
 /// # Errors
 ///

@@ -47,14 +47,15 @@ impl<E> From<AllocError> for FillError<E> {
     }
 }
 
-/// Answers all requests of a driver with what the source writes. The source is asked once for each thing;
-/// the driver is called anew after each time, and of its calls the last one counts.
+/// Answers all requests of a driver with what the source writes. The source is asked once for each
+/// thing; the driver is called anew after each time, and of its calls the last one counts.
 ///
 /// # Errors
 ///
-/// `Driver` with a refusal of `BibliographyDriver::finish`; `Source` with the source's own error, at the first
-/// thing that it refuses; `OutOfMemory`; and `Unsettled` where something is missing at the last of so many
-/// calls. Three calls more than rounds mark were enough for each document that was tried.
+/// `Driver` with a refusal of `BibliographyDriver::finish`; `Source` with the source's own error,
+/// at the first thing that it refuses; `OutOfMemory`; and `Unsettled` where something is missing at
+/// the last of so many calls. Three calls more than rounds mark were enough for each document that
+/// was tried.
 pub fn answer_by<'a, T: EntryLike, P: Eq + Drop, S: CiteSource>(
     alloc: Global,
     driver: &BibliographyDriver<'a, T, P>,

@@ -3,8 +3,8 @@ use csl_writers::cite::Cite;
 use host_table::key::TaskKey;
 use std::alloc::Global;
 
-/// Writes what a driver asks for. A source may say what it may write of a task; it never has to say what it
-/// does write.
+/// Writes what a driver asks for. A source may say what it may write of a task; it never has to say
+/// what it does write.
 pub trait CiteSource {
     ghost use Rattle.std.specs.Prelude.{⊤, IfOk};
     ghost use Rattle.host_table.specs.declared.key.TaskKey.{TaskKey};

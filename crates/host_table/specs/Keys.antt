@@ -50,7 +50,8 @@ module _ {E P : Type 0} (answers : E → Answers) where
       (parts.Cite (standing_of t.properties) t.purpose t.verdict)
 
   abbrev pub item_key : ItemTaskValue E P → TaskKey
-  item_key t = key_of_part t.source (answers t.entry).key None (parts.Item (standing_of t.properties))
+  item_key t = key_of_part t.source (answers t.entry).key None
+      (parts.Item (standing_of t.properties))
 
 abbrev pub date_key : {E : Type 0} → (E → Answers) → DateTaskValue E → TaskKey
 date_key answers t = key_of_part t.source (answers t.entry).key t.place parts.Date

@@ -44,10 +44,12 @@ abbrev pub kept_beside : TaskKey → List TaskKey → List TaskKey
 kept_beside key notes = if is_earlier notes key then [] else notes
 
 module _ (table : TaskKey → Option Cite) where
-  -- what is lacked is noted once, beside what is of its stage, unless something of an earlier stage is noted
+  -- what is lacked is noted once, beside what is of its stage, unless something of an earlier stage
+  -- is noted
   abbrev pub note_once : TaskKey → List TaskKey → List TaskKey
   note_once key notes =
-      if is_some (table key) || is_later notes key then notes else insert_key key_eq (kept_beside key notes) key
+      if is_some (table key) || is_later notes key then notes
+      else insert_key key_eq (kept_beside key notes) key
 
   module _ {E P : Type 0} (answers : E → Answers) where
     abbrev pub table_state : List TaskKey → WriterState E P TaskKey

@@ -17,7 +17,9 @@ module _ {E P : Type 0} (table : TaskKey → Option Cite) (answers : E → Answe
     cite = λ t. let part : TaskPart = parts.Cite (standing_of t.properties) t.purpose t.verdict in
         ap (λ (x : Answers). written_as (table (key_of_part t.source x.key t.place part))) e;
     item = λ t. let part : TaskPart = parts.Item (standing_of t.properties) in
-        ap (λ (x : Answers). Some (written_as (table (key_of_part t.source x.key None part))).children) e;
+        ap (λ (x : Answers). Some
+        (written_as (table (key_of_part t.source x.key None part))).children) e;
     date = λ t.
-        ap (λ (x : Answers). (written_as (table (key_of_part t.source x.key t.place parts.Date))).children) e;
+        ap (λ (x : Answers). (written_as
+        (table (key_of_part t.source x.key t.place parts.Date))).children) e;
   }

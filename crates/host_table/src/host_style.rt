@@ -9,8 +9,8 @@ use csl_base::formatting::StyleFormatting;
 use csl_base::style::IndependentStyle;
 use std::alloc::{AllocError, Global};
 
-/// The elements of the citation's layout of a style of this name: one text, which is the name. What is
-/// written in such a style the host knows.
+/// The elements of the citation's layout of a style of this name: one text, which is the name. What
+/// is written in such a style the host knows.
 ///
 /// # Errors
 ///
@@ -33,8 +33,8 @@ pub fn named(alloc: Global, name: &str) -> Result<Vec<LayoutRenderingElement>, A
     Ok(elements)
 }
 
-/// The name of a style: the text with which its citation's layout begins; empty where it begins with
-/// anything else.
+/// The name of a style: the text with which its citation's layout begins; empty where it begins
+/// with anything else.
 pub fn style_name(style: &IndependentStyle) -> &str
     ensures { result.now ≡ host_style_name (style_view style.now) }
 {

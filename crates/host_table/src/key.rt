@@ -2,7 +2,14 @@
 ghost use Rattle.std.specs.Prelude.{◌≡◌, IfOk, option_map};
 ghost use Rattle.csl_lookup.specs.PropertiesView.{locator_view, properties_view};
 ghost use Rattle.csl_lookup.specs.SourceView.{source_view};
-ghost use Rattle.host_table.specs.Keys.{cite_key, date_key, item_key, key_of_part, located, standing_of};
+ghost use Rattle.host_table.specs.Keys.{
+  cite_key,
+  date_key,
+  item_key,
+  key_of_part,
+  located,
+  standing_of,
+};
 ghost use Rattle.csl_writers.specs.TaskView.{cite_task_view, date_task_view, item_task_view};
 
 use crate::host_style::style_name;
@@ -19,9 +26,9 @@ use std::alloc::{AllocError, Global};
 
 /// What is asked for: an entry, by its key, in a style, by its name, and in the locale in use.
 ///
-/// Cites that are rendered to be compared have no place, and items of the bibliography have none; a cite
-/// or a date that is written for the last time has the index of its request and its own in the items of
-/// that request, both from 0.
+/// Cites that are rendered to be compared have no place, and items of the bibliography have none; a
+/// cite or a date that is written for the last time has the index of its request and its own in the
+/// items of that request, both from 0.
 #[derive(PartialEq, Eq, Hash, Drop)]
 pub struct TaskKey {
     pub style: Text,
@@ -167,8 +174,8 @@ pub fn date_key<T: EntryLike>(alloc: Global, task: &DateTask<'_, T>) -> Result<T
 impl TaskKey {
     ghost use Rattle.host_table.specs.Keys.{stage};
 
-    /// When it is asked for: 0 for cites that are compared before any is disambiguated, 1 for those that
-    /// are compared later, and 2 for what is written for the last time.
+    /// When it is asked for: 0 for cites that are compared before any is disambiguated, 1 for those
+    /// that are compared later, and 2 for what is written for the last time.
     pub fn stage(&self) -> u8
         ensures { result ≡ stage self.now }
     {

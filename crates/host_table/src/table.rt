@@ -12,12 +12,13 @@ use csl_writers::writer::CiteWriter;
 use indexmap::{IndexMap, IndexSet};
 use std::alloc::{AllocError, Global};
 
-/// What a host has written, by what it was asked for. Of an item and of a date the tree alone counts.
+/// What a host has written, by what it was asked for. Of an item and of a date the tree alone
+/// counts.
 pub type Table = IndexMap<TaskKey, Cite>;
 
-/// Answers from a table that it borrows. What the table lacks is answered by an empty tree, and noted once;
-/// but only what is of the earliest stage of all that is missing stays noted, since what is of a later one
-/// may not be asked for any more once that is there.
+/// Answers from a table that it borrows. What the table lacks is answered by an empty tree, and
+/// noted once; but only what is of the earliest stage of all that is missing stays noted, since
+/// what is of a later one may not be asked for any more once that is there.
 #[derive(Drop)]
 pub struct TableWriter<'t> {
     pub written: &'t Table,
@@ -92,7 +93,8 @@ impl<'t> TableWriter<'t> {
         ensures cite { IfOk result (λ c. c ≡ written_as (found self.old.written.now key)) }
         ensures same_table { self.new.written ≡ self.old.written }
         ensures noted { OnOk result
-            (self.new.missing.keys ≡ note_once (found self.old.written.now) key self.old.missing.keys) }
+            (self.new.missing.keys
+            ≡ note_once (found self.old.written.now) key self.old.missing.keys) }
     {
         if let Some(cite) = self.written.get(&key) {
             return copied(cite);
@@ -145,5 +147,6 @@ impl<'t, T: EntryLike, P> CiteWriter<T, P> for TableWriter<'t> {
         Ok(date.children)
     }
 
-    ghost equal_written_equally = { λ w a b e. table_writes_equally (found w.written.now) T.answers w.missing.keys a b (T.equal_answer_equally a b e) };
+    ghost equal_written_equally = { λ w a b e. table_writes_equally (found w.written.now) T.answers w.missing.keys a b
+        (T.equal_answer_equally a b e) };
 }

@@ -27,13 +27,16 @@ bibliography_data b = object (member (codes "entry_spacing") (number (of_integer
     (member (codes "hanging_indent") (boolean b.hanging_indent)
     (member (codes "items") (array (items_of (map item_data b.items)))
     (member (codes "line_spacing") (number (of_integer (b.line_spacing).value))
-    (member_if (codes "second_field_align") (option_map (λ a. string (align_name a)) b.second_field_align)
+    (member_if (codes "second_field_align")
+    (option_map (λ a. string (align_name a)) b.second_field_align)
     no_members)))))
 
 abbrev pub citation_data : RenderedCitation → Data
 citation_data c = object (member (codes "content") (children_data c.citation)
-    (member_if (codes "note_number") (option_map (λ n. number (unsigned n)) c.note_number) no_members))
+    (member_if (codes "note_number") (option_map (λ n. number (unsigned n)) c.note_number)
+    no_members))
 
 abbrev pub answer_data : Rendered → Data
-answer_data r = object (member_if (codes "bibliography") (option_map bibliography_data r.bibliography)
+answer_data r = object
+    (member_if (codes "bibliography") (option_map bibliography_data r.bibliography)
     (member (codes "citations") (array (items_of (map citation_data r.citations))) no_members))

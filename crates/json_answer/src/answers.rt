@@ -5,7 +5,13 @@ ghost use Rattle.serde_json.specs.View.{items_of};
 ghost use Rattle.serde_json.specs.Written.{compact_text};
 ghost use Rattle.csl_trees.specs.ChildView.{child_view};
 ghost use Rattle.json_answer.specs.TreeData.{child_data};
-ghost use Rattle.json_answer.specs.AnswerData.{align_name, item_data, bibliography_data, citation_data, answer_data};
+ghost use Rattle.json_answer.specs.AnswerData.{
+  align_name,
+  item_data,
+  bibliography_data,
+  citation_data,
+  answer_data,
+};
 ghost use Rattle.json_answer.specs.Pieces.{member_text, later_member};
 
 use crate::numbers::{write_comma, write_count, write_short};
@@ -18,7 +24,8 @@ use std::alloc::AllocError;
 
 #[tactic(auto, unfolding(json::specs::Print::escape_byte))]
 fn align_member(align: SecondFieldAlign) -> &'static str
-    ensures { result.now ≡ codes "," ++ member_text (codes "second_field_align") (string (align_name align)) }
+    ensures { result.now ≡ codes ","
+        ++ member_text (codes "second_field_align") (string (align_name align)) }
 {
     match align {
         SecondFieldAlign::Flush => ",\"second_field_align\":\"flush\"",
@@ -28,7 +35,8 @@ fn align_member(align: SecondFieldAlign) -> &'static str
 
 fn write_align(out: &mut String, align: &Option<SecondFieldAlign>) -> Result<(), AllocError>
     ensures { OnOk result (string_bytes out.new ≡ string_bytes out.old
-        ++ later_member (codes "second_field_align") (option_map (λ a. string (align_name a)) align.now)) }
+        ++ later_member (codes "second_field_align")
+        (option_map (λ a. string (align_name a)) align.now)) }
 {
     match align {
         None => Ok(()),
@@ -51,7 +59,8 @@ fn write_note(out: &mut String, note: &Option<usize>) -> Result<(), AllocError>
 
 fn write_field(out: &mut String, field: &Option<ElemChild>) -> Result<(), AllocError>
     ensures { OnOk result (string_bytes out.new ≡ string_bytes out.old
-        ++ later_member (codes "first_field") (option_map (λ c. child_data (child_view c)) field.now)) }
+        ++ later_member (codes "first_field")
+        (option_map (λ c. child_data (child_view c)) field.now)) }
 {
     match field {
         None => Ok(()),
@@ -63,7 +72,8 @@ fn write_field(out: &mut String, field: &Option<ElemChild>) -> Result<(), AllocE
 }
 
 fn write_item(out: &mut String, item: &BibliographyItem) -> Result<(), AllocError>
-    ensures { OnOk result (string_bytes out.new ≡ string_bytes out.old ++ compact_text (item_data item.now)) }
+    ensures { OnOk result
+        (string_bytes out.new ≡ string_bytes out.old ++ compact_text (item_data item.now)) }
 {
     out.push_str("{\"content\":")?;
     write_children(out, &item.content)?;
@@ -124,7 +134,8 @@ fn write_citation(out: &mut String, citation: &RenderedCitation) -> Result<(), A
 
 fn write_citations(out: &mut String, citations: &[RenderedCitation]) -> Result<(), AllocError>
     ensures { OnOk result (string_bytes out.new
-        ≡ string_bytes out.old ++ compact_text (array (items_of (map citation_data citations.now)))) }
+        ≡ string_bytes out.old
+        ++ compact_text (array (items_of (map citation_data citations.now)))) }
 {
     out.push('[')?;
     let mut later = false;

@@ -4,7 +4,13 @@ ghost use Rattle.json.specs.Print.{quoted};
 ghost use Rattle.serde_json.specs.Data.{array, string};
 ghost use Rattle.serde_json.specs.View.{items_of};
 ghost use Rattle.serde_json.specs.Written.{compact_text};
-ghost use Rattle.json_answer.specs.MetaData.{variable_name, person_data, names_data, name_data, meta_data};
+ghost use Rattle.json_answer.specs.MetaData.{
+  variable_name,
+  person_data,
+  names_data,
+  name_data,
+  meta_data,
+};
 
 use crate::numbers::{write_comma, write_count};
 use crate::strings::write_string;
@@ -91,7 +97,8 @@ fn write_name(out: &mut String, variable: NameVariable, place: usize) -> Result<
 /// Appends what an element was rendered for.
 #[tactic(auto, unfolding(json::specs::Print::escape_byte))]
 pub(crate) fn write_meta(out: &mut String, meta: &ElemMeta) -> Result<(), AllocError>
-    ensures { OnOk result (string_bytes out.new ≡ string_bytes out.old ++ compact_text (meta_data meta.now)) }
+    ensures { OnOk result
+        (string_bytes out.new ≡ string_bytes out.old ++ compact_text (meta_data meta.now)) }
 {
     match meta {
         ElemMeta::Names(all) => {

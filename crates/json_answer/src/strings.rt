@@ -1,5 +1,19 @@
 //! Strings as JSON.
-ghost use Rattle.std.specs.Prelude.{◌≡◌, ◌∷◌, ◌++◌, ◌<◌, ◌/◌, ◌%◌, [], codes, OnOk, IfSome, IsSome, ◌↔◌, string_bytes};
+ghost use Rattle.std.specs.Prelude.{
+  ◌≡◌,
+  ◌∷◌,
+  ◌++◌,
+  ◌<◌,
+  ◌/◌,
+  ◌%◌,
+  [],
+  codes,
+  OnOk,
+  IfSome,
+  IsSome,
+  ◌↔◌,
+  string_bytes,
+};
 ghost use Rattle.std.specs.Bool.{OnTrue};
 ghost use Rattle.std.specs.Char.{encode_utf8, digit_char};
 ghost use Rattle.json.specs.Print.{escape_letter, escape_byte, escape, quoted};

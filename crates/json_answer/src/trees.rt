@@ -5,8 +5,22 @@ ghost use Rattle.serde_json.specs.Written.{compact_text};
 ghost use Rattle.csl_trees.specs.Child as tree;
 ghost use Rattle.csl_trees.specs.ChildView.{child_view};
 ghost use Rattle.json_answer.specs.MetaData.{meta_data};
-ghost use Rattle.json_answer.specs.Pieces.{member_text, later_member, later_name, font_text, formatting_text};
-ghost use Rattle.json_answer.specs.TreeData.{variant_name, decoration_name, vertical_name, display_name, element_data, child_data, children_data};
+ghost use Rattle.json_answer.specs.Pieces.{
+  member_text,
+  later_member,
+  later_name,
+  font_text,
+  formatting_text,
+};
+ghost use Rattle.json_answer.specs.TreeData.{
+  variant_name,
+  decoration_name,
+  vertical_name,
+  display_name,
+  element_data,
+  child_data,
+  children_data,
+};
 
 use crate::metas::write_meta;
 use crate::numbers::{write_comma, write_count};
@@ -83,7 +97,8 @@ fn write_formatting(out: &mut String, format: Formatting) -> Result<(), AllocErr
 
 #[tactic(auto, unfolding(json::specs::Print::escape_byte))]
 fn display_member(display: Display) -> &'static str
-    ensures { result.now ≡ codes "," ++ member_text (codes "display") (string (display_name display)) }
+    ensures { result.now ≡ codes ","
+        ++ member_text (codes "display") (string (display_name display)) }
 {
     match display {
         Display::Block => ",\"display\":\"block\"",

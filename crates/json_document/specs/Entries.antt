@@ -46,7 +46,8 @@ pairs_of variable None = []
 pairs_of variable (Some x) = (variable, x) ∷ []
 
 -- what the object says of the table's variables, each of the form f, in the table's order
-abbrev pub pairs_at : {V A : Type 0} → NameTable V → (Data → Option A) → Data → Option (List (V × A))
+abbrev pub pairs_at : {V A : Type 0} → NameTable V → (Data → Option A) → Data
+    → Option (List (V × A))
 pairs_at [] f o = Some []
 pairs_at (row ∷ rows) f o = do
   held ← where_present f row.0 o
@@ -56,9 +57,11 @@ pairs_at (row ∷ rows) f o = do
 abbrev pub entry_keys : List (List ℕ)
 entry_keys =
     codes "key" ∷ codes "label" ∷ codes "author" ∷ codes "editor" ∷ codes "translator"
-    ∷ codes "issued" ∷ codes "accessed" ∷ codes "available-date" ∷ codes "event-date" ∷ codes "submitted"
+    ∷ codes "issued" ∷ codes "accessed" ∷ codes "available-date" ∷ codes "event-date"
+    ∷ codes "submitted"
     ∷ codes "original-date"
-    ∷ codes "title" ∷ codes "container-title" ∷ codes "publisher" ∷ codes "publisher-place" ∷ codes "note"
+    ∷ codes "title" ∷ codes "container-title" ∷ codes "publisher" ∷ codes "publisher-place"
+    ∷ codes "note"
     ∷ codes "url" ∷ codes "doi"
     ∷ codes "volume" ∷ codes "issue" ∷ codes "number" ∷ codes "edition" ∷ []
 
@@ -72,7 +75,14 @@ entry_form d = do
   dates ← pairs_at date_variables year_form o
   texts ← pairs_at (take 7 standard_variables) chunked_form o
   numbers ← pairs_at (drop 3 number_variables) as_str o
-  Some (record { key = key; label = label; names = names; dates = dates; texts = texts; numbers = numbers })
+  Some (record {
+    key = key;
+    label = label;
+    names = names;
+    dates = dates;
+    texts = texts;
+    numbers = numbers;
+  })
 
 -- the first entry that has the key
 abbrev pub entry_named : List PlainEntry → List ℕ → Option PlainEntry

@@ -20,8 +20,8 @@ use Rattle.json_document.specs.Requests.{request_form, wanted_form}
 abbrev pub round_modes : NameTable RoundMode
 round_modes = (codes "three", RoundMode.Three) ∷ (codes "full", RoundMode.Full) ∷ []
 
--- a document: its requests; the style, the locale and the order of the bibliography; the locales; the number
--- of the first entry; and the rounds
+-- a document: its requests; the style, the locale and the order of the bibliography; the locales;
+-- the number of the first entry; and the rounds
 pub record Document : Type 0 where
   pub requests : List (Request PlainEntry Infallible)
   pub style : StyleValue
@@ -32,7 +32,8 @@ pub record Document : Type 0 where
   pub rounds : RoundMode
 
 -- what is asked for, of the styles and entries that names and keys find, with these locales
-unfoldable pub asked_form : (List ℕ → Option StyleValue) → (List ℕ → Option PlainEntry) → List LocaleValue
+unfoldable pub asked_form : (List ℕ → Option StyleValue) → (List ℕ → Option PlainEntry)
+    → List LocaleValue
     → Data → Option Document
 asked_form style entry locales o = do
   requests ← items_of_key (request_form style entry locales) (codes "requests") o
@@ -54,8 +55,8 @@ abbrev pub top_form : Data → Option Data
 top_form d = object_with (codes "styles" ∷ codes "locales" ∷ codes "entries" ∷ codes "requests"
     ∷ codes "bibliography" ∷ codes "offset" ∷ codes "rounds" ∷ []) d
 
--- the document that a value is, or none; a name finds the style of that name, and a key the first entry that
--- has it
+-- the document that a value is, or none; a name finds the style of that name, and a key the first
+-- entry that has it
 unfoldable pub document_form : Data → Option Document
 document_form d = do
   o ← top_form d

@@ -37,5 +37,6 @@ asked_request_view locales r = record {
   note_number = (if is_note r.style.now.style.now.settings.class then r.note_number else None);
 }
 
-abbrev pub asked_requests_view : List LocaleValue → List AskedRequest → List (Request PlainEntry Infallible)
+abbrev pub asked_requests_view : List LocaleValue → List AskedRequest
+    → List (Request PlainEntry Infallible)
 asked_requests_view locales = map (asked_request_view locales)

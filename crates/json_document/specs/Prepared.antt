@@ -14,4 +14,5 @@ IsMadeOf prepared style = ForSome prepared (λ s. made_of s ≡ style)
 -- for ghost fields: there are no two proofs of that
 pub IsMadeOf-prop : (prepared : Option PreparedStyle) (style : IndependentStyle)
     → IsProp (IsMadeOf prepared style)
-IsMadeOf-prop prepared style x y = λ i s e. Coded-set style_.the_row.coded (made_of s) style (x s e) (y s e) i
+IsMadeOf-prop prepared style x y =
+    λ i s e. Coded-set style_.the_row.coded (made_of s) style (x s e) (y s e) i

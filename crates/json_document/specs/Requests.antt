@@ -24,9 +24,11 @@ abbrev pub locator_form : Data → Option (LocatorValue Infallible)
 locator_form d = option_and_then locator_of_items (as_array d)
 
 -- a cite of an entry
-unfoldable pub item_form : (List ℕ → Option PlainEntry) → Data → Option (RequestedCite PlainEntry Infallible)
+unfoldable pub item_form : (List ℕ → Option PlainEntry) → Data
+    → Option (RequestedCite PlainEntry Infallible)
 item_form entry d = do
-  o ← object_with (codes "entry" ∷ codes "locator" ∷ codes "locale" ∷ codes "hidden" ∷ codes "purpose" ∷ []) d
+  o ← object_with (codes "entry" ∷ codes "locator" ∷ codes "locale" ∷ codes "hidden"
+      ∷ codes "purpose" ∷ []) d
   cited ← required (name_form entry) (codes "entry") o
   locator ← where_present locator_form (codes "locator") o
   locale ← where_present as_str (codes "locale") o
@@ -42,8 +44,8 @@ item_form entry d = do
   })
 
 module _ (style : List ℕ → Option StyleValue) (entry : List ℕ → Option PlainEntry) where
-  -- a request for a citation, with these locales; the note number is kept where the style's cites stand in
-  -- notes
+  -- a request for a citation, with these locales; the note number is kept where the style's cites
+  -- stand in notes
   unfoldable pub request_form : List LocaleValue → Data → Option (Request PlainEntry Infallible)
   request_form locales d = do
     o ← object_with (codes "style" ∷ codes "locale" ∷ codes "note" ∷ codes "items" ∷ []) d
@@ -60,7 +62,8 @@ module _ (style : List ℕ → Option StyleValue) (entry : List ℕ → Option P
     })
 
   -- what is asked of the bibliography: its style, its locale, and the order of its entries
-  unfoldable pub wanted_form : Data → Option (StyleValue × Option (List ℕ) × Option (List PlainEntry))
+  unfoldable pub wanted_form : Data
+      → Option (StyleValue × Option (List ℕ) × Option (List PlainEntry))
   wanted_form d = do
     o ← object_with (codes "style" ∷ codes "locale" ∷ codes "order" ∷ []) d
     by ← required (name_form style) (codes "style") o

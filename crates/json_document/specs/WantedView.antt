@@ -7,7 +7,8 @@ use Rattle.csl_passes.specs.RequestView.{entries_view}
 use Rattle.json_document.specs.declared.requests.Wanted.{Wanted}
 
 -- the style, the locale and the order
-abbrev pub asked_bibliography_view : Wanted → StyleValue × Option (List ℕ) × Option (List PlainEntry)
+abbrev pub asked_bibliography_view : Wanted
+    → StyleValue × Option (List ℕ) × Option (List PlainEntry)
 asked_bibliography_view w = (
   style_view w.style.now.style.now,
   option_map code_view w.locale,

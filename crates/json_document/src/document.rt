@@ -17,7 +17,7 @@ ghost use Rattle.json_values.specs.Reads.{Faults, Reads};
 
 use crate::finders::{EntriesByKey, StylesByName, entries_by_key, styles_by_name};
 use crate::found::FoundStyle;
-use crate::requests::{AskedRequest, Wanted, requests_of, wanted_of};
+use crate::requests::{AskedRequest, Wanted, bibliography_request_of, requests_of};
 use csl_base::entry::PlainEntry;
 use csl_base::locale::Locale;
 use csl_round_laws::mode::RoundMode;
@@ -132,7 +132,7 @@ fn wanted_at<'e>(
     ensures fault { Faults result (view object.now) }
 {
     match object.get("bibliography") {
-        Some(member) => match wanted_of(alloc, styles, entries, member) {
+        Some(member) => match bibliography_request_of(alloc, styles, entries, member) {
             Ok(wanted) => Ok(wanted),
             Err(error) => Err(error.under(alloc, "bibliography")),
         },

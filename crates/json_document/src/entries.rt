@@ -3,9 +3,24 @@ ghost use Rattle.std.specs.Prelude.{◌≡◌, ◌++◌, IfOk, OnOk, Some, codes
 ghost use Rattle.serde_json.specs.Data.{array};
 ghost use Rattle.serde_json.specs.View.{view, items_view};
 ghost use Rattle.serde_json.specs.Find.{as_str};
-ghost use Rattle.json_values.specs.Words.{all_items, items_of_key, list_form, object_with, where_present};
+ghost use Rattle.json_values.specs.Words.{
+  all_items,
+  items_of_key,
+  list_form,
+  object_with,
+  where_present,
+};
 ghost use Rattle.json_values.specs.Names.{rows_view};
-ghost use Rattle.json_document.specs.Entries.{person_form, year_form, chunked, chunked_form, pairs_of, pairs_at, entry_keys, entry_form};
+ghost use Rattle.json_document.specs.Entries.{
+  person_form,
+  year_form,
+  chunked,
+  chunked_form,
+  pairs_of,
+  pairs_at,
+  entry_keys,
+  entry_form,
+};
 ghost use Rattle.json_values.specs.Reads.{Faults, Reads};
 
 use crate::persons::persons_of;
@@ -72,7 +87,8 @@ fn optional_persons(
     object: &Value,
     key: &str,
 ) -> Result<Option<Seq<Person>>, ReadError>
-    ensures read { Reads (λ h. h) result (where_present (list_form person_form) key.now (view object.now)) }
+    ensures read { Reads (λ h. h) result
+        (where_present (list_form person_form) key.now (view object.now)) }
     ensures fault { Faults result (view object.now) }
 {
     match object.get(key) {
@@ -120,7 +136,8 @@ fn dates_in(
     rows: &[(&str, DateVariable)],
     object: &Value,
 ) -> Result<Vec<(DateVariable, Date)>, ReadError>
-    ensures read { Reads (λ v. v.items) result (pairs_at (rows_view rows.now) year_form (view object.now)) }
+    ensures read { Reads (λ v. v.items) result
+        (pairs_at (rows_view rows.now) year_form (view object.now)) }
     ensures fault { Faults result (view object.now) }
 {
     let mut pairs = Vec::new(alloc);
@@ -171,7 +188,8 @@ fn numbers_in(
     rows: &[(&str, NumberVariable)],
     object: &Value,
 ) -> Result<Vec<(NumberVariable, Text)>, ReadError>
-    ensures read { Reads (λ v. v.items) result (pairs_at (rows_view rows.now) as_str (view object.now)) }
+    ensures read { Reads (λ v. v.items) result
+        (pairs_at (rows_view rows.now) as_str (view object.now)) }
     ensures fault { Faults result (view object.now) }
 {
     let mut pairs = Vec::new(alloc);
@@ -260,7 +278,8 @@ fn all_entries(alloc: Global, items: &[Value]) -> Result<Vec<PlainEntry>, ReadEr
 /// The entries of the document.
 #[tactic(auto, using(json_values::proofs::Ways::fails_outside))]
 pub fn entries_of(alloc: Global, object: &Value) -> Result<Vec<PlainEntry>, ReadError>
-    ensures read { Reads (λ v. v.items) result (items_of_key entry_form (codes "entries") (view object.now)) }
+    ensures read { Reads (λ v. v.items) result
+        (items_of_key entry_form (codes "entries") (view object.now)) }
     ensures fault { Faults result (view object.now) }
 {
     let list = required_list(alloc, object, "entries")?;

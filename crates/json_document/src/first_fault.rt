@@ -40,9 +40,9 @@ fn read_bytes(alloc: Global, bytes: &[u8]) -> Result<(), ReadError>
     read_through(alloc, &value)
 }
 
-/// The first fault of the bytes, where they are no document: the first that is met when the styles are
-/// read, then the locales, the entries, the requests, the bibliography and the rest, and of each object
-/// first its keys and then its members in the order in which the form names them.
+/// The first fault of the bytes, where they are no document: the first that is met when the styles
+/// are read, then the locales, the entries, the requests, the bibliography and the rest, and of
+/// each object first its keys and then its members in the order in which the form names them.
 ///
 /// # Errors
 /// Where memory is refused.

@@ -8,8 +8,8 @@ use csl_styles::prepared::PreparedStyle;
 use json_styles::styles::NamedStyle;
 use std::alloc::{AllocError, Global};
 
-/// A style of a document, prepared where something names it and none of its macros call each other in
-/// a ring.
+/// A style of a document, prepared where something names it and none of its macros call each other
+/// in a ring.
 #[derive(Drop)]
 pub struct FoundStyle<'e> {
     /// Its name in the document.

@@ -7,8 +7,21 @@ ghost use Rattle.csl_style_values.specs.StyleView.{code_view, locale_view, style
 ghost use Rattle.csl_lookup.specs.PropertiesView.{locator_view};
 ghost use Rattle.csl_passes.specs.RequestView.{cite_view, cites_view, entries_view, request_view};
 ghost use Rattle.csl_styles.specs.TablesView.{locales_of};
-ghost use Rattle.json_document.specs.JobView.{asked_cite_view, asked_cites_view, asked_locator_view, asked_request_view, asked_requests_view};
-ghost use Rattle.json_values.specs.Words.{all_items, items_of_key, list_form, name_form, required, where_present};
+ghost use Rattle.json_document.specs.JobView.{
+  asked_cite_view,
+  asked_cites_view,
+  asked_locator_view,
+  asked_request_view,
+  asked_requests_view,
+};
+ghost use Rattle.json_values.specs.Words.{
+  all_items,
+  items_of_key,
+  list_form,
+  name_form,
+  required,
+  where_present,
+};
 ghost use Rattle.json_document.specs.Finders.{entry_in, style_in};
 ghost use Rattle.json_document.specs.Requests.{locator_form, item_form, request_form, wanted_form};
 ghost use Rattle.json_document.specs.WantedView.{asked_bibliography_view};
@@ -164,7 +177,8 @@ fn item_of<'e>(
     entries: &EntriesByKey<'e>,
     value: &Value,
 ) -> Result<AskedCite<'e>, ReadError>
-    ensures read { Reads asked_cite_view result (item_form (entry_in entries.now) (view value.now)) }
+    ensures read { Reads asked_cite_view result
+        (item_form (entry_in entries.now) (view value.now)) }
     ensures fault { Faults result (view value.now) }
 {
     let object = object_with(
@@ -287,7 +301,8 @@ fn all_requests<'e>(
     items: &[Value],
 ) -> Result<Vec<AskedRequest<'e>>, ReadError>
     ensures read { Reads (λ v. asked_requests_view (map locale_view locales.now) v.items) result
-        (all_items (request_form (style_in styles.now) (entry_in entries.now) (map locale_view locales.now))
+        (all_items (request_form (style_in styles.now) (entry_in entries.now)
+        (map locale_view locales.now))
         (items_view items.now)) }
     ensures fault { Faults result (array (items_view items.now)) }
 {
@@ -440,7 +455,8 @@ fn optional_order<'e>(
     value: &Value,
 ) -> Result<Option<Vec<&'e PlainEntry>>, ReadError>
     ensures read { Reads (option_map (λ v. entries_view v.items)) result
-        (where_present (list_form (name_form (entry_in entries.now))) (codes "order") (view value.now)) }
+        (where_present (list_form (name_form (entry_in entries.now))) (codes "order")
+        (view value.now)) }
     ensures fault { Faults result (view value.now) }
 {
     match value.get("order") {
@@ -454,7 +470,7 @@ fn optional_order<'e>(
 
 /// What is asked of the bibliography, of an object of its own.
 #[tactic(auto, unfolding(crate::specs::Requests::wanted_form))]
-pub fn wanted_of<'e>(
+pub fn bibliography_request_of<'e>(
     alloc: Global,
     styles: &StylesByName<'e>,
     entries: &EntriesByKey<'e>,

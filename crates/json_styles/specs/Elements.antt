@@ -62,10 +62,13 @@ look_keys = codes "kind" ∷ codes "prefix" ∷ codes "suffix" ∷ codes "italic
 
 -- ---- elements with no elements inside
 
--- what a text writes, of the members of the four keys that say it, of which exactly one must be there
-abbrev pub target_of : TermForm → Bool → Option Data → Option Data → Option Data → Option Data → Option Target
+-- what a text writes, of the members of the four keys that say it, of which exactly one must be
+-- there
+abbrev pub target_of : TermForm → Bool → Option Data → Option Data → Option Data → Option Data
+    → Option Target
 target_of form plural (Some d) None None None = option_map value_target (as_str d)
-target_of form plural None (Some d) None None = option_map standard_target (one_of standard_variables d)
+target_of form plural None (Some d) None None =
+    option_map standard_target (one_of standard_variables d)
 target_of form plural None None (Some d) None = option_map macro_target (as_str d)
 target_of form plural None None None (Some d) =
     option_map (λ t. term_target t form plural) (name_form term_named d)
@@ -80,7 +83,8 @@ target_form o = do
       (get (codes "term") o)
 
 abbrev pub text_keys : List (List ℕ)
-text_keys = look_keys ++ codes "value" ∷ codes "variable" ∷ codes "macro" ∷ codes "term" ∷ codes "form"
+text_keys = look_keys ++ codes "value" ∷ codes "variable" ∷ codes "macro" ∷ codes "term"
+    ∷ codes "form"
     ∷ codes "plural" ∷ codes "quotes" ∷ codes "strip_periods" ∷ []
 
 -- an element that writes a text
@@ -187,7 +191,8 @@ kind_form inner kind d =
 
 -- an element of the kind that it names, in which elements of the form `inner` stand
 abbrev pub element_over : (Data → Option Element) → Data → Option Element
-element_over inner d = option_and_then (λ kind. kind_form inner kind d) (required as_str (codes "kind") d)
+element_over inner d =
+    option_and_then (λ kind. kind_form inner kind d) (required as_str (codes "kind") d)
 
 -- an element in which elements nest less than n deep
 abbrev pub element_within : ℕ → Data → Option Element

@@ -11,7 +11,8 @@ use Rattle.json_values.specs.Tables.{name_ands, name_forms}
 -- the options of names
 unfoldable pub options_form : Data → Option NameOptions
 options_form d = do
-  o ← object_with (codes "and" ∷ codes "name_delimiter" ∷ codes "names_delimiter" ∷ codes "et_al_min"
+  o ← object_with (codes "and" ∷ codes "name_delimiter" ∷ codes "names_delimiter"
+      ∷ codes "et_al_min"
       ∷ codes "et_al_use_first" ∷ codes "name_form" ∷ codes "initialize_with" ∷ []) d
   word ← where_present (one_of name_ands) (codes "and") o
   name_delimiter ← where_present as_str (codes "name_delimiter") o

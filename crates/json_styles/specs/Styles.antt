@@ -57,10 +57,12 @@ layout_form o = do
 
 abbrev pub citation_keys : List (List ℕ)
 citation_keys =
-    codes "elements" ∷ codes "prefix" ∷ codes "suffix" ∷ codes "delimiter" ∷ codes "italic" ∷ codes "bold"
+    codes "elements" ∷ codes "prefix" ∷ codes "suffix" ∷ codes "delimiter" ∷ codes "italic"
+    ∷ codes "bold"
     ∷ codes "font_variant" ∷ codes "text_decoration" ∷ codes "vertical_align"
     ∷ codes "add_givenname" ∷ codes "givenname_rule" ∷ codes "add_names" ∷ codes "add_year_suffix"
-    ∷ codes "cite_group_delimiter" ∷ codes "year_suffix_delimiter" ∷ codes "after_collapse_delimiter"
+    ∷ codes "cite_group_delimiter" ∷ codes "year_suffix_delimiter"
+    ∷ codes "after_collapse_delimiter"
     ∷ codes "collapse"
     ∷ codes "near_note_distance" ∷ codes "options" ∷ []
 

@@ -6,7 +6,26 @@ ghost use Rattle.csl_style_values.specs.Element.{elements_of};
 ghost use Rattle.csl_style_values.specs.ElementView.{look, target_view, element_view, branch_view};
 ghost use Rattle.json_values.specs.Words.{all_items, items_of_key, required, name_form};
 ghost use Rattle.json_values.specs.Names.{variable_named};
-ghost use Rattle.json_styles.specs.Elements.{slant_of, weight_of, formatting_form, look_form, target_form, text_form, number_form, date_form, names_form, variable_form, condition_named, condition_form, group_form, branch_form, choose_form, element_form, element_over, ElementsNest};
+ghost use Rattle.json_styles.specs.Elements.{
+  slant_of,
+  weight_of,
+  formatting_form,
+  look_form,
+  target_form,
+  text_form,
+  number_form,
+  date_form,
+  names_form,
+  variable_form,
+  condition_named,
+  condition_form,
+  group_form,
+  branch_form,
+  choose_form,
+  element_form,
+  element_over,
+  ElementsNest,
+};
 ghost use Rattle.json_values.specs.Reads.{Faults, IsErrorOf, Reads};
 
 use crate::options::options_at;
@@ -63,7 +82,8 @@ pub fn formatting_in(alloc: Global, object: &Value) -> Result<StyleFormatting, R
 
 #[tactic(auto, unfolding(crate::specs::Elements::look_form))]
 fn look_of(alloc: Global, object: &Value) -> Result<Look, ReadError>
-    ensures read { Reads (λ l. look l.affixes l.formatting l.display) result (look_form (view object.now)) }
+    ensures read { Reads (λ l. look l.affixes l.formatting l.display) result
+        (look_form (view object.now)) }
     ensures fault { Faults result (view object.now) }
 {
     let prefix = optional_text(alloc, object, "prefix")?;
@@ -318,7 +338,8 @@ fn conditions_of(alloc: Global, items: &[Value]) -> Result<Vec<Condition>, ReadE
 /// The conditions under the key `if`, which has to be there.
 #[tactic(auto, using(json_values::proofs::Ways::fails_outside))]
 fn tests_at(alloc: Global, object: &Value) -> Result<Vec<Condition>, ReadError>
-    ensures read { Reads (λ v. v.items) result (items_of_key condition_form (codes "if") (view object.now)) }
+    ensures read { Reads (λ v. v.items) result
+        (items_of_key condition_form (codes "if") (view object.now)) }
     ensures fault { Faults result (view object.now) }
 {
     let list = required_list(alloc, object, "if")?;

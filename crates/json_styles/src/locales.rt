@@ -23,7 +23,8 @@ use std::alloc::Global;
 /// The term that the key `name` names.
 #[tactic(auto, using(json_values::proofs::Ways::fails_outside))]
 fn required_term(alloc: Global, object: &Value) -> Result<Term, ReadError>
-    ensures read { Reads (λ t. t) result (required (name_form term_named) (codes "name") (view object.now)) }
+    ensures read { Reads (λ t. t) result
+        (required (name_form term_named) (codes "name") (view object.now)) }
     ensures fault { Faults result (view object.now) }
 {
     match object.get("name") {
@@ -52,7 +53,8 @@ fn localized_term_of(alloc: Global, value: &Value) -> Result<LocalizedTerm, Read
 
 #[tactic(auto, using(json_values::proofs::Ways::item_there))]
 fn all_terms(alloc: Global, items: &[Value]) -> Result<Vec<LocalizedTerm>, ReadError>
-    ensures read { Reads (λ v. map term_view v.items) result (all_items term_form (items_view items.now)) }
+    ensures read { Reads (λ v. map term_view v.items) result
+        (all_items term_form (items_view items.now)) }
     ensures fault { Faults result (array (items_view items.now)) }
 {
     let mut terms = Vec::new(alloc);

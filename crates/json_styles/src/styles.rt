@@ -1,15 +1,43 @@
 //! Reading styles. Where a style says nothing, it is of the class in-text, and has what CSL 1.0.2
-//! gives by default: names disambiguated by cite, notes near within 5, spacings of 1, and whole lists of
-//! names substituted.
+//! gives by default: names disambiguated by cite, notes near within 5, spacings of 1, and whole
+//! lists of names substituted.
 ghost use Rattle.std.specs.Prelude.{◌≡◌, IfOk, codes, pos, option_and_then, option_map};
 ghost use Rattle.serde_json.specs.Data.{array, object as object_of};
 ghost use Rattle.serde_json.specs.Find.{as_object};
 ghost use Rattle.serde_json.specs.View.{view, items_view, members_view};
 ghost use Rattle.csl_style_values.specs.ElementView.{macro_view, macros_view};
-ghost use Rattle.csl_style_values.specs.StyleView.{layout_view, citation_view, bibliography_view, style_view};
-ghost use Rattle.json_values.specs.Words.{all_items, all_members, member_form, object_with, optional, optional_items, required, where_present};
+ghost use Rattle.csl_style_values.specs.StyleView.{
+  layout_view,
+  citation_view,
+  bibliography_view,
+  style_view,
+};
+ghost use Rattle.json_values.specs.Words.{
+  all_items,
+  all_members,
+  member_form,
+  object_with,
+  optional,
+  optional_items,
+  required,
+  where_present,
+};
 ghost use Rattle.json_styles.specs.NamedStyleView.{named_style_view, named_styles_view};
-ghost use Rattle.json_styles.specs.Styles.{single, spacing, non_zero, line_spacing, layout_form, citation_keys, citation_form, bibliography_keys, bibliography_form, macro_form, style_keys, style_form, styles_form};
+ghost use Rattle.json_styles.specs.Styles.{
+  single,
+  spacing,
+  non_zero,
+  line_spacing,
+  layout_form,
+  citation_keys,
+  citation_form,
+  bibliography_keys,
+  bibliography_form,
+  macro_form,
+  style_keys,
+  style_form,
+  styles_form,
+};
 ghost use Rattle.json_values.specs.Reads.{Faults, Reads};
 
 use crate::elements::{elements_at, formatting_in};
@@ -257,7 +285,8 @@ fn bibliography_of(alloc: Global, value: &Value) -> Result<Bibliography, ReadErr
 
 #[tactic(auto, using(json_values::proofs::Ways::fails_outside))]
 fn required_citation(alloc: Global, value: &Value) -> Result<Citation, ReadError>
-    ensures read { Reads citation_view result (required citation_form (codes "citation") (view value.now)) }
+    ensures read { Reads citation_view result
+        (required citation_form (codes "citation") (view value.now)) }
     ensures fault { Faults result (view value.now) }
 {
     match value.get("citation") {
@@ -296,7 +325,8 @@ fn macro_of(alloc: Global, value: &Value) -> Result<CslMacro, ReadError>
 
 #[tactic(auto, using(json_values::proofs::Ways::item_there))]
 fn all_macros(alloc: Global, items: &[Value]) -> Result<Vec<CslMacro>, ReadError>
-    ensures read { Reads (λ v. macros_view v.items) result (all_items macro_form (items_view items.now)) }
+    ensures read { Reads (λ v. macros_view v.items) result
+        (all_items macro_form (items_view items.now)) }
     ensures fault { Faults result (array (items_view items.now)) }
 {
     let mut macros = Vec::new(alloc);
@@ -372,7 +402,8 @@ fn style_of(alloc: Global, value: &Value) -> Result<IndependentStyle, ReadError>
 }
 
 fn named_style_of(alloc: Global, name: &str, value: &Value) -> Result<NamedStyle, ReadError>
-    ensures read { Reads named_style_view result (member_form style_form name.now (view value.now)) }
+    ensures read { Reads named_style_view result
+        (member_form style_form name.now (view value.now)) }
     ensures fault { Faults result (view value.now) }
 {
     Ok(NamedStyle {

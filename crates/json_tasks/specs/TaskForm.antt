@@ -78,12 +78,14 @@ abbrev pub task_keys : List (List ℕ)
 task_keys = codes "kind" ∷ codes "style" ∷ codes "locale" ∷ codes "entry" ∷ []
 
 abbrev pub standing_keys : List (List ℕ)
-standing_keys = codes "note" ∷ codes "first_note" ∷ codes "near_note" ∷ codes "first" ∷ codes "repeats"
+standing_keys = codes "note" ∷ codes "first_note" ∷ codes "near_note" ∷ codes "first"
+    ∷ codes "repeats"
     ∷ codes "number" ∷ codes "locator" ∷ codes "state" ∷ codes "usage" ∷ []
 
 unfoldable pub cite_task_form : Data → Option TaskPart
 cite_task_form d = do
-  o ← object_with (task_keys ++ standing_keys ++ codes "place" ∷ codes "purpose" ∷ codes "verdict" ∷ []) d
+  o ← object_with (task_keys ++ standing_keys ++ codes "place" ∷ codes "purpose"
+      ∷ codes "verdict" ∷ []) d
   standing ← standing_form o
   purpose ← where_present (one_of purposes) (codes "purpose") o
   verdict ← where_present (one_of verdicts) (codes "verdict") o
@@ -105,7 +107,8 @@ kind_task_form TaskKind.Item d = item_task_form d
 kind_task_form TaskKind.Date d = date_task_form d
 
 abbrev pub part_form : Data → Option TaskPart
-part_form d = option_and_then (λ kind. kind_task_form kind d) (required (one_of kinds) (codes "kind") d)
+part_form d = option_and_then (λ kind. kind_task_form kind d)
+    (required (one_of kinds) (codes "kind") d)
 
 -- a task
 unfoldable pub key_form : Data → Option TaskKey

@@ -11,11 +11,13 @@ use Rattle.json_tasks.specs.declared.task_names.TaskKind.{TaskKind}
 
 -- the kinds of tasks
 abbrev pub kinds : NameTable TaskKind
-kinds = (codes "cite", TaskKind.Cite) ∷ (codes "item", TaskKind.Item) ∷ (codes "date", TaskKind.Date) ∷ []
+kinds = (codes "cite", TaskKind.Cite) ∷ (codes "item", TaskKind.Item)
+    ∷ (codes "date", TaskKind.Date) ∷ []
 
 -- how a cite repeats the one before it
 abbrev pub ibid_states : NameTable IbidState
-ibid_states = (codes "ibid", IbidState.Ibid) ∷ (codes "ibid-with-locator", IbidState.IbidWithLocator) ∷ []
+ibid_states = (codes "ibid", IbidState.Ibid)
+    ∷ (codes "ibid-with-locator", IbidState.IbidWithLocator) ∷ []
 
 -- which identifiers were written
 abbrev pub usages : NameTable IdentifierUsage

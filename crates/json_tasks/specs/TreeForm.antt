@@ -23,8 +23,8 @@ font_styles = (codes "normal", FontStyle.Normal) ∷ (codes "italic", FontStyle.
 abbrev pub font_weights : NameTable FontWeight
 font_weights = (codes "normal", FontWeight.Normal) ∷ (codes "bold", FontWeight.Bold) ∷ []
 
--- the formatting of an object, which says how letters slant and how heavy they are; the rest is usual
--- where the object doesn't say it
+-- the formatting of an object, which says how letters slant and how heavy they are; the rest is
+-- usual where the object doesn't say it
 unfoldable pub full_formatting_form : Data → Option Formatting
 full_formatting_form o = do
   slant ← required (one_of font_styles) (codes "font_style") o
@@ -41,7 +41,8 @@ full_formatting_form o = do
   })
 
 abbrev pub formatting_keys : List (List ℕ)
-formatting_keys = codes "font_style" ∷ codes "font_weight" ∷ codes "font_variant" ∷ codes "text_decoration"
+formatting_keys = codes "font_style" ∷ codes "font_weight" ∷ codes "font_variant"
+    ∷ codes "text_decoration"
     ∷ codes "vertical_align" ∷ []
 
 -- a text, or where there is a url, a link

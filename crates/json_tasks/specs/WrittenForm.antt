@@ -20,10 +20,12 @@ use Rattle.json_tasks.specs.TreeForm.{tree_form}
 
 -- the form of each name
 abbrev pub first_name_form : Data → Option NameDisambiguationProperties
-first_name_form d = option_map (λ forms. record { forms = forms }) (list_form (one_of written_name_forms) d)
+first_name_form d = option_map (λ forms. record { forms = forms })
+    (list_form (one_of written_name_forms) d)
 
 abbrev pub written_keys : List (List ℕ)
-written_keys = codes "task" ∷ codes "tree" ∷ codes "disambiguate_tested" ∷ codes "first_name" ∷ codes "usage"
+written_keys = codes "task" ∷ codes "tree" ∷ codes "disambiguate_tested" ∷ codes "first_name"
+    ∷ codes "usage"
     ∷ []
 
 -- what was written, of an object that says it

@@ -5,7 +5,16 @@ ghost use Rattle.serde_json.specs.View.{view, items_view};
 ghost use Rattle.json_values.specs.Words.{all_items, items_of_key, required, where_present};
 ghost use Rattle.json_values.specs.Reads.{Faults, Reads};
 ghost use Rattle.json_document.specs.Entries.{person_form};
-ghost use Rattle.json_tasks.specs.MetaForm.{names_meta_form, name_meta_form, meta_named, entry_meta, name_meta, names_meta, object_meta, meta_form};
+ghost use Rattle.json_tasks.specs.MetaForm.{
+  names_meta_form,
+  name_meta_form,
+  meta_named,
+  entry_meta,
+  name_meta,
+  names_meta,
+  object_meta,
+  meta_form,
+};
 
 use crate::wholes::whole_at;
 use csl_base::elem::ElemMeta;
@@ -25,7 +34,8 @@ use std::alloc::Global;
 /// The persons under the key `persons`, which has to be there.
 #[tactic(auto, using(json_values::proofs::Ways::fails_outside))]
 fn persons_at(alloc: Global, object: &Value) -> Result<Seq<Person>, ReadError>
-    ensures read { Reads (λ s. s) result (items_of_key person_form (codes "persons") (view object.now)) }
+    ensures read { Reads (λ s. s) result
+        (items_of_key person_form (codes "persons") (view object.now)) }
     ensures fault { Faults result (view object.now) }
 {
     let list = required_list(alloc, object, "persons")?;
@@ -163,7 +173,8 @@ pub fn meta_of(alloc: Global, value: &Value) -> Result<ElemMeta, ReadError>
 /// The same under the key `meta`, if the key is there.
 #[tactic(auto, using(json_values::proofs::Ways::fails_outside))]
 pub(crate) fn optional_meta(alloc: Global, object: &Value) -> Result<Option<ElemMeta>, ReadError>
-    ensures read { Reads (λ m. m) result (where_present meta_form (codes "meta") (view object.now)) }
+    ensures read { Reads (λ m. m) result
+        (where_present meta_form (codes "meta") (view object.now)) }
     ensures fault { Faults result (view object.now) }
 {
     match object.get("meta") {

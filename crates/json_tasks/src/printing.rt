@@ -1,12 +1,36 @@
 //! Tasks as JSON.
-ghost use Rattle.std.specs.Prelude.{◌≡◌, ◌∷◌, [], Some, IfOk, OnOk, codes, map, option_map, string_bytes};
+ghost use Rattle.std.specs.Prelude.{
+  ◌≡◌,
+  ◌∷◌,
+  [],
+  Some,
+  IfOk,
+  OnOk,
+  codes,
+  map,
+  option_map,
+  string_bytes,
+};
 ghost use Rattle.serde_json.specs.Data.{array, item, no_items, string, put};
 ghost use Rattle.serde_json.specs.Read.{read};
 ghost use Rattle.serde_json.specs.View.{members_view, view};
 ghost use Rattle.serde_json.specs.Written.{compact_text};
 ghost use Rattle.json_tasks.specs.ReadBack.{TasksReadBack};
 ghost use Rattle.json_tasks.specs.TaskNames.{purpose_name, verdict_name};
-ghost use Rattle.json_tasks.specs.TaskData.{count_data, forms_data, locator_data, one_member, part_fields, place_data, put_fields, put_if, standing_fields, state_data, task_data, true_if};
+ghost use Rattle.json_tasks.specs.TaskData.{
+  count_data,
+  forms_data,
+  locator_data,
+  one_member,
+  part_fields,
+  place_data,
+  put_fields,
+  put_if,
+  standing_fields,
+  state_data,
+  task_data,
+  true_if,
+};
 
 use crate::task_names::{
     form_name, locator_name, purpose_name, repeats_name, usage_name, verdict_name,
@@ -47,7 +71,8 @@ fn name_value(alloc: Global, name: Option<&str>) -> Result<Option<Value>, AllocE
 }
 
 fn purpose_value(alloc: Global, purpose: Option<CitePurpose>) -> Result<Option<Value>, AllocError>
-    ensures { IfOk result (λ v. option_map view v ≡ option_map (λ p. string (purpose_name p)) purpose) }
+    ensures { IfOk result
+        (λ v. option_map view v ≡ option_map (λ p. string (purpose_name p)) purpose) }
 {
     match purpose {
         Some(purpose) => Ok(Some(Value::try_from_str(alloc, purpose_name(purpose))?)),
@@ -59,7 +84,8 @@ fn verdict_value(
     alloc: Global,
     verdict: Option<CollapseVerdict>,
 ) -> Result<Option<Value>, AllocError>
-    ensures { IfOk result (λ v. option_map view v ≡ option_map (λ d. string (verdict_name d)) verdict) }
+    ensures { IfOk result
+        (λ v. option_map view v ≡ option_map (λ d. string (verdict_name d)) verdict) }
 {
     match verdict {
         Some(verdict) => Ok(Some(Value::try_from_str(alloc, verdict_name(verdict))?)),

@@ -1,7 +1,19 @@
 //! How a task names the values of enums.
 ghost use Rattle.std.specs.Prelude.{◌≡◌, option_map};
 ghost use Rattle.json_values.specs.Tables.{AreRowsOf};
-ghost use Rattle.json_tasks.specs.TaskNames.{form_name, kinds, locator_name, written_name_forms, purpose_name, ibid_states, repeats_name, usage_name, usages, verdict_name, verdicts};
+ghost use Rattle.json_tasks.specs.TaskNames.{
+  form_name,
+  kinds,
+  locator_name,
+  written_name_forms,
+  purpose_name,
+  ibid_states,
+  repeats_name,
+  usage_name,
+  usages,
+  verdict_name,
+  verdicts,
+};
 
 use csl_base::names::DisambiguatedNameForm;
 use csl_base::taxonomy::Locator;

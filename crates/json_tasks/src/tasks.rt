@@ -6,7 +6,21 @@ ghost use Rattle.serde_json.specs.View.{view};
 ghost use Rattle.csl_lookup.specs.declared.state.DisambiguateState.TheVariants as states;
 ghost use Rattle.json_values.specs.Words.{optional, where_present, whole};
 ghost use Rattle.json_values.specs.Reads.{Faults, Reads};
-ghost use Rattle.json_tasks.specs.TaskForm.{cite_task_form, date_task_form, item_task_form, key_form, counted_locator_form, names_state, object_state, part_form, place_form, standing_form, state_form, state_named, suffix_state};
+ghost use Rattle.json_tasks.specs.TaskForm.{
+  cite_task_form,
+  date_task_form,
+  item_task_form,
+  key_form,
+  counted_locator_form,
+  names_state,
+  object_state,
+  part_form,
+  place_form,
+  standing_form,
+  state_form,
+  state_named,
+  suffix_state,
+};
 
 use crate::task_names::{KINDS, NAME_FORMS, REPEATS, TaskKind, USAGES, VERDICTS};
 use crate::wholes::{whole_at, whole_of};
@@ -37,7 +51,8 @@ const PLACES: &[(&str, ())] = &[("[request, item]", ())];
 #[tactic(auto, using(json_values::proofs::Ways::fails_outside))]
 fn whole_item(alloc: Global, item: &Value, place: usize) -> Result<usize, ReadError>
     ensures read { Reads (λ n. n) result (whole (view item.now)) }
-    ensures fault { (around : Data) → at place around ≡ Some (view item.now) → Faults result around }
+    ensures fault { (around : Data) → at place around ≡ Some (view item.now)
+        → Faults result around }
 {
     whole_of(alloc, item).map_err(|error| error.in_item(place))
 }
@@ -54,7 +69,8 @@ fn place_of(alloc: Global, value: &Value) -> Result<(usize, usize), ReadError>
 
 #[tactic(auto, using(json_values::proofs::Ways::fails_outside))]
 fn optional_place(alloc: Global, object: &Value) -> Result<Option<(usize, usize)>, ReadError>
-    ensures read { Reads (λ p. p) result (where_present place_form (codes "place") (view object.now)) }
+    ensures read { Reads (λ p. p) result
+        (where_present place_form (codes "place") (view object.now)) }
     ensures fault { Faults result (view object.now) }
 {
     match object.get("place") {

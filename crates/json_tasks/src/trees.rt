@@ -7,7 +7,20 @@ ghost use Rattle.csl_trees.specs.ChildView.{child_view};
 ghost use Rattle.json_values.specs.Words.{all_items, items_of_key};
 ghost use Rattle.json_values.specs.Reads.{Faults, Reads};
 ghost use Rattle.json_values.specs.Tables.{AreRowsOf};
-ghost use Rattle.json_tasks.specs.TreeForm.{font_styles, font_weights, full_formatting_form, text_or_link, text_child_form, markup_form, cite_mark_form, elem_form, node_over, node_form, NodesNest, tree_form};
+ghost use Rattle.json_tasks.specs.TreeForm.{
+  font_styles,
+  font_weights,
+  full_formatting_form,
+  text_or_link,
+  text_child_form,
+  markup_form,
+  cite_mark_form,
+  elem_form,
+  node_over,
+  node_form,
+  NodesNest,
+  tree_form,
+};
 
 use crate::metas::optional_meta;
 use crate::wholes::whole_at;
@@ -185,7 +198,8 @@ fn all_nodes(alloc: Global, items: &[Value]) -> Result<ElemChildren, ReadError>
 #[cycle(nodes)]
 #[tactic(auto, using(json_values::proofs::Ways::fails_outside))]
 fn children_at(alloc: Global, object: &Value) -> Result<ElemChildren, ReadError>
-    ensures read { Reads (λ t. t) result (items_of_key node_form (codes "children") (view object.now)) }
+    ensures read { Reads (λ t. t) result
+        (items_of_key node_form (codes "children") (view object.now)) }
     ensures fault { Faults result (view object.now) }
 {
     let list = required_list(alloc, object, "children")?;

@@ -8,7 +8,15 @@ ghost use Rattle.json_values.specs.Reads.{Faults, IsErrorOf, Reads};
 ghost use Rattle.json_styles.specs.NamedStyleView.{named_styles_view};
 ghost use Rattle.json_tasks.specs.Known.{knows, task_among};
 ghost use Rattle.json_tasks.specs.TreeForm.{tree_form};
-ghost use Rattle.json_tasks.specs.WrittenForm.{first_name_form, has_tree, table_form, table_of_written, with_first_tree, written_cite, written_form};
+ghost use Rattle.json_tasks.specs.WrittenForm.{
+  first_name_form,
+  has_tree,
+  table_form,
+  table_of_written,
+  with_first_tree,
+  written_cite,
+  written_form,
+};
 
 use crate::known::Known;
 use crate::task_names::{NAME_FORMS, USAGES};
@@ -198,14 +206,14 @@ fn table_of_items(alloc: Global, known: &Known<'_>, items: &[Value]) -> Result<T
     Ok(table)
 }
 
-/// What a host has written for a document with these styles and entries, as a table: of what is written
-/// for the same task the first stands in it.
+/// What a host has written for a document with these styles and entries, as a table: of what is
+/// written for the same task the first stands in it.
 ///
 /// # Errors
 ///
-/// Where the value is of another form, a task names a style or an entry that isn't among these, or a task
-/// stands twice in it with two different trees, each of which is refused by its place; and where memory is
-/// refused.
+/// Where the value is of another form, a task names a style or an entry that isn't among these, or
+/// a task stands twice in it with two different trees, each of which is refused by its place; and
+/// where memory is refused.
 pub fn table_of(
     alloc: Global,
     value: &Value,

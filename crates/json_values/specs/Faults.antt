@@ -33,7 +33,8 @@ kind (object ms) = found.Object
 abbrev pub has_key : List ℕ → Data → Bool
 has_key k d = option_map_or (λ ms. is_one_of (member_keys ms) k) (as_object d) false
 
--- this is what the value is, or what is with its keys; of a value nothing is said that is said of a text
+-- this is what the value is, or what is with its keys; of a value nothing is said that is said of a
+-- text
 abbrev pub IsFound : Found → Data → Type 0
 IsFound (found.UnknownKey k) d = has_key (string_bytes k) d ≡ true
 IsFound (found.MissingKey k) d = IsSome (as_object d) × (get (string_bytes k) d ≡ None)

@@ -12,7 +12,8 @@ use Rattle.json_values.specs.Tables.{NameTable, name_variables, date_variables, 
 -- the value of a name, by a table: that of the first row that has the name
 abbrev pub value_named : {A : Type 0} → NameTable A → List ℕ → Option A
 value_named [] name = None
-value_named (row ∷ rows) name = if pointwise nat_eq row.0 name then Some row.1 else value_named rows name
+value_named (row ∷ rows) name = if pointwise nat_eq row.0 name then Some row.1
+    else value_named rows name
 
 -- a text that names a value of the table
 abbrev pub one_of : {A : Type 0} → NameTable A → Data → Option A
@@ -45,4 +46,5 @@ locator_term_named name =
 abbrev pub term_named : List ℕ → Option Term
 term_named name =
     first_of (option_map Term.Other (value_named other_terms name))
-    (first_of (locator_term_named name) (option_map Term.NumberVariable (value_named number_variables name)))
+    (first_of (locator_term_named name)
+    (option_map Term.NumberVariable (value_named number_variables name)))

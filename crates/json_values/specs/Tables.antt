@@ -100,11 +100,13 @@ name_forms =
 
 -- whether letters are small capitals
 abbrev pub font_variants : NameTable FontVariant
-font_variants = (codes "normal", FontVariant.Normal) ∷ (codes "small-caps", FontVariant.SmallCaps) ∷ []
+font_variants = (codes "normal", FontVariant.Normal)
+    ∷ (codes "small-caps", FontVariant.SmallCaps) ∷ []
 
 -- whether a line stands under letters
 abbrev pub text_decorations : NameTable TextDecoration
-text_decorations = (codes "none", TextDecoration.None) ∷ (codes "underline", TextDecoration.Underline) ∷ []
+text_decorations = (codes "none", TextDecoration.None)
+    ∷ (codes "underline", TextDecoration.Underline) ∷ []
 
 -- where letters stand on their line
 abbrev pub vertical_aligns : NameTable VerticalAlign

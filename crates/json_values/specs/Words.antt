@@ -29,7 +29,8 @@ member_keys (member k d ms) = k ∷ member_keys ms
 
 -- an object that has no keys but these
 abbrev pub has_only : List (List ℕ) → Data → Bool
-has_only keys d = option_map_or (λ ms. list_all (is_one_of keys) (member_keys ms)) (as_object d) false
+has_only keys d = option_map_or (λ ms. list_all (is_one_of keys) (member_keys ms))
+    (as_object d) false
 
 -- the value, if it is such an object
 abbrev pub object_with : List (List ℕ) → Data → Option Data
@@ -106,7 +107,8 @@ within_bounds low high z = if int_le low z && int_le z high then Some z else Non
 
 -- a whole number between these bounds, without fraction and exponent
 abbrev pub whole_between : ℤ → ℤ → Data → Option ℤ
-whole_between low high d = option_and_then (within_bounds low high) (option_and_then as_i64 (as_number d))
+whole_between low high d =
+    option_and_then (within_bounds low high) (option_and_then as_i64 (as_number d))
 
 -- a text that names what f finds
 abbrev pub name_form : {A : Type 0} → (List ℕ → Option A) → Data → Option A

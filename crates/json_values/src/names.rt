@@ -2,7 +2,13 @@
 ghost use Rattle.std.specs.Prelude.{◌≡◌};
 ghost use Rattle.serde_json.specs.View.{view};
 ghost use Rattle.json_values.specs.Words.{name_form};
-ghost use Rattle.json_values.specs.Names.{value_named, rows_view, variable_named, locator_term_named, term_named};
+ghost use Rattle.json_values.specs.Names.{
+  value_named,
+  rows_view,
+  variable_named,
+  locator_term_named,
+  term_named,
+};
 ghost use Rattle.json_values.specs.Reads.{Faults, Reads};
 
 use crate::error::ReadError;

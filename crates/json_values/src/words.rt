@@ -1,12 +1,37 @@
-//! Readers of the parts of a JSON value. Each refuses, as a document, what isn't of its form, and says
-//! where it is wrong.
-ghost use Rattle.std.specs.Prelude.{◌≡◌, ◌≤ℤ◌, map, Some, None, IfOk, MatchOption, option_map, string_bytes, true, false};
+//! Readers of the parts of a JSON value. Each refuses, as a document, what isn't of its form, and
+//! says where it is wrong.
+ghost use Rattle.std.specs.Prelude.{
+  ◌≡◌,
+  ◌≤ℤ◌,
+  map,
+  Some,
+  None,
+  IfOk,
+  MatchOption,
+  option_map,
+  string_bytes,
+  true,
+  false,
+};
 ghost use Rattle.std.specs.List.{list_all};
 ghost use Rattle.serde_json.specs.Data.{array, no_items};
 ghost use Rattle.serde_json.specs.View.{view, items_view, members_view};
 ghost use Rattle.serde_json.specs.Find.{as_array, as_str, as_bool};
 ghost use Rattle.csl_style_values.specs.StyleView.{code_view};
-ghost use Rattle.json_values.specs.Words.{all_items, object_with, required, optional, where_present, flag, is_one_of, items_of_key, member_keys, optional_items, whole, whole_between};
+ghost use Rattle.json_values.specs.Words.{
+  all_items,
+  object_with,
+  required,
+  optional,
+  where_present,
+  flag,
+  is_one_of,
+  items_of_key,
+  member_keys,
+  optional_items,
+  whole,
+  whole_between,
+};
 ghost use Rattle.json_values.specs.Names.{one_of, rows_view};
 ghost use Rattle.json_values.specs.Reads.{Faults, Reads};
 
@@ -52,7 +77,8 @@ pub fn object_with<'v>(
     keys: &[&str],
     value: &'v Value,
 ) -> Result<&'v Value, ReadError>
-    ensures read { Reads (λ v. view v.now) result (object_with (map (λ k. k.now) keys.now) (view value.now)) }
+    ensures read { Reads (λ v. view v.now) result
+        (object_with (map (λ k. k.now) keys.now) (view value.now)) }
     ensures fault { Faults result (view value.now) }
     ensures same { IfOk result (λ v. v.now ≡ value.now) }
 {
@@ -117,7 +143,8 @@ pub fn required_list<'v>(
     value: &'v Value,
     key: &str,
 ) -> Result<&'v [Value], ReadError>
-    ensures read { Reads (λ v. items_view v.now) result (required as_array key.now (view value.now)) }
+    ensures read { Reads (λ v. items_view v.now) result
+        (required as_array key.now (view value.now)) }
     ensures fault { Faults result (view value.now) }
 {
     match value.get(key) {
@@ -209,7 +236,8 @@ pub fn text_at(alloc: Global, value: &Value, key: &str) -> Result<String, ReadEr
 /// A copy of the text of the key, if the key is there.
 #[tactic(auto, using(crate::proofs::Ways::fails_outside))]
 pub fn optional_text(alloc: Global, value: &Value, key: &str) -> Result<Option<String>, ReadError>
-    ensures read { Reads (option_map string_bytes) result (where_present as_str key.now (view value.now)) }
+    ensures read { Reads (option_map string_bytes) result
+        (where_present as_str key.now (view value.now)) }
     ensures fault { Faults result (view value.now) }
 {
     match value.get(key) {
@@ -228,7 +256,8 @@ pub fn optional_code(
     value: &Value,
     key: &str,
 ) -> Result<Option<LocaleCode>, ReadError>
-    ensures read { Reads (option_map code_view) result (where_present as_str key.now (view value.now)) }
+    ensures read { Reads (option_map code_view) result
+        (where_present as_str key.now (view value.now)) }
     ensures fault { Faults result (view value.now) }
 {
     match value.get(key) {
@@ -333,7 +362,8 @@ pub fn name_at<T: Copy>(
     value: &Value,
     key: &str,
 ) -> Result<T, ReadError>
-    ensures read { Reads (λ x. x) result (required (one_of (rows_view rows.now)) key.now (view value.now)) }
+    ensures read { Reads (λ x. x) result
+        (required (one_of (rows_view rows.now)) key.now (view value.now)) }
     ensures fault { Faults result (view value.now) }
 {
     match value.get(key) {

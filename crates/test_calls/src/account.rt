@@ -3,7 +3,7 @@
 use csl_base::entry::{EntryLike, PlainEntry};
 use csl_base::names::DisambiguatedNameForm;
 use csl_driver::account::Account;
-use csl_driver::error::{DriverError, RingPlace};
+use csl_driver::error::{DriverError, RingLocation};
 use csl_driver::state::DisambiguateState;
 
 fn form_word(form: DisambiguatedNameForm) -> &'static str {
@@ -36,8 +36,8 @@ pub(crate) fn print_state(rt: &impl Print, state: &DisambiguateState) {
     }
 }
 
-/// Prints the renderings and the rounds, and of each entry its key, its number and by what it is told
-/// apart.
+/// Prints the renderings and the rounds, and of each entry its key, its number and by what it is
+/// told apart.
 pub fn print_account(rt: &impl Print, account: &Account<'_, PlainEntry>) {
     let _ = println!(rt; "renders {}, rounds {}", account.renders, account.rounds);
     for (place, entry) in account.entries.iter().enumerate() {
@@ -56,16 +56,16 @@ pub fn print_account(rt: &impl Print, account: &Account<'_, PlainEntry>) {
 pub fn print_refusal(rt: &impl Print, error: &DriverError) {
     match error {
         DriverError::MacroRing {
-            place: RingPlace::Request(request),
-            macro_idx,
+            place: RingLocation::Request(request),
+            macro_index,
         } => {
-            let _ = println!(rt; "ring of macro {macro_idx} in the style of request {request}");
+            let _ = println!(rt; "ring of macro {macro_index} in the style of request {request}");
         }
         DriverError::MacroRing {
-            place: RingPlace::Bibliography,
-            macro_idx,
+            place: RingLocation::Bibliography,
+            macro_index,
         } => {
-            let _ = println!(rt; "ring of macro {macro_idx} in the style of the bibliography");
+            let _ = println!(rt; "ring of macro {macro_index} in the style of the bibliography");
         }
         DriverError::NumberOverflow => {
             let _ = println!(rt; "number overflow");

@@ -351,7 +351,8 @@ fn compare_requests(rt: &impl Print, requests: &[Request<'_>]) -> Result<(), All
     Ok(())
 }
 
-/// Compares the requests with the first one, and that for the bibliography with one for its style alone.
+/// Compares the requests with the first one, and that for the bibliography with one for its style
+/// alone.
 fn compare<'e, 'f: 'e>(
     rt: &(impl Print + AllocGlobal),
     job: &'e Job<'f>,
@@ -448,7 +449,8 @@ pub fn written_out(
     Ok(Seen::Answer)
 }
 
-/// Answers the document by `run`, over a writer that fails behind so many bytes, and prints what went out.
+/// Answers the document by `run`, over a writer that fails behind so many bytes, and prints what
+/// went out.
 pub fn written_until(
     rt: &(impl Print + AllocGlobal),
     document: &str,
@@ -465,7 +467,8 @@ pub fn written_until(
     Ok(Seen::Answer)
 }
 
-/// Reads the document a byte at each read, to its end or to a failure there, and prints what was read.
+/// Reads the document a byte at each read, to its end or to a failure there, and prints what was
+/// read.
 pub fn read_slowly(
     rt: &(impl Print + AllocGlobal),
     document: &str,

@@ -1,5 +1,6 @@
-//! Calls that take no memory. Each is named before it is made, and `prepare` stands before what it needs:
-//! growths of memory are refused in turn, and none may be between a call's name and the next line.
+//! Calls that take no memory. Each is named before it is made, and `prepare` stands before what it
+//! needs: growths of memory are refused in turn, and none may be between a call's name and the next
+//! line.
 ghost use Rattle.std.specs.Prelude.{◌≡◌, length};
 ghost use Rattle.csl_context.specs.WritingState.{state};
 
@@ -258,7 +259,8 @@ fn flags(rt: &impl Eprint, context: &mut Context<'_, PlainEntry, Infallible>) {
     context.stop_stripping_periods();
 }
 
-/// Takes off what is pushed, and changes the flags; tells whether the context is as high as before then.
+/// Takes off what is pushed, and changes the flags; tells whether the context is as high as before
+/// then.
 fn taken_off<'a>(
     rt: &impl Eprint,
     context: &mut Context<'a, PlainEntry, Infallible>,
@@ -459,8 +461,8 @@ fn stacks(rt: &(impl Eprint + AllocGlobal)) -> Result<bool, AllocError> {
 
 // ---- entries and years
 
-/// Whether an entry of the key a, by Doe, issued in 1999 in volume 2, with the title X and the label L
-/// answers so.
+/// Whether an entry of the key a, by Doe, issued in 1999 in volume 2, with the title X and the
+/// label L answers so.
 fn answers(rt: &impl Eprint, entry: &PlainEntry) -> bool {
     named(rt, "key");
     let key = entry.key() == "a";
@@ -523,8 +525,8 @@ fn calls_of_trees(rt: &(impl Eprint + AllocGlobal)) -> Result<bool, AllocError> 
     Ok(looked_at(rt)? && written(rt)? && compared(rt)? && children(rt)? && stacks(rt)?)
 }
 
-/// Makes each call that takes no memory, of these requests, an entry of theirs and these files; tells
-/// whether each gave what it must. Where one doesn't, it is the last that is named.
+/// Makes each call that takes no memory, of these requests, an entry of theirs and these files;
+/// tells whether each gave what it must. Where one doesn't, it is the last that is named.
 pub fn calls_without_memory(
     rt: &(impl Eprint + AllocGlobal),
     requests: &[Request<'_>],

@@ -1,11 +1,11 @@
 //! Answers a document call by call, for what no document shows: what an answer cost and by what its
-//! entries are disambiguated, where a ring stands, citations and passes by themselves, writers and readers
-//! that fail, and runs in which one growth of memory is refused.
+//! entries are disambiguated, where a ring stands, citations and passes by themselves, writers and
+//! readers that fail, and runs in which one growth of memory is refused.
 //!
-//! The first line of standard input says what is done (a number: `run`, over a writer that fails behind so
-//! many bytes), and the document follows. Before each call its name is written to standard error, and at the
-//! end a line that says what was seen; the exit status tells that too. What was answered goes to standard
-//! output.
+//! The first line of standard input says what is done (a number: `run`, over a writer that fails
+//! behind so many bytes), and the document follows. Before each call its name is written to
+//! standard error, and at the end a line that says what was seen; the exit status tells that too.
+//! What was answered goes to standard output.
 #![tactic(auto)]
 
 mod account;

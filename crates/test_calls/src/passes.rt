@@ -204,8 +204,8 @@ fn print_cite(rt: &impl Print, cite: &Cite<'_>) {
     let _ = println!(rt; "{}", cite.rendered);
 }
 
-/// Groups and collapses the cites of a request, and prints them; tells whether those of a refused call are
-/// as others that were made alike.
+/// Groups and collapses the cites of a request, and prints them; tells whether those of a refused
+/// call are as others that were made alike.
 fn group_one(
     rt: &(impl Print + Eprint + AllocGlobal),
     cites: &mut Cites<'_, '_>,

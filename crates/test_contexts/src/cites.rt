@@ -1,5 +1,5 @@
-//! Calls that render a cite or a date without a driver, and a copy of an element, of each entry of a
-//! document. Each is named before it is made.
+//! Calls that render a cite or a date without a driver, and a copy of an element, of each entry of
+//! a document. Each is named before it is made.
 ghost use Rattle.std.specs.Prelude.{IfOk};
 ghost use Rattle.csl_style_values.specs.Ring.{HasNoRing};
 ghost use Rattle.csl_writing.specs.ContextSource.{context_source};

@@ -1,6 +1,6 @@
-//! Calls of a writing context, each of which leaves the stacks as high as they were where it is refused.
-//! Each is made in a context of its own, whose text fills the room that is there from the start, and is
-//! named before it is made.
+//! Calls of a writing context, each of which leaves the stacks as high as they were where it is
+//! refused. Each is made in a context of its own, whose text fills the room that is there from the
+//! start, and is named before it is made.
 ghost use Rattle.std.specs.Prelude.{◌≡◌, ◌+◌, IfOk, length};
 ghost use Rattle.csl_context.specs.WritingState.{state};
 
@@ -219,7 +219,8 @@ fn apply_prefix(
 
 /// A prefix, behind which the text fills its room.
 fn prefixed(asked: Asked<'_>, context: &mut Writing<'_>) -> Result<(DisplayLoc, usize), AllocError>
-    ensures { IfOk result (λ prefix. prefix.0.frames + 1 ≡ length (state context.new.writing).frames) }
+    ensures { IfOk result
+        (λ prefix. prefix.0.frames + 1 ≡ length (state context.new.writing).frames) }
 {
     let prefix = context.writing.apply_prefix(asked.affixes)?;
     context.push_str(FULL)?;
@@ -291,8 +292,8 @@ fn all(rt: &impl Eprint, asked: Asked<'_>) -> Result<(), Ended> {
     flush(rt, asked)
 }
 
-/// Makes the calls of a context that take memory, in this style, and tells why they ended before their
-/// end.
+/// Makes the calls of a context that take memory, in this style, and tells why they ended before
+/// their end.
 pub fn keep_heights(
     rt: &(impl Eprint + AllocGlobal),
     style: &IndependentStyle,

@@ -1,10 +1,11 @@
-//! Calls of a writing context by itself, in the first style of a document: what each call writes, that what
-//! is pushed comes off again, and that the stacks are as high as before where a call is refused; and calls
-//! that render an entry without a driver.
+//! Calls of a writing context by itself, in the first style of a document: what each call writes,
+//! that what is pushed comes off again, and that the stacks are as high as before where a call is
+//! refused; and calls that render an entry without a driver.
 //!
-//! The first line of standard input says which of it is looked at (`context`, `heights`, `cites`), and the
-//! document follows. Before each call its name is written to standard error, and at the end a line that says
-//! what was seen; the exit status tells that too. What the calls write goes to standard output.
+//! The first line of standard input says which of it is looked at (`context`, `heights`, `cites`),
+//! and the document follows. Before each call its name is written to standard error, and at the end
+//! a line that says what was seen; the exit status tells that too. What the calls write goes to
+//! standard output.
 #![tactic(auto)]
 
 mod cites;

@@ -18,12 +18,13 @@ pub record StandAtOnePlace {E : Type 0} (account : Account E) (e : E) (number : 
   pub entry : slice_get (map (λ e. e.now) account.entries.items) place ≡ Some e
   pub numbered : slice_get account.numbers.items place ≡ Some number
 
--- wherever collapsing hid the cites between two shown ones with these two numbers, it hid the numbers of the
--- list
+-- wherever collapsing hid the cites between two shown ones with these two numbers, it hid the
+-- numbers of the list
 abbrev pub AreHiddenBetween : (E P : Type 0) → ℕ → ℕ → List ℕ → Type 0
 AreHiddenBetween E P first last numbers =
     (cites drawn : List (ItemRender E P)) (collapse : Option Collapse) (p q k : ℕ)
-    → CanBeReadBack cites drawn collapse → AreNextShown cites drawn p q → p < k → k < q → WasHid cites drawn k
+    → CanBeReadBack cites drawn collapse → AreNextShown cites drawn p q → p < k → k < q
+    → WasHid cites drawn k
     → slice_index (numbers_of drawn) p ≡ first → slice_index (numbers_of drawn) q ≡ last
     → slice_range (numbers_of drawn) (p + 1) q ≡ numbers
 
@@ -46,9 +47,11 @@ module _ {E P : Type 0} (eq : E → E → Bool) (payload_eq : P → P → Bool) 
     pub in_group : GetsSuffixInGroup mode eq writing firsts (table_of_round round)
         (table_of_round (round + 1)) entry
 
-  -- so did the entries at two places, and where they got them in one group of one round, these letters differ
+  -- so did the entries at two places, and where they got them in one group of one round, these
+  -- letters differ
   pub record GotLetters (first second : ℕ) (letters others : List ℕ) : Type 0 where
     pub one : GotSuffix first
     pub other : GotSuffix second
-    pub differ : first ≢ second → one.round ≡ other.round → one.in_group.group ≡ other.in_group.group
+    pub differ : first ≢ second → one.round ≡ other.round
+        → one.in_group.group ≡ other.in_group.group
         → letters ≢ others

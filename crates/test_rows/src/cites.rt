@@ -113,7 +113,8 @@ fn are_pieces_and_a_mark(children: &[ElemChild]) -> bool {
     }
 }
 
-/// The pieces of a text are written together, a formula as markup, and the caller's own locator is a mark.
+/// The pieces of a text are written together, a formula as markup, and the caller's own locator is
+/// a mark.
 #[test]
 fn pieces_and_marks(rt: HostRuntime) -> Result<(), Fail> {
     let cite = located(rt.alloc())?;

@@ -1,5 +1,25 @@
 //! Callers that rely on the laws of an answer, and on nothing that says how it is made.
-ghost use Rattle.std.specs.Prelude.{◌≡◌, ◌≢◌, ◌+◌, ◌≤◌, ◌<◌, Bool, IfOk, IfSome, IsSome, List, Some, ℕ, length, map, nat_eq, option_and_then, position, slice_get, string_bytes};
+ghost use Rattle.std.specs.Prelude.{
+  ◌≡◌,
+  ◌≢◌,
+  ◌+◌,
+  ◌≤◌,
+  ◌<◌,
+  Bool,
+  IfOk,
+  IfSome,
+  IsSome,
+  List,
+  Some,
+  ℕ,
+  length,
+  map,
+  nat_eq,
+  option_and_then,
+  position,
+  slice_get,
+  string_bytes,
+};
 ghost use Rattle.csl_assembly.specs.declared.rendered.Rendered.{Rendered};
 ghost use Rattle.csl_collapse.specs.NumberLaws.{between};
 ghost use Rattle.csl_driver.specs.Answer.{Job};
@@ -27,12 +47,13 @@ fn place_of(numbers: &[usize], number: usize) -> Option<usize>
     numbers.iter().position(|each| *each == number)
 }
 
-/// The entry of an account that has this number; none where no entry has it. In the account of an answer each
-/// number from the offset on, as many as there are entries, is that of an entry.
+/// The entry of an account that has this number; none where no entry has it. In the account of an
+/// answer each number from the offset on, as many as there are entries, is that of an entry.
 pub fn entry_of_number<'a, T: EntryLike>(account: &Account<'a, T>, number: usize) -> Option<&'a T>
     ensures own { IfSome result (λ e. StandAtOnePlace account.now e.now number) }
     ensures each { (offset : ℕ)
-        → HaveNumbersOnce T.eq offset (map (λ e. e.now) account.now.entries.items) account.now.numbers.items
+        → HaveNumbersOnce T.eq offset (map (λ e. e.now) account.now.entries.items)
+        account.now.numbers.items
         → offset ≤ number → number < offset + length account.now.entries.items → IsSome result }
 {
     let place = place_of(&account.numbers, number)?;
@@ -56,8 +77,8 @@ fn numbers_between(alloc: Global, first: usize, last: usize) -> Result<Vec<usize
     Ok(numbers)
 }
 
-/// The numbers that a reader finds between two shown numbers that collapsing drew together, by these two
-/// alone.
+/// The numbers that a reader finds between two shown numbers that collapsing drew together, by
+/// these two alone.
 ///
 /// # Errors
 /// Where memory is refused.
@@ -82,9 +103,9 @@ fn suffix_at(states: &[DisambiguateState], place: usize) -> Option<usize>
     }
 }
 
-/// The letters of the suffixes that the entries at two places of an account have; none where one of them has
-/// no suffix. In the account of an answer each got its suffix in a round, in a group of cites that read alike;
-/// where they got them in one group of one round the letters differ.
+/// The letters of the suffixes that the entries at two places of an account have; none where one of
+/// them has no suffix. In the account of an answer each got its suffix in a round, in a group of
+/// cites that read alike; where they got them in one group of one round the letters differ.
 ///
 /// # Errors
 /// Where memory is refused.
@@ -113,8 +134,8 @@ pub fn letters_of_two<'a, T: EntryLike, P: Eq>(
     }
 }
 
-/// The letters of the entries at two places of the account of an answer. Where one round marked they differ;
-/// where more marked, or one of the entries has none, no letters are given.
+/// The letters of the entries at two places of the account of an answer. Where one round marked
+/// they differ; where more marked, or one of the entries has none, no letters are given.
 ///
 /// # Errors
 /// Those of `finish_counted`, and where memory is refused.
@@ -126,7 +147,8 @@ pub fn letters_in_answer<'a, T: EntryLike, P: Eq + Drop>(
     second: usize,
 ) -> Result<Option<(String, String)>, DriverError>
     requires { first ≢ second }
-    ensures { IfOk result (λ o. IfSome o (λ letters. string_bytes letters.0 ≢ string_bytes letters.1)) }
+    ensures { IfOk result
+        (λ o. IfSome o (λ letters. string_bytes letters.0 ≢ string_bytes letters.1)) }
 {
     let (_rendered, account) = driver.finish_counted(request)?;
     if account.rounds != 1 {

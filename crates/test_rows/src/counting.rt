@@ -253,8 +253,8 @@ fn asked_by(alloc: Global, style: &IndependentStyle, part: Part) -> Result<u64, 
     Ok(cited.asked.get())
 }
 
-/// How often the first rendering and the last one of a cite for each purpose ask. The last one of a cite
-/// of the year alone is its date.
+/// How often the first rendering and the last one of a cite for each purpose ask. The last one of a
+/// cite of the year alone is its date.
 fn asked_by_purposes(alloc: Global, style: &IndependentStyle) -> Result<u64, Fail> {
     let date = asked_by(alloc, style, Part::Date)?;
     let mut asked = asked_by(alloc, style, Part::Cite(Some(CitePurpose::Year), None))?;
@@ -298,8 +298,8 @@ fn renders_of_cites(
     Ok(account.renders)
 }
 
-/// Whether three cites of two entries that read alike are rendered nine times: at first, once more where
-/// a letter was added to each, and at last. Each rendering asks for the title and the date.
+/// Whether three cites of two entries that read alike are rendered nine times: at first, once more
+/// where a letter was added to each, and at last. Each rendering asks for the title and the date.
 fn counts_cites(alloc: Global, style: &IndependentStyle) -> Result<bool, Fail> {
     let cite = asked_by(alloc, style, Part::Cite(None, None))?;
     let entries = all_titled(alloc, &[("a", "X", 1999), ("b", "X", 1999)])?;
@@ -332,8 +332,8 @@ fn renders_of_all(
     Ok(account.renders)
 }
 
-/// How often these are to ask: nine renderings of cites, two for each purpose, and one for each item of the
-/// bibliography, which has the key besides.
+/// How often these are to ask: nine renderings of cites, two for each purpose, and one for each
+/// item of the bibliography, which has the key besides.
 fn asked_by_all(alloc: Global, style: &IndependentStyle) -> Result<u64, Fail> {
     let cite = asked_by(alloc, style, Part::Cite(None, None))?;
     if asked_by(alloc, style, Part::Item)? != 1 {
@@ -370,7 +370,8 @@ fn renders_of_both(
     Ok(account.renders)
 }
 
-/// Whether two cites of one author, of which the second is cut to its year at last, are rendered twice each.
+/// Whether two cites of one author, of which the second is cut to its year at last, are rendered
+/// twice each.
 fn counts_collapsed(alloc: Global, style: &IndependentStyle) -> Result<bool, Fail> {
     let cite = asked_by(alloc, style, Part::Cite(None, None))?;
     let cut = asked_by(alloc, style, Part::Cite(None, Some(CollapseVerdict::First)))?;

@@ -1,5 +1,5 @@
-//! The whole answer, as far as no document tells it: entries that are equal at two places, note numbers and
-//! marks; and its laws.
+//! The whole answer, as far as no document tells it: entries that are equal at two places, note
+//! numbers and marks; and its laws.
 use csl_base::elem::{ElemChildren, ElemMeta};
 use csl_base::entry::PlainEntry;
 use csl_base::style::{IndependentStyle, StyleClass};
@@ -9,10 +9,10 @@ use csl_driver::error::error_equality_decides;
 use csl_driver::item::CitationItem;
 use csl_driver::laws::{
     ambiguous_stand_together, answer_equality_decides, answers_copy_equal, answers_keep_laws,
-    bibliography_holds_each_once, choose_and_suffix_go_on, final_order_laws,
-    first_equality_decides, item_equality_decides, items_copy_equal, name_marks_go_on,
-    numbers_have_no_gaps, properties_equality_decides, request_equality_decides,
-    suffixes_count_entries, wanted_equality_decides,
+    bibliography_holds_each_once, bibliography_request_equality_decides, choose_and_suffix_go_on,
+    final_order_laws, first_equality_decides, item_equality_decides, items_copy_equal,
+    name_marks_go_on, numbers_have_no_gaps, properties_equality_decides, request_equality_decides,
+    suffixes_count_entries,
 };
 use csl_driver::mode::mode_equality_decides;
 use csl_driver::rendered::Rendered;
@@ -95,7 +95,7 @@ fn laws() {
     items_copy_equal::<PlainEntry, Infallible>();
     item_equality_decides::<PlainEntry, Infallible>();
     request_equality_decides::<PlainEntry, Infallible>();
-    wanted_equality_decides::<PlainEntry>();
+    bibliography_request_equality_decides::<PlainEntry>();
     properties_equality_decides::<Infallible>();
     first_equality_decides();
     heights_equality_decides();

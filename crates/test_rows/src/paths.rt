@@ -101,7 +101,7 @@ pub mod of_driver {
     pub use csl_driver::entry::PlainEntry;
     pub use csl_driver::error::CitationRefused;
     pub use csl_driver::error::DriverError;
-    pub use csl_driver::error::RingPlace;
+    pub use csl_driver::error::RingLocation;
     pub use csl_driver::error::error_equality_decides;
     pub use csl_driver::formatting::Display;
     pub use csl_driver::formatting::FontStyle;
@@ -118,6 +118,7 @@ pub mod of_driver {
     pub use csl_driver::laws::answers_copy_equal;
     pub use csl_driver::laws::answers_keep_laws;
     pub use csl_driver::laws::bibliography_holds_each_once;
+    pub use csl_driver::laws::bibliography_request_equality_decides;
     pub use csl_driver::laws::choose_and_suffix_go_on;
     pub use csl_driver::laws::collapsed_can_be_read_back;
     pub use csl_driver::laws::final_order_laws;
@@ -131,7 +132,6 @@ pub mod of_driver {
     pub use csl_driver::laws::request_equality_decides;
     pub use csl_driver::laws::runs_are_lawful;
     pub use csl_driver::laws::suffixes_count_entries;
-    pub use csl_driver::laws::wanted_equality_decides;
     pub use csl_driver::locale::Locale;
     pub use csl_driver::locale::LocaleCode;
     pub use csl_driver::locale::LocalizedTerm;

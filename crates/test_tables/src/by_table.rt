@@ -1,7 +1,7 @@
-//! A document answered by the layouts of its styles, and again from a table of what these wrote, in styles
-//! that have a name in place of their layouts: answer and account have to be the same. Then each thing is
-//! taken out of the table, one at a time, and exactly that has to be missing; and a source that has what is in
-//! the table is asked for what an empty one lacks.
+//! A document answered by the layouts of its styles, and again from a table of what these wrote, in
+//! styles that have a name in place of their layouts: answer and account have to be the same. Then
+//! each thing is taken out of the table, one at a time, and exactly that has to be missing; and a
+//! source that has what is in the table is asked for what an empty one lacks.
 
 use crate::filling::fill_from;
 use crate::hosting::host_styles;

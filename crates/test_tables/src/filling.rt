@@ -58,8 +58,9 @@ fn has_all(whole: &Table, table: &Table) -> bool {
     whole.keys().all(|key| table.contains_key(key))
 }
 
-/// Begins with an empty table and has the source write what is missing, until nothing is: after three calls more
-/// than rounds mark the answer has to be that of the layouts, and all that they wrote has to be asked for.
+/// Begins with an empty table and has the source write what is missing, until nothing is: after
+/// three calls more than rounds mark the answer has to be that of the layouts, and all that they
+/// wrote has to be asked for.
 pub fn fill_from(
     asking: &Asking<'_, '_>,
     whole: &Table,

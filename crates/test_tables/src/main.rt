@@ -1,12 +1,12 @@
-//! Answers a document by the layouts of its styles, and again from a table of what these wrote, in styles that
-//! have a name in place of their layouts.
+//! Answers a document by the layouts of its styles, and again from a table of what these wrote, in
+//! styles that have a name in place of their layouts.
 //!
-//! The first line of standard input says what is done, and the document follows: `table` compares the answers,
-//! takes each thing out of the table, and fills another one from it; `finish N`, `drive N` and `fill N` make N
-//! answers by layouts, from the table, or by a source that has what is in it, for whoever measures how long
-//! these take. Before each call its name is written
-//! to standard error, and at the end a line that says what was seen; the exit status tells that too. The answer
-//! from the table goes to standard output.
+//! The first line of standard input says what is done, and the document follows: `table` compares
+//! the answers, takes each thing out of the table, and fills another one from it; `finish N`,
+//! `drive N` and `fill N` make N answers by layouts, from the table, or by a source that has what
+//! is in it, for whoever measures how long these take. Before each call its name is written to
+//! standard error, and at the end a line that says what was seen; the exit status tells that too.
+//! The answer from the table goes to standard output.
 #![tactic(auto)]
 
 mod by_table;

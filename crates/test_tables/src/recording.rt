@@ -15,8 +15,8 @@ use indexmap::IndexMap;
 use json_styles::styles::NamedStyle;
 use std::alloc::{AllocError, Global};
 
-/// Writes by the layouts of styles, and puts what it writes into a table, under the names that a document
-/// gives its styles.
+/// Writes by the layouts of styles, and puts what it writes into a table, under the names that a
+/// document gives its styles.
 #[derive(Drop)]
 pub struct Recorder<'s> {
     layouts: LayoutWriter,

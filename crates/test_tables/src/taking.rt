@@ -24,7 +24,8 @@ fn put(table: &mut Table, key: TaskKey, written: Cite) -> Result<(), RunError> {
     }
 }
 
-/// Whether exactly the first thing is missing once it is taken out; then it is put back, at the end.
+/// Whether exactly the first thing is missing once it is taken out; then it is put back, at the
+/// end.
 fn misses_first(asking: &Asking<'_, '_>, table: &mut Table) -> Result<bool, RunError> {
     let Some((key, written)) = table.shift_remove_index(0) else {
         return Ok(false);

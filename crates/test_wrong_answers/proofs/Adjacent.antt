@@ -4,7 +4,8 @@ use Rattle.std.specs.Prelude.{Bool, codes, slice_get, slice_index}
 use Rattle.std.specs.Option.{option_map_or}
 use Rattle.std.proofs.lemmas.List.Sorted.{IsPermutation-swap, IsPermutation-trans}
 use Rattle.csl_trees.specs.Child.{Child, text}
-use Rattle.csl_trees.specs.EqualTrees.{elem_Decides, same_elem}
+use Rattle.csl_trees.specs.SameElem.{same_elem}
+use Rattle.csl_trees.proofs.EqualTrees.{elem_Decides}
 use Rattle.csl_trees.specs.declared.elem.Elem.{Elem}
 use Rattle.csl_grouping.specs.FinalOrder.{HasFinalOrder}
 use Rattle.csl_grouping.specs.Laws.{StandsTogether, bare}

@@ -16,7 +16,7 @@ use Rattle.csl_passes.specs.Request.{RequestedCite, with_places}
 use Rattle.csl_round_laws.specs.declared.mode.RoundMode.{RoundMode}
 use Rattle.test_wrong_answers.proofs.Differ.{above, below}
 use Rattle.test_wrong_answers.proofs.OfRequests.{AllAnswer, IsOnly, all-answer, only}
-use Rattle.test_wrong_answers.specs.Cites.{both_the_first, drawn_together_all_the_same, hidden_one, of_three, shown_after_all, two, with_a_purpose}
+use Rattle.test_wrong_answers.specs.Cites.{both_the_first, collapsed_all_the_same, hidden_one, of_three, shown_after_all, two, with_a_purpose}
 use Rattle.test_wrong_answers.specs.Letters.{asked_cite, letters, request, shows}
 use Rattle.test_wrong_answers.specs.Samples.{entry}
 use Rattle.test_wrong_answers.specs.Silent.{same_sample}
@@ -120,11 +120,11 @@ module _ (items drawn : List (ItemRender Sample ℕ)) (own : IsPermutation three
       ∙ sum_by-IsPermutation one_if_shown three_cites (map cite_of items) own
 
 -- cites are drawn together though one has a purpose
-pub drawn-together : (account : Account Sample) → ¬ KeepsLaws same_sample nat_eq letters three with_a_purpose (drawn_together_all_the_same, account)
+pub drawn-together : (account : Account Sample) → ¬ KeepsLaws same_sample nat_eq letters three with_a_purpose (collapsed_all_the_same, account)
 drawn-together account h =
     let c = h.citations in
-    let all : AllAnswer letters 0 with_a_purpose.requests drawn_together_all_the_same.citations =
-    all-answer letters 0 with_a_purpose.requests c.settled c.drawn drawn_together_all_the_same.citations c.asked_for c.runs c.own_cites c.made c.shows in
+    let all : AllAnswer letters 0 with_a_purpose.requests collapsed_all_the_same.citations =
+    all-answer letters 0 with_a_purpose.requests c.settled c.drawn collapsed_all_the_same.citations c.asked_for c.runs c.own_cites c.made c.shows in
     let first = all.0 in
     let request_is = sym first.read.same_request ∙ first.same_request in
     let own : IsPermutation three_cites (map cite_of first.settled.items) = subst (λ r. IsPermutation (with_places r).cites (map cite_of first.settled.items)) request_is first.own in

@@ -43,9 +43,10 @@ with_a_purpose = job (of_three ∷ [])
 
 -- A; B; C
 abbrev pub one_by_one : Rendered
-one_by_one = answer (citation (shows 0 0 ∷ words (codes "; ") ∷ shows 1 1 ∷ words (codes "; ") ∷ shows 2 2 ∷ [])
+one_by_one = answer (citation
+    (shows 0 0 ∷ words (codes "; ") ∷ shows 1 1 ∷ words (codes "; ") ∷ shows 2 2 ∷ [])
     ∷ [])
 
 -- A–C
-abbrev pub drawn_together_all_the_same : Rendered
-drawn_together_all_the_same = answer (citation (shows 0 0 ∷ words en_dash ∷ shows 2 2 ∷ []) ∷ [])
+abbrev pub collapsed_all_the_same : Rendered
+collapsed_all_the_same = answer (citation (shows 0 0 ∷ words en_dash ∷ shows 2 2 ∷ []) ∷ [])

@@ -1,4 +1,5 @@
--- What is asked by two requests of one cite each, in a style whose layout is empty, and what that costs.
+-- What is asked by two requests of one cite each, in a style whose layout is empty, and what that
+-- costs.
 use Rattle.std.specs.Prelude.{ℕ, false, [], ◌∷◌, None}
 use Rattle.csl_driver.specs.Answer.{Job}
 use Rattle.csl_passes.specs.Request.{Request}
@@ -7,7 +8,14 @@ use Rattle.test_wrong_answers.specs.declared.sample.Sample.{Sample}
 
 abbrev pub one_cite : ℕ → Request Sample ℕ
 one_cite n = record {
-  cites = record { entry = entry n; locator = None; locale = None; hidden = false; purpose = None; place = 0 }
+  cites = record {
+    entry = entry n;
+    locator = None;
+    locale = None;
+    hidden = false;
+    purpose = None;
+    place = 0;
+  }
       ∷ [];
   style = style;
   locale = None;

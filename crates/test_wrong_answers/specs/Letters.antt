@@ -36,10 +36,23 @@ letters = record {
 -- a cite of an entry
 abbrev pub asked_cite : ℕ → RequestedCite Sample ℕ
 asked_cite n =
-    record { entry = entry n; locator = None; locale = None; hidden = false; purpose = None; place = 0 }
+    record {
+      entry = entry n;
+      locator = None;
+      locale = None;
+      hidden = false;
+      purpose = None;
+      place = 0;
+    }
 
 abbrev pub request : List (RequestedCite Sample ℕ) → Request Sample ℕ
-request cites = record { cites = cites; style = style; locale = None; locales = []; note_number = None }
+request cites = record {
+  cites = cites;
+  style = style;
+  locale = None;
+  locales = [];
+  note_number = None;
+}
 
 -- these requests, and no bibliography
 abbrev pub job : List (Request Sample ℕ) → Job Sample ℕ
@@ -51,7 +64,8 @@ job requests = record {
 
 -- the cite at a place of its request, as it shows the letter of an entry
 abbrev pub shows : ℕ → ℕ → Child
-shows place n = elem (kid (numbered_element (letter (entry n))) no_kids) None (Some (ElemMeta.Entry place))
+shows place n = elem (kid (numbered_element (letter (entry n))) no_kids) None
+    (Some (ElemMeta.Entry place))
 
 -- a citation in which this is shown, and an answer of these citations
 abbrev pub citation : List Child → RenderedCitation
@@ -60,9 +74,10 @@ citation tree = record { note_number = None; citation = tree }
 abbrev pub answer : List RenderedCitation → Rendered
 answer citations = record { bibliography = None; citations = citations }
 
--- an account of so many renderings and no rounds, with these entries, which nothing disambiguates, and the
--- numbers from 0 on
-pub record IsPlainAccount (renders : ℕ) (entries : List Sample) (account : Account Sample) : Type 0 where
+-- an account of so many renderings and no rounds, with these entries, which nothing disambiguates,
+-- and the numbers from 0 on
+pub record IsPlainAccount (renders : ℕ) (entries : List Sample)
+    (account : Account Sample) : Type 0 where
   pub made : account.renders ≡ renders
   pub no_round : account.rounds ≡ 0
   pub of : map (λ e. e.now) account.entries.items ≡ entries

@@ -34,7 +34,11 @@ module _ (spacing : NonZeroI16) where
 
   -- the item of an entry
   abbrev pub item : ℕ → BibliographyItem
-  item n = record { key = letter (entry n); first_field = None; content = words (letter (entry n)) ∷ [] }
+  item n = record {
+    key = letter (entry n);
+    first_field = None;
+    content = words (letter (entry n)) ∷ [];
+  }
 
   -- both citations, and a bibliography of these entries
   abbrev pub listing : List ℕ → Rendered

@@ -9,7 +9,8 @@ use Rattle.test_wrong_answers.specs.declared.sample.Sample.{Sample}
 
 -- two entries whose cites read `X`, and show no date
 abbrev pub undated : List (CiteRender Sample ℕ)
-undated = one_by_one (sample_cite 0 0 (words (codes "X") ∷ []) ∷ sample_cite 1 1 (words (codes "X") ∷ []) ∷ [])
+undated = one_by_one (sample_cite 0 0 (words (codes "X") ∷ [])
+    ∷ sample_cite 1 1 (words (codes "X") ∷ []) ∷ [])
 
 -- both with suffix 7
 abbrev pub seven : StateTable Sample
@@ -26,6 +27,8 @@ twice_empty = no_states ∷ no_states ∷ []
 abbrev pub never_marked : List (StateTable Sample)
 never_marked = no_states ∷ []
 
--- of the two entries whose cites test `disambiguate` the one that is to be chosen, and the other too
+-- of the two entries whose cites test `disambiguate` the one that is to be chosen, and the other
+-- too
 abbrev pub both_chosen : List (StateTable Sample)
-both_chosen = no_states ∷ table ((0, Choose) ∷ (1, Choose) ∷ (2, NameDisambiguation both_shown) ∷ []) ∷ []
+both_chosen = no_states
+    ∷ table ((0, Choose) ∷ (1, Choose) ∷ (2, NameDisambiguation both_shown) ∷ []) ∷ []

@@ -1,5 +1,5 @@
--- Three entries, of which the first and the last are by one author, so that grouping brings them together;
--- and their numbers.
+-- Three entries, of which the first and the last are by one author, so that grouping brings them
+-- together; and their numbers.
 use Rattle.std.specs.Prelude.{ℕ, List, [], ◌∷◌}
 use Rattle.test_wrong_answers.specs.Samples.{entry}
 use Rattle.test_wrong_answers.specs.declared.sample.Sample.{Sample}

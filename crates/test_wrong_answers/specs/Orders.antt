@@ -35,8 +35,8 @@ as_cited = by_a 0 ∷ by_b 1 ∷ by_a 2 ∷ by_a 3 ∷ by_b 4 ∷ []
 abbrev pub by_a_stale_index : List (ItemRender Sample ℕ)
 by_a_stale_index = by_a 0 ∷ by_a 2 ∷ by_b 1 ∷ by_a 3 ∷ by_b 4 ∷ []
 
--- A A A B B: the first of a block has no override, the others have the group delimiter; and the index of the
--- block
+-- A A A B B: the first of a block has no override, the others have the group delimiter; and the
+-- index of the block
 abbrev pub in_blocks : List (ItemRender Sample ℕ)
 in_blocks =
     record (by_a 0) { group = Some 0 }

@@ -53,10 +53,12 @@ asking n = record (sample_cite n n (words (codes "X") ∷ [])) { checked_disambi
 -- a cite of Lee and another author, which shows Lee alone
 abbrev pub by_lee_and : List ℕ → ℕ → ItemRender Sample ℕ
 by_lee_and other n =
-    record (sample_cite n n (by_authors (person (codes "Lee") ∷ person other ∷ []) (codes "Lee et al.")
+    record (sample_cite n n
+    (by_authors (person (codes "Lee") ∷ person other ∷ []) (codes "Lee et al.")
     ∷ [])) { first_name = Some one_shown }
 
--- the first entry is cited in two groups: in one a choice tells it apart, and in the next one names do
+-- the first entry is cited in two groups: in one a choice tells it apart, and in the next one names
+-- do
 abbrev pub in_two_groups : List (CiteRender Sample ℕ)
 in_two_groups = one_by_one
     (asking 1 ∷ asking 0 ∷ by_lee_and (codes "Kim") 0 ∷ by_lee_and (codes "Cho") 2 ∷ [])
@@ -64,7 +66,8 @@ in_two_groups = one_by_one
 -- in one round the names of the later group are written over the choice
 abbrev pub overwritten_at_once : List (StateTable Sample)
 overwritten_at_once =
-    no_states ∷ table ((0, NameDisambiguation both_shown) ∷ (2, NameDisambiguation both_shown) ∷ []) ∷ []
+    no_states ∷ table ((0, NameDisambiguation both_shown)
+    ∷ (2, NameDisambiguation both_shown) ∷ []) ∷ []
 
 -- names are written over the choice of the round before
 abbrev pub overwritten_later : List (StateTable Sample)

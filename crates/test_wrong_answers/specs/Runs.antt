@@ -31,4 +31,5 @@ with_a_hidden_cite = numbered 1 ∷ numbered 2 ∷ hidden (numbered 3) ∷ numbe
 -- 1–5
 abbrev pub over_the_hidden_cite : List (ItemRender Sample ℕ)
 over_the_hidden_cite =
-    numbered 1 ∷ hidden (numbered 2) ∷ hidden (numbered 3) ∷ hidden (numbered 4) ∷ dashed (numbered 5) ∷ []
+    numbered 1 ∷ hidden (numbered 2) ∷ hidden (numbered 3) ∷ hidden (numbered 4)
+    ∷ dashed (numbered 5) ∷ []

@@ -100,7 +100,8 @@ person family = record { name = family; given_name = None }
 -- an element for these authors, in which this text stands
 abbrev pub by_authors : List Person → List ℕ → Child
 by_authors authors shown =
-    elem (kid (words shown) no_kids) None (Some (ElemMeta.Names ((authors, NameVariable.Author) ∷ [])))
+    elem (kid (words shown) no_kids) None
+    (Some (ElemMeta.Names ((authors, NameVariable.Author) ∷ [])))
 
 -- a year, as an element for a date
 abbrev pub in_year : List ℕ → Child

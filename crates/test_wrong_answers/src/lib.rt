@@ -1,9 +1,9 @@
 //! Answers that wrong bodies give, of which the laws are false.
 //!
-//! For each body that does something wrong there is a small input, the answer of the body on it, written down
-//! as plain data, and a function whose clause `refuted` says that the law is false of this answer; its clause
-//! `right` says that the law is true of the right answer on the same input. So no law is empty, and none is
-//! too weak to tell.
+//! For each body that does something wrong there is a small input, the answer of the body on it,
+//! written down as plain data, and a function whose clause `refuted` says that the law is false of
+//! this answer; its clause `right` says that the law is true of the right answer on the same input.
+//! So no law is empty, and none is too weak to tell.
 #![tactic(auto)]
 
 pub mod cites;

@@ -5,15 +5,24 @@ ghost use Rattle.csl_round_laws.specs.Rounds.{no_states, told_by};
 ghost use Rattle.csl_round_laws.specs.RunLaws.{NothingLeft, StatesGoOn, SuffixesStay};
 ghost use Rattle.csl_round_laws.specs.Tables.{rounds, tables};
 ghost use Rattle.csl_round_laws.specs.declared.mode.RoundMode.{RoundMode};
-ghost use Rattle.test_wrong_answers.specs.Rounds.{alike, both_shown, by_cite, in_two_groups, on_every_entry, overwritten_at_once, overwritten_later, unlike};
+ghost use Rattle.test_wrong_answers.specs.Rounds.{
+  alike,
+  both_shown,
+  by_cite,
+  in_two_groups,
+  on_every_entry,
+  overwritten_at_once,
+  overwritten_later,
+  unlike,
+};
 ghost use Rattle.test_wrong_answers.specs.Samples.{entry};
 ghost use Rattle.test_wrong_answers.specs.Silent.{same_sample, writing};
 
 use crate::sample::Sample;
 use csl_round_laws::laws::{nothing_is_left, states_go_on, suffixes_stay};
 
-/// Suffixes are counted by cite: of three cites that read alike, two of one entry and one of another, the
-/// entries get 1 and 2, where they are to get 0 and 1.
+/// Suffixes are counted by cite: of three cites that read alike, two of one entry and one of
+/// another, the entries get 1 and 2, where they are to get 0 and 1.
 pub fn suffix_by_cite()
     ensures refuted { ¬ SuffixesStay RoundMode.Three same_sample writing alike by_cite }
     ensures right { SuffixesStay RoundMode.Three same_sample writing alike
@@ -34,10 +43,11 @@ pub fn state_on_every_entry()
     nothing_is_left::<Sample, u64>();
 }
 
-/// In one round a choice tells an entry apart in one group, and names do in the next group, which are written
-/// over the choice: the choice is the greater one, and is to stay.
+/// In one round a choice tells an entry apart in one group, and names do in the next group, which
+/// are written over the choice: the choice is the greater one, and is to stay.
 pub fn later_mark_overwrites()
-    ensures refuted { ¬ StatesGoOn RoundMode.Three same_sample writing in_two_groups overwritten_at_once }
+    ensures refuted { ¬ StatesGoOn RoundMode.Three same_sample writing in_two_groups
+        overwritten_at_once }
     ensures right { StatesGoOn RoundMode.Three same_sample writing in_two_groups
         (tables RoundMode.Three same_sample writing in_two_groups) }
     ensures right_state { let next = slice_index_or
@@ -49,5 +59,6 @@ pub fn later_mark_overwrites()
 
 /// In a later round names are written over the choice of an earlier one.
 pub fn later_round_overwrites()
-    ensures refuted { ¬ StatesGoOn RoundMode.Three same_sample writing in_two_groups overwritten_later }
+    ensures refuted { ¬ StatesGoOn RoundMode.Three same_sample writing in_two_groups
+        overwritten_later }
 {}

@@ -37,7 +37,7 @@ class MadeUpLibrary:
         self.calls.append((document, 0))
         if self.status == 3:
             place = ring._obj
-            place.of_bibliography, place.request, place.macro_place = self.ring
+            place.of_bibliography, place.request, place.macro_index = self.ring
         return self.status
 
     def gamhilon_check_limits(self, document, document_length, depth, elements):

@@ -189,7 +189,7 @@ def test_a_ring_comes_out_of_a_process_pool(built):
         waiting = [pool.submit(gamhilon.render, document) for document in (RING, EMPTY, b'{')]
         with pytest.raises(gamhilon.MacroRing) as refusal:
             waiting[0].result(timeout=60)
-        assert (refusal.value.request, refusal.value.macro_place) == (None, 1)
+        assert (refusal.value.request, refusal.value.macro_index) == (None, 1)
         assert waiting[1].result(timeout=60) == gamhilon.Answer([])
         with pytest.raises(gamhilon.DocumentRefused):
             waiting[2].result(timeout=60)

@@ -20,7 +20,7 @@ def pages(path: str) -> List[str]:
         answer = gamhilon.render(document)
     except gamhilon.MacroRing as ring:
         place: Optional[int] = ring.request
-        raise SystemExit(f'{place}, {ring.macro_place + 1}')
+        raise SystemExit(f'{place}, {ring.macro_index + 1}')
     except gamhilon.DocumentRefused as refusal:
         raise SystemExit(refusal.pointer or '')
     limits: Optional[gamhilon.Limits] = gamhilon.Limits(depth=100, elements=100000)

@@ -63,7 +63,7 @@ pub struct Ring {
     /// The index of the request whose style it is, from 0.
     pub request: usize,
     /// The index of the first macro on a ring, among the macros of its style, from 0.
-    pub macro_place: usize,
+    pub macro_index: usize,
 }
 
 /// What a host of documents from others allows, as gamhilon.h counts it.
@@ -127,11 +127,11 @@ impl fmt::Display for Refusal {
     fn fmt(&self, f: &mut fmt::Formatter<'_>) -> fmt::Result {
         match self {
             Refusal::Document => write!(f, "not of the form of a document"),
-            Refusal::MacroRing(Ring { of_bibliography: 0, request, macro_place }) => {
-                write!(f, "the macros of the style of request {request} call each other in a ring, macro {macro_place} the first")
+            Refusal::MacroRing(Ring { of_bibliography: 0, request, macro_index }) => {
+                write!(f, "the macros of the style of request {request} call each other in a ring, macro {macro_index} the first")
             }
-            Refusal::MacroRing(Ring { macro_place, .. }) => {
-                write!(f, "the macros of the style of the bibliography call each other in a ring, macro {macro_place} the first")
+            Refusal::MacroRing(Ring { macro_index, .. }) => {
+                write!(f, "the macros of the style of the bibliography call each other in a ring, macro {macro_index} the first")
             }
             Refusal::NumberOverflow => write!(f, "the citation numbers don't fit 64 bits"),
             Refusal::OutOfMemory => write!(f, "memory was refused"),

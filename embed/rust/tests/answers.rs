@@ -50,7 +50,7 @@ fn a_ring_has_its_place() {
     let document = br#"{"styles": {"s": {"citation": {"elements": []}, "macros": [
         {"name": "a", "children": []}, {"name": "b", "children": [{"kind": "text", "macro": "b"}]}]}},
         "entries": [], "requests": [], "bibliography": {"style": "s"}}"#;
-    let ring = gamhilon::Ring { of_bibliography: 1, request: 0, macro_place: 1 };
+    let ring = gamhilon::Ring { of_bibliography: 1, request: 0, macro_index: 1 };
     assert_eq!(gamhilon::render_text(document), Err(gamhilon::Refusal::MacroRing(ring)));
 }
 

@@ -1,14 +1,20 @@
 //! Calls of a writing context that rendering makes and its users don't.
 ghost use Rattle.std.specs.Prelude.{◌≡◌, ◌+◌, OnOk, OnErr, IfOk, length, option_map};
 ghost use Rattle.csl_context.specs.Steps.{term_text};
-ghost use Rattle.csl_context.specs.WritingState.{state, heights, prefixed, stripping, not_stripping};
+ghost use Rattle.csl_context.specs.WritingState.{
+  state,
+  heights,
+  prefixed,
+  stripping,
+  not_stripping,
+};
 
 use crate::token::DisplayLoc;
 use crate::writing::WritingContext;
 use std::alloc::{AllocError, Global};
 
-/// Opens a frame that begins with this text, as it stands. Gives the frame's token and the length of
-/// the text in bytes, 0 where there is none.
+/// Opens a frame that begins with this text, as it stands. Gives the frame's token and the length
+/// of the text in bytes, 0 where there is none.
 ///
 /// # Errors
 ///
@@ -24,7 +30,8 @@ pub fn begin_prefix(
         ≡ length (term_text (option_map (λ s. s.now) prefix.entry))) }
     ensures done { OnOk result (state writing.new
         ≡ prefixed (option_map (λ s. s.now) prefix.entry) (state writing.old)) }
-    ensures height { OnOk result (length (state writing.new).frames ≡ length (state writing.old).frames + 1) }
+    ensures height { OnOk result
+        (length (state writing.new).frames ≡ length (state writing.old).frames + 1) }
     ensures same_formats { OnOk result (length (state writing.new).formats
         ≡ length (state writing.old).formats) }
     ensures refused { OnErr result (heights (state writing.new) ≡ heights (state writing.old)) }

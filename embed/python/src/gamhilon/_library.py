@@ -23,11 +23,11 @@ FAULT_BUFFER = 4096
 DRIVE, DRIVE_FAULT = 'gamhilon_drive', 'gamhilon_find_driven_fault'
 
 
-class RingPlace(ctypes.Structure):
-    """gamhilon_ring_place of gamhilon.h."""
+class RingLocation(ctypes.Structure):
+    """gamhilon_ring_location of gamhilon.h."""
 
     _fields_ = [('of_bibliography', ctypes.c_size_t), ('request', ctypes.c_size_t),
-                ('macro_place', ctypes.c_size_t)]
+                ('macro_index', ctypes.c_size_t)]
 
 
 class Library:
@@ -104,8 +104,8 @@ class Library:
             raise LibraryMissing(f'{NAME} is older than the call {name}: build it anew '
                                  'by embed/build.py') from error
 
-    def _ring(self, document: bytes) -> Tuple[int, RingPlace]:
-        ring = RingPlace()
+    def _ring(self, document: bytes) -> Tuple[int, RingLocation]:
+        ring = RingLocation()
         return self._functions.gamhilon_find_ring(document, len(document), ctypes.byref(ring)), ring
 
     def _refusal(self, status: int, document: bytes) -> Exception:
@@ -136,8 +136,8 @@ class Library:
             return OutOfMemory('memory was refused')
         where = 'the bibliography' if ring.of_bibliography else f'request {ring.request}'
         message = (f'the macros of the style of {where} call each other in a ring, '
-                   f'macro {ring.macro_place} the first')
-        return MacroRing(message, None if ring.of_bibliography else ring.request, ring.macro_place)
+                   f'macro {ring.macro_index} the first')
+        return MacroRing(message, None if ring.of_bibliography else ring.request, ring.macro_index)
 
 
 def path() -> str:
@@ -168,7 +168,7 @@ def _loaded() -> ctypes.CDLL:
         function.argtypes = [*given, ctypes.c_void_p, ctypes.c_size_t,
                              ctypes.POINTER(ctypes.c_size_t)]
     for function in rings:
-        function.restype, function.argtypes = ctypes.c_uint32, [*given, ctypes.POINTER(RingPlace)]
+        function.restype, function.argtypes = ctypes.c_uint32, [*given, ctypes.POINTER(RingLocation)]
     for function in limits:
         function.restype = ctypes.c_uint32
         function.argtypes = [*given, ctypes.c_size_t, ctypes.c_size_t]

@@ -37,15 +37,15 @@ class MacroRing(Refused, ValueError):
     """The macros of a style call each other in a ring.
 
     `request` is the place of the request whose style it is, from 0, or None where it is the
-    bibliography's; `macro_place` is the place of the first macro on a ring, among the macros of
+    bibliography's; `macro_index` is the place of the first macro on a ring, among the macros of
     that style, from 0.
     """
 
     status = 3
 
-    def __init__(self, message: str, request: Optional[int], macro_place: int) -> None:
-        super().__init__(message, request, macro_place)
-        self.request, self.macro_place = request, macro_place
+    def __init__(self, message: str, request: Optional[int], macro_index: int) -> None:
+        super().__init__(message, request, macro_index)
+        self.request, self.macro_index = request, macro_index
 
     def __str__(self) -> str:
         return str(self.args[0])

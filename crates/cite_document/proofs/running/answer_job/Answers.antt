@@ -19,7 +19,7 @@ returns c =
     c.in_ok-driver.ensures.filled
     ∙ (λ i. record { requests = accepted (asked_requests_view (map locale_view (c.in_ok-files.ensures i)) (c.deref.ensures.value i)); offset = job.offset }) in
     let wanted : w ≡ wanted_of d = c.in_ok-request.ensures ∙ (λ i. record (wanted_of d) { locales = map locale_view (c.in_ok-files.ensures i) }) in
-    let a = has_answer v w d made wanted c.in_ok-rendered.ensures.no_ring c.in_ok-rendered.ensures.fits in
+    let a = has_answer v w d made wanted c.in_ok-rendered.ensures.possible in
     (d, refl, (a, is_answer v w d made wanted job.rounds c.in_ok-rendered.rendered refl c.in_ok-rendered.ensures.answer))
 
 pub returns-in_err-rendered : goal.returns-in_err-rendered

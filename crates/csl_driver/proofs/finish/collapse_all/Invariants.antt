@@ -1,7 +1,7 @@
 use Rattle.std.proofs.Common.{◌≡◌, ◌++◌, drop, map, take}
-use Rattle.csl_collapse.specs.Collapsed.{drawn_together}
+use Rattle.csl_collapse.specs.Collapsed.{collapsed_finally}
 use Rattle.csl_passes.specs.RendersView.{renders_view}
 use Rattle.csl_driver.proofs.finish.collapse_all.Given as goal
 
 abbrev pub invariant-loop-r : goal.invariant-loop-r
-invariant-loop-r g l = renders_view l.cites ≡ map drawn_together (take l.r (renders_view l.initial.cites)) ++ drop l.r (renders_view l.initial.cites)
+invariant-loop-r g l = renders_view l.cites ≡ map collapsed_finally (take l.r (renders_view l.initial.cites)) ++ drop l.r (renders_view l.initial.cites)

@@ -9,14 +9,14 @@ use Rattle.csl_driver.proofs.rings.request_ring.Goals as goal
 pub loop-k-preserved : goal.loop-k-preserved
 loop-k-preserved g c =
     no_ring-more request_view c.args.requests.now c.loop-k.k c.index-requests-k.result c.loop-k-test.true c.index-requests-k.is
-    (subst (λ (s : Source). HasNoRing s.style.macros) c.source.ensures (c.in_ok-macro_idx.ensures.none c.in_default.is)) c.loop-k.invariant
+    (subst (λ (s : Source). HasNoRing s.style.macros) c.source.ensures (c.in_ok-macro_index.ensures.none c.in_default.is)) c.loop-k.invariant
 
 pub returns-in-Some-clause-found : goal.returns-in-Some-clause-found
 returns-in-Some-clause-found g c =
     let request = c.index-requests-k.result in
-    first_ring request_view c.args.requests.now c.loop-k.k request c.loop-k-test.true c.index-requests-k.is (wanted_view c.args.wanted.now).style c.in-Some.macro_idx
-    (subst (λ (s : Source). IsFirstRing s.style.macros (Some c.in-Some.macro_idx)) c.source.ensures
-    (subst (IsFirstRing _) c.in-Some.is c.in_ok-macro_idx.ensures.first)) c.loop-k.invariant
+    first_ring request_view c.args.requests.now c.loop-k.k request c.loop-k-test.true c.index-requests-k.is (wanted_view c.args.wanted.now).style c.in-Some.macro_index
+    (subst (λ (s : Source). IsFirstRing s.style.macros (Some c.in-Some.macro_index)) c.source.ensures
+    (subst (IsFirstRing _) c.in-Some.is c.in_ok-macro_index.ensures.first)) c.loop-k.invariant
 
 pub returns-clause-none : goal.returns-clause-none
 returns-clause-none g c = λ _.

@@ -9,8 +9,8 @@ use Rattle.csl_passes.specs.RendersView.{renders_view}
 use Rattle.csl_positions.specs.FinalProperties.{cited_finally}
 use Rattle.csl_positions.proofs.final_order.final_listing.Goals as goal
 
-pub of_places-requires : goal.of_places-requires
-of_places-requires g c =
+pub of_indices-requires : goal.of_indices-requires
+of_indices-requires g c =
     let eq = g.T.PartialEq.eq in
     let laws = g.met.T.Eq.laws in
     let es = (table_view c.args.table.now).entries in
@@ -26,6 +26,6 @@ returns g c =
     let es = (table_view c.args.table.now).entries in
     let cited = cited_finally (renders_view c.args.cites.now) in
     let places = c.deref.ensures.value ∙ c.in_ok-places.ensures in
-    IfOk-weaker c.of_places.result (λ l. listing_view l ≡ listed_places c.len.result c.deref.result.now) (λ l. IsListingOf eq es (distinct eq cited) (listing_view l))
+    IfOk-weaker c.of_indices.result (λ l. listing_view l ≡ listed_places c.len.result c.deref.result.now) (λ l. IsListingOf eq es (distinct eq cited) (listing_view l))
     (λ l made. listing-of eq g.met.T.Eq.laws es cited c.requires.once c.requires.same (listing_view l) (made ∙ (λ i. listed_places (c.len.ensures i) (places i))))
-    c.of_places.ensures
+    c.of_indices.ensures

@@ -1,7 +1,7 @@
 -- What two lists have in common is what was passed, and what is left has in common.
 use Rattle.std.proofs.Common.{◌≡◌, ◌+◌, ◌-◌, length, map, drop}
 use Rattle.std.specs.List.{common_prefix_len}
-use Rattle.csl_trees.specs.EqualTrees.{same_elem}
+use Rattle.csl_trees.specs.SameElem.{same_elem}
 use Rattle.csl_substitution.proofs.changes.prefix_in_common.Given as goal
 
 abbrev pub invariant-loop-n : goal.invariant-loop-n

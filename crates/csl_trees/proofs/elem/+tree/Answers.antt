@@ -1,6 +1,6 @@
 -- Equality: another length, another child, one more that is the same, and all the same.
 use Rattle.std.proofs.Common.{arith, sym, ◌∙◌, true≢false}
-use Rattle.csl_trees.specs.EqualTrees.{child_Decides}
+use Rattle.csl_trees.proofs.EqualTrees.{child_Decides}
 use Rattle.csl_trees.proofs.Compare.{other_length, other_child, all_same, same_next}
 use Rattle.csl_trees.proofs.elem.+tree.Goals as goal
 

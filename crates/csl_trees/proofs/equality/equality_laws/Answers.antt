@@ -1,6 +1,6 @@
 -- The laws of equality of trees.
 use Rattle.csl_trees.specs.SameTree.{same_trees-Decides}
-use Rattle.csl_trees.specs.EqualTrees.{child_Decides, elem_Decides}
+use Rattle.csl_trees.proofs.EqualTrees.{child_Decides, elem_Decides}
 use Rattle.csl_trees.proofs.equality.equality_laws.Goals as goal
 
 pub returns : goal.returns

@@ -1,4 +1,4 @@
-use Rattle.csl_values.specs.EqualFormattings.{formatted_find, formattings_find, style_formattings_find}
+use Rattle.csl_values.proofs.EqualFormattings.{formatted_find, formattings_find, style_formattings_find}
 use Rattle.csl_values.specs.Finds.{decides}
 use Rattle.csl_values.proofs.laws.formatting_equality_decides.Goals as goal
 

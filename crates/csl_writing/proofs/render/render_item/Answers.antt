@@ -22,19 +22,19 @@ pub flush_apart-requires : goal.flush_apart-requires
 flush_apart-requires g c =
     let value = item_section (subject_view g.T.EntryLike.answers c.args.subject.now) (bibliography_view c.args.bibliography.now) Form.Full true c.first_notes-notes.result in
     let inside = c.in_ok-_noted.ensures value c.in_ok-section.ensures in
-    item_flushes (lookup_view c.args.subject.now.context) _ (options_view c.args.subject.now.context.style.now.settings.options) _ _ (state c.in_room-writing.result) (state c.begin_prefix.new.writing) (state c.write_section.new.writing) (state c.apply_suffix.new.writing)
-    c.in_room-writing.ensures c.in_ok-prefix.ensures.formats c.in_ok-prefix.ensures.same_formats inside.formats c.in_ok-apply_suffix.ensures.done
+    item_flushes (lookup_view c.args.subject.now.context) _ (options_view c.args.subject.now.context.style.now.settings.options) _ _ (state c.in_spare_memory-writing.result) (state c.begin_prefix.new.writing) (state c.write_section.new.writing) (state c.apply_suffix.new.writing)
+    c.in_spare_memory-writing.ensures c.in_ok-prefix.ensures.formats c.in_ok-prefix.ensures.same_formats inside.formats c.in_ok-apply_suffix.ensures.done
 
 pub returns : goal.returns
 returns g c =
     let k = lookup_view c.args.subject.now.context in
-    let a = state c.in_room-writing.result in
+    let a = state c.in_spare_memory-writing.result in
     let d = state c.write_section.new.writing in
     let h = c.in_ok-prefix.prefix.0.formats in
     let n = c.in_ok-prefix.prefix.1 in
     item_rendered (subject_view g.T.EntryLike.answers c.args.subject.now) (bibliography_view c.args.bibliography.now) c.in_ok-section.section
     a (state c.begin_prefix.new.writing) d (state c.apply_suffix.new.writing) h n c.first_notes-notes.result c.in_ok-_noted._noted c.in_ok-tree.tree
-    c.in_room-writing.ensures c.first_notes-notes.ensures c.in_ok-section.ensures c.in_ok-prefix.ensures.formats
+    c.in_spare_memory-writing.ensures c.first_notes-notes.ensures c.in_ok-section.ensures c.in_ok-prefix.ensures.formats
     (c.in_ok-prefix.ensures.offset ∙ ap (λ x. length (term_text x)) c.as_deref-before.ensures.value)
     (c.in_ok-prefix.ensures.done ∙ ap (λ x. prefixed x a) c.as_deref-before.ensures.value)
     c.in_ok-_noted.ensures

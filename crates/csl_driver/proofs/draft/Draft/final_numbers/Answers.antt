@@ -1,6 +1,6 @@
 use Rattle.std.proofs.Common.{sym, ap, length, ◌∙◌}
 use Rattle.std.proofs.lemmas.Result.{IfOk-weaker}
-use Rattle.csl_driver.specs.Answer.{order_in_use}
+use Rattle.csl_driver.specs.Answer.{used_order}
 use Rattle.csl_driver.specs.DraftView.{job_in, table_in}
 use Rattle.csl_entries.specs.Entries.{number}
 use Rattle.csl_passes.specs.RendersView.{renders_view}
@@ -29,7 +29,7 @@ returns-in-Some-clause-numbers g c =
     let used = sym (ap order_view c.in-Some.is) ∙ c.used_order.ensures in
     IfOk-weaker c.numbers.result _ _
     (λ v made. ap (λ ns. numbered_by eq ns (table_in draft).entries) made ∙ numbers-are draft.known (known-listed draft.known)
-    ∙ ap (number eq job.offset) (by-order eq job.requests (renders_view c.args.cites.now) (order_in_use job.wanted) _ used)) c.numbers.ensures
+    ∙ ap (number eq job.offset) (by-order eq job.requests (renders_view c.args.cites.now) (used_order job.wanted) _ used)) c.numbers.ensures
 
 pub returns-in_ok-listing-in-None-clause-numbers : goal.returns-in_ok-listing-in-None-clause-numbers
 returns-in_ok-listing-in-None-clause-numbers g c =
@@ -39,7 +39,7 @@ returns-in_ok-listing-in-None-clause-numbers g c =
     let unused = sym (ap order_view c.in-None.is) ∙ c.used_order.ensures in
     IfOk-weaker c.numbers-in-None.result _ _
     (λ v made. ap (λ ns. numbered_by eq ns (table_in draft).entries) made ∙ numbers-are draft.known c.in_ok-listing-in-None.ensures
-    ∙ ap (number eq job.offset) (by-cites eq job.requests (renders_view c.args.cites.now) (order_in_use job.wanted) unused)) c.numbers-in-None.ensures
+    ∙ ap (number eq job.offset) (by-cites eq job.requests (renders_view c.args.cites.now) (used_order job.wanted) unused)) c.numbers-in-None.ensures
 
 pub returns-in-Some-clause-long : goal.returns-in-Some-clause-long
 returns-in-Some-clause-long g c =

@@ -2,8 +2,8 @@ use Rattle.std.proofs.Common.{ap, map, subst, sym, ◌∙◌}
 use Rattle.std.specs.List.{filter_map}
 use Rattle.std.specs.Prelude.{option_map}
 use Rattle.csl_assembly.specs.BibliographyItems.{bibliography_of, bibliography_tasks}
-use Rattle.csl_collapse.specs.Collapsed.{drawn_together}
-use Rattle.csl_driver.specs.Answer.{citations_of, entries_listed, final_number, in_the_end, numbered_finally, order_in_use, rendered_first}
+use Rattle.csl_collapse.specs.Collapsed.{collapsed_finally}
+use Rattle.csl_driver.specs.Answer.{citations_of, entries_listed, final_number, in_the_end, numbered_finally, used_order, rendered_first}
 use Rattle.csl_driver.specs.DraftView.{job_in, table_in}
 use Rattle.csl_driver.specs.WriterTasks.{begun_tasks, last_tasks, listed_tasks, where_wanted}
 use Rattle.csl_driver.proofs.ByEntries.{numbers-of, states-of}
@@ -110,7 +110,7 @@ returns g c =
     first (rounds-same answers mode eq (begun_tasks eq peq job) start begun c.in_ok-first.ensures.asked c.in_ok-rounds.ensures) in
     let ordered = c.in_ok-group_all.ensures ∙ ap (map grouped) rounds.cites in
     let number_of = final_number eq peq writing mode job in
-    let numbers = c.in_ok-numbers.ensures.numbers ∙ ap (λ cs. number eq job.offset (numbered_finally eq (order_in_use job.wanted) job.requests cs)) ordered in
+    let numbers = c.in_ok-numbers.ensures.numbers ∙ ap (λ cs. number eq job.offset (numbered_finally eq (used_order job.wanted) job.requests cs)) ordered in
     let settled =
     c.set_final_properties.ensures
     ∙ (λ i. with_final_properties eq peq ((ap (λ ns. numbered_by eq ns table.entries) c.deref.ensures.value ∙ numbers) i) (ordered i)) in
@@ -119,11 +119,11 @@ returns g c =
     let listed_is =
     c.in_ok-bibliography.ensures.asked
     ∙ ap (λ cs. after (where_wanted job.wanted.style.bibliography (bibliography_tasks source (filter_map (first_item eq cs) listed))) told) settled in
-    let last_is = c.in_ok-citations.ensures.asked ∙ ap (λ cs. after (last_tasks cs) written) (c.collapse_all.ensures ∙ ap (map drawn_together) settled) in
+    let last_is = c.in_ok-citations.ensures.asked ∙ ap (λ cs. after (last_tasks cs) written) (c.collapse_all.ensures ∙ ap (map collapsed_finally) settled) in
     let first_tasks = begun_tasks eq peq job in
     let again_tasks = round_tasks mode eq writing firsts in
     let bibliography_asked = listed_tasks eq peq writing mode job in
-    let last_asked = last_tasks (map drawn_together (in_the_end eq peq writing mode job)) in
+    let last_asked = last_tasks (map collapsed_finally (in_the_end eq peq writing mode job)) in
     let second = same-told answers first_tasks again_tasks bibliography_asked last_asked start begun told written end c.in_ok-first.ensures.asked rounds.asked listed_is last_is in
     let third = same-written answers first_tasks again_tasks bibliography_asked last_asked start begun told written end c.in_ok-first.ensures.asked rounds.asked listed_is last_is in
     let all = all-steps answers first_tasks again_tasks bibliography_asked last_asked start begun told written end c.in_ok-first.ensures.asked rounds.asked listed_is last_is in

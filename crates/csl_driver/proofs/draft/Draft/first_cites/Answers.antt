@@ -2,7 +2,7 @@ use Rattle.std.proofs.Common.{◌≡◌, ◌+◌, ◌≤◌, take, All, arith, S
 use Rattle.std.proofs.lemmas.List.{take_all}
 use Rattle.std.specs.List.{filter_map}
 use Rattle.csl_assembly.specs.BibliographyItems.{cites_at}
-use Rattle.csl_driver.specs.Answer.{order_in_use}
+use Rattle.csl_driver.specs.Answer.{used_order}
 use Rattle.csl_entries.specs.Entries.{bibliography_order}
 use Rattle.csl_entries.specs.Listed.{Listed}
 use Rattle.csl_driver.specs.DraftView.{job_in, table_in}
@@ -58,7 +58,7 @@ returns g c =
     let cites = renders_view c.args.cites.now in
     let listed = known-listed c.args.self.known in
     let job = job_in c.args.self in
-    let order = bibliography_order eq (order_in_use job.wanted) (cited job.requests) in
+    let order = bibliography_order eq (used_order job.wanted) (cited job.requests) in
     let past : length c.order-order.result.now ≤ c.loop-entry.entry-index = omega (arith, c.loop-entry-test.false) in
     c.loop-entry.invariant
     ∙ ap (filter_map (first_of eq entries cites)) (take_all c.loop-entry.entry-index c.order-order.result.now past ∙ c.order-order.ensures ∙ ap (λ (l : Listed). l.order) listed.listed)

@@ -6,7 +6,7 @@ use Rattle.csl_style_values.specs.ElementView.{macro_view, macros_view}
 use Rattle.csl_style_values.specs.NamedPlaces.{place_named}
 use Rattle.csl_style_values.specs.Ring.{place_of_macro}
 use Rattle.csl_style_values.proofs.NamedPlaces.{next_name, macros-next, length-macros}
-use Rattle.csl_style_values.proofs.ring.first_places.Goals as goal
+use Rattle.csl_style_values.proofs.ring.first_indices.Goals as goal
 
 pub loop-i-preserved : goal.loop-i-preserved
 loop-i-preserved c =

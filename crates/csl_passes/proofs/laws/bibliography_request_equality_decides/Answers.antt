@@ -3,7 +3,7 @@ use Rattle.csl_values.specs.Finds.{both, and-true}
 use Rattle.csl_style_values.proofs.Seen.{codes_told}
 use Rattle.csl_values.proofs.Told.{list_seen, some_seen}
 use Rattle.csl_passes.proofs.Same.{orders_seen}
-use Rattle.csl_passes.proofs.laws.wanted_equality_decides.Goals as goal
+use Rattle.csl_passes.proofs.laws.bibliography_request_equality_decides.Goals as goal
 
 pub returns : goal.returns
 returns g c a b =

@@ -4,8 +4,9 @@ use Rattle.std.specs.Bool.{Decides}
 use Rattle.std.specs.Cmp.{unsigned_Decides}
 use Rattle.std.proofs.Common.{ap, sym, true≢false}
 use Rattle.csl_values.specs.Finds.{Finds, decides, both, and-true, texts_find, options_find, lists_find, pairs_find}
-use Rattle.csl_values.specs.EqualFormattings.{displays_find, formatted_find, formattings_find}
+use Rattle.csl_values.proofs.EqualFormattings.{displays_find, formatted_find, formattings_find}
 use Rattle.csl_values.specs.EqualEntries.{name_variables_find, persons_find}
+use Rattle.csl_trees.specs.SameElem.{same_elem, same_child}
 use Rattle.csl_trees.specs.SameTree.{same_trees-Decides}
 use Rattle.csl_trees.specs.declared.elem.ElemMeta.{ElemMeta}
 use Rattle.csl_trees.specs.declared.elem.ElemMeta.TheVariants as meta
@@ -70,13 +71,6 @@ children_find = record { equal = equal; self = self }
     self (v.Markup s) = texts_find.self s
     self (v.Link f s) = and-true _ _ (formatted_find.self f) (texts_find.self s)
     self (v.Transparent m f) = and-true _ _ ((unsigned_Decides m m).1 refl) (formattings_find.self f)
-
--- equality of elements and of children, by their derived tests
-abbrev pub same_elem : Elem → Elem → Bool
-same_elem = (elem_eq.ghosts).eq
-
-abbrev pub same_child : ElemChild → ElemChild → Bool
-same_child = (child_eq.ghosts).eq
 
 pub elem_Decides : (a b : Elem) → Decides (same_elem a b) (a ≡ b)
 elem_Decides = decides elems_find

@@ -1,6 +1,6 @@
 use Rattle.std.proofs.Common.{◌∙◌}
 use Rattle.csl_entries.proofs.Sets.{position-view}
-use Rattle.csl_entries.proofs.table.EntryTable.place_of.Goals as goal
+use Rattle.csl_entries.proofs.table.EntryTable.index_of.Goals as goal
 
 pub returns : goal.returns
 returns g c =

@@ -4,7 +4,7 @@ use Rattle.std.specs.Prelude.{All, None}
 use Rattle.csl_entries.specs.Entries.{with_all_new}
 use Rattle.csl_entries.proofs.ListedPlaces.{places-listed}
 use Rattle.csl_entries.proofs.Numbers.{unnumbered}
-use Rattle.csl_entries.proofs.listing.Listing.of_places.Goals as goal
+use Rattle.csl_entries.proofs.listing.Listing.of_indices.Goals as goal
 
 pub list_places-requires : goal.list_places-requires
 list_places-requires c = record {
