@@ -33,21 +33,23 @@ module _ {N P : Type 0} (same_name : N → N → Bool) (same_persons : P → P �
   equal_at_first before own = common_prefix_len same_name before.names.items own.names.items
 
   -- which names of an item repeat those of another, by each rule
-  abbrev pub repeated_names : SubsequentAuthorSubstituteRule → ItemNames N P → ItemNames N P → Substituted
+  abbrev pub repeated_names : SubsequentAuthorSubstituteRule → ItemNames N P → ItemNames N P
+      → Substituted
   repeated_names CompleteAll before own = if same_authors before own then Substituted.Together
       else Substituted.Nothing
-  repeated_names CompleteEach before own = if same_authors before own then leading (length own.names.items)
-      else Substituted.Nothing
+  repeated_names CompleteEach before own =
+      if same_authors before own then leading (length own.names.items) else Substituted.Nothing
   repeated_names PartialEach before own = leading (equal_at_first before own)
   repeated_names PartialFirst before own = first_alone (equal_at_first before own)
 
   -- the same of items that may be without a names element
-  abbrev pub against : SubsequentAuthorSubstituteRule → Option (ItemNames N P) → Option (ItemNames N P)
-      → Substituted
+  abbrev pub against : SubsequentAuthorSubstituteRule → Option (ItemNames N P)
+      → Option (ItemNames N P) → Substituted
   against rule None own = Substituted.Nothing
   against rule (Some before) None = Substituted.Nothing
   against rule (Some before) (Some own) = repeated_names rule before own
 
   -- each item against the one directly before it
-  abbrev pub repeated : SubsequentAuthorSubstituteRule → List (Option (ItemNames N P)) → List Substituted
+  abbrev pub repeated : SubsequentAuthorSubstituteRule → List (Option (ItemNames N P))
+      → List Substituted
   repeated rule items = map (λ p. against rule (before_at items p.0) p.1) (enumerate_from 0 items)

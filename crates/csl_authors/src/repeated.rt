@@ -28,13 +28,13 @@ pub enum Substituted {
     Leading(usize),
 }
 
-/// Which names of each item the substitute stands for, in the order of the bibliography. Each item is
-/// compared with the one directly before it, as both were written; none stands for an item without a
-/// names element.
+/// Which names of each item the substitute stands for, in the order of the bibliography. Each
+/// item is compared with the one directly before it, as both were written; none stands for an
+/// item without a names element.
 ///
-/// By `CompleteAll` and `CompleteEach` all names and persons have to be equal, and there has to be a name;
-/// by `PartialEach` those at the beginning that are equal are replaced, and by `PartialFirst` the first
-/// one of these alone.
+/// By `CompleteAll` and `CompleteEach` all names and persons have to be equal, and there has to
+/// be a name; by `PartialEach` those at the beginning that are equal are replaced, and by
+/// `PartialFirst` the first one of these alone.
 ///
 /// # Errors
 ///

@@ -26,7 +26,8 @@ first_if other c = if other then option_map (λ c. c.first) c else None
 
 module _ {S : Type 0} where
   -- of each text: the first mention, and whether there is one of another entry than any
-  pub record AreClassesOf (classes : HashMap (List ℕ) Class S) (mentions : List Mention) : Type 0 where
+  pub record AreClassesOf (classes : HashMap (List ℕ) Class S) (mentions : List Mention)
+      : Type 0 where
     pub first : (t : List ℕ) → option_map (λ c. c.first) (get bytes_eq classes t)
         ≡ first_with mentions t
     pub other : (t : List ℕ) (entry : ℕ) → is_other entry (get bytes_eq classes t)

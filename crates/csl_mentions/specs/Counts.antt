@@ -10,5 +10,5 @@ module _ {S : Type 0} where
   -- where these classes get suffixes
   abbrev pub suffix_by : List ℕ → HashMap ℕ ℕ S → Option ℕ → Option ℕ
   suffix_by adding counts None = None
-  suffix_by adding counts (Some class) = if list_any (nat_eq class) adding then Some (count counts class)
-      else None
+  suffix_by adding counts (Some class) =
+      if list_any (nat_eq class) adding then Some (count counts class) else None

@@ -20,7 +20,8 @@ module _ (mentions : List Mention) where
 
   -- the index of the first mention with a text
   abbrev pub first_with : List ℕ → Option ℕ
-  first_with text = option_map (λ p. p.0) (find (λ p. bytes_eq text p.1.text) (enumerate_from 0 mentions))
+  first_with text = option_map (λ p. p.0)
+      (find (λ p. bytes_eq text p.1.text) (enumerate_from 0 mentions))
 
   -- the group of a mention, if it is in one, by the index of the group's first member
   abbrev pub group_of : Mention → Option ℕ

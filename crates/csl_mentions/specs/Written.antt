@@ -28,7 +28,8 @@ first_persons tree = persons_of (find_elem has_names tree)
 abbrev pub named_as : Person × DisambiguatedNameForm → MentionedName
 named_as p = record { person = p.0; own = p.1 }
 
--- its names that may be made fuller: persons with the forms in which they were written, as many as have both
+-- its names that may be made fuller: persons with the forms in which they were written, as many
+-- as have both
 abbrev pub names_of : List Person → Option NameDisambiguationProperties → List MentionedName
 names_of persons None = []
 names_of persons (Some own) = map named_as (zip persons own.forms)

@@ -50,7 +50,8 @@ fn class_with(classes: &Classes, k: usize, mention: &Mention) -> Class
 
 /// Adds the mention at index `k`.
 pub(crate) fn add(classes: &mut Classes, k: usize, mention: &Mention) -> Result<(), AllocError>
-    ensures { OnOk result ((before : List MentionValue) → length before ≡ k → AreClassesOf classes.old before
+    ensures { OnOk result ((before : List MentionValue) → length before ≡ k
+        → AreClassesOf classes.old before
         → AreClassesOf classes.new (before ++ mention.now ∷ [])) }
 {
     let class = class_with(classes, k, mention);

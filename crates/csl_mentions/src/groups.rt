@@ -31,9 +31,9 @@ pub(crate) fn group_among(classes: &Classes, mention: &Mention) -> Option<usize>
     group_found(classes, mention)
 }
 
-/// The ambiguous groups of a document's mentions (CSL 1.0.2, disambiguation): for each mention whose
-/// text is not empty, and is also that of a mention of another entry, the index of the first mention
-/// with its text.
+/// The ambiguous groups of a document's mentions (CSL 1.0.2, disambiguation): for each mention
+/// whose text is not empty, and is also that of a mention of another entry, the index of the
+/// first mention with its text.
 ///
 /// # Errors
 ///

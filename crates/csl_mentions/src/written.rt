@@ -16,8 +16,8 @@ use std::alloc::{AllocError, Global};
 pub struct Written {
     /// Its plain text.
     pub text: Text,
-    /// Its names that may be made fuller: of the persons of the first variable of its first names, each
-    /// with the form in which it was written; as many as have both.
+    /// Its names that may be made fuller: of the persons of the first variable of its first
+    /// names, each with the form in which it was written; as many as have both.
     pub names: Seq<MentionedName>,
     /// Whether a condition `disambiguate` was tested.
     pub tested: bool,
@@ -85,8 +85,8 @@ fn copied(person: &Person) -> Result<Person, AllocError>
     person.clone()
 }
 
-/// What is read of a cite that was written for a mention: its tree, the forms of its first names, and
-/// whether a condition `disambiguate` was tested.
+/// What is read of a cite that was written for a mention: its tree, the forms of its first names,
+/// and whether a condition `disambiguate` was tested.
 ///
 /// # Errors
 ///

@@ -27,6 +27,6 @@ abbrev pub suffix_made : Bool → Bool → Around → CollapsedCite
 suffix_made ranges is_later a = record {
   is_inner = ranges && a.here && a.behind;
   is_cut = is_later;
-  delimiter = if ranges && ends_long a then Delimiter.Dash else if is_later then Delimiter.YearSuffix
-      else Delimiter.Usual;
+  delimiter = if ranges && ends_long a then Delimiter.Dash
+      else if is_later then Delimiter.YearSuffix else Delimiter.Usual;
 }

@@ -25,11 +25,12 @@ module _ (cites : List NumberedCite) where
 
   -- such a range ends before k, and the cites between are hidden by their caller
   abbrev pub follows_range : ℕ → Bool
-  follows_range k = list_any (λ e. ends_range e && list_all (fits_at (λ c. c.hidden) cites) (places (e + 1) k))
+  follows_range k = list_any
+      (λ e. ends_range e && list_all (fits_at (λ c. c.hidden) cites) (places (e + 1) k))
       (places 0 k)
 
-  -- the cite at k: not shown inside a range, behind a dash at the end of one, and behind the after-collapse
-  -- delimiter where it is the next that its caller shows
+  -- the cite at k: not shown inside a range, behind a dash at the end of one, and behind the
+  -- after-collapse delimiter where it is the next that its caller shows
   abbrev pub in_range : ℕ → NumberedCite → CollapsedCite
   in_range k c = record {
     is_inner = is_inner shows_number rises cites k;

@@ -7,8 +7,8 @@ use Rattle.std.specs.Option.{option_map_or}
 abbrev pub places : ℕ → ℕ → List ℕ
 places a b = range_with_len a (b - a)
 
--- the test holds of the places from a to b, and neither of those from the place before a nor of those to the
--- place behind b
+-- the test holds of the places from a to b, and neither of those from the place before a nor of
+-- those to the place behind b
 abbrev pub is_maximal : (ℕ → ℕ → Bool) → ℕ → ℕ → Bool
 is_maximal holds a b = holds a b && not (nat_lt 0 a && holds (a - 1) b) && not (holds a (b + 1))
 
@@ -44,7 +44,8 @@ module _ {X : Type 0} (fits : X → Bool) (link : X → X → Bool) (xs : List X
 
   -- a stretch begins before k and ends behind it
   abbrev pub is_inner : ℕ → Bool
-  is_inner k = list_any (λ a. list_any (λ b. is_stretch a b) (places (k + 1) (length xs))) (places 0 k)
+  is_inner k =
+      list_any (λ a. list_any (λ b. is_stretch a b) (places (k + 1) (length xs))) (places 0 k)
 
   -- a stretch of three or more ends at k
   abbrev pub ends_long : ℕ → Bool

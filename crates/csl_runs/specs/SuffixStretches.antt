@@ -43,8 +43,9 @@ abbrev pub suffixes_rise : SuffixedCite → SuffixedCite → Bool
 suffixes_rise c d = joins c d && are_next c.suffix d.suffix
 
 module _ (ranges : Bool) (cites : List SuffixedCite) where
-  -- the cite at k: cut to its suffix, and behind the year-suffix delimiter, in a stretch but for its first one;
-  -- where ranges are asked for not shown inside one, and behind a dash at the end of one with inner cites
+  -- the cite at k: cut to its suffix, and behind the year-suffix delimiter, in a stretch but for
+  -- its first one; where ranges are asked for not shown inside one, and behind a dash at the end
+  -- of one with inner cites
   abbrev pub in_stretch : ℕ → CollapsedCite
   in_stretch k = record {
     is_inner = ranges && is_inner fits suffixes_rise cites k;

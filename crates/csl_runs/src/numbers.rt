@@ -13,15 +13,15 @@ use std::alloc::{AllocError, Global};
 pub struct NumberedCite {
     /// Whether its caller hides it.
     pub hidden: bool,
-    /// The citation number that it shows; none where it shows none, or may be in no range: where it is
-    /// hidden, has a locator, or has words of its caller's around it.
+    /// The citation number that it shows; none where it shows none, or may be in no range: where
+    /// it is hidden, has a locator, or has words of its caller's around it.
     pub number: Option<usize>,
 }
 
-/// What collapsing makes of the cites of a request, in their final order. Of a range of cites whose
-/// numbers rise by one, as long as can be, the inner ones aren't shown, and if there are any a dash stands
-/// before the last one. The next cite behind such a range that its caller doesn't hide has the
-/// after-collapse delimiter before it.
+/// What collapsing makes of the cites of a request, in their final order. Of a range of cites
+/// whose numbers rise by one, as long as can be, the inner ones aren't shown, and if there are
+/// any a dash stands before the last one. The next cite behind such a range that its caller
+/// doesn't hide has the after-collapse delimiter before it.
 ///
 /// # Errors
 ///

@@ -37,7 +37,8 @@ pub struct SuffixedCite {
     pub suffix: Option<Suffix>,
     /// What it reads as: a number that is the same for equal texts; none where it has no text.
     pub text: Option<usize>,
-    /// Its names as they are shown: a number that is the same for equal ones; none where it has none.
+    /// Its names as they are shown: a number that is the same for equal ones; none where it has
+    /// none.
     pub names: Option<usize>,
     /// Whether it can be cut: it doesn't repeat the cite before it, and shows a date.
     pub can_be_cut: bool,
@@ -47,10 +48,10 @@ pub struct SuffixedCite {
     pub apart: Option<Apart>,
 }
 
-/// What collapsing makes of the cites of a request, in their final order. Cites next to each other that
-/// are of one class of suffixes, and read alike but for these, show their suffixes alone, but for the
-/// first of them; where ranges are asked for, of those whose suffixes rise by one, three or more, only the
-/// ends are shown, and a dash stands between.
+/// What collapsing makes of the cites of a request, in their final order. Cites next to each
+/// other that are of one class of suffixes, and read alike but for these, show their suffixes
+/// alone, but for the first of them; where ranges are asked for, of those whose suffixes rise by
+/// one, three or more, only the ends are shown, and a dash stands between.
 ///
 /// # Errors
 ///
@@ -167,7 +168,8 @@ fn same_number(number: Option<usize>, other: Option<usize>) -> bool
     }
 }
 
-/// A cite, by whether it stands in a stretch behind its first one, and by where suffixes rise around it.
+/// A cite, by whether it stands in a stretch behind its first one, and by where suffixes rise
+/// around it.
 fn collapsed_cite(ranges: bool, is_later: bool, around: Around) -> CollapsedCite
     ensures { result ≡ suffix_made ranges is_later around }
 {

@@ -3,8 +3,8 @@ use Rattle.std.specs.Prelude.{List, [], ◌∷◌}
 use Rattle.csl_mentions.specs.declared.state.MentionState.{MentionState}
 use Rattle.csl_mentions.specs.declared.written.Written.{Written}
 
--- what it writes of a mention where this tells it apart, what it notes where it is asked for that, and its
--- notes
+-- what it writes of a mention where this tells it apart, what it notes where it is asked for
+-- that, and its notes
 pub record MentionsWriter (M N : Type 0) : Type 0 where
   pub write : M → MentionState → Written
   pub noting : M × MentionState → List N → List N
@@ -16,5 +16,6 @@ noted_all noting [] notes = notes
 noted_all noting (task ∷ tasks) notes = noted_all noting tasks (noting task notes)
 
 -- the writer once it was: only its notes have changed
-abbrev pub asked_for : {M N : Type 0} → List (M × MentionState) → MentionsWriter M N → MentionsWriter M N
+abbrev pub asked_for : {M N : Type 0} → List (M × MentionState) → MentionsWriter M N
+    → MentionsWriter M N
 asked_for tasks w = record w { notes = noted_all w.noting tasks w.notes }

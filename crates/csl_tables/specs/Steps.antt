@@ -1,6 +1,6 @@
 -- For the code: lists changed from their beginnings on, and what is known on the way.
-use Rattle.std.specs.Prelude.{◌≡◌, ℕ, Bool, false, List, [], ◌∷◌, ◌++◌, ◌&&◌, Option, None, if◌then◌else◌, is_some, map}
-use Rattle.std.specs.List.{zip}
+use Rattle.std.specs.Prelude.{◌≡◌, ℕ, Bool, false, List, [], ◌∷◌, ◌&&◌, Option, None, if◌then◌else◌, is_some, map}
+use Rattle.csl_values.specs.declared.names.NameDisambiguationProperties.{NameDisambiguationProperties}
 use Rattle.csl_telling.specs.declared.mention.NamedMention.{NamedMention}
 use Rattle.csl_mentions.specs.declared.mention.Mention.{Mention}
 use Rattle.csl_mentions.specs.declared.state.MentionState.{MentionState}
@@ -24,7 +24,7 @@ abbrev pub chosen_by : Bool × Option ℕ → MentionState → MentionState
 chosen_by p s = record s { chosen = p.0 && is_some p.1 }
 
 -- names as a state
-abbrev pub state_of : Option _ → MentionState
+abbrev pub state_of : Option NameDisambiguationProperties → MentionState
 state_of names = record { names = names; chosen = false }
 
 -- a state that is changed by names, or by the choice
@@ -40,7 +40,8 @@ module _ {M : Type 0} (by : Changed) where
 module _ {M : Type 0} (write : M → MentionState → Written) where
   -- a mention written again, if its state is changed
   abbrev pub rewritten : Changed → Subject M × MentionState → Mention → Mention
-  rewritten by p m = if is_changed by p.1 then record m { text = (write p.0.mention p.1).text } else m
+  rewritten by p m =
+      if is_changed by p.1 then record m { text = (write p.0.mention p.1).text } else m
 
   -- what was read of these
   pub record AreFirsts (subjects : List (Subject M)) (f : Firsts) : Type 0 where

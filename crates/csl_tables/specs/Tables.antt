@@ -1,5 +1,5 @@
--- What tells the mentions of all entries apart: by names, then by the condition, then by year suffixes, each
--- once.
+-- What tells the mentions of all entries apart: by names, then by the condition, then by year
+-- suffixes, each once.
 use Rattle.std.specs.Prelude.{ℕ, Bool, false, not, List, ◌++◌, None, Option, filter, is_some, map}
 use Rattle.std.specs.List.{zip}
 use Rattle.csl_telling.specs.Told.{told_by_names}
@@ -49,9 +49,11 @@ module _ {M : Type 0} (subjects : List (Subject M)) where
 
   -- and then those that a table changed
   abbrev pub tasks_where : (MentionState → Bool) → List MentionState → List (M × MentionState)
-  tasks_where changed table = map (λ p. (p.0.mention, p.1)) (filter (λ p. changed p.1) (zip subjects table))
+  tasks_where changed table =
+      map (λ p. (p.0.mention, p.1)) (filter (λ p. changed p.1) (zip subjects table))
 
--- the mentions of all entries, in the order of the bibliography, the first one of an entry before the later one
+-- the mentions of all entries, in the order of the bibliography, the first one of an entry before
+-- the later one
 module _ {M : Type 0} (write : M → MentionState → Written) (subjects : List (Subject M)) where
   -- the mentions with their names, and in the groups of the first table
   abbrev pub named : Subject M → NamedMention
@@ -75,11 +77,13 @@ module _ {M : Type 0} (write : M → MentionState → Written) (subjects : List 
   abbrev pub third_table : List MentionState
   third_table = map (λ p. with_choice p.0 p.1) (zip subjects second_table)
 
-  -- the year suffix of each entry, in the order of the bibliography, by the later mentions as they read then
+  -- the year suffix of each entry, in the order of the bibliography, by the later mentions as
+  -- they read then
   abbrev pub year_suffixes : List (Option ℕ)
   year_suffixes = suffixes (filter (λ m. not m.is_first) (mentions_in write subjects third_table))
 
-  -- all that is written: each mention is once, and again where it has other names, and where it is chosen
+  -- all that is written: each mention is once, and again where it has other names, and where it
+  -- is chosen
   abbrev pub all_tasks : List (M × MentionState)
   all_tasks = (first_tasks subjects ++ tasks_where subjects (λ s. is_some s.names) second_table)
       ++ tasks_where subjects (λ s. s.chosen) third_table

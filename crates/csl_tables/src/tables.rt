@@ -24,13 +24,14 @@ pub struct Told {
     pub suffixes: Vec<Option<usize>>,
 }
 
-/// What tells the mentions of all entries apart. They stand in the order of the bibliography, the first one
-/// of an entry before the later one.
+/// What tells the mentions of all entries apart. They stand in the order of the bibliography, the
+/// first one of an entry before the later one.
 ///
-/// Each is written where nothing tells it apart; those of several entries that read alike are told apart by
-/// their names. Those that get other names are written again with these; the condition `disambiguate` holds
-/// for those that tested it and still read as one of another entry. They are written once more, and entries
-/// whose later mentions read alike then get year suffixes. Nothing else is written.
+/// Each is written where nothing tells it apart; those of several entries that read alike are
+/// told apart by their names. Those that get other names are written again with these; the
+/// condition `disambiguate` holds for those that tested it and still read as one of another
+/// entry. They are written once more, and entries whose later mentions read alike then get year
+/// suffixes. Nothing else is written.
 ///
 /// # Errors
 ///
@@ -57,7 +58,7 @@ pub fn tell_apart<M, W: MentionWriter<M>>(
         &mut named.mentions,
         writer,
     )?;
-    Ok(told(alloc, named)?)
+    Ok(with_suffixes(alloc, named)?)
 }
 
 /// Mentions once names tell them apart.
@@ -110,7 +111,7 @@ fn tell_by_names<M, W: MentionWriter<M>>(
 }
 
 /// The states of mentions, and the year suffixes by the later ones.
-fn told(alloc: Global, named: Named) -> Result<Told, AllocError>
+fn with_suffixes(alloc: Global, named: Named) -> Result<Told, AllocError>
     ensures states { IfOk result (λ t. t.states.items ≡ named.states.items) }
     ensures suffixes { IfOk result (λ t. t.suffixes.items
         ≡ suffixes (filter (λ m. not m.is_first) named.mentions.items)) }

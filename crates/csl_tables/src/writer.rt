@@ -3,8 +3,8 @@ use csl_mentions::state::MentionState;
 use csl_mentions::written::Written;
 use std::alloc::{AllocError, Global};
 
-/// Writes mentions. What it writes follows from what it is asked for, however often and in whichever order
-/// it is asked. All that being asked may change is what it notes of it.
+/// Writes mentions. What it writes follows from what it is asked for, however often and in
+/// whichever order it is asked. All that being asked may change is what it notes of it.
 pub trait MentionWriter<M> {
     ghost use Rattle.std.specs.Prelude.{◌≡◌, ◌∷◌, [], IfOk, OnOk};
     ghost use Rattle.csl_tables.specs.Asked.{MentionsWriter, asked_for};

@@ -12,18 +12,18 @@ abbrev pub without_full : DisambiguatedNameForm → DisambiguatedNameForm
 without_full DisambiguatedNameForm.LongFull = DisambiguatedNameForm.Short
 without_full form = form
 
--- the form of name i by a rule, where `among` are the persons that it is to be told from, and `first` those
--- where it is the first one
-abbrev pub form_by_rule : Option DisambiguationRule → ℕ → DisambiguatedNameForm → DisambiguatedNameForm
-    → DisambiguatedNameForm
+-- the form of name i by a rule, where `among` are the persons that it is to be told from, and
+-- `first` those where it is the first one
+abbrev pub form_by_rule : Option DisambiguationRule → ℕ → DisambiguatedNameForm
+    → DisambiguatedNameForm → DisambiguatedNameForm
 form_by_rule None i all first = DisambiguatedNameForm.Short
 form_by_rule (Some DisambiguationRule.ByCite) i all first = DisambiguatedNameForm.Short
 form_by_rule (Some DisambiguationRule.AllNames) i all first = all
 form_by_rule (Some DisambiguationRule.AllNamesWithInitials) i all first = without_full all
 form_by_rule (Some DisambiguationRule.PrimaryName) i all first = if i == 0 then first
     else DisambiguatedNameForm.Short
-form_by_rule (Some DisambiguationRule.PrimaryNameWithInitials) i all first = if i == 0 then without_full first
-    else DisambiguatedNameForm.Short
+form_by_rule (Some DisambiguationRule.PrimaryNameWithInitials) i all first =
+    if i == 0 then without_full first else DisambiguatedNameForm.Short
 
 -- the form of name i of a mention of this rule, among all mentions of the document
 abbrev pub document_form : List NamedMention → Option DisambiguationRule → ℕ → MentionedName

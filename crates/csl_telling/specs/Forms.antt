@@ -38,10 +38,10 @@ abbrev pub shown : Forms → ℕ
 shown own = position_or_len only_counts own
 
 -- the form of name i where so many names are shown, and a written one has this form at least
-abbrev pub raised_form : DisambiguatedNameForm → ℕ → ℕ → DisambiguatedNameForm → DisambiguatedNameForm
-    → DisambiguatedNameForm
-raised_form base count i least DisambiguatedNameForm.Count = if nat_lt i count then greater least base
-    else DisambiguatedNameForm.Count
+abbrev pub raised_form : DisambiguatedNameForm → ℕ → ℕ → DisambiguatedNameForm
+    → DisambiguatedNameForm → DisambiguatedNameForm
+raised_form base count i least DisambiguatedNameForm.Count =
+    if nat_lt i count then greater least base else DisambiguatedNameForm.Count
 raised_form base count i least own = greater least own
 
 -- the forms where so many names are shown, each that is written in its least form

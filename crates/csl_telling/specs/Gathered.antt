@@ -1,4 +1,5 @@
--- For the code: all that is shown from the stops of the mentions' ways, and what follows for one of them.
+-- For the code: all that is shown from the stops of the mentions' ways, and what follows for one
+-- of them.
 use Rattle.std.specs.Prelude.{◌≡◌, ◌+◌, ℕ, Bool, List, [], ◌∷◌, Option, None, Some, if◌then◌else◌, is_some, length, map}
 use Rattle.std.specs.HashMap.{get}
 use Rattle.std.specs.List.{enumerate_from, flat_map, list_any, range_with_len}
@@ -64,7 +65,8 @@ count_at g p = count_from g p.0 p.1.node p.1.look
 -- the forms that the name behind a stop needs, where there is one
 abbrev pub forms_from : Gathered → Bool → Node → Option Look → List DisambiguatedNameForm
 forms_from g by_cite n None = []
-forms_from g by_cite n (Some r) = (if by_cite then rival_form g.beside n r else DisambiguatedNameForm.Short) ∷ []
+forms_from g by_cite n (Some r) =
+    (if by_cite then rival_form g.beside n r else DisambiguatedNameForm.Short) ∷ []
 
 abbrev pub forms_at : Gathered → Bool → Stop → List DisambiguatedNameForm
 forms_at g by_cite s = forms_from g by_cite s.node s.look

@@ -18,7 +18,8 @@ abbrev pub everywhere : Node
 everywhere = Node.Start 0
 
 -- the form that a look in full needs among the rivals at a node
-abbrev pub rival_form : {S : Type 0} → HashMap SharedName Held S → Node → Look → DisambiguatedNameForm
+abbrev pub rival_form : {S : Type 0} → HashMap SharedName Held S → Node → Look
+    → DisambiguatedNameForm
 rival_form rivals node r = form_by (has_given r)
     (is_other_held r (get same_name rivals (by_family node r)))
     (is_other_held r (get same_name rivals (by_initials node r)))
@@ -30,4 +31,5 @@ person_keys n = named_keys everywhere (full_look n.person)
 -- the persons of these mentions
 pub record KnowsDocument (document : Document) (mentions : List NamedMention) : Type 0 where
   pub all : AreRivals document.all (flat_map (λ m. flat_map person_keys m.names) mentions)
-  pub first : AreRivals document.first (flat_map (λ m. flat_map person_keys (take 1 m.names)) mentions)
+  pub first : AreRivals document.first
+      (flat_map (λ m. flat_map person_keys (take 1 m.names)) mentions)

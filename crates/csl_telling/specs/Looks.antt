@@ -14,7 +14,8 @@ given_name p = if length (given_initials p.given_name) == 0 then None else p.giv
 
 -- what a form shows of it
 abbrev pub given_shown : DisambiguatedNameForm → Option (List ℕ) → GivenShown
-given_shown DisambiguatedNameForm.LongInitialized (Some given) = GivenShown.Initials (given_initials (Some given))
+given_shown DisambiguatedNameForm.LongInitialized (Some given) =
+    GivenShown.Initials (given_initials (Some given))
 given_shown DisambiguatedNameForm.LongFull (Some given) = GivenShown.Full given
 given_shown _ _ = GivenShown.Nothing
 
@@ -31,7 +32,11 @@ abbrev pub same_look : Look → Look → Bool
 same_look = (look_eq.ghosts).eq
 
 abbrev pub has_given : Look → Bool
-has_given r = elim r.given [ GivenShown.Nothing ↦ false | GivenShown.Initials _ ↦ true | GivenShown.Full _ ↦ true ]
+has_given r = elim r.given [
+  | GivenShown.Nothing ↦ false
+  | GivenShown.Initials _ ↦ true
+  | GivenShown.Full _ ↦ true
+]
 
 -- the initials of a look in full; none where it has no given name
 abbrev pub initials_of : GivenShown → List ℕ
@@ -49,7 +54,8 @@ same_initials r s = bytes_eq (initials_of r.given) (initials_of s.given)
 -- the form that one with a given name needs beside these, who have its family name
 abbrev pub needed_beside : Look → List Look → DisambiguatedNameForm
 needed_beside r [] = DisambiguatedNameForm.Short
-needed_beside r (s ∷ ss) = if list_any (same_initials r) (s ∷ ss) then DisambiguatedNameForm.LongFull
+needed_beside r (s ∷ ss) =
+    if list_any (same_initials r) (s ∷ ss) then DisambiguatedNameForm.LongFull
     else DisambiguatedNameForm.LongInitialized
 
 -- the form that a person needs among others, all of them by their looks in full

@@ -71,8 +71,8 @@ module _ {S : Type 0} where
   abbrev pub TellsMore : HashMap SharedName Held S → HashMap SharedName Held S → Shown → Type 0
   TellsMore old new more = (es : Shown) → AreRivals old es → AreRivals new (es ++ more)
 
--- the form of a look: by whether it has a given name, whether another is of its family name, and whether
--- another is of its initials too
+-- the form of a look: by whether it has a given name, whether another is of its family name, and
+-- whether another is of its initials too
 abbrev pub form_by : Bool → Bool → Bool → DisambiguatedNameForm
 form_by given named same = if given && named
     then (if same then DisambiguatedNameForm.LongFull else DisambiguatedNameForm.LongInitialized)

@@ -16,8 +16,8 @@ abbrev pub first_difference : List Look → List Look → Option ℕ
 first_difference [] [] = None
 first_difference [] (s ∷ ss) = Some 0
 first_difference (r ∷ rs) [] = Some 0
-first_difference (r ∷ rs) (s ∷ ss) = if same_look r s then option_map (λ i. i + 1) (first_difference rs ss)
-    else Some 0
+first_difference (r ∷ rs) (s ∷ ss) =
+    if same_look r s then option_map (λ i. i + 1) (first_difference rs ss) else Some 0
 
 -- both are in one ambiguous group
 abbrev pub in_one_group : Option ℕ → Option ℕ → Bool
@@ -28,8 +28,8 @@ in_one_group _ _ = false
 abbrev pub both_go_on : ℕ → Reach → Reach → Bool
 both_go_on i a b = nat_lt i (length a.looks) && nat_lt i (length b.looks)
 
--- how many names a needs to show against b: up to the first at which they differ; where one of them ends
--- there, those before it, since the other goes on with more names or `et al.`
+-- how many names a needs to show against b: up to the first at which they differ; where one of
+-- them ends there, those before it, since the other goes on with more names or `et al.`
 abbrev pub names_against : Reach → Reach → ℕ
 names_against a b =
     option_map_or (λ i. if both_go_on i a b then i + 1 else i) (first_difference a.looks b.looks) 0
@@ -39,8 +39,8 @@ abbrev pub form_beside : Option Look → Option Look → DisambiguatedNameForm
 form_beside (Some r) (Some s) = needed r (r ∷ s ∷ [])
 form_beside _ _ = DisambiguatedNameForm.Short
 
--- the form that name i of a needs against b: where given names are added cite by cite, at the first name at
--- which they differ
+-- the form that name i of a needs against b: where given names are added cite by cite, at the
+-- first name at which they differ
 abbrev pub form_against : ℕ → Reach → Reach → DisambiguatedNameForm
 form_against i a b = if a.by_cite && option_eq nat_eq (first_difference a.looks b.looks) (Some i)
     then form_beside (slice_get a.looks i) (slice_get b.looks i) else DisambiguatedNameForm.Short

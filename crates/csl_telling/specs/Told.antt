@@ -13,10 +13,11 @@ module _ (mentions : List NamedMention) (m : NamedMention) where
   -- the least form of its name i: that by the document, and what tells it from others of its group
   abbrev pub least_form : ℕ → DisambiguatedNameForm
   least_form i = greater
-      (unwrap_or (option_map (document_form mentions m.rule i) (slice_get m.names i)) DisambiguatedNameForm.Short)
+      (unwrap_or (option_map (document_form mentions m.rule i) (slice_get m.names i))
+      DisambiguatedNameForm.Short)
       (form_needed (map (reach mentions) mentions) (reach mentions m) i)
 
   -- the forms of its names, if they aren't its style's own
   abbrev pub told_by_names : Option NameDisambiguationProperties
-  told_by_names = raised (own_forms m.names) (names_needed (map (reach mentions) mentions) (reach mentions m))
-      least_form
+  told_by_names = raised (own_forms m.names)
+      (names_needed (map (reach mentions) mentions) (reach mentions m)) least_form

@@ -1,5 +1,5 @@
--- For the code: where the names of a mention lead, one after the other. Each step from a node by a look has a
--- number, that of the first equal step among all that were made.
+-- For the code: where the names of a mention lead, one after the other. Each step from a node by
+-- a look has a number, that of the first equal step among all that were made.
 use Rattle.std.specs.Prelude.{◌≡◌, ◌+◌, ◌<◌, ⊤, ℕ, Bool, true, List, [], ◌++◌, Option, None, Some, fold, length, map, slice_get, take}
 use Rattle.std.specs.List.{list_any, position_or_len, range_with_len}
 use Rattle.csl_telling.specs.contracts.ways.StepPartialEq.TheImpl as step_eq

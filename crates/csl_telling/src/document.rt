@@ -42,7 +42,8 @@ fn add_names(alloc: Global, rivals: &mut Rivals, names: &[MentionedName]) -> Res
 }
 
 fn add_first(alloc: Global, rivals: &mut Rivals, names: &[MentionedName]) -> Result<(), AllocError>
-    ensures { OnOk result (TellsMore rivals.old rivals.new (flat_map person_keys (take 1 names.now))) }
+    ensures { OnOk result (TellsMore rivals.old rivals.new
+        (flat_map person_keys (take 1 names.now))) }
 {
     match names.first() {
         Some(name) => add_person(alloc, rivals, name),

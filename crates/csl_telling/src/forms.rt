@@ -53,7 +53,8 @@ pub(crate) fn shown(names: &[MentionedName]) -> usize
     names.len()
 }
 
-/// The form of name `i` where so many names are shown, and one that is written has this form at least.
+/// The form of name `i` where so many names are shown, and one that is written has this form at
+/// least.
 pub(crate) fn raised_form(
     base: DisambiguatedNameForm,
     count: usize,

@@ -1,6 +1,6 @@
-//! Names that tell mentions of a group apart. All looks that go on from a node are known by what they share; so
-//! for each name of a mention it is asked whether another one goes on, or ends, where the names before
-//! it lead.
+//! Names that tell mentions of a group apart. All looks that go on from a node are known by what
+//! they share; so for each name of a mention it is asked whether another one goes on, or ends,
+//! where the names before it lead.
 ghost use Rattle.std.specs.Prelude.{◌≡◌, ◌+◌, ◌<◌, ◌++◌, ◌^◌, IfOk, OnOk, map};
 ghost use Rattle.std.specs.List.{enumerate_from};
 ghost use Rattle.csl_telling.specs.Gathered.{IsGathered, count_at, count_from, count_of, ends_at, ends_of, forms_at, is_end, needs_on, shown_at, shown_by};
@@ -57,7 +57,8 @@ fn add_way(alloc: Global, beside: &mut Rivals, way: &Way) -> Result<(), AllocErr
 }
 
 fn add_end(ends: &mut IndexSet<Node>, stop: &Stop) -> Result<(), AllocError>
-    ensures { OnOk result ((n : NodeValue) → is_end n ends.new.keys ≡ is_end n (ends.old.keys ++ ends_at stop.now)) }
+    ensures { OnOk result ((n : NodeValue) → is_end n ends.new.keys
+        ≡ is_end n (ends.old.keys ++ ends_at stop.now)) }
 {
     if stop.look.is_none() {
         ends.insert(stop.node)?;
@@ -66,7 +67,8 @@ fn add_end(ends: &mut IndexSet<Node>, stop: &Stop) -> Result<(), AllocError>
 }
 
 fn add_ends(ends: &mut IndexSet<Node>, way: &Way) -> Result<(), AllocError>
-    ensures { OnOk result ((n : NodeValue) → is_end n ends.new.keys ≡ is_end n (ends.old.keys ++ ends_of way.now)) }
+    ensures { OnOk result ((n : NodeValue) → is_end n ends.new.keys
+        ≡ is_end n (ends.old.keys ++ ends_of way.now)) }
 {
     for stop in way.stops.as_slice() {
         add_end(ends, stop)?;
@@ -140,7 +142,8 @@ fn add_form(
     stop: &Stop,
     forms: &mut Vec<DisambiguatedNameForm>,
 ) -> Result<(), AllocError>
-    ensures { OnOk result (forms.new.items ≡ forms.old.items ++ forms_at gathered.now by_cite stop.now) }
+    ensures { OnOk result (forms.new.items
+        ≡ forms.old.items ++ forms_at gathered.now by_cite stop.now) }
 {
     let Some(look) = &stop.look else {
         return Ok(());

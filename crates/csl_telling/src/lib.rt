@@ -1,5 +1,5 @@
-//! Mentions of entries that read alike are told apart by their names (CSL 1.0.2, disambiguation, steps
-//! 1 and 2).
+//! Mentions of entries that read alike are told apart by their names (CSL 1.0.2, disambiguation,
+//! steps 1 and 2).
 #![tactic(auto)]
 
 mod document;

@@ -21,7 +21,7 @@ pub struct NamedMention {
     pub adds_names: bool,
     /// The rule by which its style adds given names, if it does.
     pub rule: Option<DisambiguationRule>,
-    /// The index of the first mention of its ambiguous group among all mentions; none where it is in no
-    /// such group.
+    /// The index of the first mention of its ambiguous group among all mentions; none where it is
+    /// in no such group.
     pub group: Option<usize>,
 }

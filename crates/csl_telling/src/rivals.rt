@@ -19,7 +19,8 @@ pub(crate) enum Node {
     Step(usize),
 }
 
-/// What looks share that go on from one node: nothing else, a family name, or this and the initials.
+/// What looks share that go on from one node: nothing else, a family name, or this and the
+/// initials.
 #[derive(PartialEq, Eq, Hash, Drop)]
 pub(crate) struct SharedName {
     pub(crate) node: Node,
@@ -131,7 +132,8 @@ pub(crate) fn add_named(
     Ok(())
 }
 
-/// Adds a look that goes on from a node; where given names are added cite by cite also by its names.
+/// Adds a look that goes on from a node; where given names are added cite by cite also by its
+/// names.
 pub(crate) fn add_at(
     alloc: Global,
     rivals: &mut Rivals,
@@ -167,8 +169,8 @@ pub(crate) fn has_other(rivals: &Rivals, name: &SharedName, look: &Look) -> bool
     }
 }
 
-/// The form that a look in full needs beside the others that go on from a node. The names of those who
-/// share its initials are asked only where it has namesakes.
+/// The form that a look in full needs beside the others that go on from a node. The names of
+/// those who share its initials are asked only where it has namesakes.
 pub(crate) fn needed_form(
     alloc: Global,
     rivals: &Rivals,

@@ -84,14 +84,14 @@ fn told(
     }))
 }
 
-/// What tells each of the mentions apart by its names: the forms of its names, or none where they stay
-/// those in which its style writes them by itself.
+/// What tells each of the mentions apart by its names: the forms of its names, or none where they
+/// stay those in which its style writes them by itself.
 ///
-/// Names are looked at one after the other. The first one at which two mentions of a group differ is
-/// shown by both, in a form that tells it where given names are added cite by cite; where one has no
-/// more names there, those before it are. A mention shows as many names as it needs against some other
-/// of its group. By any other rule given names are expanded in all mentions of the document, as far as
-/// other persons ask for it.
+/// Names are looked at one after the other. The first one at which two mentions of a group differ
+/// is shown by both, in a form that tells it where given names are added cite by cite; where one
+/// has no more names there, those before it are. A mention shows as many names as it needs
+/// against some other of its group. By any other rule given names are expanded in all mentions of
+/// the document, as far as other persons ask for it.
 ///
 /// # Errors
 ///

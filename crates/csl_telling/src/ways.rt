@@ -91,7 +91,8 @@ pub(crate) fn ways_of(
     requires { KnowsDocument document.now mentions.now }
     ensures ways { IfOk result (λ v. v.items
         ≡ map (way_of steps.new.keys) (map (reach mentions.now) mentions.now)) }
-    ensures made { OnOk result (All (AllMade steps.new.keys) (map (reach mentions.now) mentions.now)) }
+    ensures made { OnOk result
+        (All (AllMade steps.new.keys) (map (reach mentions.now) mentions.now)) }
 {
     let mut ways = Vec::with_capacity(alloc, mentions.len())?;
     for mention in mentions {

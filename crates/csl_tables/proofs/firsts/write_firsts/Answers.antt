@@ -11,7 +11,7 @@ pub loop-subject-preserved : goal.loop-subject-preserved
 loop-subject-preserved g c =
     let w0 = g.W.MentionWriter.writing c.args.writer.now in
     let w1 = g.W.MentionWriter.writing c.loop-subject.writer in
-    let w2 = g.W.MentionWriter.writing c.write_mention-written.new.writer in
+    let w2 = g.W.MentionWriter.writing c.write_mention.new.self in
     let subjects = c.args.subjects.now in
     let k = c.loop-subject.subject-index in
     let s = c.subject-item.result in
