@@ -10,11 +10,9 @@ use Rattle.std.proofs.lemmas.Bool.{eqb-true}
 use Rattle.std.proofs.lemmas.List.Folds.{list_any-append}
 use Rattle.std.proofs.lemmas.List.{take_all}
 use Rattle.std.proofs.lemmas.Option.{slice_get_read}
-use Rattle.csl_notes.specs.Noted.{AreNotesOf, is_other, noted_with}
-use Rattle.csl_notes.specs.Repeats.{before_at, cites_other, is_note}
+use Rattle.csl_notes.specs.Noted.{is_other, noted_with}
+use Rattle.csl_notes.specs.Repeats.{before_at}
 use Rattle.csl_notes.specs.declared.repeats.NoteEntries.{NoteEntries}
-use Rattle.csl_notes.specs.declared.repeats.PlacedCite.{PlacedCite}
-use Rattle.csl_notes.specs.declared.repeats.PlacedRequest.{PlacedRequest}
 use Rattle.csl_notes.proofs.Stepping.{next}
 
 other-grows : (e entry : ℕ) (o : Option NoteEntries) → is_other e (Some (noted_with entry o)) ≡ (is_other e o || not (nat_eq e entry))
@@ -68,8 +66,8 @@ module _ {X : Type 0} (p : X → Bool) (xs : List X) (k : ℕ) (x : X) (within :
 pub all-noted : {X : Type 0} (p : X → Bool) (xs : List X) (k : ℕ) → length xs ≤ k → list_any p (take k xs) ≡ list_any p xs
 all-noted p xs k h = ap (list_any p) (take_all k xs h)
 
-pub no-notes : (L : Type 0) {S : Type 0} (noted : HashMap ℕ NoteEntries S) → noted.entries ≡ [] → AreNotesOf {L = L} noted []
-no-notes L noted empty = λ n e. ap (λ es. is_other e (lookup (nat_eq n) es)) empty
+pub no-notes : {S : Type 0} (noted : HashMap ℕ NoteEntries S) → noted.entries ≡ [] → (n e : ℕ) → is_other e (get nat_eq noted n) ≡ false
+no-notes noted empty = λ n e. ap (λ es. is_other e (lookup (nat_eq n) es)) empty
 
 -- the member before
 pub before-found : {X : Type 0} (xs : List X) (k : ℕ) (x : X) → k ≢ 0 → k < length xs → x ≡ get_or xs (k - 1) x → before_at xs k ≡ Some x

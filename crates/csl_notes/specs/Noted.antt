@@ -13,7 +13,10 @@ is_other entry (Some e) = e.several || not (nat_eq e.entry entry)
 -- once one more was noted
 abbrev pub noted_with : ℕ → Option NoteEntries → NoteEntries
 noted_with entry None = record { entry = entry; several = false }
-noted_with entry (Some e) = record { entry = e.entry; several = e.several || not (nat_eq e.entry entry) }
+noted_with entry (Some e) = record {
+  entry = e.entry;
+  several = e.several || not (nat_eq e.entry entry);
+}
 
 -- these are the notes of all requests
 abbrev pub AreNotesOf : {L S : Type 0} → HashMap ℕ NoteEntries S → List (PlacedRequest L) → Type 0

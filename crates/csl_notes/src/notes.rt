@@ -39,9 +39,9 @@ struct Known {
     last_note: Option<usize>,
 }
 
-/// What is known of each cite by those before it. Numbers of notes are compared, and not requests: a note
-/// is near where its number is the cite's own or one below it, and at most as far below as the style of
-/// the cite says.
+/// What is known of each cite by those before it. Numbers of notes are compared, and not
+/// requests: a note is near where its number is the cite's own or one below it, and at most as
+/// far below as the style of the cite says.
 ///
 /// # Errors
 ///
@@ -87,8 +87,8 @@ fn notes_by(cite: &HandedCite, known: Known) -> CiteNotes
     }
 }
 
-/// Whether both stand in notes, and the second one's is at most so far before the first one's, or the
-/// same.
+/// Whether both stand in notes, and the second one's is at most so far before the first one's, or
+/// the same.
 fn is_near(distance: usize, note: Option<usize>, last: Option<usize>) -> bool
     ensures { result ≡ is_near distance note last }
 {

@@ -47,10 +47,10 @@ struct NoteEntries {
     several: bool,
 }
 
-/// The positions of all cites, by request and by place in it. A cite may repeat the one directly before it
-/// in its request; the first one of a request may repeat the cite of the request directly before, where
-/// that has one cite alone and stands in no note, in the same note, or in a note of which no request cites
-/// another entry.
+/// The positions of all cites, by request and by place in it. A cite may repeat the one directly
+/// before it in its request; the first one of a request may repeat the cite of the request
+/// directly before, where that has one cite alone and stands in no note, in the same note, or in
+/// a note of which no request cites another entry.
 ///
 /// # Errors
 ///
@@ -149,8 +149,8 @@ fn noted_with(noted: &HashMap<usize, NoteEntries>, number: usize, entry: usize) 
     }
 }
 
-/// The cite of the request directly before that the first one of the request at k may repeat, where that
-/// stands in this note.
+/// The cite of the request directly before that the first one of the request at k may repeat,
+/// where that stands in this note.
 fn repeatable_before<'x, L>(
     noted: &HashMap<usize, NoteEntries>,
     requests: &'x [PlacedRequest<L>],
@@ -185,8 +185,8 @@ fn only_repeatable<'x, L>(
     }
 }
 
-/// Whether the one cite of a request in one note may be repeated by the request behind it, in another
-/// note or the same.
+/// Whether the one cite of a request in one note may be repeated by the request behind it, in
+/// another note or the same.
 fn may_be_repeated(
     noted: &HashMap<usize, NoteEntries>,
     from: Option<usize>,

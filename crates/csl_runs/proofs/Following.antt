@@ -1,14 +1,14 @@
 -- Cites behind ranges of numbers, one more cite.
-use Rattle.std.proofs.Common.{◌≡◌, ◌⊎◌, inl, inr, ℕ, zero, suc, ◌+◌, ◌<◌, ◌≤◌, Bool, true, false, not, ◌&&◌, ◌||◌, Some, None, Option, List, [], ◌∷◌, ◌++◌, cond, length, map, take, get_or, refl, ap, sym, ◌∙◌, true≢false, arith}
-use Rattle.std.specs.Prelude.{is_some, nat_eq, slice_get}
-use Rattle.std.specs.List.{enumerate_from, list_all, list_any}
+use Rattle.std.proofs.Common.{◌≡◌, ◌⊎◌, inl, inr, ℕ, ◌+◌, ◌<◌, Bool, true, false, not, ◌&&◌, ◌||◌, Some, None, Option, List, [], ◌∷◌, ◌++◌, cond, length, map, take, get_or, refl, ap, sym, ◌∙◌, true≢false, arith}
+use Rattle.std.specs.Prelude.{is_some, slice_get}
+use Rattle.std.specs.List.{enumerate_from, list_all}
 use Rattle.std.specs.Option.{option_map_or}
 use Rattle.std.proofs.lemmas.Bool.{and_parts, and_from}
 use Rattle.std.proofs.lemmas.List.{get_or_default}
 use Rattle.std.proofs.lemmas.Option.{slice_get-get_or}
 use Rattle.csl_runs.specs.Links.{ends_long as ends_around, moved, number_made}
 use Rattle.csl_runs.specs.NumberRanges.{ends_range, follows_range, in_range, is_next, rises, shows_number}
-use Rattle.csl_runs.specs.Stretches.{fits_at, is_inner, linked_at, places}
+use Rattle.csl_runs.specs.Stretches.{fits_at, linked_at, places}
 use Rattle.csl_runs.specs.declared.around.Around.{Around}
 use Rattle.csl_runs.specs.declared.collapsed.CollapsedCite.{CollapsedCite}
 use Rattle.csl_runs.specs.declared.collapsed.Delimiter.{Delimiter}

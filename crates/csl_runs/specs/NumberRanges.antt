@@ -1,5 +1,5 @@
 -- Ranges of citation numbers, and what collapsing them makes of each cite.
-use Rattle.std.specs.Prelude.{ℕ, ◌+◌, Bool, false, not, ◌&&◌, List, Option, None, Some, if◌then◌else◌, is_some, map, nat_eq}
+use Rattle.std.specs.Prelude.{ℕ, ◌+◌, Bool, false, not, ◌&&◌, List, Option, Some, if◌then◌else◌, is_some, map, nat_eq}
 use Rattle.std.specs.List.{enumerate_from, list_all, list_any}
 use Rattle.csl_runs.specs.Stretches.{ends_long, fits_at, is_inner, places}
 use Rattle.csl_runs.specs.declared.collapsed.CollapsedCite.{CollapsedCite}

@@ -1,5 +1,5 @@
 -- Stretches of cites that show the suffixes of their years alone, and ranges of suffixes.
-use Rattle.std.specs.Prelude.{ℕ, ◌+◌, Bool, true, false, not, ◌&&◌, List, Option, None, Some, if◌then◌else◌, is_some, length, map, nat_eq}
+use Rattle.std.specs.Prelude.{ℕ, ◌+◌, Bool, true, false, not, ◌&&◌, List, Option, Some, if◌then◌else◌, is_some, length, map, nat_eq}
 use Rattle.std.specs.List.{range_with_len}
 use Rattle.std.specs.Option.{is_none, option_eq}
 use Rattle.csl_runs.specs.Stretches.{ends_long, is_inner, is_later}

@@ -8,7 +8,7 @@ use Rattle.csl_notes.proofs.Noting.{all-noted, no-notes, requests-noted}
 use Rattle.csl_notes.proofs.repeats.entries_of_notes.Goals as goal
 
 pub loop-request-init : goal.loop-request-init
-loop-request-init g c = no-notes _ c.new-noted.result c.new-noted.ensures.empty
+loop-request-init g c = no-notes c.new-noted.result c.new-noted.ensures.empty
 
 pub loop-request-preserved : goal.loop-request-preserved
 loop-request-preserved g c = λ n e.

@@ -1,6 +1,3 @@
-use Rattle.std.proofs.Common.{ap, refl, ◌∙◌}
-use Rattle.csl_runs.specs.SuffixStretches.{fits, suffixes_rise}
-use Rattle.csl_runs.proofs.Linked.{from-first}
 use Rattle.csl_runs.proofs.Suffixed.{around-next, joined-next, made-next}
 use Rattle.csl_runs.proofs.suffixes.suffix_stretches.Goals as goal
 
