@@ -1,5 +1,5 @@
 -- For the code: what is known of each entry by the cites that were looked at.
-use Rattle.std.specs.Prelude.{ℕ, true, false, not, List, Option, None, if◌then◌else◌, nat_eq, option_map, unwrap_or}
+use Rattle.std.specs.Prelude.{ℕ, true, false, not, List, None, if◌then◌else◌, nat_eq, option_map, unwrap_or}
 use Rattle.std.specs.HashMap.{HashMap, get}
 use Rattle.std.specs.List.{list_any}
 use Rattle.std.specs.Option.{option_or}

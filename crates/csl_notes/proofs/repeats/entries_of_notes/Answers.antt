@@ -1,4 +1,4 @@
-use Rattle.std.proofs.Common.{ap, not, ◌&&◌, ◌∙◌}
+use Rattle.std.proofs.Common.{not, ◌&&◌, ◌∙◌}
 use Rattle.std.specs.Prelude.{nat_eq}
 use Rattle.std.specs.HashMap.{get}
 use Rattle.std.specs.List.{list_any}

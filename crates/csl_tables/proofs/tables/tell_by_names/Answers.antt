@@ -1,5 +1,5 @@
 use Rattle.std.proofs.Common.{ap, length, map, sym, ◌++◌, ◌∙◌}
-use Rattle.std.specs.Prelude.{flat_map, is_some}
+use Rattle.std.specs.Prelude.{flat_map}
 use Rattle.std.specs.List.{zip}
 use Rattle.std.proofs.Math.ListN.{length-map}
 use Rattle.std.proofs.lemmas.List.{with_items_is}
@@ -17,9 +17,3 @@ pub told_by_names-requires : goal.told_by_names-requires
 told_by_names-requires g c =
     let first = c.in_ok-firsts.ensures.firsts in
     ap length (c.deref.ensures.value ∙ first.mentions) ∙ length-map c.args.subjects.now _ ∙ sym (ap length (c.deref_mut.ensures.value ∙ first.named) ∙ length-map c.args.subjects.now _)
-
-pub write_changed-requires : goal.write_changed-requires
-write_changed-requires g c = ?
-
-pub returns : goal.returns
-returns g c = ?
