@@ -15,8 +15,9 @@ pub struct LocaleChain<'a> {
 }
 
 impl<'a> LocaleChain<'a> {
-    /// The chain for a document in this language (a tag as `de-AT`): the style's own locales for it and for
-    /// all languages; then the locale files of the dialect, of the language's primary dialect, and of en-US.
+    /// The chain for a document in this language (a tag as `de-AT`): the style's own locales for it
+    /// and for all languages; then the locale files of the dialect, of the language's primary
+    /// dialect, and of en-US.
     ///
     /// # Errors
     ///
@@ -56,8 +57,8 @@ impl<'a> LocaleChain<'a> {
         None
     }
 
-    /// Whether a period or a comma behind a quote stands inside it (punctuation-in-quote), as the first
-    /// locale says that tells; not where none does.
+    /// Whether a period or a comma behind a quote stands inside it (punctuation-in-quote), as the
+    /// first locale says that tells; not where none does.
     pub fn has_punctuation_in_quotes(&self) -> bool {
         for locale in &self.locales {
             if let Some(value) = locale.options.punctuation_in_quote {
@@ -67,8 +68,8 @@ impl<'a> LocaleChain<'a> {
         false
     }
 
-    /// Whether the first day of a month alone is an ordinal (limit-day-ordinals-to-day-1), as the first
-    /// locale says that tells; not where none does.
+    /// Whether the first day of a month alone is an ordinal (limit-day-ordinals-to-day-1), as the
+    /// first locale says that tells; not where none does.
     pub fn limits_day_ordinals(&self) -> bool {
         for locale in &self.locales {
             if let Some(value) = locale.options.limit_day_ordinals_to_day_1 {

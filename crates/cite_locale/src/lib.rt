@@ -1,5 +1,5 @@
-//! The words of a language: terms, ordinals, quotation marks, dates and options, looked for in a chain
-//! of locales.
+//! The words of a language: terms, ordinals, quotation marks, dates and options, looked for in a
+//! chain of locales.
 #![tactic(auto)]
 
 pub mod chain;

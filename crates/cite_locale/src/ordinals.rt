@@ -5,11 +5,12 @@ use csl_vocabulary::term::{Gender, OrdinalMatch, PlainTerm, TermForm, TermName};
 use style_file::locale::{Locale, Term};
 
 impl<'a> LocaleChain<'a> {
-    /// What stands behind the digits of an ordinal, for a noun of this gender; empty where no locale
-    /// tells. All suffixes are those of the first locale that has one: a style that tells one tells all.
+    /// What stands behind the digits of an ordinal, for a noun of this gender; empty where no
+    /// locale tells. All suffixes are those of the first locale that has one: a style that tells
+    /// one tells all.
     ///
-    /// A term for the whole number goes before one for its last two digits, that before one for its last
-    /// digit, and that before the term `ordinal`.
+    /// A term for the whole number goes before one for its last two digits, that before one for its
+    /// last digit, and that before the term `ordinal`.
     pub fn ordinal_suffix(&self, number: u32, gender: Option<Gender>) -> &'a str {
         for locale in &self.locales {
             if has_ordinals(locale) {
@@ -22,8 +23,8 @@ impl<'a> LocaleChain<'a> {
         ""
     }
 
-    /// The word for an ordinal from 1 to 10, for a noun of this gender; `None` for other numbers, and where
-    /// no locale has it.
+    /// The word for an ordinal from 1 to 10, for a noun of this gender; `None` for other numbers,
+    /// and where no locale has it.
     pub fn long_ordinal(&self, number: u32, gender: Option<Gender>) -> Option<&'a str> {
         let Ok(number) = u8::try_from(number) else {
             return None;

@@ -5,9 +5,9 @@ use csl_vocabulary::term::{Gender, PlainTerm, TermForm, TermName};
 use style_file::locale::Term;
 
 impl<'a> LocaleChain<'a> {
-    /// The words of a term in this form, for many if `is_plural`; `None` where no locale has the term. A form
-    /// that no locale has is that which stands for it: `verb-short` is `verb`, `symbol` is `short`, and these
-    /// are `long`.
+    /// The words of a term in this form, for many if `is_plural`; `None` where no locale has the
+    /// term. A form that no locale has is that which stands for it: `verb-short` is `verb`,
+    /// `symbol` is `short`, and these are `long`.
     pub fn term(&self, name: TermName, form: TermForm, is_plural: bool) -> Option<&'a str> {
         let term = self.find_in_forms(name, form)?;
         Some(words_of(term, is_plural))

@@ -7,8 +7,9 @@ use std::alloc::{AllocError, Global};
 use style_file::element::NumberForm;
 use style_file::style::PageRangeFormat;
 
-/// The text of a number variable in this form, its ordinals for a noun of this gender. A text that is
-/// not numeric stays, but for the hyphens of its ranges. A number with letters stays in any form.
+/// The text of a number variable in this form, its ordinals for a noun of this gender. A text that
+/// is not numeric stays, but for the hyphens of its ranges. A number with letters stays in any
+/// form.
 ///
 /// # Errors
 ///
@@ -77,8 +78,8 @@ pub fn ordinal(
     format!(in alloc; "{number}{suffix}")
 }
 
-/// The word for an ordinal, as `second`; above ten, and where the locale has none, the number with its
-/// suffix.
+/// The word for an ordinal, as `second`; above ten, and where the locale has none, the number with
+/// its suffix.
 ///
 /// # Errors
 ///
@@ -95,8 +96,8 @@ pub fn long_ordinal(
     }
 }
 
-/// The text of a variable of pages, each range in it in this format, with the locale's delimiter between
-/// its pages. Without a format the pages stay.
+/// The text of a variable of pages, each range in it in this format, with the locale's delimiter
+/// between its pages. Without a format the pages stay.
 ///
 /// # Errors
 ///

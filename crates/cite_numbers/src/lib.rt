@@ -1,4 +1,5 @@
-//! Numbers as a style writes them: their forms, ranges of pages, when a label is plural, and locators.
+//! Numbers as a style writes them: their forms, ranges of pages, when a label is plural, and
+//! locators.
 #![tactic(auto)]
 
 pub mod forms;

@@ -14,8 +14,9 @@ pub struct LocatorPart<'t> {
     pub text: &'t str,
 }
 
-/// The parts of a locator. A part begins with a label: a locator term of the locale in any of its forms, or
-/// an abbreviation that is in use. What stands before the first label is of the type `label`.
+/// The parts of a locator. A part begins with a label: a locator term of the locale in any of its
+/// forms, or an abbreviation that is in use. What stands before the first label is of the type
+/// `label`.
 ///
 /// # Errors
 ///
@@ -138,8 +139,8 @@ struct Longest {
 }
 
 impl Longest {
-    /// Takes these words where the text begins with them, no letter or digit of a word is behind them, and
-    /// they are longer.
+    /// Takes these words where the text begins with them, no letter or digit of a word is behind
+    /// them, and they are longer.
     fn meet(&mut self, text: &str, words: &str, label: LocatorType) {
         let Some(behind) = text.strip_prefix(words) else {
             return;

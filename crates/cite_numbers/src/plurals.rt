@@ -3,8 +3,9 @@ use csl_texts::pages::has_several_pages;
 use csl_vocabulary::variable::NumberVariable;
 use style_file::names::LabelPlural;
 
-/// Whether the label of a number variable with this text is plural. Contextually, that of a count of
-/// pages or volumes is so where it is not 1, and any other where the text has several numbers.
+/// Whether the label of a number variable with this text is plural. Contextually, that of a count
+/// of pages or volumes is so where it is higher than 1, and any other where the text has several
+/// numbers.
 pub fn is_plural(plural: LabelPlural, variable: NumberVariable, text: &str) -> bool {
     match plural {
         LabelPlural::Always => true,
@@ -20,10 +21,10 @@ fn is_count(variable: NumberVariable) -> bool {
     )
 }
 
-/// Whether a text is a number that is not 1.
+/// Whether a text is a number higher than 1.
 fn is_many(text: &str) -> bool {
     match text.trim().parse::<u64>() {
-        Ok(number) => number != 1,
+        Ok(number) => number > 1,
         Err(_) => false,
     }
 }

@@ -44,8 +44,8 @@ impl TextFormatting {
         }
     }
 
-    /// The formatting inside markup. Italics in italics are upright, and so are bold letters in bold
-    /// ones and small capitals in small capitals.
+    /// The formatting inside markup. Italics in italics are upright, and so are bold letters in
+    /// bold ones and small capitals in small capitals.
     pub fn with_markup(self, markup: RunStyle) -> TextFormatting {
         let mut inside = self;
         if markup.italic {

@@ -37,8 +37,8 @@ pub fn html(alloc: Global, pieces: &Pieces, marks: QuoteMarks<'_>) -> Result<Str
 struct Page<'a> {
     alloc: Global,
     text: String,
-    /// The tags that are open in the text. Those of formatting may stay open behind their wraps, for
-    /// neighbours to share them, and open before the next text.
+    /// The tags that are open in the text. Those of formatting may stay open behind their wraps,
+    /// for neighbours to share them, and open before the next text.
     tags: Vec<Tag>,
     marks: QuoteMarks<'a>,
     open: Vec<OpenWrap>,

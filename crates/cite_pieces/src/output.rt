@@ -123,9 +123,9 @@ impl<'s> Output<'s> {
         Ok(())
     }
 
-    /// Closes the innermost element. Where it has text, it is written with what stands around it, and
-    /// behind the delimiter of the element around it where text is before it; else it leaves nothing.
-    /// Tells whether it had text.
+    /// Closes the innermost element. Where it has text, it is written with what stands around it,
+    /// and behind the delimiter of the element around it where text is before it; else it leaves
+    /// nothing. Tells whether it had text.
     ///
     /// # Errors
     ///
@@ -163,8 +163,8 @@ impl<'s> Output<'s> {
         self.content.push_str(self.alloc, text)
     }
 
-    /// Adds a text with markup to the innermost element, as the fields of an entry have it. Quotes in it
-    /// get the marks of the locale, and a straight apostrophe becomes a curly one.
+    /// Adds a text with markup to the innermost element, as the fields of an entry have it. Quotes
+    /// in it get the marks of the locale, and a straight apostrophe becomes a curly one.
     ///
     /// # Errors
     ///

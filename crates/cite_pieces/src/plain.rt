@@ -4,8 +4,8 @@ use crate::pieces::Pieces;
 use csl_texts::quotes::QuoteMarks;
 use std::alloc::{AllocError, Global};
 
-/// The texts of a stream, with quotation marks. Quotes inside quotes have the inner marks, and so on
-/// in turn.
+/// The texts of a stream, with quotation marks. Quotes inside quotes have the inner marks, and so
+/// on in turn.
 ///
 /// # Errors
 ///

@@ -6,9 +6,9 @@ use std::mem::replace;
 
 /// The stream with its punctuation in order. Where two texts meet, doubled punctuation is written
 /// once, as `..` and `?.` are `.` and `?`, and doubled spaces are one space. No space is before a
-/// period or a comma. If `in_quotes`, as locales ask for by punctuation-in-quote, a period or a comma
-/// behind a quote stands inside it, and inside the innermost one where several end there; but not one
-/// of the same field.
+/// period or a comma. If `in_quotes`, as locales ask for by punctuation-in-quote, a period or a
+/// comma behind a quote stands inside it, and inside the innermost one where several end there; but
+/// not one of the same field.
 ///
 /// # Errors
 ///
@@ -108,7 +108,8 @@ impl Joints {
         false
     }
 
-    /// Whether markup begins behind the last text: what is in it stays behind the quote of its field.
+    /// Whether markup begins behind the last text: what is in it stays behind the quote of its
+    /// field.
     fn is_in_markup(&self) -> bool {
         for edge in &self.behind {
             if matches!(edge, Edge::Open(Wrap::Markup(_))) {

@@ -7,8 +7,8 @@ use std::mem::replace;
 
 /// The pieces of a text with markup.
 ///
-/// Quotes stand between straight or curly marks, double or single. A mark without a partner is text, and
-/// a straight single one is an apostrophe then.
+/// Quotes stand between straight or curly marks, double or single. A mark without a partner is
+/// text, and a straight single one is an apostrophe then.
 ///
 /// # Errors
 ///
@@ -87,8 +87,8 @@ impl Writer {
         self.run.push(c)
     }
 
-    /// Writes the letters that wait. Those behind a quote are markup in any style: their punctuation
-    /// doesn't move into it.
+    /// Writes the letters that wait. Those behind a quote are markup in any style: their
+    /// punctuation doesn't move into it.
     fn flush(&mut self) -> Result<(), AllocError> {
         if self.run.is_empty() {
             return Ok(());
@@ -180,8 +180,8 @@ struct Mark {
     closes: bool,
 }
 
-/// The quotation mark at this place. A straight one opens nothing before white space, and closes nothing
-/// behind it; a single one does neither within a word.
+/// The quotation mark at this place. A straight one opens nothing before white space, and closes
+/// nothing behind it; a single one does neither within a word.
 fn mark_at(letters: &[Letter], place: usize) -> Option<Mark> {
     let c = letters.get(place)?.c;
     let before = place

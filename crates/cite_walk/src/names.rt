@@ -355,8 +355,8 @@ impl<'s, 'c> Walk<'s, 'c> {
     }
 }
 
-/// Adds a block. Where there is a common term for editors who are translators too, and these are the
-/// persons of the last block, that gets the term.
+/// Adds a block. Where there is a common term for editors who are translators too, and these are
+/// the persons of the last block, that gets the term.
 fn push_block<'c>(
     blocks: &mut Vec<Block<'c>>,
     block: Block<'c>,

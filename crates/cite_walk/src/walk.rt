@@ -230,7 +230,8 @@ impl<'s, 'c> Walk<'s, 'c> {
         Ok(())
     }
 
-    /// Closes a macro. One that has called variables and has text counts as a variable with a value.
+    /// Closes a macro. One that has called variables and has text counts as a variable with a
+    /// value.
     fn close_macro(&mut self) -> Result<(), AllocError> {
         let mut frame = self.frames.pop().unwrap_or(Frame::NEW);
         if self.output.close()? && frame.has_called {

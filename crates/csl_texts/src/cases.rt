@@ -35,8 +35,8 @@ pub struct Span {
     pub end: usize,
 }
 
-/// The text in this case. `CapitalizeFirst` gives the first word a capital, and `CapitalizeAll` each word,
-/// where it has none. `Title` is for English alone: texts in other languages stay.
+/// The text in this case. `CapitalizeFirst` gives the first word a capital, and `CapitalizeAll`
+/// each word, where it has none. `Title` is for English alone: texts in other languages stay.
 ///
 /// # Errors
 ///
@@ -220,8 +220,8 @@ impl<'a> Planned<'a> {
     }
 
     /// Each word begins with a capital but stop words, which do only as the first or last word and
-    /// behind a colon, an exclamation mark or a question mark. A capital that a stop word has is lost
-    /// in running text alone, and not behind a quote or a bracket.
+    /// behind a colon, an exclamation mark or a question mark. A capital that a stop word has is
+    /// lost in running text alone, and not behind a quote or a bracket.
     fn push_word_of_title(&mut self, word: Word, position: Position) -> Result<(), AllocError> {
         let letters = self.letters(word.span);
         let is_set_off = position.is_first || position.is_last || word.gap == Gap::Sentence;
@@ -292,8 +292,8 @@ impl<'a> Planned<'a> {
     }
 }
 
-/// Whether a text of several words is all in capitals, kept words aside. A single word in capitals is
-/// an abbreviation.
+/// Whether a text of several words is all in capitals, kept words aside. A single word in capitals
+/// is an abbreviation.
 fn is_shouted(text: &str, words: &[Word]) -> bool {
     let mut loud = 0usize;
     for word in words.iter().filter(|word| !word.is_kept) {

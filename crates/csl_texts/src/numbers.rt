@@ -48,7 +48,7 @@ pub struct NumberPart<'a> {
 }
 
 /// Whether a text consists of numbers alone, with hyphens, commas or ampersands between them.
-/// Numbers may have letters before and behind them, as in `2nd`, `D2` and `L2d`.
+/// Numbers may have letters before and behind them, as in `2nd` and `L2d`.
 pub fn is_numeric(text: &str) -> bool {
     text.split(|c| NumberDelimiter::of_char(c).is_some())
         .all(|part| is_number(part.trim()))

@@ -3,9 +3,10 @@ use std::alloc::{AllocError, Global};
 use style_file::style::PageRangeFormat;
 
 /// The text of a variable of pages, each range of it in this format and with the delimiter of the
-/// locale between its pages. Without a format the pages stay as they are. `Expanded` writes all digits
-/// (321–328), `Minimal` those that change (321–8), `MinimalTwo` two of them at least (321–28), and the
-/// other formats are those of The Chicago Manual of Style, 15th edition (1496–1504) and 16th (1496–504).
+/// locale between its pages. Without a format the pages stay as they are. `Expanded` writes all
+/// digits (321–328), `Minimal` those that change (321–8), `MinimalTwo` two of them at least
+/// (321–28), and the other formats are those of The Chicago Manual of Style, 15th edition
+/// (1496–1504) and 16th (1496–504).
 ///
 /// A range is two pages with a hyphen or an en dash between them. A page has a digit, or is a Roman
 /// numeral; other hyphens stay, and so does one that is written `\-`. Only digits behind the same
@@ -36,8 +37,8 @@ pub fn page_ranges(
     Ok(out)
 }
 
-/// Whether a text has several pages or other numbers: with a dash between them, which is not written `\-`,
-/// or with other marks or words.
+/// Whether a text has several pages or other numbers: with a dash between them, which is not
+/// written `\-`, or with other marks or words.
 pub fn has_several_pages(text: &str) -> bool {
     let mut count = 0usize;
     for part in text.split(|c| kind_of(c) != Kind::Word) {

@@ -8,6 +8,4 @@ pub mod item_type;
 pub mod locator;
 mod rows;
 pub mod term;
-#[cfg(test)]
-mod tests;
 pub mod variable;

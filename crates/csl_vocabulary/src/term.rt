@@ -408,30 +408,6 @@ pub const OLDER_PLAIN_TERMS: &[(&str, PlainTerm)] = &[
     ("sub verbo", PlainTerm::SubVerbo),
 ];
 
-/// The months, from January.
-pub const MONTHS: [PlainTerm; 12] = [
-    PlainTerm::January,
-    PlainTerm::February,
-    PlainTerm::March,
-    PlainTerm::April,
-    PlainTerm::May,
-    PlainTerm::June,
-    PlainTerm::July,
-    PlainTerm::August,
-    PlainTerm::September,
-    PlainTerm::October,
-    PlainTerm::November,
-    PlainTerm::December,
-];
-
-/// The seasons, from spring.
-pub const SEASONS: [PlainTerm; 4] = [
-    PlainTerm::Spring,
-    PlainTerm::Summer,
-    PlainTerm::Autumn,
-    PlainTerm::Winter,
-];
-
 impl PlainTerm {
     /// The name of the term.
     pub fn name(self) -> &'static str {

@@ -4,5 +4,3 @@
 
 pub mod order;
 pub mod outline;
-#[cfg(test)]
-mod tests;

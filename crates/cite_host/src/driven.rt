@@ -1,0 +1,239 @@
+//! A style as the driver knows it: by its options, with a name in place of its layouts.
+use cite_pieces::formatting::TextFormatting;
+use cite_trees::trees::tree_formatting;
+use csl_base::element::InheritableNameOptions;
+use csl_base::formatting::StyleFormatting;
+use csl_base::style as driven;
+use host_table::host_style::named;
+use std::alloc::{AllocError, Global};
+use std::num::NonZeroI16;
+use style_file::formatting::Formatting;
+use style_file::sections::{
+    Bibliography, Citation, CitationOptions, Collapse, GivenNameRule, Layout, SecondFieldAlign,
+    SubstituteRule,
+};
+use style_file::style::{CslStyle, StyleClass};
+
+/// How the driver collapses cites.
+#[derive(Clone, Copy, PartialEq, Eq)]
+pub(crate) enum Shrinking {
+    AsTheStyle,
+    /// It doesn't: the cites have words of their own around them.
+    Never,
+}
+
+/// What the driver has to know of a style, whose citations have numbers of notes if `has_notes`.
+/// The name of the style is not looked at.
+pub(crate) fn driven_style(
+    alloc: Global,
+    style: &CslStyle,
+    shrinking: Shrinking,
+    has_notes: bool,
+) -> Result<driven::IndependentStyle, AllocError> {
+    let bibliography = match &style.bibliography {
+        Some(bibliography) => Some(driven_bibliography(alloc, bibliography)?),
+        None => None,
+    };
+    Ok(driven::IndependentStyle {
+        info: driven::StyleInfo {
+            category: Vec::new(alloc),
+        },
+        settings: driven::StyleSettings {
+            class: match style.class {
+                StyleClass::InText if !has_notes => driven::StyleClass::InText,
+                StyleClass::InText | StyleClass::Note => driven::StyleClass::Note,
+            },
+            options: NO_OPTIONS,
+        },
+        default_locale: None,
+        locale: Vec::new(alloc),
+        macros: Vec::new(alloc),
+        citation: driven_citation(alloc, &style.citation, shrinking)?,
+        bibliography,
+    })
+}
+
+/// Options of names, none of which is told.
+const NO_OPTIONS: InheritableNameOptions = InheritableNameOptions {
+    and: None,
+    name_delimiter: None,
+    names_delimiter: None,
+    et_al_min: None,
+    et_al_use_first: None,
+    name_form: None,
+    initialize_with: None,
+};
+
+/// Formatting of which nothing is asked for.
+const UNFORMATTED: StyleFormatting = StyleFormatting {
+    font_style: None,
+    font_variant: None,
+    font_weight: None,
+    text_decoration: None,
+    vertical_align: None,
+};
+
+/// What stands between the cites of a group where a style collapses their years, and doesn't tell.
+const GROUP_DELIMITER: &str = ", ";
+
+fn driven_citation(
+    alloc: Global,
+    citation: &Citation,
+    shrinking: Shrinking,
+) -> Result<driven::Citation, AllocError> {
+    let options = &citation.options;
+    let collapse = match shrinking {
+        Shrinking::AsTheStyle => options.collapse,
+        Shrinking::Never => None,
+    };
+    let collapses_years = match collapse {
+        Some(Collapse::Year | Collapse::YearSuffix | Collapse::YearSuffixRanged) => true,
+        Some(Collapse::CitationNumber) | None => false,
+    };
+    let group_delimiter = group_delimiter(options, shrinking, collapses_years);
+    let suffix_delimiter = suffix_delimiter(citation, collapses_years);
+    Ok(driven::Citation {
+        layout: citation_layout(alloc, &citation.layout)?,
+        disambiguate_add_givenname: options.disambiguate_add_given_name,
+        givenname_disambiguation_rule: rule_of(options.given_name_rule),
+        disambiguate_add_names: options.disambiguate_add_names,
+        disambiguate_add_year_suffix: options.disambiguate_add_year_suffix,
+        cite_group_delimiter: copied(alloc, group_delimiter)?,
+        year_suffix_delimiter: copied(alloc, suffix_delimiter)?,
+        after_collapse_delimiter: copied(alloc, options.after_collapse_delimiter.as_deref())?,
+        collapse: collapse.map(collapse_of),
+        near_note_distance: options.near_note_distance as usize,
+        name_options: NO_OPTIONS,
+    })
+}
+
+/// What stands between the cites of a group.
+fn group_delimiter(
+    options: &CitationOptions,
+    shrinking: Shrinking,
+    collapses_years: bool,
+) -> Option<&str> {
+    if shrinking == Shrinking::Never {
+        return None;
+    }
+    match &options.cite_group_delimiter {
+        Some(delimiter) => Some(delimiter.as_str()),
+        None if collapses_years => Some(GROUP_DELIMITER),
+        None => None,
+    }
+}
+
+/// What stands between the suffixes of a year.
+fn suffix_delimiter(citation: &Citation, collapses_years: bool) -> Option<&str> {
+    if let Some(delimiter) = &citation.options.year_suffix_delimiter {
+        return Some(delimiter.as_str());
+    }
+    if !collapses_years {
+        return None;
+    }
+    match &citation.options.cite_group_delimiter {
+        Some(delimiter) => Some(delimiter.as_str()),
+        None => Some(citation.layout.delimiter.as_str()),
+    }
+}
+
+/// The layout of a citation, of which the driver writes the delimiter.
+fn citation_layout(alloc: Global, layout: &Layout) -> Result<driven::Layout, AllocError> {
+    Ok(driven::Layout {
+        elements: named(alloc, "")?,
+        formatting: tree_asked(layout.formatting),
+        prefix: None,
+        suffix: None,
+        delimiter: copied(alloc, Some(layout.delimiter.as_str()))?,
+    })
+}
+
+/// What is asked for, as trees have it.
+fn tree_asked(asked: Formatting) -> StyleFormatting {
+    let inside = tree_formatting(TextFormatting::NORMAL.with(asked));
+    StyleFormatting {
+        font_style: Some(inside.font_style),
+        font_variant: Some(inside.font_variant),
+        font_weight: Some(inside.font_weight),
+        text_decoration: Some(inside.text_decoration),
+        vertical_align: Some(inside.vertical_align),
+    }
+}
+
+fn driven_bibliography(
+    alloc: Global,
+    bibliography: &Bibliography,
+) -> Result<driven::Bibliography, AllocError> {
+    let options = &bibliography.options;
+    let substitute = options.subsequent_author_substitute.as_deref();
+    Ok(driven::Bibliography {
+        layout: driven::Layout {
+            elements: named(alloc, "")?,
+            formatting: UNFORMATTED,
+            prefix: None,
+            suffix: None,
+            delimiter: None,
+        },
+        hanging_indent: options.hanging_indent,
+        second_field_align: options.second_field_align.map(align_of),
+        line_spacing: spacing_of(options.line_spacing),
+        entry_spacing: i16::try_from(options.entry_spacing).unwrap_or(i16::MAX),
+        subsequent_author_substitute: copied(alloc, substitute)?,
+        subsequent_author_substitute_rule: substitute_rule_of(options.substitute_rule),
+        name_options: NO_OPTIONS,
+    })
+}
+
+/// The distance of lines; a single one where it is out of range.
+fn spacing_of(lines: u32) -> NonZeroI16 {
+    let lines = i16::try_from(lines).unwrap_or(i16::MAX);
+    match NonZeroI16::new(lines) {
+        Some(spacing) => spacing,
+        None => NonZeroI16::MIN,
+    }
+}
+
+fn rule_of(rule: GivenNameRule) -> driven::DisambiguationRule {
+    match rule {
+        GivenNameRule::AllNames => driven::DisambiguationRule::AllNames,
+        GivenNameRule::AllNamesWithInitials => driven::DisambiguationRule::AllNamesWithInitials,
+        GivenNameRule::PrimaryName => driven::DisambiguationRule::PrimaryName,
+        GivenNameRule::PrimaryNameWithInitials => {
+            driven::DisambiguationRule::PrimaryNameWithInitials
+        }
+        GivenNameRule::ByCite => driven::DisambiguationRule::ByCite,
+    }
+}
+
+fn collapse_of(collapse: Collapse) -> driven::Collapse {
+    match collapse {
+        Collapse::CitationNumber => driven::Collapse::CitationNumber,
+        Collapse::Year => driven::Collapse::Year,
+        // the ranges are the host's
+        Collapse::YearSuffix | Collapse::YearSuffixRanged => driven::Collapse::YearSuffix,
+    }
+}
+
+fn align_of(align: SecondFieldAlign) -> driven::SecondFieldAlign {
+    match align {
+        SecondFieldAlign::Flush => driven::SecondFieldAlign::Flush,
+        SecondFieldAlign::Margin => driven::SecondFieldAlign::Margin,
+    }
+}
+
+fn substitute_rule_of(rule: SubstituteRule) -> driven::SubsequentAuthorSubstituteRule {
+    match rule {
+        SubstituteRule::CompleteAll => driven::SubsequentAuthorSubstituteRule::CompleteAll,
+        SubstituteRule::CompleteEach => driven::SubsequentAuthorSubstituteRule::CompleteEach,
+        SubstituteRule::PartialEach => driven::SubsequentAuthorSubstituteRule::PartialEach,
+        SubstituteRule::PartialFirst => driven::SubsequentAuthorSubstituteRule::PartialFirst,
+    }
+}
+
+/// A copy of a text that may be absent.
+fn copied(alloc: Global, text: Option<&str>) -> Result<Option<String>, AllocError> {
+    match text {
+        Some(text) => Ok(Some(String::from_str(alloc, text)?)),
+        None => Ok(None),
+    }
+}

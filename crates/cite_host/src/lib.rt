@@ -1,0 +1,19 @@
+//! Citations and a bibliography in a style: what the driver asks for is written by the style's
+//! layouts.
+#![tactic(auto)]
+
+pub mod answer;
+pub mod cites;
+mod driven;
+mod entries;
+pub mod error;
+mod facts;
+mod joining;
+mod programs;
+mod requests;
+mod setting;
+mod sorting;
+mod standing;
+mod states;
+mod wording;
+mod writer;

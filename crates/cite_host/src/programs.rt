@@ -1,0 +1,104 @@
+//! The programs of a style.
+use cite_program::build::program_of;
+use cite_program::program::{Program, ProgramError, Step};
+use cite_sorting::keys::Key;
+use cite_sorting::order::keys_of;
+use csl_vocabulary::variable::{NumberVariable, TextVariable, Variable};
+use std::alloc::Global;
+use style_file::element::TextSource;
+use style_file::sections::{Bibliography, SortBy, SortDirection};
+use style_file::style::CslStyle;
+
+/// The programs of the layouts and the keys of a style.
+#[derive(Drop)]
+pub(crate) struct Programs<'s> {
+    pub citation: Program<'s>,
+    pub citation_keys: Vec<Key<'s>>,
+    pub bibliography: Option<BibliographyProgram<'s>>,
+}
+
+/// The program of a bibliography.
+#[derive(Drop)]
+pub(crate) struct BibliographyProgram<'s> {
+    pub section: &'s Bibliography,
+    pub layout: Program<'s>,
+    pub keys: Vec<Key<'s>>,
+    /// Whether items stand in the descending order of their numbers.
+    pub counts_down: bool,
+}
+
+impl<'s> Programs<'s> {
+    pub fn of_style(alloc: Global, style: &'s CslStyle) -> Result<Programs<'s>, ProgramError> {
+        let macros = style.macros.as_slice();
+        let bibliography = match &style.bibliography {
+            Some(section) => {
+                let keys = keys_of(alloc, style, &section.sort)?;
+                Some(BibliographyProgram {
+                    section,
+                    layout: program_of(alloc, macros, &section.layout.elements)?,
+                    counts_down: counts_down(&keys),
+                    keys,
+                })
+            }
+            None => None,
+        };
+        Ok(Programs {
+            citation: program_of(alloc, macros, &style.citation.layout.elements)?,
+            citation_keys: keys_of(alloc, style, &style.citation.sort)?,
+            bibliography,
+        })
+    }
+
+    /// Whether a year suffix stands behind the first date: no layout has a place for it (CSL 1.0.2,
+    /// "Disambiguation").
+    pub fn adds_year_suffix(&self) -> bool {
+        let has_place = writes_suffix(&self.citation);
+        let has_other = match &self.bibliography {
+            Some(bibliography) => writes_suffix(&bibliography.layout),
+            None => false,
+        };
+        !has_place && !has_other
+    }
+}
+
+/// Whether the first of some keys sorts by the numbers of items, the last first.
+fn counts_down(keys: &[Key<'_>]) -> bool {
+    match keys.first() {
+        Some(key) => is_by_descending_number(key),
+        None => false,
+    }
+}
+
+/// Whether a key sorts by the numbers of items, the last first.
+fn is_by_descending_number(key: &Key<'_>) -> bool {
+    if key.key.direction != SortDirection::Descending {
+        return false;
+    }
+    let number = NumberVariable::CitationNumber;
+    match (key.key.by, &key.program) {
+        (SortBy::Variable(variable), _) => variable == Variable::Number(number),
+        (SortBy::Macro(_), Some(program)) => match program.steps.first() {
+            Some(Step::Text(text)) => match &text.source {
+                TextSource::Number(variable) => *variable == number,
+                _ => false,
+            },
+            Some(Step::Number(first)) => first.variable == number,
+            _ => false,
+        },
+        (SortBy::Macro(_), None) => false,
+    }
+}
+
+/// Whether a program writes the variable `year-suffix`.
+fn writes_suffix(program: &Program<'_>) -> bool {
+    for step in &program.steps {
+        if let Step::Text(text) = step {
+            if let TextSource::Variable { variable, .. } = &text.source {
+                if *variable == TextVariable::YearSuffix {
+                    return true;
+                }
+            }
+        }
+    }
+    false
+}

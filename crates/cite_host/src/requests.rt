@@ -1,0 +1,167 @@
+//! What the driver is asked.
+use crate::cites::Cite;
+use crate::entries::Items;
+use crate::sorting::SortedCitation;
+use csl_base::entry::PlainEntry;
+use csl_base::style::{Collapse, IndependentStyle};
+use csl_base::taxonomy::Locator;
+use csl_driver::driver::BibliographyDriver;
+use csl_driver::item::CitationItem;
+use csl_driver::locator::{LocatorPayload, SpecificLocator};
+use csl_driver::purpose::CitePurpose;
+use csl_driver::request::{BibliographyRequest, CitationRequest, Order};
+use csl_vocabulary::locator::LocatorType;
+use std::alloc::{AllocError, Global};
+use std::convert::Infallible;
+
+/// The driver of a host's documents.
+pub(crate) type Driver<'e> = BibliographyDriver<'e, PlainEntry, Infallible>;
+
+/// The styles of a document.
+#[derive(Clone, Copy)]
+pub(crate) struct DrivenStyles<'e> {
+    pub usual: &'e IndependentStyle,
+    /// For citations whose cites have words of their own around them.
+    pub apart: &'e IndependentStyle,
+}
+
+/// The locators of the cites of each citation, as the driver compares them.
+pub(crate) type DrivenLocators = Vec<Vec<Option<(Locator, String)>>>;
+
+/// The locators of these citations.
+pub(crate) fn locators_of(
+    alloc: Global,
+    citations: &[SortedCitation<'_>],
+) -> Result<DrivenLocators, AllocError> {
+    let mut all = Vec::new(alloc);
+    for citation in citations {
+        let mut locators = Vec::new(alloc);
+        for cite in &citation.cites {
+            locators.push(locator_of(alloc, cite)?)?;
+        }
+        all.push(locators)?;
+    }
+    Ok(all)
+}
+
+fn locator_of(alloc: Global, cite: &Cite) -> Result<Option<(Locator, String)>, AllocError> {
+    let Some(locator) = &cite.locator else {
+        return Ok(None);
+    };
+    let text = locator.text.plain(alloc)?;
+    Ok(Some(match known_kind(locator.kind) {
+        Some(kind) => (kind, text),
+        None => {
+            let mut named = String::from_str(alloc, locator.kind.name())?;
+            named.push(' ')?;
+            named.push_str(text.as_str())?;
+            (Locator::Custom, named)
+        }
+    }))
+}
+
+/// The kind of a locator, where the driver knows it.
+fn known_kind(kind: LocatorType) -> Option<Locator> {
+    match kind {
+        LocatorType::Book => Some(Locator::Book),
+        LocatorType::Chapter => Some(Locator::Chapter),
+        LocatorType::Figure => Some(Locator::Figure),
+        LocatorType::Line => Some(Locator::Line),
+        LocatorType::Note => Some(Locator::Note),
+        LocatorType::Page => Some(Locator::Page),
+        LocatorType::Paragraph => Some(Locator::Paragraph),
+        LocatorType::Part => Some(Locator::Part),
+        LocatorType::Section => Some(Locator::Section),
+        LocatorType::Supplement => Some(Locator::Supplement),
+        LocatorType::Verse => Some(Locator::Verse),
+        LocatorType::Volume => Some(Locator::Volume),
+        _ => None,
+    }
+}
+
+/// A driver that has taken the citations.
+pub(crate) fn filled_driver<'e>(
+    alloc: Global,
+    styles: DrivenStyles<'e>,
+    items: &'e Items<'_>,
+    citations: &[SortedCitation<'_>],
+    locators: &'e DrivenLocators,
+) -> Result<Driver<'e>, AllocError> {
+    let mut driver = BibliographyDriver::new(alloc);
+    for (citation, locators) in citations.iter().zip(locators) {
+        let cites = cites_of(alloc, items, citation, locators)?;
+        let style = style_for(styles, citation);
+        let request = CitationRequest::new(cites, style, None, &[], Some(citation.note));
+        if driver.citation(request).is_err() {
+            return Err(AllocError);
+        }
+    }
+    Ok(driver)
+}
+
+/// The cites of a citation.
+fn cites_of<'e>(
+    alloc: Global,
+    items: &'e Items<'_>,
+    citation: &SortedCitation<'_>,
+    locators: &'e [Option<(Locator, String)>],
+) -> Result<Vec<CitationItem<'e, PlainEntry, Infallible>>, AllocError> {
+    let mut cites = Vec::new(alloc);
+    for (cite, locator) in citation.cites.iter().zip(locators) {
+        let place = items.place(cite.id.as_str()).unwrap_or(0);
+        if let Some(entry) = items.entries.get(place) {
+            cites.push(item_of(*cite, entry, locator))?;
+        }
+    }
+    Ok(cites)
+}
+
+/// The style of a citation.
+fn style_for<'e>(styles: DrivenStyles<'e>, citation: &SortedCitation<'_>) -> &'e IndependentStyle {
+    if stands_together(citation, styles.usual) {
+        styles.usual
+    } else {
+        styles.apart
+    }
+}
+
+/// A request for a bibliography in the order of these entries.
+pub(crate) fn bibliography_request<'o, 'e>(
+    style: &'o IndependentStyle,
+    order: &'o [&'e PlainEntry],
+) -> BibliographyRequest<'o, 'e, PlainEntry> {
+    BibliographyRequest::ordered(style, None, &[], order_of(order))
+}
+
+fn order_of<'o, 'e>(entries: &'o [&'e PlainEntry]) -> Option<Order<'o, 'e, PlainEntry>> {
+    Some(Order(entries))
+}
+
+/// Whether the style may group and collapse the cites of a citation. Numbers with locators are
+/// not collapsed.
+fn stands_together(citation: &SortedCitation<'_>, style: &IndependentStyle) -> bool {
+    let collapses_numbers = style.citation.collapse == Some(Collapse::CitationNumber);
+    for cite in &citation.cites {
+        if !cite.is_plain() || (collapses_numbers && cite.locator.is_some()) {
+            return false;
+        }
+    }
+    true
+}
+
+fn item_of<'e>(
+    cite: &Cite,
+    entry: &'e PlainEntry,
+    locator: &'e Option<(Locator, String)>,
+) -> CitationItem<'e, PlainEntry, Infallible> {
+    let locator = match locator {
+        Some((kind, text)) => Some(SpecificLocator(*kind, LocatorPayload::Str(text.as_str()))),
+        None => None,
+    };
+    let purpose = if cite.is_author_only {
+        Some(CitePurpose::Author)
+    } else {
+        None
+    };
+    CitationItem::new(entry, locator, None, cite.is_hidden, purpose)
+}

@@ -1,0 +1,77 @@
+//! The cites of citations in the order of the style.
+use crate::cites::{Citation, Cite};
+use crate::entries::Items;
+use crate::facts::first_cite;
+use crate::setting::Setting;
+use cite_sorting::keys::Key;
+use cite_sorting::order::sorted_places;
+use std::alloc::{AllocError, Global};
+
+/// A citation with its cites in the order of the style.
+#[derive(Drop)]
+pub(crate) struct SortedCitation<'d> {
+    pub cites: Vec<&'d Cite>,
+    pub note: usize,
+}
+
+/// The citations with their cites in the order of the style.
+///
+/// # Errors
+///
+/// Where memory is refused.
+pub(crate) fn sorted_citations<'d>(
+    alloc: Global,
+    setting: Setting<'_>,
+    items: &Items<'d>,
+    citations: &'d [Citation],
+) -> Result<Vec<SortedCitation<'d>>, AllocError> {
+    let keys = setting.programs.citation_keys.as_slice();
+    let mut sorted = Vec::new(alloc);
+    for (number, citation) in citations.iter().enumerate() {
+        let cites = if keys.is_empty() {
+            all_cites(alloc, citation)?
+        } else {
+            cites_by_keys(alloc, setting, keys, items, citation)?
+        };
+        sorted.push(SortedCitation {
+            cites,
+            note: citation.note.unwrap_or(number.saturating_add(1)),
+        })?;
+    }
+    Ok(sorted)
+}
+
+/// The cites of a citation, in their order.
+fn all_cites<'d>(alloc: Global, citation: &'d Citation) -> Result<Vec<&'d Cite>, AllocError> {
+    let mut cites = Vec::new(alloc);
+    for cite in &citation.cites {
+        cites.push(cite)?;
+    }
+    Ok(cites)
+}
+
+/// The cites of a citation, in the order of the keys.
+fn cites_by_keys<'s, 'd>(
+    alloc: Global,
+    setting: Setting<'s>,
+    keys: &'s [Key<'s>],
+    items: &Items<'d>,
+    citation: &'d Citation,
+) -> Result<Vec<&'d Cite>, AllocError> {
+    let mut facts = Vec::new(alloc);
+    for cite in &citation.cites {
+        let place = items.place(cite.id.as_str()).unwrap_or(0);
+        if let Some(reference) = items.reference(place) {
+            let number = place.saturating_add(1);
+            facts.push(first_cite(reference, cite.locator.as_ref(), number))?;
+        }
+    }
+    let places = sorted_places(alloc, setting.cite_keys(), keys, facts.as_slice())?;
+    let mut ordered = Vec::new(alloc);
+    for place in places {
+        if let Some(cite) = citation.cites.get(place) {
+            ordered.push(cite)?;
+        }
+    }
+    Ok(ordered)
+}

@@ -1,0 +1,131 @@
+//! Citations and bibliographies.
+use crate::arguments::Options;
+use crate::citations::{citation_of_all, citations_in};
+use crate::error::CommandError;
+use crate::files::text_of;
+use crate::locales::locales_of;
+use crate::printing::{print_bibliography, print_citations};
+use crate::references::references_of;
+use crate::reports::{refused, show_warning};
+use crate::styles::{FoundStyle, style_of};
+use cite_host::answer::{Answer, Document};
+use cite_host::cites::Citation;
+use cite_host::error::AnswerError;
+use cite_locale::chain::LocaleChain;
+use csl_references::reference::References;
+use std::alloc::{AllocError, Global};
+use std::rt::Files;
+
+/// What of an answer is printed.
+#[derive(Clone, Copy, PartialEq, Eq)]
+enum Printed {
+    Citations,
+    Bibliography,
+}
+
+/// Prints citations.
+///
+/// # Errors
+///
+/// Each of `CommandError` but `Usage`.
+pub(crate) fn cite(
+    rt: &(impl Files + Input + Print + Eprint + AllocGlobal),
+    options: &Options,
+) -> Result<(), CommandError> {
+    print_answer(rt, options, Printed::Citations)
+}
+
+/// Prints a bibliography.
+///
+/// # Errors
+///
+/// Each of `CommandError` but `Usage`.
+pub(crate) fn bibliography(
+    rt: &(impl Files + Input + Print + Eprint + AllocGlobal),
+    options: &Options,
+) -> Result<(), CommandError> {
+    print_answer(rt, options, Printed::Bibliography)
+}
+
+fn print_answer(
+    rt: &(impl Files + Input + Print + Eprint + AllocGlobal),
+    options: &Options,
+    printed: Printed,
+) -> Result<(), CommandError> {
+    let found = style_of(rt, options)?;
+    let references = references_of(rt, options)?;
+    let citations = citations_of(rt, options, &references)?;
+    print_document(rt, options, printed, &found, &references, &citations)
+}
+
+/// The citations of the command; without a file of them one of all references, which isn't shown.
+fn citations_of(
+    rt: &(impl Files + Input + Eprint + AllocGlobal),
+    options: &Options,
+    references: &References,
+) -> Result<Vec<Citation>, CommandError> {
+    let Some(path) = options.citations.as_deref() else {
+        return Ok(citation_of_all(rt.alloc(), references)?);
+    };
+    let text = text_of(rt, path)?;
+    let read = citations_in(rt.alloc(), path, text.as_str())?;
+    for warning in &read.warnings {
+        show_warning(rt, path, warning)?;
+    }
+    Ok(read.citations)
+}
+
+fn print_document(
+    rt: &(impl Files + Input + Print + Eprint + AllocGlobal),
+    options: &Options,
+    printed: Printed,
+    found: &FoundStyle,
+    references: &References,
+    citations: &[Citation],
+) -> Result<(), CommandError> {
+    let language = found.language(options);
+    let files = locales_of(rt, options, language)?;
+    let locale = LocaleChain::new(rt.alloc(), language, &found.style.locales, &files)?;
+    let document = Document {
+        style: &found.style,
+        locale: &locale,
+        references,
+        citations,
+    };
+    let answer = answer_of(rt.alloc(), options, document)?;
+    let marks = locale.quote_marks();
+    match printed {
+        Printed::Citations => print_citations(rt, options, &answer, marks),
+        Printed::Bibliography => print_bibliography(rt, options, &answer, marks),
+    }
+}
+
+/// What comes of a document.
+fn answer_of(
+    alloc: Global,
+    options: &Options,
+    document: Document<'_>,
+) -> Result<Answer, CommandError> {
+    match document.answer(alloc) {
+        Ok(answer) => Ok(answer),
+        Err(error) => Err(placed(alloc, options, error)?),
+    }
+}
+
+/// Why there is no answer, with the file in which that is.
+fn placed(
+    alloc: Global,
+    options: &Options,
+    error: AnswerError,
+) -> Result<CommandError, AllocError> {
+    match error {
+        AnswerError::NoReference { citation, id } => {
+            let id = id.as_str();
+            let why = format!(in alloc; "/{citation}: there is no item `{id}`")?;
+            refused(alloc, options.citations_path(), &why)
+        }
+        AnswerError::StyleTooLong => refused(alloc, options.style.as_str(), &error),
+        AnswerError::OutOfMemory => Ok(CommandError::OutOfMemory),
+        AnswerError::TooManyItems | AnswerError::Unsettled => Ok(CommandError::Answer(error)),
+    }
+}

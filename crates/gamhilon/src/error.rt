@@ -1,0 +1,96 @@
+//! Why a command has no answer.
+use crate::one_line::OneLine;
+use crate::usage::UsageError;
+use cite_host::error::AnswerError;
+use std::alloc::{AllocError, AllocFailed};
+use std::{fmt, io};
+use xml_reader::error::Place;
+
+/// Why a command has no answer.
+#[derive(Debug, Drop)]
+pub(crate) enum CommandError {
+    /// The command line is wrong.
+    Usage(UsageError),
+    /// A file can't be read.
+    Unreadable {
+        path: String,
+        why: String,
+    },
+    /// A file is wrong, at a place of it if that has a line.
+    Refused {
+        path: String,
+        place: Option<Place>,
+        why: String,
+    },
+    Answer(AnswerError),
+    /// What is written can't be handed over.
+    Output,
+    OutOfMemory,
+}
+
+impl CommandError {
+    /// The exit status that tells it.
+    pub fn status(&self) -> u8 {
+        match self {
+            CommandError::Unreadable { .. } | CommandError::Output => 1,
+            CommandError::Refused { .. } => 2,
+            CommandError::Answer(error) => answer_status(error),
+            CommandError::OutOfMemory => 5,
+            CommandError::Usage(_) => 64,
+        }
+    }
+}
+
+fn answer_status(error: &AnswerError) -> u8 {
+    match error {
+        AnswerError::NoReference { .. } | AnswerError::StyleTooLong => 2,
+        AnswerError::TooManyItems => 4,
+        AnswerError::OutOfMemory => 5,
+        AnswerError::Unsettled => 9,
+    }
+}
+
+impl From<AllocError> for CommandError {
+    fn from(_error: AllocError) -> CommandError {
+        CommandError::OutOfMemory
+    }
+}
+
+impl<T: Drop> From<AllocFailed<T>> for CommandError {
+    fn from(_error: AllocFailed<T>) -> CommandError {
+        CommandError::OutOfMemory
+    }
+}
+
+impl From<io::Error> for CommandError {
+    fn from(_error: io::Error) -> CommandError {
+        CommandError::Output
+    }
+}
+
+impl fmt::Display for CommandError {
+    fn fmt<W: fmt::Write>(&self, f: &mut fmt::Formatter<W>) -> fmt::Result {
+        match self {
+            CommandError::Usage(error) => {
+                write!(f, "gamhilon: {error}; gamhilon --help tells more")
+            }
+            CommandError::Unreadable { path, why } => {
+                let path = OneLine(path.as_str());
+                let why = OneLine(why.as_str());
+                write!(f, "{path}: {why}")
+            }
+            CommandError::Refused { path, place, why } => {
+                let path = OneLine(path.as_str());
+                let why = OneLine(why.as_str());
+                write!(f, "{path}:")?;
+                if let Some(place) = place {
+                    write!(f, "{}:{}:", place.line, place.column)?;
+                }
+                write!(f, " error: {why}")
+            }
+            CommandError::Answer(error) => write!(f, "gamhilon: {error}"),
+            CommandError::Output => f.write_str("gamhilon: the answer can't be written"),
+            CommandError::OutOfMemory => f.write_str("gamhilon: out of memory"),
+        }
+    }
+}

@@ -1,0 +1,79 @@
+//! Files are read.
+use crate::error::CommandError;
+use crate::reports::refused;
+use std::alloc::{AllocError, Global};
+use std::io::Read;
+use std::rt::Files;
+use std::{fs, io};
+
+/// How many reads of the standard input are made at most.
+const READS: usize = 1_048_576;
+
+/// How many bytes one read gives at most.
+const READ_LENGTH: usize = 65_536;
+
+/// The text of a file; `-` is the standard input.
+///
+/// # Errors
+///
+/// `Unreadable`; `Refused` where it is no UTF-8; `OutOfMemory`.
+pub(crate) fn text_of(
+    rt: &(impl Files + Input + AllocGlobal),
+    path: &str,
+) -> Result<String, CommandError> {
+    let bytes = bytes_of(rt, path)?;
+    match str::from_utf8(&bytes) {
+        Ok(text) => Ok(String::from_str(rt.alloc(), text)?),
+        Err(error) => {
+            let byte = error.valid_up_to();
+            let why = format!(in rt.alloc(); "no UTF-8 from byte {byte}")?;
+            Err(refused(rt.alloc(), path, &why)?)
+        }
+    }
+}
+
+/// The bytes of a file; `-` is the standard input.
+///
+/// # Errors
+///
+/// `Unreadable`; `OutOfMemory`.
+pub(crate) fn bytes_of(
+    rt: &(impl Files + Input + AllocGlobal),
+    path: &str,
+) -> Result<Vec<u8>, CommandError> {
+    let read = if path == "-" {
+        read_input(rt.alloc(), &mut rt.reader())
+    } else {
+        fs::read(rt, path)
+    };
+    match read {
+        Ok(bytes) => Ok(bytes),
+        Err(error) => Err(unreadable(rt.alloc(), path, &error)?),
+    }
+}
+
+fn unreadable(alloc: Global, path: &str, error: &io::Error) -> Result<CommandError, AllocError> {
+    Ok(CommandError::Unreadable {
+        path: String::from_str(alloc, path)?,
+        why: format!(in alloc; "{error}")?,
+    })
+}
+
+/// All that a reader has left.
+fn read_input<R: Read>(alloc: Global, reader: &mut R) -> io::Result<Vec<u8>> {
+    let mut buffer = vec![in alloc; 0u8; READ_LENGTH]?;
+    read_by(alloc, reader, &mut buffer)
+}
+
+/// All that a reader has left, by reads into a buffer that isn't empty.
+fn read_by<R: Read>(alloc: Global, reader: &mut R, buffer: &mut [u8]) -> io::Result<Vec<u8>> {
+    let mut bytes = Vec::new(alloc);
+    for _ in 0..READS {
+        let count = reader.read(buffer)?;
+        if count == 0 {
+            return Ok(bytes);
+        }
+        bytes.extend_from_slice(&buffer[..count])?;
+    }
+    Err(io::ErrorKind::FileTooLarge.into())
+}

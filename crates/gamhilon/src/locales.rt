@@ -1,0 +1,83 @@
+//! The locale files of a command.
+use crate::arguments::Options;
+use crate::error::CommandError;
+use crate::files::text_of;
+use crate::reports::{show_style_warnings, style_refused};
+use english_locale::words::ENGLISH;
+use std::alloc::Global;
+use std::rt::Files;
+use style_file::fallback::{LocaleSource, is_same_language, lookup_order};
+use style_file::locale::LocaleFile;
+use style_reader::file::read_locale;
+
+/// Where locale files are, where no folder is told.
+const LOCALES: &str = "/usr/share/citation-style-language/locales";
+
+/// The language whose words are built in.
+const BUILT_IN: &str = "en-US";
+
+/// The locale files in which words of a language are looked for (CSL 1.0.2, "Locale Fallback"). A
+/// file that can't be read is left out; in place of that of American English are the words that are
+/// built in.
+///
+/// # Errors
+///
+/// `Refused` where a file is no locale; `OutOfMemory`.
+pub(crate) fn locales_of(
+    rt: &(impl Files + Input + Eprint + AllocGlobal),
+    options: &Options,
+    language: &str,
+) -> Result<Vec<LocaleFile>, CommandError> {
+    let folder = options.locales.as_deref();
+    let mut files = Vec::new(rt.alloc());
+    for source in lookup_order(rt.alloc(), language)? {
+        if let LocaleSource::File(tag) = source {
+            if let Some(file) = locale_of(rt, folder, tag)? {
+                files.push(file)?;
+            }
+        }
+    }
+    Ok(files)
+}
+
+/// The locale file with this language tag, if there is one.
+fn locale_of(
+    rt: &(impl Files + Input + Eprint + AllocGlobal),
+    folder: Option<&str>,
+    tag: &str,
+) -> Result<Option<LocaleFile>, CommandError> {
+    let is_built_in = is_same_language(tag, BUILT_IN);
+    if is_built_in && folder.is_none() {
+        return Ok(Some(built_in(rt.alloc())?));
+    }
+    let folder = folder.unwrap_or(LOCALES);
+    let path = format!(in rt.alloc(); "{folder}/locales-{tag}.xml")?;
+    match text_of(rt, path.as_str()) {
+        Ok(text) => Ok(Some(locale_in(rt, path.as_str(), text.as_str())?)),
+        Err(_) if is_built_in => Ok(Some(built_in(rt.alloc())?)),
+        Err(_) => Ok(None),
+    }
+}
+
+/// The locale in the text of a file. What is odd in it is printed.
+fn locale_in(
+    rt: &(impl Eprint + AllocGlobal),
+    path: &str,
+    text: &str,
+) -> Result<LocaleFile, CommandError> {
+    match read_locale(rt.alloc(), text) {
+        Ok((file, warnings)) => {
+            show_style_warnings(rt, path, &warnings);
+            Ok(file)
+        }
+        Err(error) => Err(style_refused(rt.alloc(), path, &error)?),
+    }
+}
+
+/// The words of American English that are built in.
+fn built_in(alloc: Global) -> Result<LocaleFile, CommandError> {
+    match read_locale(alloc, ENGLISH) {
+        Ok((file, _)) => Ok(file),
+        Err(error) => Err(style_refused(alloc, BUILT_IN, &error)?),
+    }
+}

@@ -1,0 +1,68 @@
+//! Lines on standard error.
+use crate::error::CommandError;
+use crate::one_line::OneLine;
+use std::alloc::{AllocError, Global};
+use std::fmt;
+use style_faults::error::StyleError;
+use style_faults::warning::Warning;
+use xml_reader::error::Place;
+
+/// What is wrong with a file, where that has no line.
+pub(crate) fn refused<W: fmt::Display>(
+    alloc: Global,
+    path: &str,
+    why: &W,
+) -> Result<CommandError, AllocError> {
+    Ok(CommandError::Refused {
+        path: String::from_str(alloc, path)?,
+        place: None,
+        why: format!(in alloc; "{why}")?,
+    })
+}
+
+/// What is wrong at a place of a file.
+fn refused_at<W: fmt::Display>(
+    alloc: Global,
+    path: &str,
+    place: Place,
+    why: &W,
+) -> Result<CommandError, AllocError> {
+    Ok(CommandError::Refused {
+        path: String::from_str(alloc, path)?,
+        place: Some(place),
+        why: format!(in alloc; "{why}")?,
+    })
+}
+
+/// What is wrong with a style file or a locale file.
+pub(crate) fn style_refused(
+    alloc: Global,
+    path: &str,
+    error: &StyleError,
+) -> Result<CommandError, AllocError> {
+    match error {
+        StyleError::Malformed(fault, place) => refused_at(alloc, path, *place, fault),
+        StyleError::Refused(fault, place) => refused_at(alloc, path, *place, fault),
+        StyleError::OutOfMemory => Ok(CommandError::OutOfMemory),
+    }
+}
+
+/// Prints what is odd in a style file or a locale file. A line that can't be printed is left out.
+pub(crate) fn show_style_warnings(rt: &impl Eprint, path: &str, warnings: &[Warning]) {
+    for warning in warnings {
+        let Place { line, column } = warning.place;
+        let _ = eprintln!(rt; "{path}:{line}:{column}: warning: {warning}");
+    }
+}
+
+/// Prints what is odd in a JSON file. A line that can't be printed is left out.
+pub(crate) fn show_warning<W: fmt::Display>(
+    rt: &(impl Eprint + AllocGlobal),
+    path: &str,
+    warning: &W,
+) -> Result<(), AllocError> {
+    let text = format!(in rt.alloc(); "{warning}")?;
+    let line = OneLine(text.as_str());
+    let _ = eprintln!(rt; "{path}: warning: {line}");
+    Ok(())
+}

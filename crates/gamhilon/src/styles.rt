@@ -1,0 +1,129 @@
+//! The style of a command.
+use crate::arguments::Options;
+use crate::error::CommandError;
+use crate::files::text_of;
+use crate::reports::{refused, show_style_warnings, style_refused};
+use std::fs;
+use std::rt::Files;
+use style_file::style::{CslStyle, DependentStyle, StyleFile};
+use style_reader::file::read_style;
+
+/// Where styles are, where no folder is told.
+const STYLES: &str = "/usr/share/citation-style-language/styles";
+
+/// The language of a document where nothing tells one.
+const LANGUAGE: &str = "en-US";
+
+/// A style, and the language that a style which depends on it asks for.
+#[derive(Drop)]
+pub(crate) struct FoundStyle {
+    pub style: CslStyle,
+    pub language: Option<String>,
+}
+
+impl FoundStyle {
+    /// The language in which its words are: that of the command, or else of the style.
+    pub fn language<'a>(&'a self, options: &'a Options) -> &'a str {
+        if let Some(language) = &options.locale {
+            return language.as_str();
+        }
+        if let Some(language) = &self.language {
+            return language.as_str();
+        }
+        match &self.style.default_locale {
+            Some(language) => language.as_str(),
+            None => LANGUAGE,
+        }
+    }
+}
+
+/// The style of a command, with that on which it depends in its place. What is odd in it is
+/// printed.
+///
+/// # Errors
+///
+/// Those of `text_of`; `Refused` where it is no style, or depends on one that depends on another
+/// itself.
+pub(crate) fn style_of(
+    rt: &(impl Files + Input + Eprint + AllocGlobal),
+    options: &Options,
+) -> Result<FoundStyle, CommandError> {
+    let folder = options.styles.as_deref().unwrap_or(STYLES);
+    let path = style_path(rt, folder, options.style.as_str())?;
+    match style_at(rt, path.as_str())? {
+        StyleFile::Independent(style) => Ok(FoundStyle {
+            style,
+            language: None,
+        }),
+        StyleFile::Dependent(dependent) => parent_of(rt, folder, dependent),
+    }
+}
+
+/// Where a style is that is told by its name or its path.
+fn style_path(
+    rt: &(impl Files + AllocGlobal),
+    folder: &str,
+    style: &str,
+) -> Result<String, CommandError> {
+    let alloc = rt.alloc();
+    if style.ends_with(".csl") || style.contains('/') || style == "-" {
+        return Ok(String::from_str(alloc, style)?);
+    }
+    let path = format!(in alloc; "{folder}/{style}.csl")?;
+    if fs::read(rt, path.as_str()).is_ok() {
+        return Ok(path);
+    }
+    let dependent = format!(in alloc; "{folder}/dependent/{style}.csl")?;
+    if fs::read(rt, dependent.as_str()).is_ok() {
+        return Ok(dependent);
+    }
+    Ok(path)
+}
+
+/// The style in a file.
+fn style_at(
+    rt: &(impl Files + Input + Eprint + AllocGlobal),
+    path: &str,
+) -> Result<StyleFile, CommandError> {
+    let text = text_of(rt, path)?;
+    match read_style(rt.alloc(), text.as_str()) {
+        Ok((style, warnings)) => {
+            show_style_warnings(rt, path, &warnings);
+            Ok(style)
+        }
+        Err(error) => Err(style_refused(rt.alloc(), path, &error)?),
+    }
+}
+
+/// The style on which another one depends: that of its folder whose name ends the link to it.
+fn parent_of(
+    rt: &(impl Files + Input + Eprint + AllocGlobal),
+    folder: &str,
+    dependent: DependentStyle,
+) -> Result<FoundStyle, CommandError> {
+    let DependentStyle {
+        info: _,
+        default_locale,
+        parent,
+    } = dependent;
+    let name = last_part(parent.as_str());
+    let path = format!(in rt.alloc(); "{folder}/{name}.csl")?;
+    match style_at(rt, path.as_str())? {
+        StyleFile::Independent(style) => Ok(FoundStyle {
+            style,
+            language: default_locale,
+        }),
+        StyleFile::Dependent(_) => {
+            let why = "it depends on a style itself";
+            Err(refused(rt.alloc(), path.as_str(), &why)?)
+        }
+    }
+}
+
+/// What stands behind the last slash of a link.
+fn last_part(link: &str) -> &str {
+    match link.rsplit_once('/') {
+        Some((_, name)) => name,
+        None => link,
+    }
+}

@@ -1,0 +1,285 @@
+"""Small styles and references with the texts that the rules of CSL 1.0.2 ask for; each names the section of the specification that it
+follows. The texts are written by hand from these sections."""
+
+BOOK = {'id': 'book', 'type': 'book', 'title': 'the art of rivers', 'author': [{'family': 'Roe', 'given': 'Jane Ann'}],
+        'publisher': 'North Press', 'publisher-place': 'Oslo', 'edition': '2', 'volume': '4', 'number-of-pages': '312',
+        'issued': {'date-parts': [[2001, 3, 9]]}}
+PAPER = {'id': 'paper', 'type': 'article-journal', 'title': 'On lakes', 'container-title': 'Waters', 'volume': '12', 'issue': '3',
+         'page': '321-328', 'author': [{'family': 'Poe', 'given': 'Paul'}, {'family': 'Doe', 'given': 'John'},
+                                       {'family': 'Moe', 'given': 'Mary'}],
+         'DOI': '10.1000/182', 'issued': {'date-parts': [[1999]]}}
+PAGE = {'id': 'page', 'type': 'webpage', 'title': 'Nobody', 'URL': 'https://example.org/nobody'}
+EDITED = {'id': 'edited', 'type': 'book', 'title': 'Waters of the north',
+          'editor': [{'family': 'Moe', 'given': 'Mary'}, {'family': 'Poe', 'given': 'Paul'}], 'issued': {'date-parts': [[2010]]}}
+
+
+def person(id, family, given, year, title='T', **more):
+    return {'id': id, 'type': 'book', 'title': title, 'author': [{'family': family, 'given': given}],
+            'issued': {'date-parts': [[year]]}, **more}
+
+
+def several(id, year, *families, title='T'):
+    return {'id': id, 'type': 'book', 'title': title, 'author': [{'family': it, 'given': it[0] + 'x'} for it in families],
+            'issued': {'date-parts': [[year]]}}
+
+
+def cites(*ids):
+    """A citation of these items."""
+    return [it if isinstance(it, dict) else {'id': it} for it in ids]
+
+
+def style(citation='', bibliography='', macros='', options='', class_='in-text', in_citation='', in_bibliography='', affixes='',
+          sort='', bibliography_sort='', locale=''):
+    """A style with these layouts."""
+    section = ''
+    if bibliography:
+        section = '<bibliography %s>%s<layout>%s</layout></bibliography>' % (in_bibliography, bibliography_sort, bibliography)
+    return ('<style xmlns="http://purl.org/net/xbiblio/csl" class="%s" version="1.0" %s><info><title>T</title><id>T</id>'
+            '<updated>2026-01-01T00:00:00+00:00</updated></info>%s%s<citation %s>%s<layout %s>%s</layout></citation>%s</style>'
+            % (class_, options, locale, macros, in_citation, sort, affixes, citation or '<text variable="title"/>', section))
+
+
+class Case:
+    """Texts of citations, or of items of a bibliography, in a style."""
+
+    def __init__(self, name, rule, style, references, wanted, citations=None, to='text'):
+        self.name, self.rule, self.style, self.references = name, rule, style, references
+        self.citations, self.wanted, self.to = citations, wanted, to
+
+
+def cite(name, rule, layout, references, wanted, citations=None, to='text', **how):
+    """A case of citations; without citations, one of all references."""
+    asked = citations or [cites(*(it['id'] for it in references))]
+    return Case(name, rule, style(layout, **how), references, wanted, asked, to)
+
+
+def item(name, rule, layout, references, wanted, to='text', **how):
+    """A case of a bibliography of all references."""
+    return Case(name, rule, style('', layout, **how), references, wanted, None, to)
+
+
+def names(inside='', outer='', more=''):
+    return '<names variable="author" %s><name %s/>%s</names>' % (outer, inside, more)
+
+
+YEAR = '<date variable="issued"><date-part name="year"/></date>'
+TEXT = '<text variable="title"/>'
+LOCATED = '<group delimiter=" "><label variable="locator" form="short"/><text variable="locator"/></group>'
+AUTHOR_YEAR = '<group delimiter=" ">' + names('form="short" and="text"') + YEAR + '</group>'
+FOUR = [several('one', 2000, 'Ape', 'Bee', 'Cat', 'Dog')]
+
+CASES = [
+    # Names
+    cite('two names', 'Name: `and`, `delimiter-precedes-last` is `contextual`: no comma of two', names('and="text"'),
+         [several('a', 2000, 'Ape', 'Bee')], ['Ax Ape and Bx Bee']),
+    cite('three names', 'Name: `contextual` has a delimiter before the last of three', names('and="text"'),
+         [several('a', 2000, 'Ape', 'Bee', 'Cat')], ['Ax Ape, Bx Bee, and Cx Cat']),
+    cite('always', 'Name: `delimiter-precedes-last="always"`', names('and="symbol" delimiter-precedes-last="always"'),
+         [several('a', 2000, 'Ape', 'Bee')], ['Ax Ape, & Bx Bee']),
+    cite('never', 'Name: `delimiter-precedes-last="never"`', names('and="text" delimiter-precedes-last="never"'),
+         [several('a', 2000, 'Ape', 'Bee', 'Cat')], ['Ax Ape, Bx Bee and Cx Cat']),
+    cite('after inverted', 'Name: `after-inverted-name`: a delimiter only behind a name that is turned round',
+         names('and="text" name-as-sort-order="first" delimiter-precedes-last="after-inverted-name"'),
+         [several('a', 2000, 'Ape', 'Bee')], ['Ape, Ax, and Bx Bee']),
+    cite('all turned round', 'Name: `name-as-sort-order="all"`, `sort-separator`',
+         names('name-as-sort-order="all" sort-separator="; " delimiter=" / "'),
+         [several('a', 2000, 'Ape', 'Bee')], ['Ape; Ax / Bee; Bx']),
+    cite('et al.', 'Name: `et-al-min`, `et-al-use-first`; of one name no comma stands before the term', names('form="short"'), FOUR,
+         ['Ape et al.'], in_citation='et-al-min="3" et-al-use-first="1"'),
+    cite('et al. of two', 'Name: a delimiter before `et al.` behind two names or more', names('form="short"'), FOUR,
+         ['Ape, Bee, et al.'], in_citation='et-al-min="3" et-al-use-first="2"'),
+    cite('the last name', 'Name: `et-al-use-last` writes an ellipsis and the last name', names('form="short" delimiter=", "'), FOUR,
+         ['Ape, … Dog'], in_citation='et-al-min="3" et-al-use-first="1" et-al-use-last="true"'),
+    cite('later cites', 'Name: `et-al-subsequent-min` is for cites behind the first', names('form="short" and="text"'), FOUR,
+         ['Ape, Bee, Cat, and Dog', 'Ape et al.'], [cites('one'), cites('one')],
+         in_citation='et-al-min="6" et-al-use-first="1" et-al-subsequent-min="3" et-al-subsequent-use-first="1"'),
+    cite('initials', 'Name: `initialize-with`', names('initialize-with=". "'), [BOOK], ['J. A. Roe']),
+    cite('initials without periods', 'Name: `initialize-with=""`', names('initialize-with=""'), [BOOK], ['JA Roe']),
+    cite('hyphens of initials', 'Global Options: `initialize-with-hyphen` is true', names('initialize-with="."'),
+         [person('a', 'Sartre', 'Jean-Paul', 1943)], ['J.-P. Sartre']),
+    cite('no hyphens of initials', 'Global Options: `initialize-with-hyphen="false"`', names('initialize-with="."'),
+         [person('a', 'Sartre', 'Jean-Paul', 1943)], ['J.P. Sartre'], options='initialize-with-hyphen="false"'),
+    cite('particles shown first', 'Global Options: `demote-non-dropping-particle="never"`', names('name-as-sort-order="all"'),
+         [{**PAGE, 'author': [{'family': 'Gogh', 'given': 'Vincent', 'non-dropping-particle': 'van'}]}], ['van Gogh, Vincent'],
+         options='demote-non-dropping-particle="never"'),
+    cite('particles shown last', 'Global Options: `demote-non-dropping-particle="display-and-sort"`', names('name-as-sort-order="all"'),
+         [{**PAGE, 'author': [{'family': 'Gogh', 'given': 'Vincent', 'non-dropping-particle': 'van'}]}], ['Gogh, Vincent van'],
+         options='demote-non-dropping-particle="display-and-sort"'),
+    cite('an institution', 'Name: a literal name is written as it is', names('name-as-sort-order="all"'),
+         [{**PAGE, 'author': [{'literal': 'Institute of Lakes'}]}], ['Institute of Lakes']),
+    cite('a suffix', 'Names: a suffix stands behind the name, with the sort separator where that is turned round',
+         names('name-as-sort-order="all"'), [{**PAGE, 'author': [{'family': 'King', 'given': 'Martin', 'suffix': 'Jr.'}]}],
+         ['King, Martin, Jr.']),
+    cite('a label', 'Label in cs:names: the plural where there are several names',
+         '<names variable="editor"><name form="short" and="text"/><label form="short" prefix=" (" suffix=")"/></names>', [EDITED],
+         ['Moe and Poe (eds.)']),
+    cite('a label in front', 'Label in cs:names: it may stand before the name',
+         '<names variable="editor"><label form="verb" suffix=" "/><name form="short" and="text"/></names>', [EDITED],
+         ['edited by Moe and Poe']),
+    cite('a name stands in', 'Substitute: the first that has something stands in',
+         names('form="short"', more='<substitute><names variable="editor"/><text variable="title"/></substitute>'), [EDITED, PAGE],
+         ['Moe, Poe; Nobody'], affixes='delimiter="; "'),
+    cite('what stood in is left out', 'Substitute: a variable that stood in is left out in the rest',
+         '<group delimiter=". ">' + names('', more='<substitute><text variable="title"/></substitute>') + TEXT +
+         '<text variable="URL"/></group>', [PAGE], ['Nobody. https://example.org/nobody']),
+    cite('editor and translator', 'Names: where both variables have the same names, these are written once, with the term for both',
+         '<names variable="editor translator" delimiter="; "><name form="short"/><label form="short" prefix=", "/></names>',
+         [{**PAGE, 'editor': [{'family': 'Moe'}], 'translator': [{'family': 'Moe'}]}], ['Moe, ed. & tran.']),
+    cite('how many names', 'Name: `form="count"` gives the number', names('form="count"'), FOUR, ['4']),
+    # Numbers, labels, terms
+    cite('an ordinal', 'Number: `form="ordinal"`', '<number variable="edition" form="ordinal"/>', [BOOK], ['2nd']),
+    cite('a long ordinal', 'Number: `form="long-ordinal"`', '<number variable="edition" form="long-ordinal"/>', [BOOK], ['second']),
+    cite('a Roman number', 'Number: `form="roman"`', '<number variable="volume" form="roman"/>', [BOOK], ['iv']),
+    cite('a text for a number', 'Number: a text that is no number stays', '<number variable="edition" form="ordinal"/>',
+         [{**PAGE, 'edition': 'revised'}], ['revised']),
+    cite('is-numeric', 'Choose: `is-numeric`: numbers with an affix are numeric, a text isn’t',
+         '<choose><if is-numeric="volume"><text value="yes"/></if><else><text value="no"/></else></choose>',
+         [BOOK, {**PAGE, 'volume': 'D2'}, {**PAGE, 'id': 'other', 'volume': 'second'}], ['yes; yes; no'], affixes='delimiter="; "'),
+    cite('plural of pages', 'Label: `plural="contextual"`: several pages have the plural',
+         '<group delimiter=" "><label variable="page" form="short"/><text variable="page"/></group>', [PAPER], ['pp. 321–328']),
+    cite('plural of a count', 'Label: the plural of `number-of-pages` where it is not 1',
+         '<group delimiter=" "><number variable="number-of-pages"/><label variable="number-of-pages"/></group>', [BOOK], ['312 pages']),
+    cite('a locator', 'Label: the term of the locator', LOCATED, [BOOK], ['chap. 3; sec. 2'],
+         [[{'id': 'book', 'locator': '3', 'label': 'chapter'}, {'id': 'book', 'locator': '2', 'label': 'section'}]],
+         affixes='delimiter="; "'),
+    cite('an own term', 'Locale: a style’s own term goes before that of the locale file', '<text term="and"/>', [PAGE], ['plus'],
+         locale='<locale xml:lang="en"><terms><term name="and">plus</term></terms></locale>'),
+    cite('another form of a term', 'Terms: a short form that is missing is the long one', '<text term="accessed" form="short"/>', [PAGE],
+         ['accessed']),
+    # Page ranges
+    cite('pages expanded', 'Appendix, Page Range Formats: expanded', '<text variable="page"/>', [{**PAPER, 'page': '321-28'}],
+         ['321–328'], options='page-range-format="expanded"'),
+    cite('pages minimal', 'Appendix, Page Range Formats: minimal', '<text variable="page"/>', [PAPER], ['321–8'],
+         options='page-range-format="minimal"'),
+    cite('pages minimal-two', 'Appendix, Page Range Formats: minimal-two', '<text variable="page"/>', [PAPER], ['321–28'],
+         options='page-range-format="minimal-two"'),
+    cite('pages chicago', 'Appendix, Page Range Formats: chicago, 107–8', '<text variable="page"/>', [{**PAPER, 'page': '107-108'}],
+         ['107–8'], options='page-range-format="chicago"'),
+    # Dates
+    cite('a date in words', 'Date: `form="text"` of the locale', '<date variable="issued" form="text"/>', [BOOK], ['March 9, 2001']),
+    cite('a date in numbers', 'Date: `form="numeric"` of the locale', '<date variable="issued" form="numeric"/>', [BOOK],
+         ['03/09/2001']),
+    cite('the year and the month', 'Date: `date-parts="year-month"`', '<date variable="issued" form="text" date-parts="year-month"/>',
+         [BOOK], ['March 2001']),
+    cite('an own date', 'Date-part: forms and affixes of a style’s own date',
+         '<date variable="issued"><date-part name="day" form="ordinal" suffix=" "/><date-part name="month" form="short" '
+         'strip-periods="true" suffix=" "/><date-part name="year" form="short"/></date>', [BOOK], ['9th Mar 01']),
+    cite('a range of years', 'Date-part: years of a range with an en dash', YEAR, [{**PAGE, 'issued': {'date-parts': [[1998], [2001]]}}],
+         ['1998–2001']),
+    cite('a range within a month', 'Date-part: what both dates share stands once', '<date variable="issued" form="text"/>',
+         [{**PAGE, 'issued': {'date-parts': [[2001, 3, 9], [2001, 3, 12]]}}], ['March 9–12, 2001']),
+    cite('a season', 'Date: a season stands for the month', '<date variable="issued" form="text"/>',
+         [{**PAGE, 'issued': {'date-parts': [[2001]], 'season': 2}}], ['Summer 2001']),
+    cite('before our era', 'Date: years before 1 have the term `bc`', YEAR, [{**PAGE, 'issued': {'date-parts': [[-44]]}}], ['44BC']),
+    cite('early years', 'Date: years of three digits have the term `ad`', YEAR, [{**PAGE, 'issued': {'date-parts': [[476]]}}],
+         ['476AD']),
+    # Groups, conditions, affixes
+    cite('an empty group', 'Group: a group all of whose variables are empty leaves nothing, with its terms',
+         '<group delimiter=" "><text variable="title"/><group prefix="(" suffix=")"><text term="in"/><text variable="publisher"/>'
+         '</group></group>', [PAGE], ['Nobody']),
+    cite('delimiters', 'Group: the delimiter stands between those that have text',
+         '<group delimiter=", "><text variable="publisher"/><text variable="title"/><text variable="URL"/></group>', [PAGE],
+         ['Nobody, https://example.org/nobody']),
+    cite('a type', 'Choose: `type`, `match="any"`',
+         '<choose><if type="book report" match="any"><text value="b"/></if><else-if type="webpage"><text value="w"/></else-if><else>'
+         '<text value="o"/></else></choose>', [BOOK, PAGE, PAPER], ['bwo']),
+    cite('none of two', 'Choose: `match="none"`',
+         '<choose><if variable="DOI URL" match="none"><text value="n"/></if><else><text value="s"/></else></choose>', [BOOK, PAGE, PAPER],
+         ['nss']),
+    cite('uncertain', 'Choose: `is-uncertain-date`',
+         '<choose><if is-uncertain-date="issued"><text term="circa" form="short"/></if></choose>' + YEAR,
+         [{**PAGE, 'issued': {'date-parts': [[1600]], 'circa': True}}], ['c.1600']),
+    cite('punctuation', 'Affixes: a period behind a text that ends with one is written once', '<text variable="title" suffix="."/>',
+         [{**PAGE, 'title': 'Nobody etc.'}], ['Nobody etc.']),
+    # Text cases and formatting
+    cite('a title in capitals', 'Text-case: `title`; small words stay, but for the first', '<text variable="title" text-case="title"/>',
+         [{**BOOK, 'title': 'the art of rivers and lakes'}], ['The Art of Rivers and Lakes']),
+    cite('capitalize-first', 'Text-case: `capitalize-first`', '<text variable="title" text-case="capitalize-first"/>', [BOOK],
+         ['The art of rivers']),
+    cite('upper case', 'Text-case: `uppercase`', '<text variable="title" text-case="uppercase"/>', [BOOK], ['THE ART OF RIVERS']),
+    cite('quotes', 'Quotes: those of the locale; quotes inside have the inner marks', '<text variable="title" quotes="true"/>',
+         [{**PAGE, 'title': 'On "Nobody"'}], ['“On ‘Nobody’”']),
+    cite('punctuation in quotes', 'Locale: `punctuation-in-quote` is true in American English',
+         '<group delimiter=", "><text variable="title" quotes="true"/><text variable="URL"/></group>', [PAGE],
+         ['“Nobody,” https://example.org/nobody']),
+    cite('no punctuation in quotes', 'Locale: `punctuation-in-quote="false"` of the style',
+         '<group delimiter=", "><text variable="title" quotes="true"/><text variable="URL"/></group>', [PAGE],
+         ['“Nobody”, https://example.org/nobody'], locale='<locale><style-options punctuation-in-quote="false"/></locale>'),
+    cite('strip-periods', 'Strip-periods', '<text term="page" form="short" strip-periods="true"/>', [PAGE], ['p']),
+    cite('italics', 'Formatting: `font-style` in HTML', '<text variable="title" font-style="italic"/>', [PAGE], ['<i>Nobody</i>'], to='html'),
+    cite('markup of HTML', 'Output: characters of HTML are escaped', '<text variable="title"/>', [{**PAGE, 'title': 'A & B < C'}],
+         ['A &amp; B &lt; C'], to='html'),
+    # Sorting
+    item('sorted by names', 'Sorting: by names and dates', AUTHOR_YEAR,
+         [person('c', 'Bee', 'B', 2001), person('a', 'Bee', 'B', 1999), person('b', 'Ape', 'A', 2005)], ['Ape 2005', 'Bee 1999', 'Bee 2001'],
+         bibliography_sort='<sort><key variable="author"/><key variable="issued"/></sort>'),
+    item('sorted downwards', 'Sorting: `sort="descending"`', YEAR, [person('a', 'A', 'A', 1990), person('b', 'B', 'B', 2010)],
+         ['2010', '1990'], bibliography_sort='<sort><key variable="issued" sort="descending"/></sort>'),
+    item('without a value', 'Sorting: items without a value stand behind the others', TEXT,
+         [{**PAGE, 'title': 'Z'}, person('a', 'A', 'A', 1990, title='Y')], ['Y', 'Z'],
+         bibliography_sort='<sort><key variable="issued"/></sort>'),
+    cite('sorted cites', 'Sorting: the cites of a citation have keys of their own', AUTHOR_YEAR,
+         [person('b', 'Bee', 'B', 2001), person('a', 'Ape', 'A', 2005)], ['Ape 2005; Bee 2001'],
+         sort='<sort><key variable="author"/></sort>', affixes='delimiter="; "'),
+    # Numbers and collapsing
+    cite('ranges of numbers', 'Cite Collapsing: `citation-number`: three or more in a row are a range',
+         '<text variable="citation-number"/>', [person(it, it, it, 2000) for it in 'abcdef'], ['[1]', '[2]', '[3]', '[4]', '[1–3, 5, 6]'],
+         [cites('a'), cites('b'), cites('c'), cites('d'), cites('a', 'b', 'c', 'e', 'f')],
+         in_citation='collapse="citation-number"', affixes='prefix="[" suffix="]" delimiter=", "'),
+    cite('years of one author', 'Cite Collapsing: `year`', AUTHOR_YEAR,
+         [person('a', 'Ape', 'A', 2000), person('b', 'Ape', 'A', 2001), person('c', 'Bee', 'B', 2002)], ['(Ape 2000, 2001; Bee 2002)'],
+         in_citation='collapse="year"', affixes='prefix="(" suffix=")" delimiter="; "'),
+    cite('suffixes of years', 'Cite Collapsing: `year-suffix`; Disambiguation: year suffixes',
+         AUTHOR_YEAR, [person('a', 'Ape', 'A', 2000, title='A'), person('b', 'Ape', 'A', 2000, title='B')], ['(Ape 2000a, b)'],
+         in_citation='collapse="year-suffix" year-suffix-delimiter=", " disambiguate-add-year-suffix="true"',
+         affixes='prefix="(" suffix=")" delimiter="; "'),
+    cite('ranges of suffixes', 'Cite Collapsing: `year-suffix-ranged`', AUTHOR_YEAR,
+         [person(it, 'Ape', 'A', 2000, title=it) for it in 'abc'], ['(Ape 2000a–c)'],
+         in_citation='collapse="year-suffix-ranged" year-suffix-delimiter=", " disambiguate-add-year-suffix="true"',
+         affixes='prefix="(" suffix=")" delimiter="; "'),
+    # Disambiguation
+    cite('names are added', 'Disambiguation: `disambiguate-add-names`', AUTHOR_YEAR,
+         [several('a', 2000, 'Ape', 'Bee', 'Cat'), several('b', 2000, 'Ape', 'Dog', 'Cat')],
+         ['Ape, Bee, et al. 2000; Ape, Dog, et al. 2000'], affixes='delimiter="; "',
+         in_citation='et-al-min="3" et-al-use-first="1" disambiguate-add-names="true"'),
+    cite('given names are added', 'Disambiguation: `disambiguate-add-givenname`',
+         '<group delimiter=" ">' + names('form="short" initialize-with=". "') + YEAR + '</group>',
+         [person('a', 'Ape', 'Ann', 2000), person('b', 'Ape', 'Bob', 2000)], ['A. Ape 2000; B. Ape 2000'], affixes='delimiter="; "',
+         in_citation='disambiguate-add-givenname="true" givenname-disambiguation-rule="by-cite"'),
+    cite('the condition', 'Choose: `disambiguate="true"`',
+         AUTHOR_YEAR + '<choose><if disambiguate="true"><text variable="title" prefix=", "/></if></choose>',
+         [person('a', 'Ape', 'A', 2000, title='X'), person('b', 'Ape', 'A', 2000, title='Y')], ['Ape 2000, X; Ape 2000, Y'],
+         affixes='delimiter="; "'),
+    # Notes
+    cite('ibid', 'Choose: `position`; the suite of CSL processors: a term that begins a note has a capital',
+         '<choose><if position="ibid-with-locator"><text term="ibid"/><text variable="locator" prefix=" "/></if><else-if position="ibid">'
+         '<text term="ibid"/></else-if><else-if position="subsequent"><text variable="title" form="short"/></else-if><else>'
+         '<text variable="title"/></else></choose>', [{**BOOK, 'title-short': 'rivers'}, PAGE],
+         ['the art of rivers', 'Ibid.', 'Ibid. 7', 'Nobody', 'rivers'],
+         [cites('book'), cites('book'), cites({'id': 'book', 'locator': '7'}), cites('page'), cites('book')], class_='note'),
+    cite('near notes', 'Choose: `position="near-note"`, `near-note-distance`',
+         '<choose><if position="near-note"><text value="near"/></if><else-if position="subsequent"><text value="far"/></else-if><else>'
+         '<text value="first"/></else></choose>', [BOOK, PAGE], ['first', 'first', 'near', 'near', 'near', 'far'],
+         [[{'id': 'book', 'note': 1}], [{'id': 'page', 'note': 2}], [{'id': 'book', 'note': 3}], [{'id': 'page', 'note': 4}],
+          [{'id': 'page', 'note': 5}], [{'id': 'book', 'note': 6}]], class_='note', in_citation='near-note-distance="2"'),
+    cite('the first note', 'Standard Variables: `first-reference-note-number`',
+         '<choose><if position="subsequent"><text variable="first-reference-note-number" prefix="n. "/></if><else>'
+         '<text value="first"/></else></choose>', [BOOK, PAGE], ['first', 'first', 'n. 4'],
+         [[{'id': 'book', 'note': 4}], [{'id': 'page', 'note': 5}], [{'id': 'book', 'note': 6}]], class_='note'),
+    # The bibliography
+    item('repeated authors', 'Bibliography: `subsequent-author-substitute`',
+         '<group delimiter=". "><names variable="author"><name name-as-sort-order="all"/></names><text variable="title"/></group>',
+         [person('a', 'Ape', 'Ann', 2000, title='X'), person('b', 'Ape', 'Ann', 2001, title='Y'), person('c', 'Bee', 'Bob', 2001, title='Z')],
+         ['Ape, Ann. X', '———. Y', 'Bee, Bob. Z'], in_bibliography='subsequent-author-substitute="———"'),
+    item('the first field', 'Whitespace: `second-field-align` sets the first field apart',
+         '<text variable="citation-number" suffix=". "/><text variable="title"/>', [PAGE],
+         ['<div class="csl-bib-body">', '<div class="csl-entry"><div class="csl-left-margin">1. </div><div class="csl-right-inline">Nobody'
+          '</div></div>', '</div>'], to='html', in_bibliography='second-field-align="flush"'),
+    # Cites
+    cite('words around a cite', 'docs/WRITER.md: `prefix` and `suffix` of a cite, with a space where there is none', TEXT, [PAGE],
+         ['(see Nobody, which is short)'], [[{'id': 'page', 'prefix': 'see', 'suffix': ', which is short'}]], affixes='prefix="(" suffix=")"'),
+    cite('no author', 'docs/WRITER.md: `suppress-author`', AUTHOR_YEAR, [BOOK], ['2001'], [[{'id': 'book', 'suppress-author': True}]]),
+    cite('the author alone', 'docs/WRITER.md: `author-only`', AUTHOR_YEAR, [BOOK], ['Roe'], [[{'id': 'book', 'author-only': True}]]),
+    cite('a hidden cite', 'docs/WRITER.md: `hidden`', TEXT, [PAGE, BOOK], ['the art of rivers'],
+         [[{'id': 'page', 'hidden': True}, {'id': 'book'}]]),
+]

@@ -1,0 +1,193 @@
+#!/usr/bin/env python3
+"""run.py GAMHILON [--record]: tries the built program, crates/gamhilon.
+
+The cases of cases.py, small styles of which the rules of CSL 1.0.2 tell the texts; the command lines and files of faults.py, with
+their exit statuses and lines on standard error; the styles of examples/styles, which `gamhilon check` finds nothing in, and whose
+citations and bibliographies of documents/ read as pandoc 2.17 writes them (pandoc.json; --record writes that file anew, by the pandoc
+that is installed); and runs of which each growth of memory is refused in turn (tests/documents/refuse.c, for which a C compiler must be
+there, and a program that brings no memory of its own, as that of `rt try` does). The last line is 'N passed, M failed', and the exit status is 1 where a test failed."""
+import argparse
+import json
+import os
+import shutil
+import subprocess
+import sys
+import tempfile
+
+import pandoc
+from cases import CASES
+from faults import CITATIONS, FAULTS, REFERENCES, STYLE
+
+HERE = os.path.dirname(os.path.abspath(__file__))
+ROOT = os.path.dirname(os.path.dirname(HERE))
+SECONDS = 120
+MOST_GROWTHS = 20000
+LEAST_GROWTHS = 100
+
+
+class Failed(Exception):
+    pass
+
+
+def ended(program, *words, given=None, **how):
+    """Status, standard output and standard error of a run."""
+    try:
+        done = subprocess.run([program, *words], input=(given or '').encode(), stdout=subprocess.PIPE, stderr=subprocess.PIPE,
+                              timeout=SECONDS, **how)
+    except subprocess.TimeoutExpired:
+        raise Failed('it had not ended after %d seconds' % SECONDS)
+    return done.returncode, done.stdout.decode(), done.stderr.decode()
+
+
+def written(folder, files):
+    for name, text in files.items():
+        with open(os.path.join(folder, name), 'wb') as file:
+            file.write(text if isinstance(text, bytes) else text.encode())
+
+
+def texts_of(program, folder, case):
+    """The lines that the program prints of a case."""
+    written(folder, {'s.csl': case.style, 'r.json': json.dumps(case.references), 'c.json': json.dumps(case.citations)})
+    verb, files = ('bibliography', ['r.json']) if case.citations is None else ('cite', ['r.json', 'c.json'])
+    status, out, error = ended(program, verb, '--style', 's.csl', '--to', case.to, *files, cwd=folder)
+    if status or error:
+        raise Failed('status %d, %s' % (status, error.strip()))
+    # Two ways to write a character in HTML.
+    return out.replace('&#38;', '&amp;').replace('&#60;', '&lt;').splitlines()
+
+
+def try_case(program, case):
+    with tempfile.TemporaryDirectory(prefix='writer-') as folder:
+        came = texts_of(program, folder, case)
+    if came != case.wanted:
+        raise Failed('%s\n    wanted %r\n    came   %r' % (case.rule, case.wanted, came))
+
+
+def is_line(wanted, came):
+    return came.startswith(wanted[:-1]) if wanted.endswith('…') else came == wanted
+
+
+def try_fault(program, fault):
+    """The exit status, the lines on standard error, and all of standard output are the wanted ones."""
+    with tempfile.TemporaryDirectory(prefix='writer-') as folder:
+        written(folder, {'s.csl': STYLE, 'r.json': REFERENCES, 'c.json': CITATIONS, **fault.files})
+        words = [word.replace('FILE', folder) for word in fault.words]
+        status, out, error = ended(program, *words, given=fault.given)
+        wanted = [line.replace('FILE', folder) for line in fault.lines]
+        wanted_out = fault.out.replace('FILE', folder)
+    lines = error.splitlines()
+    if status != fault.status or out != wanted_out or len(lines) != len(wanted) or not all(map(is_line, wanted, lines)):
+        raise Failed('wanted %d, %r, %r\n    came   %d, %r, %r' % (fault.status, wanted_out, wanted, status, out, lines))
+
+
+def try_help(program):
+    """Help and version are on standard output, and help has an example."""
+    for words in (['--help'], ['cite', '-h']):
+        status, out, error = ended(program, *words)
+        if status or error or not out.startswith('usage: gamhilon') or '\nExample: ' not in out:
+            raise Failed('%s: status %d, %r, %r' % (' '.join(words), status, out[:80], error))
+    status, out, error = ended(program, '--version')
+    if status or error or not out.startswith('gamhilon ') or out.count('\n') != 1:
+        raise Failed('--version: status %d, %r, %r' % (status, out, error))
+
+
+# The styles of examples/styles
+
+
+def try_check(program, path):
+    """Nothing is odd or wrong in a style."""
+    status, out, error = ended(program, 'check', path)
+    if status or error or not out.startswith(path + ': independent style '):
+        raise Failed('status %d, %r, %r' % (status, out, error))
+
+
+def try_document(program, document, style, wanted):
+    """The citations and the bibliography of a document read as pandoc writes them."""
+    with tempfile.TemporaryDirectory(prefix='writer-') as folder:
+        written(folder, {'r.json': json.dumps(document['references']), 'c.json': json.dumps(document['citations'])})
+        for verb in ('cite', 'bibliography'):
+            status, out, error = ended(program, verb, '--style', style, 'r.json', 'c.json', cwd=folder)
+            if status or error:
+                raise Failed('%s: status %d, %s' % (verb, status, error.strip()))
+            for came, text in zip(out.splitlines() + [None], wanted[verb] + [None]):
+                if came != text:
+                    raise Failed('%s\n    wanted %s\n    came   %s' % (verb, text, came))
+
+
+# Memory
+
+
+def compiled(folder):
+    """What refuses the nth growth of a process, preloaded."""
+    compiler = shutil.which('cc') or shutil.which('gcc') or shutil.which('clang')
+    if not compiler:
+        raise Failed('no C compiler is here, so that no growth of memory can be refused')
+    made = folder + '/refuse.so'
+    subprocess.run([compiler, '-shared', '-fPIC', '-O1', '-o', made, HERE + '/../documents/refuse.c', '-ldl'], check=True)
+    return made
+
+
+def refused_in_turn(program, verb):
+    """Each run with a growth refused ends with status 5 and a line that says so, with status 1 while a file is read, or with the
+    answer; and at last none is refused."""
+    with tempfile.TemporaryDirectory(prefix='writer-') as folder:
+        shim = compiled(folder)
+        files = {'s.csl': STYLE.replace('</citation>', '</citation><bibliography><layout><text variable="title"/></layout></bibliography>'),
+                 'r.json': REFERENCES, 'c.json': CITATIONS}
+        written(folder, files)
+        words = [verb, '--style', 's.csl', 'r.json', 'c.json']
+        answer = ended(program, *words, cwd=folder)[1]
+        if not answer:
+            raise Failed('there is no answer')
+        for n in range(1, MOST_GROWTHS):
+            env = {**os.environ, 'LD_PRELOAD': shim, 'REFUSE': str(n)}
+            status, out, error = ended(program, *words, cwd=folder, env=env)
+            if '!' not in error:
+                break
+            is_told = status in (1, 5) and not out and error.count('\n') == 1
+            if not is_told and (status, out) != (0, answer):
+                raise Failed('growth %d: status %d, %r, %r' % (n, status, out, error))
+    if n <= LEAST_GROWTHS:
+        raise Failed('only %d growths were refused' % (n - 1))
+    print('%s: %d growths refused in turn' % (verb, n - 1))
+
+
+def tests_of(program):
+    tests = [('help', try_help)]
+    tests += [('case: ' + case.name, try_case, case) for case in CASES]
+    tests += [('fault: ' + fault.name, try_fault, fault) for fault in FAULTS]
+    tests += [('style: ' + os.path.basename(path), try_check, path) for path in pandoc.STYLES]
+    recorded = pandoc.recorded()
+    for name, document in pandoc.documents().items():
+        for path in pandoc.STYLES:
+            style = os.path.basename(path)
+            tests.append(('%s in %s' % (name, style), try_document, document, path, recorded[name][style]))
+    tests += [('growths of memory: ' + verb, refused_in_turn, verb) for verb in ('cite', 'bibliography')]
+    return tests
+
+
+def main():
+    parser = argparse.ArgumentParser(description=__doc__, formatter_class=argparse.RawDescriptionHelpFormatter)
+    parser.add_argument('program')
+    parser.add_argument('--record', action='store_true')
+    parser.add_argument('--only', default='')
+    options = parser.parse_args()
+    if options.record:
+        pandoc.record()
+    program = os.path.abspath(options.program)
+    passed = failed = 0
+    for name, test, *rest in tests_of(program):
+        if options.only not in name:
+            continue
+        try:
+            test(program, *rest)
+            passed += 1
+        except Failed as error:
+            failed += 1
+            print('FAILED: %s: %s' % (name, error))
+    print('%d passed, %d failed' % (passed, failed))
+    sys.exit(1 if failed else 0)
+
+
+if __name__ == '__main__':
+    main()
