@@ -7,10 +7,12 @@ use style_file::locale::Term;
 impl<'a> LocaleChain<'a> {
     /// The words of a term in this form, for many if `is_plural`; `None` where no locale has the
     /// term. A form that no locale has is that which stands for it: `verb-short` is `verb`,
-    /// `symbol` is `short`, and these are `long`.
+    /// `symbol` is `short`, and these are `long`. Words that are a line break and spaces are empty.
     pub fn term(&self, name: TermName, form: TermForm, is_plural: bool) -> Option<&'a str> {
         let term = self.find_in_forms(name, form)?;
-        Some(words_of(term, is_plural))
+        let words = words_of(term, is_plural);
+        let is_blank = words.contains('\n') && words.trim().is_empty();
+        Some(if is_blank { "" } else { words })
     }
 
     /// The words of a term with a name of its own.

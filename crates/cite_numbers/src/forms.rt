@@ -1,15 +1,17 @@
 //! The forms of numbers (CSL 1.0.2, Number, and appendix III, Page Ranges).
+use crate::locators::{LocatorPart, locator_parts};
 use cite_locale::chain::LocaleChain;
-use csl_texts::numbers::{Number, NumberDelimiter, number_parts, roman};
-use csl_texts::pages::page_ranges;
-use csl_vocabulary::term::Gender;
+use csl_texts::numbers::{Number, NumberDelimiter, NumberPart, number_parts, roman};
+use csl_texts::pages::{has_several_pages, page_ranges};
+use csl_vocabulary::locator::LocatorType;
+use csl_vocabulary::term::{Gender, TermForm};
 use std::alloc::{AllocError, Global};
 use style_file::element::NumberForm;
 use style_file::style::PageRangeFormat;
 
 /// The text of a number variable in this form, its ordinals for a noun of this gender. A text that
-/// is not numeric stays, but for the hyphens of its ranges. A number with letters stays in any
-/// form.
+/// is not numeric stays, but for the hyphens of its ranges, and for numbers before a label, as in
+/// `7, p. 3-8`. A number with letters stays in any form.
 ///
 /// # Errors
 ///
@@ -21,11 +23,61 @@ pub fn number_text(
     form: NumberForm,
     gender: Option<Gender>,
 ) -> Result<String, AllocError> {
-    let Some(parts) = number_parts(alloc, text)? else {
+    match number_parts(alloc, text)? {
+        Some(parts) => numbers(alloc, locales, &parts, form, gender),
+        None => labelled_numbers(alloc, locales, text, form, gender),
+    }
+}
+
+/// A text that is not numeric as a whole. Where numbers stand before its first label, as in
+/// `7, p. 3-8`, these get the form, and each label its short term.
+fn labelled_numbers(
+    alloc: Global,
+    locales: &LocaleChain<'_>,
+    text: &str,
+    form: NumberForm,
+    gender: Option<Gender>,
+) -> Result<String, AllocError> {
+    let parts = locator_parts(alloc, locales, text, LocatorType::Page)?;
+    let (first, labelled) = match parts.split_first() {
+        Some((first, labelled)) if !labelled.is_empty() => (first, labelled),
+        _ => return pages(alloc, locales, text, None),
+    };
+    let Some(before) = number_parts(alloc, first.text)? else {
         return pages(alloc, locales, text, None);
     };
+    let mut out = numbers(alloc, locales, &before, form, gender)?;
+    for part in labelled {
+        push_labelled(alloc, &mut out, locales, part)?;
+    }
+    Ok(out)
+}
+
+/// Adds a part behind its label.
+fn push_labelled(
+    alloc: Global,
+    out: &mut String,
+    locales: &LocaleChain<'_>,
+    part: &LocatorPart<'_>,
+) -> Result<(), AllocError> {
+    let is_plural = has_several_pages(part.text);
+    out.push_str(part.before)?;
+    if let Some(words) = locales.plain_term(part.label.term(), TermForm::Short, is_plural) {
+        out.push_str(words)?;
+        out.push(' ')?;
+    }
+    out.push_str(pages(alloc, locales, part.text, None)?.as_str())
+}
+
+fn numbers(
+    alloc: Global,
+    locales: &LocaleChain<'_>,
+    parts: &[NumberPart<'_>],
+    form: NumberForm,
+    gender: Option<Gender>,
+) -> Result<String, AllocError> {
     let mut out = String::new(alloc);
-    for part in &parts {
+    for part in parts {
         push_number(alloc, &mut out, locales, part.number, form, gender)?;
         if let Some(delimiter) = part.delimiter {
             out.push_str(delimiter_text(locales, delimiter))?;

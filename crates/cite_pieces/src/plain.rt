@@ -1,11 +1,12 @@
 //! Streams as plain text.
 use crate::piece::{Piece, Wrap};
 use crate::pieces::Pieces;
+use crate::superscripts::letter_of;
 use csl_texts::quotes::QuoteMarks;
 use std::alloc::{AllocError, Global};
 
 /// The texts of a stream, with quotation marks. Quotes inside quotes have the inner marks, and so
-/// on in turn.
+/// on in turn. Letters above the line, as ordinals have them, are plain ones: `1er`.
 ///
 /// # Errors
 ///
@@ -21,7 +22,7 @@ pub fn plain_text(
     let mut are_quotes = Vec::new(alloc);
     for piece in pieces.as_slice() {
         match piece {
-            Piece::Text(text) => out.push_str(text.as_str())?,
+            Piece::Text(text) => push_text(&mut out, text.as_str())?,
             Piece::Open(wrap) => {
                 let is_quote = matches!(wrap, Wrap::Quotes);
                 are_quotes.push(is_quote)?;
@@ -39,4 +40,14 @@ pub fn plain_text(
         }
     }
     Ok(out)
+}
+
+fn push_text(out: &mut String, text: &str) -> Result<(), AllocError> {
+    if text.is_ascii() {
+        return out.push_str(text);
+    }
+    for c in text.chars() {
+        out.push(letter_of(c).unwrap_or(c))?;
+    }
+    Ok(())
 }

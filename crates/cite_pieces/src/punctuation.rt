@@ -6,9 +6,10 @@ use std::mem::replace;
 
 /// The stream with its punctuation in order. Where two texts meet, doubled punctuation is written
 /// once, as `..` and `?.` are `.` and `?`, and doubled spaces are one space. No space is before a
-/// period or a comma. If `in_quotes`, as locales ask for by punctuation-in-quote, a period or a
-/// comma behind a quote stands inside it, and inside the innermost one where several end there; but
-/// not one of the same field.
+/// period or a comma. A first text that joins nothing, as the affix `. `, is left out. If
+/// `in_quotes`, as locales ask for by punctuation-in-quote, a period or a comma behind a quote
+/// stands inside it, and inside the innermost one where several end there; but not one of the same
+/// field.
 ///
 /// # Errors
 ///
@@ -142,7 +143,8 @@ impl Joints {
             self.trim_last(' ')?;
         }
         let Some(last) = self.last.as_str().chars().next_back().or(self.before) else {
-            return Ok(text);
+            let joins_nothing = self.out.has_no_text() && is_joint(text);
+            return Ok(if joins_nothing { "" } else { text });
         };
         match kept_where_meet(last, first) {
             Kept::Both => {}
@@ -196,6 +198,12 @@ impl Joints {
             Edge::Close | Edge::CloseQuotes => self.out.close(),
         }
     }
+}
+
+/// Whether a text is a mark with a space behind it, or spaces: it joins what is around it.
+fn is_joint(text: &str) -> bool {
+    let is_spaced = text.ends_with(|c: char| c.is_whitespace());
+    is_spaced && matches!(text.trim_end(), "" | "." | "," | ";" | ":")
 }
 
 /// Which of two characters that meet is written.

@@ -1,7 +1,7 @@
-//! Superscript characters, which HTML writes as other ones between tags.
+//! Superscript characters: what they show above the line.
 
-/// The letters that have a superscript character of their own, as ordinals have them.
-const LETTERS: &[(char, char)] = &[
+/// The letters and digits that have a superscript character of their own.
+const SUPERSCRIPTS: &[(char, char)] = &[
     ('ª', 'a'),
     ('º', 'o'),
     ('ʰ', 'h'),
@@ -32,10 +32,15 @@ const LETTERS: &[(char, char)] = &[
 
 /// The character that this one shows above the line.
 pub(crate) fn base_of(c: char) -> Option<char> {
-    for (superscript, base) in LETTERS {
+    for (superscript, base) in SUPERSCRIPTS {
         if *superscript == c {
             return Some(*base);
         }
     }
     None
+}
+
+/// The letter that this character shows above the line.
+pub(crate) fn letter_of(c: char) -> Option<char> {
+    base_of(c).filter(|base| base.is_alphabetic())
 }

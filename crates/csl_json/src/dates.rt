@@ -172,7 +172,11 @@ struct DateMembers {
 
 impl Reader {
     /// The date that the text tells; none of an empty one.
-    fn date_of_text(&mut self, place: &Place, text: &str) -> Result<Option<Date>, AllocError> {
+    pub(crate) fn date_of_text(
+        &mut self,
+        place: &Place,
+        text: &str,
+    ) -> Result<Option<Date>, AllocError> {
         if text.trim().is_empty() {
             return Ok(None);
         }

@@ -209,6 +209,7 @@ impl Reader {
             Value::Object(members) => {
                 let mut reference = self.bare_reference(place, value, members)?;
                 self.read_members(place, value, members, &mut reference)?;
+                self.take_note(place, value, &mut reference)?;
                 Ok(reference)
             }
             _ => Err(refusal(self.alloc, place, value, Wanted::Item)),

@@ -9,6 +9,7 @@ mod items;
 mod keys;
 mod members;
 mod names;
+mod note;
 mod place;
 mod reader;
 pub mod reading;

@@ -38,6 +38,42 @@ fn take_parts(alloc: Global, person: &mut PersonName, object: &Value) -> Result<
     person.remove_quotes(alloc)
 }
 
+/// The name that a note tells, as `Family || Given`, or else as it stands.
+///
+/// # Errors
+/// Where memory is refused.
+pub(crate) fn name_in_note(alloc: Global, text: &str) -> Result<Name, AllocError> {
+    let Some((family, given)) = text.split_once("||") else {
+        return Ok(Name::Literal(String::from_str(alloc, text)?));
+    };
+    let mut person = PersonName {
+        family: part_of(alloc, family)?,
+        given: part_of(alloc, given)?,
+        dropping_particle: None,
+        non_dropping_particle: None,
+        suffix: None,
+        has_comma_suffix: false,
+        has_static_ordering: false,
+    };
+    if person.family.is_none() && person.given.is_none() {
+        return Ok(Name::Literal(String::from_str(alloc, text)?));
+    }
+    person.take_suffix(alloc)?;
+    person.take_dropping_particle(alloc)?;
+    person.take_non_dropping_particle(alloc)?;
+    person.remove_quotes(alloc)?;
+    Ok(Name::Person(person))
+}
+
+/// A part of a name between spaces, if it is not empty.
+fn part_of(alloc: Global, text: &str) -> Result<Option<String>, AllocError> {
+    let text = text.trim();
+    if text.is_empty() {
+        return Ok(None);
+    }
+    Ok(Some(String::from_str(alloc, text)?))
+}
+
 impl Reader {
     /// The parts of a person's name.
     fn name_parts(&mut self, place: &Place, object: &Value) -> Result<PersonName, ReferencesError>

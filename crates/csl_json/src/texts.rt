@@ -82,7 +82,7 @@ impl Reader {
     }
 
     /// What the markup writes, if that is not empty.
-    fn of_markup(&self, markup: &str) -> Result<Option<RichText>, AllocError> {
+    pub(crate) fn of_markup(&self, markup: &str) -> Result<Option<RichText>, AllocError> {
         let text = RichText::of_markup(self.alloc, markup)?;
         Ok(if text.is_empty() { None } else { Some(text) })
     }

@@ -15,6 +15,8 @@ pub enum WarningKind {
     RepeatedId,
     /// The variable stands under an older name too, so that was left out.
     OlderName,
+    /// The item has a value of the variable that its note names, so that was left out.
+    NotedTwice,
     /// The texts of a list were joined with commas.
     JoinedTexts,
     /// The name has no parts, so it was left out.
@@ -60,6 +62,9 @@ impl fmt::Display for WarningKind {
             }
             WarningKind::RepeatedId => f.write_str("repeated id, the item before was replaced"),
             WarningKind::OlderName => f.write_str("an older name of the variable was left out"),
+            WarningKind::NotedTwice => f.write_str(
+                "the item has this variable, left out of its note",
+            ),
             WarningKind::JoinedTexts => f.write_str("a list of texts, joined with commas"),
             WarningKind::EmptyName => f.write_str("a name without parts, left out"),
             WarningKind::PartsBesideLiteral => {

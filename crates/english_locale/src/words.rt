@@ -1,6 +1,8 @@
 //! The locale file.
 
-/// A locale file of American English (`en-US`), in CSL 1.0.2.
+/// A locale file of American English (`en-US`), in CSL 1.0.2. As in the locale files that styles are
+/// written for, number variables that are no locators have no terms of their own, but for editions
+/// and counts of pages.
 pub const ENGLISH: &str =
     r#"<locale xmlns="http://purl.org/net/xbiblio/csl" version="1.0" xml:lang="en-US">
 <style-options punctuation-in-quote="true" limit-day-ordinals-to-day-1="false"/>
@@ -47,23 +49,18 @@ pub const ENGLISH: &str =
 <term name="broadcast">broadcast</term>
 <term name="by">by</term>
 <term name="canon"><single>canon</single><multiple>canons</multiple></term>
-<term name="canon" form="short"><single>can.</single><multiple>cans.</multiple></term>
 <term name="ce">CE</term>
 <term name="chair"><single>chair</single><multiple>chairs</multiple></term>
 <term name="chair" form="verb">chaired by</term>
 <term name="chapter"><single>chapter</single><multiple>chapters</multiple></term>
 <term name="chapter" form="short"><single>chap.</single><multiple>chaps.</multiple></term>
-<term name="chapter-number"><single>chapter</single><multiple>chapters</multiple></term>
-<term name="chapter-number" form="short"><single>chap.</single><multiple>chaps.</multiple></term>
 <term name="circa">circa</term>
 <term name="circa" form="short">c.</term>
-<term name="citation-number"><single>citation</single><multiple>citations</multiple></term>
 <term name="cited">cited</term>
 <term name="classic">classic</term>
 <term name="close-inner-quote">’</term>
 <term name="close-quote">”</term>
 <term name="collection">collection</term>
-<term name="collection-number"><single>number</single><multiple>numbers</multiple></term>
 <term name="colon">:</term>
 <term name="column"><single>column</single><multiple>columns</multiple></term>
 <term name="column" form="short"><single>col.</single><multiple>cols.</multiple></term>
@@ -228,12 +225,8 @@ pub const ENGLISH: &str =
 <term name="no-publisher" form="short">n.p.</term>
 <term name="note"><single>note</single><multiple>notes</multiple></term>
 <term name="note" form="short"><single>n.</single><multiple>nn.</multiple></term>
-<term name="number"><single>number</single><multiple>numbers</multiple></term>
-<term name="number" form="short"><single>no.</single><multiple>nos.</multiple></term>
 <term name="number-of-pages"><single>page</single><multiple>pages</multiple></term>
 <term name="number-of-pages" form="short"><single>p.</single><multiple>pp.</multiple></term>
-<term name="number-of-volumes"><single>volume</single><multiple>volumes</multiple></term>
-<term name="number-of-volumes" form="short"><single>vol.</single><multiple>vols.</multiple></term>
 <term name="on">on</term>
 <term name="online">online</term>
 <term name="op-cit">op. cit.</term>
@@ -255,8 +248,6 @@ pub const ENGLISH: &str =
 <term name="original-work-published">original work published</term>
 <term name="page"><single>page</single><multiple>pages</multiple></term>
 <term name="page" form="short"><single>p.</single><multiple>pp.</multiple></term>
-<term name="page-first"><single>page</single><multiple>pages</multiple></term>
-<term name="page-first" form="short"><single>p.</single><multiple>pp.</multiple></term>
 <term name="page-range-delimiter">–</term>
 <term name="pamphlet">pamphlet</term>
 <term name="paper-conference">conference paper</term>
@@ -265,8 +256,6 @@ pub const ENGLISH: &str =
 <term name="paragraph" form="symbol"><single>¶</single><multiple>¶¶</multiple></term>
 <term name="part"><single>part</single><multiple>parts</multiple></term>
 <term name="part" form="short"><single>pt.</single><multiple>pts.</multiple></term>
-<term name="part-number"><single>part</single><multiple>parts</multiple></term>
-<term name="part-number" form="short"><single>pt.</single><multiple>pts.</multiple></term>
 <term name="patent">patent</term>
 <term name="performance">performance</term>
 <term name="performer"><single>performer</single><multiple>performers</multiple></term>
@@ -282,7 +271,6 @@ pub const ENGLISH: &str =
 <term name="post-weblog">blog post</term>
 <term name="preprint">preprint</term>
 <term name="presented at">presented at the</term>
-<term name="printing-number"><single>printing</single><multiple>printings</multiple></term>
 <term name="producer"><single>producer</single><multiple>producers</multiple></term>
 <term name="producer" form="short"><single>prod.</single><multiple>prods.</multiple></term>
 <term name="producer" form="verb">produced by</term>
@@ -338,11 +326,6 @@ pub const ENGLISH: &str =
 <term name="sub-verbo" form="short"><single>s.v.</single><multiple>s.vv.</multiple></term>
 <term name="supplement"><single>supplement</single><multiple>supplements</multiple></term>
 <term name="supplement" form="short"><single>supp.</single><multiple>supps.</multiple></term>
-<term name="supplement-number"><single>supplement</single><multiple>supplements</multiple></term>
-<term name="supplement-number" form="short">
-<single>supp.</single>
-<multiple>supps.</multiple>
-</term>
 <term name="table"><single>table</single><multiple>tables</multiple></term>
 <term name="table" form="short"><single>tbl.</single><multiple>tbls.</multiple></term>
 <term name="television-broadcast">television broadcast</term>
@@ -361,7 +344,6 @@ pub const ENGLISH: &str =
 <term name="verse"><single>verse</single><multiple>verses</multiple></term>
 <term name="verse" form="short"><single>v.</single><multiple>vv.</multiple></term>
 <term name="version">version</term>
-<term name="version" form="short"><single>v.</single><multiple>vv.</multiple></term>
 <term name="video">video</term>
 <term name="volume"><single>volume</single><multiple>volumes</multiple></term>
 <term name="volume" form="short"><single>vol.</single><multiple>vols.</multiple></term>
