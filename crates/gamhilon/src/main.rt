@@ -7,16 +7,19 @@
 mod arguments;
 mod checking;
 mod citations;
+mod command_line;
 mod commands;
 mod error;
 mod files;
 mod locales;
+mod notes;
 mod one_line;
 mod parsing;
 mod printing;
 mod references;
 mod reports;
 mod styles;
+mod uncited;
 mod usage;
 
 use arguments::Command;
@@ -25,7 +28,6 @@ use parsing::command_of;
 use std::env;
 use std::process::ExitCode;
 use std::rt::{Env, Files};
-use usage::{USAGE, VERSION};
 
 fn main(rt: HostRuntime) -> ExitCode {
     match run(&rt) {
@@ -42,8 +44,7 @@ fn run(
     rt: &(impl Files + Env + Input + Print + Eprint + AllocGlobal),
 ) -> Result<ExitCode, CommandError> {
     match command(rt)? {
-        Command::Version => println!(rt; "gamhilon {VERSION}")?,
-        Command::Help => println!(rt; "{USAGE}")?,
+        Command::Show(text) => print!(rt; "{}", text.as_str())?,
         Command::Check(paths) => return checking::check_all(rt, &paths),
         Command::Cite(options) => commands::cite(rt, &options)?,
         Command::Bibliography(options) => commands::bibliography(rt, &options)?,
@@ -54,7 +55,7 @@ fn run(
 /// What the words of the command line ask for.
 fn command(rt: &(impl Env + AllocGlobal)) -> Result<Command, CommandError> {
     let mut words = Vec::new(rt.alloc());
-    for word in env::args(rt)?.skip(1) {
+    for word in env::args(rt)? {
         words.push(word)?;
     }
     command_of(rt.alloc(), &words)

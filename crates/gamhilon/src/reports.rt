@@ -21,7 +21,7 @@ pub(crate) fn refused<W: fmt::Display>(
 }
 
 /// What is wrong at a place of a file.
-fn refused_at<W: fmt::Display>(
+pub(crate) fn refused_at<W: fmt::Display>(
     alloc: Global,
     path: &str,
     place: Place,
