@@ -124,6 +124,7 @@ fn bytes_refused(alloc: Global, path: &str, bytes: &[u8]) -> Result<CommandError
 
 /// Prints what a style file or a locale file is.
 fn show_file(rt: &impl Print, path: &str, file: &CslFile) -> io::Result<()> {
+    let path = OneLine(path);
     match file {
         CslFile::Style(StyleFile::Independent(style)) => {
             let title = OneLine(style.info.title.as_str());
@@ -151,6 +152,7 @@ fn check_references(
     for warning in &read.warnings {
         show_warning(rt, path, warning)?;
     }
+    let path = OneLine(path);
     match read.references.len() {
         1 => println!(rt; "{path}: 1 reference")?,
         count => println!(rt; "{path}: {count} references")?,
@@ -168,7 +170,7 @@ fn check_document(
         return Err(CommandError::OutOfMemory);
     };
     if fault.is_empty() {
-        return Ok(println!(rt; "{path}: document")?);
+        return Ok(println!(rt; "{}: document", OneLine(path))?);
     }
     let why = fault_in_words(rt.alloc(), fault.as_str())?;
     Err(refused(rt.alloc(), path, &why)?)
