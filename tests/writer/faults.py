@@ -85,6 +85,7 @@ FAULTS = [
     usage('two standard inputs', '`-` stands for several files', 'cite', '--style', 'FILE/s.csl', '-', '-'),
     usage('two standard inputs to check', '`-` stands for several files', 'check', '-', '-'),
     usage('a word of several lines', "unrecognized subcommand 'a b'", 'a\nb'),
+    usage('a word that is no text', 'a word is no UTF-8', 'cite', '\udcff'),
     # Files that can't be read
     cited('no such style', 1, ['FILE/none.csl: …'], words=('--style', 'FILE/none.csl', 'FILE/r.json', 'FILE/c.json')),
     cited('no such references', 1, ['FILE/none: …'], words=('--style', 'FILE/s.csl', 'FILE/none', 'FILE/c.json')),

@@ -25,9 +25,10 @@ mod usage;
 use arguments::Command;
 use error::CommandError;
 use parsing::command_of;
-use std::env;
 use std::process::ExitCode;
 use std::rt::{Env, Files};
+use std::{env, io};
+use usage::UsageError;
 
 fn main(rt: HostRuntime) -> ExitCode {
     match run(&rt) {
@@ -54,9 +55,12 @@ fn run(
 
 /// What the words of the command line ask for.
 fn command(rt: &(impl Env + AllocGlobal)) -> Result<Command, CommandError> {
-    let mut words = Vec::new(rt.alloc());
-    for word in env::args(rt)? {
-        words.push(word)?;
+    match env::args(rt) {
+        Ok(words) => {
+            let words: Vec<String> = words.collect(rt.alloc())?;
+            command_of(rt.alloc(), &words)
+        }
+        Err(error) if error.kind() == io::ErrorKind::OutOfMemory => Err(CommandError::OutOfMemory),
+        Err(_) => Err(CommandError::Usage(UsageError::NoUtf8)),
     }
-    command_of(rt.alloc(), &words)
 }

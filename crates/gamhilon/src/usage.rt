@@ -34,6 +34,8 @@ Example: with the references of books.json, in Debian's style apa,
 #[derive(Debug, Drop)]
 pub(crate) enum UsageError {
     NoCommand,
+    /// A word is no UTF-8.
+    NoUtf8,
     /// The words are wrong, as this text says.
     Words(String),
     /// A whole page of what is no HTML.
@@ -46,6 +48,7 @@ impl fmt::Display for UsageError {
     fn fmt<W: fmt::Write>(&self, f: &mut fmt::Formatter<W>) -> fmt::Result {
         match self {
             UsageError::NoCommand => f.write_str("no command"),
+            UsageError::NoUtf8 => f.write_str("a word is no UTF-8"),
             UsageError::Words(why) => {
                 let why = OneLine(why.as_str());
                 write!(f, "{why}")
