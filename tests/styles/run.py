@@ -1,5 +1,5 @@
 #!/usr/bin/env python3
-"""run.py STYLE_CHECK TEST_STYLE_FILES [--mutate N] [--seed S]: tries two built programs, crates/style_check and
+"""run.py GAMHILON TEST_STYLE_FILES [--mutate N] [--seed S]: tries two built programs, crates/gamhilon, which checks files, and
 crates/test_style_files, on styles and locales.
 
 Each file of documents/, and of Debian's packages citation-style-language-styles and citation-style-language-locales, is read,
@@ -180,7 +180,7 @@ def names_of_csl(programs):
 
 def program_is(programs, folder, given, status, out, error):
     """The program, on these files in a folder, ends and writes so."""
-    done = subprocess.run([programs.style_check, *given], cwd=folder, stdout=subprocess.PIPE, stderr=subprocess.PIPE, timeout=SECONDS)
+    done = subprocess.run([programs.gamhilon, 'check', *given], cwd=folder, stdout=subprocess.PIPE, stderr=subprocess.PIPE, timeout=SECONDS)
     got = (done.returncode, done.stdout.decode(), done.stderr.decode())
     if got != (status, out, error):
         raise Failed('%s: %r, and not %r' % (' '.join(given), got, (status, out, error)))
@@ -205,10 +205,9 @@ def program(programs):
         it = (programs, folder)
         program_is(*it, ['notes.csl', 'journal.csl', 'words.xml'], 0, notes + parent + locale, '')
         program_is(*it, ['odd.csl'], 0, 'odd.csl: independent style T (i)\n', warning)
-        program_is(*it, ['broken.csl', 'words.xml'], 1, locale, error)
-        program_is(*it, ['bytes.csl'], 1, '', no_text)
-        program_is(*it, ['none.csl', 'broken.csl'], 2, '', 'none.csl: No such file or directory (os error 2)\n' + error)
-        program_is(*it, [], 2, '', 'usage: style_check FILE..\n')
+        program_is(*it, ['broken.csl', 'words.xml'], 2, locale, error)
+        program_is(*it, ['bytes.csl'], 2, '', no_text)
+        program_is(*it, ['none.csl', 'broken.csl'], 1, '', 'none.csl: No such file or directory (os error 2)\n' + error)
 
 
 # Mutated files
@@ -346,7 +345,7 @@ def tests_of(given):
     tests.append(('files with warnings', warned))
     tests.append(('files that the limits just allow', allowed))
     tests.append(('names of CSL', names_of_csl))
-    tests.append(('style_check', program))
+    tests.append(('gamhilon check', program))
     tests.append(('mutated files', mutations, given.mutate, given.seed))
     for path in own_documents():
         tests.append(('growths of memory: ' + os.path.basename(path), refused_in_turn, read(path)))
@@ -358,13 +357,13 @@ def tests_of(given):
 
 def main():
     parser = argparse.ArgumentParser(description=__doc__, formatter_class=argparse.RawDescriptionHelpFormatter)
-    parser.add_argument('style_check')
+    parser.add_argument('gamhilon')
     parser.add_argument('test_style_files')
     parser.add_argument('--mutate', type=int, default=3000, metavar='N')
     parser.add_argument('--seed', type=int, default=1, metavar='S')
     given = parser.parse_args()
     programs = argparse.Namespace(
-        style_check=os.path.abspath(given.style_check), test_style_files=os.path.abspath(given.test_style_files)
+        gamhilon=os.path.abspath(given.gamhilon), test_style_files=os.path.abspath(given.test_style_files)
     )
     sys.setrecursionlimit(10000)
     return runs.count(tests_of(given), programs)

@@ -266,6 +266,11 @@ CASES = [
          '<choose><if position="subsequent"><text variable="first-reference-note-number" prefix="n. "/></if><else>'
          '<text value="first"/></else></choose>', [BOOK, PAGE], ['first', 'first', 'n. 4'],
          [[{'id': 'book', 'note': 4}], [{'id': 'page', 'note': 5}], [{'id': 'book', 'note': 6}]], class_='note'),
+    cite('own notes', 'docs/WRITER.md: a citation that tells no note has the next one that no other citation tells',
+         '<choose><if position="subsequent"><text variable="first-reference-note-number" prefix="n. "/></if><else>'
+         '<text value="first"/></else></choose>', [BOOK, PAGE, PAPER], ['first', 'first', 'first', 'n. 2', 'n. 4', 'n. 3'],
+         [[{'id': 'page', 'note': 2}], cites('paper'), cites('book'), [{'id': 'page', 'note': 5}], cites('book'), cites('paper')],
+         class_='note'),
     # The bibliography
     item('repeated authors', 'Bibliography: `subsequent-author-substitute`',
          '<group delimiter=". "><names variable="author"><name name-as-sort-order="all"/></names><text variable="title"/></group>',
@@ -273,8 +278,8 @@ CASES = [
          ['Ape, Ann. X', '———. Y', 'Bee, Bob. Z'], in_bibliography='subsequent-author-substitute="———"'),
     item('the first field', 'Whitespace: `second-field-align` sets the first field apart',
          '<text variable="citation-number" suffix=". "/><text variable="title"/>', [PAGE],
-         ['<div class="csl-bib-body">', '<div class="csl-entry"><div class="csl-left-margin">1. </div><div class="csl-right-inline">Nobody'
-          '</div></div>', '</div>'], to='html', in_bibliography='second-field-align="flush"'),
+         ['<div class="csl-left-margin">1. </div><div class="csl-right-inline">Nobody</div>'], to='html',
+         in_bibliography='second-field-align="flush"'),
     # Cites
     cite('words around a cite', 'docs/WRITER.md: `prefix` and `suffix` of a cite, with a space where there is none', TEXT, [PAGE],
          ['(see Nobody, which is short)'], [[{'id': 'page', 'prefix': 'see', 'suffix': ', which is short'}]], affixes='prefix="(" suffix=")"'),

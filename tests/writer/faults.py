@@ -9,10 +9,36 @@ STYLE = ('<style xmlns="http://purl.org/net/xbiblio/csl" class="in-text" version
 REFERENCES = '[{"id": "a", "type": "book", "title": "A"}]'
 CITATIONS = '[[{"id": "a"}]]'
 HELP = '; gamhilon --help tells more'
+DOCUMENT = ('{"styles": {"s": {"citation": {"elements": []}}}, "entries": [{"key": "a"}], "requests": [], '
+            '"bibliography": {"style": "s"}}')
+LOCALE = ('<locale xmlns="http://purl.org/net/xbiblio/csl" version="1.0" xml:lang="de-DE"><terms><term name="and">und</term></terms>'
+          '</locale>')
+DEPENDENT = ('<style xmlns="http://purl.org/net/xbiblio/csl" version="1.0"><info><title>D</title><id>D</id>'
+             '<link href="http://www.zotero.org/styles/s" rel="independent-parent"/><updated>2026-01-01T00:00:00+00:00</updated>'
+             '</info></style>')
+PAGE = '<!DOCTYPE html>\n<html>\n<head>\n<meta charset="utf-8">\n<title>References</title>\n</head>\n<body>\n%s</body>\n</html>\n'
 
 
 def ring():
     return STYLE.replace('<citation>', '<macro name="m"><text macro="m"/></macro>\n<citation>')
+
+
+def style_of(layout, *more):
+    """A style that writes this, with these elements behind `info`; it lists its items in the order of their titles."""
+    return (STYLE.replace('<citation>', ''.join(more) + '<citation>').replace('<text variable="title"/>', layout)
+            .replace('</citation>', '</citation><bibliography><sort><key variable="title"/></sort><layout><text variable="title"/>'
+                                    '</layout></bibliography>'))
+
+
+def doubling(count):
+    """Macros of which each calls the next one twice."""
+    macros = ['<macro name="m%d"><text macro="m%d"/><text macro="m%d"/></macro>' % (n, n + 1, n + 1) for n in range(count)]
+    return style_of('<text macro="m0"/>', *macros, '<macro name="m%d"><text variable="title"/></macro>' % count)
+
+
+def many_names(count):
+    names = ', '.join('{"family": "F%d"}' % n for n in range(count))
+    return '[{"id": "a", "type": "book", "title": "A", "author": [%s]}]' % names
 
 
 class Fault:
@@ -33,22 +59,33 @@ def usage(name, why, *words):
     return Fault(name, list(words), 64, ['gamhilon: ' + why + HELP])
 
 
+TWO = {'s.csl': style_of('<text variable="title"/>'), 'c.json': '[[{"id": "b"}]]',
+       'r.json': '[{"id": "a", "type": "book", "title": "A"}, {"id": "b", "type": "book", "title": "B"}]'}
+
 FAULTS = [
     # Command lines
-    usage('no word', 'no command'),
-    usage('an unknown command', 'unknown command `print`', 'print'),
-    usage('no style', 'no `--style`', 'cite', 'FILE/r.json', 'FILE/c.json'),
-    usage('no references', 'no file of references', 'bibliography', '--style', 'apa'),
-    usage('no citations', 'no file of citations', 'cite', '--style', 'apa', 'FILE/r.json'),
-    usage('three files', 'too many files', 'cite', '--style', 'apa', 'a', 'b', 'c'),
-    usage('an unknown option', 'unknown option `--stile`', 'cite', '--stile', 'apa'),
-    usage('an unknown option with a value', 'unknown option `--stile=apa`', 'cite', '--stile=apa'),
-    usage('no value', 'no value of `--style`', 'bibliography', 'r.json', '--style'),
-    usage('an unknown format', 'unknown format `pdf`', 'bibliography', '--style', 'apa', '--to', 'pdf', 'r.json'),
-    usage('nothing to check', 'no file of a style', 'check'),
-    usage('an option of check', 'unknown option `--all`', 'check', '--all'),
+    usage('no word', "'gamhilon' requires a subcommand but one was not provided [subcommands: cite, bibliography, check, help]"),
+    usage('an unknown command', "unrecognized subcommand 'print'", 'print'),
+    usage('a command that is nearly one', "unrecognized subcommand 'cited'; tip: a similar subcommand exists: 'cite'", 'cited'),
+    usage('no style', 'the following required arguments were not provided: --style <STYLE>', 'cite', 'FILE/r.json', 'FILE/c.json'),
+    usage('no references', 'the following required arguments were not provided: <REFERENCES>', 'bibliography', '--style', 'apa'),
+    usage('no citations', 'the following required arguments were not provided: <CITATIONS>', 'cite', '--style', 'apa', 'FILE/r.json'),
+    usage('three files', "unexpected argument 'c' found", 'cite', '--style', 'apa', 'a', 'b', 'c'),
+    usage('an unknown option', "unexpected argument '--stile' found; tip: a similar argument exists: '--style'", 'cite', '--stile', 'apa'),
+    usage('an unknown option with a value', "unexpected argument '--stile' found; tip: a similar argument exists: '--style'", 'cite',
+          '--stile=apa'),
+    usage('no value', "a value is required for '--style <STYLE>' but none was supplied", 'bibliography', 'r.json', '--style'),
+    usage('two styles', "the argument '--style <STYLE>' cannot be used multiple times", 'bibliography', '--style', 'a', '--style', 'b', 'r'),
+    usage('an unknown format', "invalid value 'pdf' for '--to <FORMAT>' [possible values: text, html, json]", 'bibliography', '--style',
+          'apa', '--to', 'pdf', 'r.json'),
+    usage('a page of texts', '`--standalone` makes a page of HTML alone', 'bibliography', '--style', 'apa', '--to', 'text', '--standalone',
+          'r.json'),
+    usage('nothing to check', 'the following required arguments were not provided: <FILE>...', 'check'),
+    usage('an option of check', "unexpected argument '--all' found; tip: to pass '--all' as a value, use '-- --all'", 'check', '--all'),
     usage('two standard inputs', '`-` stands for several files', 'cite', '--style', 'FILE/s.csl', '-', '-'),
-    usage('a word of several lines', 'unknown command `a b`', 'a\nb'),
+    usage('two standard inputs to check', '`-` stands for several files', 'check', '-', '-'),
+    usage('a word of several lines', "unrecognized subcommand 'a b'", 'a\nb'),
+    usage('a word that is no text', 'a word is no UTF-8', 'cite', '\udcff'),
     # Files that can't be read
     cited('no such style', 1, ['FILE/none.csl: …'], words=('--style', 'FILE/none.csl', 'FILE/r.json', 'FILE/c.json')),
     cited('no such references', 1, ['FILE/none: …'], words=('--style', 'FILE/s.csl', 'FILE/none', 'FILE/c.json')),
@@ -57,6 +94,12 @@ FAULTS = [
     cited('a style that is no XML', 2, ['FILE/s.csl:4:1: error: …'], s=STYLE.replace('</style>', '</stile>')),
     cited('a style without a title', 2, ['FILE/s.csl:2:1: error: …'], s=STYLE.replace('<title>T</title>', '')),
     cited('a ring of macros', 2, ['FILE/s.csl:3:…'], s=ring()),
+    cited('groups in groups', 2, ['FILE/s.csl:3:…'], s=style_of('<group>' * 10000 + '</group>' * 10000)),
+    cited('macros that double', 2, ['FILE/s.csl:3:…'], s=doubling(40)),
+    Fault('a style whose parent is not there', ['cite', '--styles', 'FILE/none', '--style', 'FILE/d.csl', 'FILE/r.json', 'FILE/c.json'], 2,
+          ['FILE/d.csl: error: its parent can\'t be read: FILE/none/s.csl: …'], {'d.csl': DEPENDENT}),
+    Fault('a parent that depends on another', ['cite', '--styles', 'FILE', '--style', 'FILE/d.csl', 'FILE/r.json', 'FILE/c.json'], 2,
+          ['FILE/s.csl: error: it depends on a style itself'], {'d.csl': DEPENDENT, 's.csl': DEPENDENT}),
     cited('a locale for a style', 2, ['FILE/s.csl:1:1: error: …'], s='<locale xmlns="http://purl.org/net/xbiblio/csl" version="1.0" xml:lang="en-US"/>'),
     cited('a style that is no UTF-8', 2, ['FILE/s.csl: error: no UTF-8 from byte 3'], s=b'<st\xffyle/>'),
     cited('an odd style', 0, ['FILE/s.csl:3:42: warning: …'], out='A\n', s=STYLE.replace('<text variable="title"/>', '<text variable="title" colour="red"/>')),
@@ -69,6 +112,19 @@ FAULTS = [
     cited('references that are no UTF-8', 2, ['FILE/r.json: error: no UTF-8 from byte 0'], r=b'\xff'),
     cited('an unknown key', 0, ['FILE/r.json: warning: /0/titel: unknown key, left out; is it `title`?'], out='A\n',
           r='[{"id": "a", "type": "book", "title": "A", "titel": "B"}]'),
+    cited('a value of another kind', 2, ['FILE/r.json: error: /0/author: found a number, wanted a list of names'],
+          r='[{"id": "a", "type": "book", "author": 7}]'),
+    cited('an item without a type', 0, ['FILE/r.json: warning: /0: no type, taken for a document'], out='A\n',
+          r='[{"id": "a", "title": "A"}]'),
+    cited('ids that are numbers', 0, [], out='A\n', r='[{"id": 7, "type": "book", "title": "A"}]', c='[[{"id": 7}]]'),
+    cited('a month that is none', 0, ['FILE/r.json: warning: /0/issued: …'], out='A\n',
+          r='[{"id": "a", "type": "book", "title": "A", "issued": {"date-parts": [[2001, 13]]}}]'),
+    cited('a name without parts', 0, ['FILE/r.json: warning: /0/author/0: a name without parts, left out'], out='A\n',
+          r='[{"id": "a", "type": "book", "title": "A", "author": [{}]}]'),
+    cited('an id twice', 0, ['FILE/r.json: warning: /1: repeated id, the item before was replaced'], out='B\n',
+          r='[{"id": "a", "type": "book", "title": "A"}, {"id": "a", "type": "book", "title": "B"}]'),
+    cited('many names', 0, [], out='F0 et al.\n', r=many_names(100000),
+          s=style_of('<names variable="author"><name et-al-min="3" et-al-use-first="1" delimiter-precedes-et-al="never"/></names>')),
     # Citations
     cited('citations that are no JSON', 2, ['FILE/c.json: error: no JSON from line 1, column 3'], c='[[!'),
     cited('no list of citations', 2, ['FILE/c.json: error: wanted a list of citations'], c='{}'),
@@ -95,13 +151,43 @@ FAULTS = [
           ['gamhilon: warning: the style has no bibliography']),
     Fault('a name of a style', ['cite', '--styles', 'FILE', '--style', 's', 'FILE/r.json', 'FILE/c.json'], 0, [], out='A\n'),
     Fault('a style that depends on another', ['cite', '--styles', 'FILE', '--style', 'FILE/d.csl', 'FILE/r.json', 'FILE/c.json'], 0, [],
-          {'d.csl': '<style xmlns="http://purl.org/net/xbiblio/csl" version="1.0"><info><title>D</title><id>D</id>'
-                    '<link href="http://www.zotero.org/styles/s" rel="independent-parent"/><updated>2026-01-01T00:00:00+00:00</updated>'
-                    '</info></style>'}, out='A\n'),
+          {'d.csl': DEPENDENT}, out='A\n'),
+    Fault('a name of such a style', ['cite', '--styles', 'FILE', '--style', 'd', 'FILE/r.json', 'FILE/c.json'], 0, [],
+          {'dependent/d.csl': DEPENDENT}, out='A\n'),
     Fault('a page of HTML', ['cite', '--style', 'FILE/s.csl', '--to', 'html', '--standalone', 'FILE/r.json', 'FILE/c.json'], 0, [],
-          out='<!DOCTYPE html>\n<html>\n<head>\n<meta charset="utf-8">\n<title>References</title>\n</head>\n<body>\n<p>A</p>\n</body>\n</html>\n'),
+          out=PAGE % '<p>A</p>\n'),
+    Fault('a page of HTML where no format is told', ['bibliography', '--style', 'FILE/s.csl', '--standalone', 'FILE/r.json'], 0, [],
+          {'s.csl': style_of('')}, out=PAGE % '<div class="csl-bib-body">\n<div class="csl-entry">A</div>\n</div>\n'),
+    Fault('a language', ['cite', '--style', 'FILE/s.csl', '--locale', 'de-DE', '--locales', 'FILE', 'FILE/r.json', 'FILE/c.json'], 0, [],
+          {'s.csl': style_of('<text term="and"/>'), 'locales-de-DE.xml': LOCALE}, out='und\n'),
+    Fault('a language without a file', ['cite', '--style', 'FILE/s.csl', '--locale', 'de-DE', '--locales', 'FILE', 'FILE/r.json', 'FILE/c.json'],
+          0, ['gamhilon: warning: no locale file of de-DE is there'], {'s.csl': style_of('<text term="and"/>')}, out='and\n'),
+    Fault('a locale file that is wrong', ['cite', '--style', 'FILE/s.csl', '--locale', 'de-DE', '--locales', 'FILE', 'FILE/r.json',
+                                          'FILE/c.json'], 2, ['FILE/locales-de-DE.xml:1:1: error: …'], {'locales-de-DE.xml': STYLE}),
+    Fault('what is cited', ['bibliography', '--style', 'FILE/s.csl', 'FILE/r.json', 'FILE/c.json'], 0, [], TWO, out='B\n'),
+    Fault('what is not cited, too', ['bibliography', '--nocite', '--style', 'FILE/s.csl', 'FILE/r.json', 'FILE/c.json'], 0, [], TWO,
+          out='A\nB\n'),
+    Fault('citations beside what is not cited', ['cite', '--nocite', '--style', 'FILE/s.csl', 'FILE/r.json', 'FILE/c.json'], 0, [], TWO,
+          out='B\n'),
+    Fault('all references', ['bibliography', '--style', 'FILE/s.csl', 'FILE/r.json'], 0, [], TWO, out='A\nB\n'),
     # The command check
     Fault('check', ['check', 'FILE/s.csl'], 0, [], out='FILE/s.csl: independent style T (T)\n'),
-    Fault('check of two', ['check', 'FILE/r.json', 'FILE/s.csl'], 2, ['FILE/r.json:1:1: error: …'], out='FILE/s.csl: independent style T (T)\n'),
-    Fault('check of nothing', ['check', 'FILE/none.csl'], 1, ['FILE/none.csl: …']),
+    Fault('check of two', ['check', 'FILE/r.json', 'FILE/s.csl'], 0, [], TWO, out='FILE/r.json: 2 references\n'
+          'FILE/s.csl: independent style T (T)\n'),
+    Fault('check of a locale and a dependent style', ['check', 'FILE/d.csl', 'FILE/l.xml'], 0, [], {'d.csl': DEPENDENT, 'l.xml': LOCALE},
+          out='FILE/d.csl: dependent style of http://www.zotero.org/styles/s\nFILE/l.xml: locale de-DE\n'),
+    Fault('check of the standard input', ['check', '-'], 0, [], given=' \n' + REFERENCES, out='-: 1 reference\n'),
+    Fault('check of a document', ['check', 'FILE/d.json'], 0, [], {'d.json': DOCUMENT}, out='FILE/d.json: document\n'),
+    Fault('check of a document that is wrong', ['check', 'FILE/d.json'], 2,
+          ['FILE/d.json: error: /bibliography/style: found a text, wanted the name of a style that is there'],
+          {'d.json': DOCUMENT.replace('"style": "s"', '"style": "t"')}),
+    Fault('check of an object that is no JSON', ['check', 'FILE/d.json'], 2, ['FILE/d.json: error: : found no JSON from line 1, column …'],
+          {'d.json': '{]'}),
+    Fault('check of references that are odd and wrong', ['check', 'FILE/r.json', 'FILE/w.json'], 2,
+          ['FILE/r.json: warning: /0: no type, taken for a document', 'FILE/w.json: error: /0: found a number, wanted an item, which is an object'],
+          {'r.json': '[{"id": "a"}]', 'w.json': '[7]'}, out='FILE/r.json: 1 reference\n'),
+    Fault('check of what is no kind', ['check', 'FILE/n'], 2, ['FILE/n:1:1: error: …'], {'n': '7'}),
+    Fault('check of an empty file', ['check', 'FILE/n'], 2, ['FILE/n:1:1: error: …'], {'n': ''}),
+    Fault('check of what is no text', ['check', 'FILE/n'], 2, ['FILE/n:2:1: error: …'], {'n': b'<a\n\xff/>'}),
+    Fault('check of nothing', ['check', 'FILE/none.csl', 'FILE/n'], 1, ['FILE/none.csl: …', 'FILE/n:1:1: error: …'], {'n': '7'}),
 ]

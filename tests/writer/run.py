@@ -41,6 +41,7 @@ def ended(program, *words, given=None, **how):
 
 def written(folder, files):
     for name, text in files.items():
+        os.makedirs(os.path.dirname(os.path.join(folder, name)), exist_ok=True)
         with open(os.path.join(folder, name), 'wb') as file:
             file.write(text if isinstance(text, bytes) else text.encode())
 
@@ -82,9 +83,9 @@ def try_fault(program, fault):
 
 def try_help(program):
     """Help and version are on standard output, and help has an example."""
-    for words in (['--help'], ['cite', '-h']):
+    for words in (['--help'], ['help'], ['cite', '-h'], ['bibliography', '--help']):
         status, out, error = ended(program, *words)
-        if status or error or not out.startswith('usage: gamhilon') or '\nExample: ' not in out:
+        if status or error or '\nUsage: gamhilon' not in out or '\nExample: ' not in out:
             raise Failed('%s: status %d, %r, %r' % (' '.join(words), status, out[:80], error))
     status, out, error = ended(program, '--version')
     if status or error or not out.startswith('gamhilon ') or out.count('\n') != 1:

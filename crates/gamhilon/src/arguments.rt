@@ -3,8 +3,8 @@
 /// What a command line asks for.
 #[derive(Drop)]
 pub(crate) enum Command {
-    Version,
-    Help,
+    /// This text is printed: the help, or the version.
+    Show(String),
     /// These files are checked.
     Check(Vec<String>),
     Cite(Options),
@@ -30,6 +30,8 @@ pub(crate) struct Options {
     pub locales: Option<String>,
     pub format: OutputFormat,
     pub is_standalone: bool,
+    /// Whether references that aren't cited are listed.
+    pub lists_uncited: bool,
     /// The files of references: the one that is named as a file first, then those of
     /// `--references`.
     pub references: Vec<String>,

@@ -1,13 +1,30 @@
-//! Style files and locale files are checked.
+//! Files are checked: styles, locale files, references and documents.
 use crate::error::CommandError;
-use crate::files::text_of;
+use crate::files::bytes_of;
 use crate::one_line::OneLine;
-use crate::reports::{show_style_warnings, style_refused};
+use crate::references::references_in;
+use crate::reports::{refused, refused_at, show_style_warnings, show_warning, style_refused};
+use cite_document::faults::print_fault_bytes;
+use serde_json::Value;
+use std::alloc::{AllocError, Global};
 use std::io;
 use std::process::ExitCode;
 use std::rt::Files;
 use style_file::style::StyleFile;
 use style_reader::file::{CslFile, read_file};
+use xml_reader::error::XmlError;
+use xml_reader::reader::read_bytes;
+
+/// What a file is, by how it begins.
+#[derive(Clone, Copy)]
+enum FileKind {
+    /// A style or a locale file, which is XML.
+    Csl,
+    /// References, which are a JSON list.
+    References,
+    /// A document of `cite_run`, which is a JSON object.
+    Document,
+}
 
 /// Prints what each file is, and what is odd or wrong in it. The exit status is that of the file
 /// that is worst off.
@@ -48,8 +65,47 @@ fn check_file(
     rt: &(impl Files + Input + Print + Eprint + AllocGlobal),
     path: &str,
 ) -> Result<(), CommandError> {
-    let text = text_of(rt, path)?;
-    match read_file(rt.alloc(), text.as_str()) {
+    let bytes = bytes_of(rt, path)?;
+    match FileKind::of_bytes(&bytes) {
+        FileKind::Csl => check_csl(rt, path, &bytes),
+        FileKind::References => check_references(rt, path, &bytes),
+        FileKind::Document => check_document(rt, path, &bytes),
+    }
+}
+
+impl FileKind {
+    fn of_bytes(bytes: &[u8]) -> FileKind {
+        for byte in bytes {
+            match *byte {
+                b'[' => return FileKind::References,
+                b'{' => return FileKind::Document,
+                // white space, and a byte order mark
+                b' ' | b'\t' | b'\n' | b'\r' | 0xef | 0xbb | 0xbf => {}
+                _ => return FileKind::Csl,
+            }
+        }
+        FileKind::Csl
+    }
+}
+
+/// Prints which style or locale a file is.
+fn check_csl(
+    rt: &(impl Print + Eprint + AllocGlobal),
+    path: &str,
+    bytes: &[u8],
+) -> Result<(), CommandError> {
+    match str::from_utf8(bytes) {
+        Ok(text) => check_csl_text(rt, path, text),
+        Err(_) => Err(bytes_refused(rt.alloc(), path, bytes)?),
+    }
+}
+
+fn check_csl_text(
+    rt: &(impl Print + Eprint + AllocGlobal),
+    path: &str,
+    text: &str,
+) -> Result<(), CommandError> {
+    match read_file(rt.alloc(), text) {
         Ok((file, warnings)) => {
             show_style_warnings(rt, path, &warnings);
             Ok(show_file(rt, path, &file)?)
@@ -58,8 +114,17 @@ fn check_file(
     }
 }
 
-/// Prints what a file is.
+/// Where bytes that are no UTF-8 are no XML.
+fn bytes_refused(alloc: Global, path: &str, bytes: &[u8]) -> Result<CommandError, AllocError> {
+    match read_bytes(alloc, bytes) {
+        Err(XmlError::Malformed(fault, place)) => refused_at(alloc, path, place, &fault),
+        _ => Ok(CommandError::OutOfMemory),
+    }
+}
+
+/// Prints what a style file or a locale file is.
 fn show_file(rt: &impl Print, path: &str, file: &CslFile) -> io::Result<()> {
+    let path = OneLine(path);
     match file {
         CslFile::Style(StyleFile::Independent(style)) => {
             let title = OneLine(style.info.title.as_str());
@@ -74,5 +139,58 @@ fn show_file(rt: &impl Print, path: &str, file: &CslFile) -> io::Result<()> {
             let language = OneLine(locale.language.as_str());
             println!(rt; "{path}: locale {language}")
         }
+    }
+}
+
+/// Prints how many references there are in a file.
+fn check_references(
+    rt: &(impl Print + Eprint + AllocGlobal),
+    path: &str,
+    bytes: &[u8],
+) -> Result<(), CommandError> {
+    let read = references_in(rt.alloc(), path, bytes)?;
+    for warning in &read.warnings {
+        show_warning(rt, path, warning)?;
+    }
+    let path = OneLine(path);
+    match read.references.len() {
+        1 => println!(rt; "{path}: 1 reference")?,
+        count => println!(rt; "{path}: {count} references")?,
+    }
+    Ok(())
+}
+
+/// Prints that a file is a document.
+fn check_document(
+    rt: &(impl Print + AllocGlobal),
+    path: &str,
+    bytes: &[u8],
+) -> Result<(), CommandError> {
+    let Ok(fault) = print_fault_bytes(rt.alloc(), bytes) else {
+        return Err(CommandError::OutOfMemory);
+    };
+    if fault.is_empty() {
+        return Ok(println!(rt; "{}: document", OneLine(path))?);
+    }
+    let why = fault_in_words(rt.alloc(), fault.as_str())?;
+    Err(refused(rt.alloc(), path, &why)?)
+}
+
+/// A fault of a document, told as JSON, in the words of faults of references.
+fn fault_in_words(alloc: Global, fault: &str) -> Result<String, CommandError> {
+    let Ok(fault) = Value::from_str(alloc, fault) else {
+        return Err(CommandError::OutOfMemory);
+    };
+    let pointer = text_at(&fault, "pointer");
+    let found = text_at(&fault, "found");
+    let wanted = text_at(&fault, "wanted");
+    Ok(format!(in alloc; "{pointer}: found {found}, wanted {wanted}")?)
+}
+
+/// The text at a key; empty where there is none.
+fn text_at<'v>(object: &'v Value, key: &str) -> &'v str {
+    match object.get(key) {
+        Some(Value::String(text)) => text.as_str(),
+        _ => "",
     }
 }

@@ -4,10 +4,12 @@ use crate::citations::{citation_of_all, citations_in};
 use crate::error::CommandError;
 use crate::files::text_of;
 use crate::locales::locales_of;
+use crate::notes::number_notes;
 use crate::printing::{print_bibliography, print_citations};
 use crate::references::references_of;
 use crate::reports::{refused, show_warning};
 use crate::styles::{FoundStyle, style_of};
+use crate::uncited::uncited;
 use cite_host::answer::{Answer, Document};
 use cite_host::cites::Citation;
 use cite_host::error::AnswerError;
@@ -21,6 +23,14 @@ use std::rt::Files;
 enum Printed {
     Citations,
     Bibliography,
+}
+
+/// The citations of a command.
+#[derive(Drop)]
+struct Cited {
+    citations: Vec<Citation>,
+    /// How many of them are the file's. One more, which isn't shown, cites what they don't.
+    count: usize,
 }
 
 /// Prints citations.
@@ -54,19 +64,38 @@ fn print_answer(
 ) -> Result<(), CommandError> {
     let found = style_of(rt, options)?;
     let references = references_of(rt, options)?;
-    let citations = citations_of(rt, options, &references)?;
-    print_document(rt, options, printed, &found, &references, &citations)
+    let cited = citations_of(rt, options, &references)?;
+    print_document(rt, options, printed, &found, &references, &cited)
 }
 
-/// The citations of the command; without a file of them one of all references, which isn't shown.
+/// The citations of the command; without a file of them one of all references.
 fn citations_of(
     rt: &(impl Files + Input + Eprint + AllocGlobal),
     options: &Options,
     references: &References,
-) -> Result<Vec<Citation>, CommandError> {
+) -> Result<Cited, CommandError> {
     let Some(path) = options.citations.as_deref() else {
-        return Ok(citation_of_all(rt.alloc(), references)?);
+        let citations = citation_of_all(rt.alloc(), references)?;
+        return Ok(Cited {
+            citations,
+            count: 0,
+        });
     };
+    let mut citations = citations_at(rt, path)?;
+    let count = citations.len();
+    number_notes(rt.alloc(), &mut citations)?;
+    if options.lists_uncited {
+        let uncited = uncited(rt.alloc(), references, &citations)?;
+        citations.push(uncited)?;
+    }
+    Ok(Cited { citations, count })
+}
+
+/// The citations in a file. What is odd in them is printed.
+fn citations_at(
+    rt: &(impl Files + Input + Eprint + AllocGlobal),
+    path: &str,
+) -> Result<Vec<Citation>, CommandError> {
     let text = text_of(rt, path)?;
     let read = citations_in(rt.alloc(), path, text.as_str())?;
     for warning in &read.warnings {
@@ -81,7 +110,7 @@ fn print_document(
     printed: Printed,
     found: &FoundStyle,
     references: &References,
-    citations: &[Citation],
+    cited: &Cited,
 ) -> Result<(), CommandError> {
     let language = found.language(options);
     let files = locales_of(rt, options, language)?;
@@ -90,9 +119,10 @@ fn print_document(
         style: &found.style,
         locale: &locale,
         references,
-        citations,
+        citations: &cited.citations,
     };
-    let answer = answer_of(rt.alloc(), options, document)?;
+    let mut answer = answer_of(rt.alloc(), options, document)?;
+    answer.citations.truncate(cited.count);
     let marks = locale.quote_marks();
     match printed {
         Printed::Citations => print_citations(rt, options, &answer, marks),

@@ -53,6 +53,9 @@ pub(crate) fn bytes_of(
 }
 
 fn unreadable(alloc: Global, path: &str, error: &io::Error) -> Result<CommandError, AllocError> {
+    if error.kind() == io::ErrorKind::OutOfMemory {
+        return Ok(CommandError::OutOfMemory);
+    }
     Ok(CommandError::Unreadable {
         path: String::from_str(alloc, path)?,
         why: format!(in alloc; "{error}")?,

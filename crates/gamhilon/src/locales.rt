@@ -2,6 +2,7 @@
 use crate::arguments::Options;
 use crate::error::CommandError;
 use crate::files::text_of;
+use crate::one_line::OneLine;
 use crate::reports::{show_style_warnings, style_refused};
 use english_locale::words::ENGLISH;
 use std::alloc::Global;
@@ -17,8 +18,8 @@ const LOCALES: &str = "/usr/share/citation-style-language/locales";
 const BUILT_IN: &str = "en-US";
 
 /// The locale files in which words of a language are looked for (CSL 1.0.2, "Locale Fallback"). A
-/// file that can't be read is left out; in place of that of American English are the words that are
-/// built in.
+/// file that can't be read is left out, and where none of the language is left, a warning says so;
+/// in place of that of American English are the words that are built in.
 ///
 /// # Errors
 ///
@@ -30,12 +31,18 @@ pub(crate) fn locales_of(
 ) -> Result<Vec<LocaleFile>, CommandError> {
     let folder = options.locales.as_deref();
     let mut files = Vec::new(rt.alloc());
+    let mut is_found = is_same_language(language, "en") || is_same_language(language, BUILT_IN);
     for source in lookup_order(rt.alloc(), language)? {
         if let LocaleSource::File(tag) = source {
             if let Some(file) = locale_of(rt, folder, tag)? {
+                is_found = is_found || !is_same_language(tag, BUILT_IN);
                 files.push(file)?;
             }
         }
+    }
+    if !is_found {
+        let language = OneLine(language);
+        let _ = eprintln!(rt; "gamhilon: warning: no locale file of {language} is there");
     }
     Ok(files)
 }
@@ -54,8 +61,9 @@ fn locale_of(
     let path = format!(in rt.alloc(); "{folder}/locales-{tag}.xml")?;
     match text_of(rt, path.as_str()) {
         Ok(text) => Ok(Some(locale_in(rt, path.as_str(), text.as_str())?)),
-        Err(_) if is_built_in => Ok(Some(built_in(rt.alloc())?)),
-        Err(_) => Ok(None),
+        Err(CommandError::Unreadable { .. }) if is_built_in => Ok(Some(built_in(rt.alloc())?)),
+        Err(CommandError::Unreadable { .. }) => Ok(None),
+        Err(error) => Err(error),
     }
 }
 

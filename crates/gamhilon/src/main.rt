@@ -7,25 +7,28 @@
 mod arguments;
 mod checking;
 mod citations;
+mod command_line;
 mod commands;
 mod error;
 mod files;
 mod locales;
+mod notes;
 mod one_line;
 mod parsing;
 mod printing;
 mod references;
 mod reports;
 mod styles;
+mod uncited;
 mod usage;
 
 use arguments::Command;
 use error::CommandError;
 use parsing::command_of;
-use std::env;
 use std::process::ExitCode;
 use std::rt::{Env, Files};
-use usage::{USAGE, VERSION};
+use std::{env, io};
+use usage::UsageError;
 
 fn main(rt: HostRuntime) -> ExitCode {
     match run(&rt) {
@@ -42,8 +45,7 @@ fn run(
     rt: &(impl Files + Env + Input + Print + Eprint + AllocGlobal),
 ) -> Result<ExitCode, CommandError> {
     match command(rt)? {
-        Command::Version => println!(rt; "gamhilon {VERSION}")?,
-        Command::Help => println!(rt; "{USAGE}")?,
+        Command::Show(text) => print!(rt; "{}", text.as_str())?,
         Command::Check(paths) => return checking::check_all(rt, &paths),
         Command::Cite(options) => commands::cite(rt, &options)?,
         Command::Bibliography(options) => commands::bibliography(rt, &options)?,
@@ -53,9 +55,12 @@ fn run(
 
 /// What the words of the command line ask for.
 fn command(rt: &(impl Env + AllocGlobal)) -> Result<Command, CommandError> {
-    let mut words = Vec::new(rt.alloc());
-    for word in env::args(rt)?.skip(1) {
-        words.push(word)?;
+    match env::args(rt) {
+        Ok(words) => {
+            let words: Vec<String> = words.collect(rt.alloc())?;
+            command_of(rt.alloc(), &words)
+        }
+        Err(error) if error.kind() == io::ErrorKind::OutOfMemory => Err(CommandError::OutOfMemory),
+        Err(_) => Err(CommandError::Usage(UsageError::NoUtf8)),
     }
-    command_of(rt.alloc(), &words)
 }

@@ -83,13 +83,12 @@ pub(crate) fn print_bibliography(
         return Ok(());
     };
     match options.format {
-        OutputFormat::Text => print_items(rt, items, marks),
         OutputFormat::Html if options.is_standalone => {
             println!(rt; "{PAGE}")?;
             print_list(rt, items, marks)?;
             Ok(println!(rt; "{PAGE_END}")?)
         }
-        OutputFormat::Html => print_list(rt, items, marks),
+        OutputFormat::Text | OutputFormat::Html => print_items(rt, options.format, items, marks),
         OutputFormat::Json => {
             let values = json_items(rt.alloc(), items, marks)?;
             print_json(rt, &Value::Array(values))
@@ -100,17 +99,18 @@ pub(crate) fn print_bibliography(
 /// Prints the texts of items, each on a line.
 fn print_items(
     rt: &(impl Print + AllocGlobal),
+    format: OutputFormat,
     items: &[ListedItem],
     marks: QuoteMarks<'_>,
 ) -> Result<(), CommandError> {
     for item in items {
-        let text = item_text(rt.alloc(), item, OutputFormat::Text, marks)?;
+        let text = item_text(rt.alloc(), item, format, marks)?;
         println!(rt; "{}", text.as_str())?;
     }
     Ok(())
 }
 
-/// Prints items as HTML.
+/// Prints items as a list of HTML.
 fn print_list(
     rt: &(impl Print + AllocGlobal),
     items: &[ListedItem],

@@ -7,6 +7,7 @@ use csl_json::fault::ReferencesError;
 use csl_json::reading::{ReadReferences, read_references};
 use csl_references::reference::References;
 use indexmap::IndexMap;
+use std::alloc::Global;
 use std::rt::Files;
 
 /// The references of all files, in their order. What is odd in them is printed; of items with the
@@ -21,7 +22,8 @@ pub(crate) fn references_of(
 ) -> Result<References, CommandError> {
     let mut references = IndexMap::new(rt.alloc());
     for path in &options.references {
-        let read = references_at(rt, path.as_str())?;
+        let bytes = bytes_of(rt, path.as_str())?;
+        let read = references_in(rt.alloc(), path.as_str(), &bytes)?;
         for warning in &read.warnings {
             show_warning(rt, path.as_str(), warning)?;
         }
@@ -30,16 +32,20 @@ pub(crate) fn references_of(
     Ok(references)
 }
 
-/// The references in a file.
-fn references_at(
-    rt: &(impl Files + Input + AllocGlobal),
+/// The references in a file of these bytes.
+///
+/// # Errors
+///
+/// `Refused` where it is no CSL-JSON; `OutOfMemory`.
+pub(crate) fn references_in(
+    alloc: Global,
     path: &str,
+    bytes: &[u8],
 ) -> Result<ReadReferences, CommandError> {
-    let bytes = bytes_of(rt, path)?;
-    match read_references(rt.alloc(), &bytes) {
+    match read_references(alloc, bytes) {
         Ok(read) => Ok(read),
         Err(ReferencesError::OutOfMemory) => Err(CommandError::OutOfMemory),
-        Err(error) => Err(refused(rt.alloc(), path, &error)?),
+        Err(error) => Err(refused(alloc, path, &error)?),
     }
 }
 

@@ -21,7 +21,7 @@ pub(crate) fn refused<W: fmt::Display>(
 }
 
 /// What is wrong at a place of a file.
-fn refused_at<W: fmt::Display>(
+pub(crate) fn refused_at<W: fmt::Display>(
     alloc: Global,
     path: &str,
     place: Place,
@@ -49,6 +49,7 @@ pub(crate) fn style_refused(
 
 /// Prints what is odd in a style file or a locale file. A line that can't be printed is left out.
 pub(crate) fn show_style_warnings(rt: &impl Eprint, path: &str, warnings: &[Warning]) {
+    let path = OneLine(path);
     for warning in warnings {
         let Place { line, column } = warning.place;
         let _ = eprintln!(rt; "{path}:{line}:{column}: warning: {warning}");
@@ -62,6 +63,7 @@ pub(crate) fn show_warning<W: fmt::Display>(
     warning: &W,
 ) -> Result<(), AllocError> {
     let text = format!(in rt.alloc(); "{warning}")?;
+    let path = OneLine(path);
     let line = OneLine(text.as_str());
     let _ = eprintln!(rt; "{path}: warning: {line}");
     Ok(())

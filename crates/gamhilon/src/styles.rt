@@ -42,8 +42,8 @@ impl FoundStyle {
 ///
 /// # Errors
 ///
-/// Those of `text_of`; `Refused` where it is no style, or depends on one that depends on another
-/// itself.
+/// Those of `text_of`; `Refused` where it is no style, or depends on one that can't be read, or
+/// that depends on another itself.
 pub(crate) fn style_of(
     rt: &(impl Files + Input + Eprint + AllocGlobal),
     options: &Options,
@@ -55,7 +55,7 @@ pub(crate) fn style_of(
             style,
             language: None,
         }),
-        StyleFile::Dependent(dependent) => parent_of(rt, folder, dependent),
+        StyleFile::Dependent(dependent) => parent_of(rt, folder, path.as_str(), dependent),
     }
 }
 
@@ -95,10 +95,11 @@ fn style_at(
     }
 }
 
-/// The style on which another one depends: that of its folder whose name ends the link to it.
+/// The style on which the one at a path depends: that of the folder whose name ends the link to it.
 fn parent_of(
     rt: &(impl Files + Input + Eprint + AllocGlobal),
     folder: &str,
+    path: &str,
     dependent: DependentStyle,
 ) -> Result<FoundStyle, CommandError> {
     let DependentStyle {
@@ -107,16 +108,22 @@ fn parent_of(
         parent,
     } = dependent;
     let name = last_part(parent.as_str());
-    let path = format!(in rt.alloc(); "{folder}/{name}.csl")?;
-    match style_at(rt, path.as_str())? {
-        StyleFile::Independent(style) => Ok(FoundStyle {
+    let parent = format!(in rt.alloc(); "{folder}/{name}.csl")?;
+    match style_at(rt, parent.as_str()) {
+        Ok(StyleFile::Independent(style)) => Ok(FoundStyle {
             style,
             language: default_locale,
         }),
-        StyleFile::Dependent(_) => {
+        Ok(StyleFile::Dependent(_)) => {
             let why = "it depends on a style itself";
-            Err(refused(rt.alloc(), path.as_str(), &why)?)
+            Err(refused(rt.alloc(), parent.as_str(), &why)?)
         }
+        Err(CommandError::Unreadable { path: parent, why }) => {
+            let (parent, why) = (parent.as_str(), why.as_str());
+            let why = format!(in rt.alloc(); "its parent can't be read: {parent}: {why}")?;
+            Err(refused(rt.alloc(), path, &why)?)
+        }
+        Err(error) => Err(error),
     }
 }
 
