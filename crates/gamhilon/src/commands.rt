@@ -1,16 +1,18 @@
 //! Citations and bibliographies.
-use crate::arguments::Options;
-use crate::citations::{citation_of_all, citations_in};
+use crate::arguments::{Options, OutputFormat};
 use crate::error::CommandError;
-use crate::files::text_of;
+use crate::files::bytes_of;
 use crate::locales::locales_of;
-use crate::printing::{print_bibliography, print_citations};
+use crate::printing::{print_bibliography, print_citations, print_json};
 use crate::references::references_of;
 use crate::reports::{refused, show_warning};
 use crate::styles::{FoundStyle, style_of};
 use cite_host::answer::{Answer, Document};
 use cite_host::cites::Citation;
 use cite_host::error::AnswerError;
+use cite_json::fault::CitationsError;
+use cite_json::listing::citation_of_all;
+use cite_json::reading::{ReadCitations, read_citations};
 use cite_locale::chain::LocaleChain;
 use csl_references::reference::References;
 use std::alloc::{AllocError, Global};
@@ -67,12 +69,24 @@ fn citations_of(
     let Some(path) = options.citations.as_deref() else {
         return Ok(citation_of_all(rt.alloc(), references)?);
     };
-    let text = text_of(rt, path)?;
-    let read = citations_in(rt.alloc(), path, text.as_str())?;
+    let read = citations_at(rt, path)?;
     for warning in &read.warnings {
         show_warning(rt, path, warning)?;
     }
     Ok(read.citations)
+}
+
+/// The citations in a file.
+fn citations_at(
+    rt: &(impl Files + Input + AllocGlobal),
+    path: &str,
+) -> Result<ReadCitations, CommandError> {
+    let bytes = bytes_of(rt, path)?;
+    match read_citations(rt.alloc(), &bytes) {
+        Ok(read) => Ok(read),
+        Err(CitationsError::OutOfMemory) => Err(CommandError::OutOfMemory),
+        Err(error) => Err(refused(rt.alloc(), path, &error)?),
+    }
 }
 
 fn print_document(
@@ -94,6 +108,9 @@ fn print_document(
     };
     let answer = answer_of(rt.alloc(), options, document)?;
     let marks = locale.quote_marks();
+    if options.format == OutputFormat::Json {
+        return print_json(rt, document, &answer, marks);
+    }
     match printed {
         Printed::Citations => print_citations(rt, options, &answer, marks),
         Printed::Bibliography => print_bibliography(rt, options, &answer, marks),

@@ -6,7 +6,6 @@
 
 mod arguments;
 mod checking;
-mod citations;
 mod commands;
 mod error;
 mod files;

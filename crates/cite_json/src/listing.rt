@@ -1,0 +1,62 @@
+//! Citations that show nothing, for items that are to be listed.
+use cite_host::cites::{Citation, Cite};
+use csl_references::reference::References;
+use indexmap::IndexSet;
+use std::alloc::{AllocError, Global};
+
+/// A citation of all references, which isn't shown.
+///
+/// # Errors
+///
+/// Where memory is refused.
+pub fn citation_of_all(
+    alloc: Global,
+    references: &References,
+) -> Result<Vec<Citation>, AllocError> {
+    let mut citations = Vec::new(alloc);
+    citations.push(uncited(alloc, references, &[])?)?;
+    Ok(citations)
+}
+
+/// A citation of the references that these citations don't cite, which isn't shown.
+///
+/// # Errors
+///
+/// Where memory is refused.
+pub fn uncited(
+    alloc: Global,
+    references: &References,
+    citations: &[Citation],
+) -> Result<Citation, AllocError> {
+    let cited = cited_ids(alloc, citations)?;
+    let mut cites = Vec::new(alloc);
+    for id in references.keys() {
+        if !cited.contains(id) {
+            cites.push(hidden_cite(alloc, id)?)?;
+        }
+    }
+    Ok(Citation { cites, note: None })
+}
+
+/// The ids of the references that are cited.
+fn cited_ids(alloc: Global, citations: &[Citation]) -> Result<IndexSet<String>, AllocError> {
+    let mut ids = IndexSet::new(alloc);
+    for citation in citations {
+        for cite in &citation.cites {
+            ids.insert(cite.id.clone()?)?;
+        }
+    }
+    Ok(ids)
+}
+
+fn hidden_cite(alloc: Global, id: &String) -> Result<Cite, AllocError> {
+    Ok(Cite {
+        id: id.clone()?,
+        locator: None,
+        prefix: String::new(alloc),
+        suffix: String::new(alloc),
+        suppresses_author: false,
+        is_author_only: false,
+        is_hidden: true,
+    })
+}

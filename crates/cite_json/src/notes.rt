@@ -1,0 +1,47 @@
+//! The notes in which citations stand.
+use cite_host::cites::Citation;
+use indexmap::IndexSet;
+use std::alloc::{AllocError, Global};
+
+/// Gives citations that tell no note one of their own, where others tell theirs: the next one
+/// behind those of the citations before, which no citation tells.
+///
+/// # Errors
+///
+/// Where memory is refused.
+pub fn number_notes(alloc: Global, citations: &mut [Citation]) -> Result<(), AllocError> {
+    let told = told_notes(alloc, citations)?;
+    if told.is_empty() {
+        return Ok(());
+    }
+    let mut last = 0usize;
+    for citation in citations.iter_mut() {
+        let note = citation.note.unwrap_or(own_note(&told, last));
+        citation.note = Some(note);
+        last = last.max(note);
+    }
+    Ok(())
+}
+
+/// The notes that citations tell.
+fn told_notes(alloc: Global, citations: &[Citation]) -> Result<IndexSet<usize>, AllocError> {
+    let mut told = IndexSet::new(alloc);
+    for citation in citations {
+        if let Some(note) = citation.note {
+            told.insert(note)?;
+        }
+    }
+    Ok(told)
+}
+
+/// The first note behind this one that no citation tells.
+fn own_note(told: &IndexSet<usize>, last: usize) -> usize {
+    let mut note = last.saturating_add(1);
+    for _ in 0..told.len() {
+        if !told.contains(&note) {
+            return note;
+        }
+        note = note.saturating_add(1);
+    }
+    note
+}
