@@ -11,7 +11,7 @@ pub(crate) const ANSWERED: u32 = 0;
 const BUFFER_TOO_SMALL: u32 = 6;
 
 /// Puts the text at the beginning of the buffer, if the buffer is as long, and tells its length.
-fn place(text: &[u8], buffer: &mut [u8], needed: &mut usize) -> u32
+pub(crate) fn place(text: &[u8], buffer: &mut [u8], needed: &mut usize) -> u32
     ensures { PlacesText text.now result buffer.old buffer.new needed.new }
 {
     let length = text.len();
