@@ -1,10 +1,11 @@
 #!/usr/bin/env python3
-"""run.py GAMHILON [--record]: tries the built program, crates/gamhilon.
+"""run.py GAMHILON [--record] [--mutate N] [--seed S]: tries the built program, crates/gamhilon.
 
 The cases of cases.py, small styles of which the rules of CSL 1.0.2 tell the texts; the command lines and files of faults.py, with
 their exit statuses and lines on standard error; the styles of examples/styles, which `gamhilon check` finds nothing in, and whose
 citations and bibliographies of documents/ read as pandoc 2.17 writes them (pandoc.json; --record writes that file anew, by the pandoc
-that is installed); and runs of which each growth of memory is refused in turn (tests/documents/refuse.c, for which a C compiler must be
+that is installed); N triples of files (300, if not said), of which one is changed by changes drawn by the seed (mutations.py): each is
+answered, or refused with a line; and runs in three styles of which each growth of memory is refused in turn (tests/documents/refuse.c, for which a C compiler must be
 there, and a program that brings no memory of its own, as that of `rt try` does). The last line is 'N passed, M failed', and the exit status is 1 where a test failed."""
 import argparse
 import json
@@ -13,16 +14,20 @@ import shutil
 import subprocess
 import sys
 import tempfile
+from concurrent.futures import ThreadPoolExecutor
 
 import pandoc
 from cases import CASES
 from faults import CITATIONS, FAULTS, REFERENCES, STYLE
+from mutations import is_told, mutated_files
 
 HERE = os.path.dirname(os.path.abspath(__file__))
 ROOT = os.path.dirname(os.path.dirname(HERE))
 SECONDS = 120
 MOST_GROWTHS = 20000
 LEAST_GROWTHS = 100
+# As many growths are tried side by side.
+STRETCH = 400
 
 
 class Failed(Exception):
@@ -152,32 +157,67 @@ def compiled(folder):
     return made
 
 
-def refused_in_turn(program, verb):
+def refused_in_turn(program, verb, style):
     """Each run with a growth refused ends with status 5 and a line that says so, with status 1 while a file is read, or with the
     answer; and at last none is refused."""
     with tempfile.TemporaryDirectory(prefix='writer-') as folder:
         shim = compiled(folder)
-        files = {'s.csl': STYLE.replace('</citation>', '</citation><bibliography><layout><text variable="title"/></layout></bibliography>'),
-                 'r.json': REFERENCES, 'c.json': CITATIONS}
-        written(folder, files)
-        words = [verb, '--style', 's.csl', 'r.json', 'c.json']
+        written(folder, {'r.json': REFERENCES, 'c.json': CITATIONS})
+        words = [verb, '--style', style, 'r.json', 'c.json']
         answer = ended(program, *words, cwd=folder)[1]
         if not answer:
             raise Failed('there is no answer')
-        for n in range(1, MOST_GROWTHS):
+
+        def is_refused(n):
+            """Whether the nth growth was refused; none is where the run has fewer."""
             env = {**os.environ, 'LD_PRELOAD': shim, 'REFUSE': str(n)}
             status, out, error = ended(program, *words, cwd=folder, env=env)
             if '!' not in error:
-                break
+                return False
             is_told = status in (1, 5) and not out and error.count('\n') == 1
             if not is_told and (status, out) != (0, answer):
                 raise Failed('growth %d: status %d, %r, %r' % (n, status, out, error))
-    if n <= LEAST_GROWTHS:
-        raise Failed('only %d growths were refused' % (n - 1))
-    print('%s: %d growths refused in turn' % (verb, n - 1))
+            return True
+
+        refused = 0
+        with ThreadPoolExecutor(os.cpu_count()) as pool:
+            for begin in range(1, MOST_GROWTHS, STRETCH):
+                these = list(pool.map(is_refused, range(begin, begin + STRETCH)))
+                refused += sum(these)
+                if not all(these):
+                    break
+    if refused <= LEAST_GROWTHS or refused != begin - 1 + sum(these):
+        raise Failed('%d growths were refused' % refused)
+    print('%s in %s: %d growths refused in turn' % (verb, os.path.basename(style), refused))
 
 
-def tests_of(program):
+# Changed files
+
+
+def try_mutations(program, count, seed):
+    """Each changed file is answered or refused, with lines that say so."""
+    document = pandoc.documents()['works']
+    styles = []
+    for path in pandoc.STYLES:
+        with open(path, 'rb') as file:
+            styles.append(file.read())
+
+    def is_refused(files):
+        with tempfile.TemporaryDirectory(prefix='writer-') as folder:
+            written(folder, dict(zip(('s.csl', 'r.json', 'c.json'), files)))
+            for verb in ('cite', 'bibliography'):
+                status, out, error = ended(program, verb, '--style', 's.csl', '--to', 'html', 'r.json', 'c.json', cwd=folder)
+                if not is_told(status, out, error):
+                    raise Failed('status %d, %r, of %r' % (status, error[-300:], files))
+        return status != 0
+
+    files = mutated_files(styles, document['references'], document['citations'], count, seed)
+    with ThreadPoolExecutor(os.cpu_count()) as pool:
+        refused = sum(pool.map(is_refused, files))
+    print('%d triples of files of the seed %d, of which %d are refused' % (count, seed, refused))
+
+
+def tests_of(options):
     tests = [('help', try_help), ('JSON', try_json)]
     tests += [('case: ' + case.name, try_case, case) for case in CASES]
     tests += [('fault: ' + fault.name, try_fault, fault) for fault in FAULTS]
@@ -187,7 +227,9 @@ def tests_of(program):
         for path in pandoc.STYLES:
             style = os.path.basename(path)
             tests.append(('%s in %s' % (name, style), try_document, document, path, recorded[name][style]))
-    tests += [('growths of memory: ' + verb, refused_in_turn, verb) for verb in ('cite', 'bibliography')]
+    for verb, path in zip(('cite', 'bibliography', 'cite'), pandoc.STYLES):
+        tests.append(('growths of memory: %s in %s' % (verb, os.path.basename(path)), refused_in_turn, verb, path))
+    tests.append(('changed files', try_mutations, options.mutate, options.seed))
     return tests
 
 
@@ -196,12 +238,14 @@ def main():
     parser.add_argument('program')
     parser.add_argument('--record', action='store_true')
     parser.add_argument('--only', default='')
+    parser.add_argument('--mutate', type=int, default=300, metavar='N')
+    parser.add_argument('--seed', type=int, default=1, metavar='S')
     options = parser.parse_args()
     if options.record:
         pandoc.record()
     program = os.path.abspath(options.program)
     passed = failed = 0
-    for name, test, *rest in tests_of(program):
+    for name, test, *rest in tests_of(options):
         if options.only not in name:
             continue
         try:
