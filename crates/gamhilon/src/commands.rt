@@ -1,18 +1,19 @@
 //! Citations and bibliographies.
-use crate::arguments::Options;
-use crate::citations::{citation_of_all, citations_in};
+use crate::arguments::{Options, OutputFormat};
 use crate::error::CommandError;
-use crate::files::text_of;
+use crate::files::bytes_of;
 use crate::locales::locales_of;
-use crate::notes::number_notes;
-use crate::printing::{print_bibliography, print_citations};
+use crate::printing::{print_bibliography, print_citations, print_json};
 use crate::references::references_of;
 use crate::reports::{refused, show_warning};
 use crate::styles::{FoundStyle, style_of};
-use crate::uncited::uncited;
 use cite_host::answer::{Answer, Document};
 use cite_host::cites::Citation;
 use cite_host::error::AnswerError;
+use cite_json::fault::CitationsError;
+use cite_json::listing::{citation_of_all, uncited};
+use cite_json::notes::number_notes;
+use cite_json::reading::{ReadCitations, read_citations};
 use cite_locale::chain::LocaleChain;
 use csl_references::reference::References;
 use std::alloc::{AllocError, Global};
@@ -81,7 +82,7 @@ fn citations_of(
             count: 0,
         });
     };
-    let mut citations = citations_at(rt, path)?;
+    let mut citations = shown_citations(rt, path)?;
     let count = citations.len();
     number_notes(rt.alloc(), &mut citations)?;
     if options.lists_uncited {
@@ -92,16 +93,28 @@ fn citations_of(
 }
 
 /// The citations in a file. What is odd in them is printed.
-fn citations_at(
+fn shown_citations(
     rt: &(impl Files + Input + Eprint + AllocGlobal),
     path: &str,
 ) -> Result<Vec<Citation>, CommandError> {
-    let text = text_of(rt, path)?;
-    let read = citations_in(rt.alloc(), path, text.as_str())?;
+    let read = citations_at(rt, path)?;
     for warning in &read.warnings {
         show_warning(rt, path, warning)?;
     }
     Ok(read.citations)
+}
+
+/// The citations in a file.
+fn citations_at(
+    rt: &(impl Files + Input + AllocGlobal),
+    path: &str,
+) -> Result<ReadCitations, CommandError> {
+    let bytes = bytes_of(rt, path)?;
+    match read_citations(rt.alloc(), &bytes) {
+        Ok(read) => Ok(read),
+        Err(CitationsError::OutOfMemory) => Err(CommandError::OutOfMemory),
+        Err(error) => Err(refused(rt.alloc(), path, &error)?),
+    }
 }
 
 fn print_document(
@@ -124,6 +137,9 @@ fn print_document(
     let mut answer = answer_of(rt.alloc(), options, document)?;
     answer.citations.truncate(cited.count);
     let marks = locale.quote_marks();
+    if options.format == OutputFormat::Json {
+        return print_json(rt, document, &answer, marks);
+    }
     match printed {
         Printed::Citations => print_citations(rt, options, &answer, marks),
         Printed::Bibliography => print_bibliography(rt, options, &answer, marks),

@@ -6,20 +6,17 @@
 
 mod arguments;
 mod checking;
-mod citations;
 mod command_line;
 mod commands;
 mod error;
 mod files;
 mod locales;
-mod notes;
 mod one_line;
 mod parsing;
 mod printing;
 mod references;
 mod reports;
 mod styles;
-mod uncited;
 mod usage;
 
 use arguments::Command;

@@ -1,12 +1,12 @@
 //! Answers are printed.
 use crate::arguments::{Options, OutputFormat};
 use crate::error::CommandError;
-use cite_host::answer::{Answer, ListedItem};
+use cite_answer::printing::print_answer;
+use cite_host::answer::{Answer, Document, ListedItem};
 use cite_pieces::html::html;
 use cite_pieces::pieces::Pieces;
 use cite_pieces::plain::plain_text;
 use csl_texts::quotes::QuoteMarks;
-use serde_json::{Map, Value};
 use std::alloc::{AllocError, Global};
 
 /// The head of a page.
@@ -38,18 +38,9 @@ pub(crate) fn print_citations(
         texts.push(shown(rt.alloc(), citation, options.format, marks)?)?;
     }
     match options.format {
-        OutputFormat::Json => print_json(rt, &Value::Array(json_texts(rt.alloc(), texts)?)),
         OutputFormat::Html if options.is_standalone => print_page(rt, &texts),
-        OutputFormat::Html | OutputFormat::Text => print_lines(rt, &texts),
+        _ => print_lines(rt, &texts),
     }
-}
-
-fn json_texts(alloc: Global, texts: Vec<String>) -> Result<Vec<Value>, AllocError> {
-    let mut values = Vec::new(alloc);
-    for text in texts {
-        values.push(Value::String(text))?;
-    }
-    Ok(values)
 }
 
 fn print_page(rt: &impl Print, texts: &[String]) -> Result<(), CommandError> {
@@ -88,12 +79,30 @@ pub(crate) fn print_bibliography(
             print_list(rt, items, marks)?;
             Ok(println!(rt; "{PAGE_END}")?)
         }
-        OutputFormat::Text | OutputFormat::Html => print_items(rt, options.format, items, marks),
-        OutputFormat::Json => {
-            let values = json_items(rt.alloc(), items, marks)?;
-            print_json(rt, &Value::Array(values))
-        }
+        _ => print_items(rt, options.format, items, marks),
     }
+}
+
+/// Prints the whole answer to a document as JSON. Where its style has no bibliography, that has
+/// none.
+///
+/// # Errors
+///
+/// `Output`; `OutOfMemory`.
+pub(crate) fn print_json(
+    rt: &(impl Print + AllocGlobal),
+    document: Document<'_>,
+    answer: &Answer,
+    marks: QuoteMarks<'_>,
+) -> Result<(), CommandError> {
+    let text = print_answer(
+        rt.alloc(),
+        document.style,
+        document.citations,
+        answer,
+        marks,
+    )?;
+    Ok(println!(rt; "{}", text.as_str())?)
 }
 
 /// Prints the texts of items, each on a line.
@@ -124,28 +133,6 @@ fn print_list(
     Ok(println!(rt; "</div>")?)
 }
 
-/// The items as JSON: an object for each, with its id and its HTML.
-fn json_items(
-    alloc: Global,
-    items: &[ListedItem],
-    marks: QuoteMarks<'_>,
-) -> Result<Vec<Value>, AllocError> {
-    let mut values = Vec::new(alloc);
-    for item in items {
-        values.push(json_item(alloc, item, marks)?)?;
-    }
-    Ok(values)
-}
-
-fn json_item(alloc: Global, item: &ListedItem, marks: QuoteMarks<'_>) -> Result<Value, AllocError> {
-    let id = Value::String(item.id.clone()?);
-    let text = Value::String(item_text(alloc, item, OutputFormat::Html, marks)?);
-    let mut members = Map::new(alloc);
-    members.insert(String::from_str(alloc, "id")?, id)?;
-    members.insert(String::from_str(alloc, "html")?, text)?;
-    Ok(Value::Object(members))
-}
-
 /// An item, with its first field in front.
 fn item_text(
     alloc: Global,
@@ -165,11 +152,10 @@ fn item_text(
             "<div class=\"csl-left-margin\">{field}</div>\
              <div class=\"csl-right-inline\">{content}</div>"
         ),
-        OutputFormat::Text => {
+        _ => {
             let field = field.trim_end();
             format!(in alloc; "{field} {content}")
         }
-        OutputFormat::Json => format!(in alloc; "{field}{content}"),
     }
 }
 
@@ -181,12 +167,7 @@ fn shown(
     marks: QuoteMarks<'_>,
 ) -> Result<String, AllocError> {
     match format {
-        OutputFormat::Text => plain_text(alloc, pieces, marks),
-        OutputFormat::Html | OutputFormat::Json => html(alloc, pieces, marks),
+        OutputFormat::Html => html(alloc, pieces, marks),
+        _ => plain_text(alloc, pieces, marks),
     }
-}
-
-fn print_json(rt: &(impl Print + AllocGlobal), value: &Value) -> Result<(), CommandError> {
-    let text = value.to_string(rt.alloc())?;
-    Ok(println!(rt; "{}", text.as_str())?)
 }

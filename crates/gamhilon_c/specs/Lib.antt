@@ -3,3 +3,4 @@ pub mod Ring
 pub mod FindsFault
 pub mod KeepsLimits
 pub mod CalledDriven
+pub mod OfTexts

@@ -1,7 +1,9 @@
 //! Text that goes into the caller's buffer.
 ghost use Rattle.std.specs.Prelude.{◌≡◌, length};
 ghost use Rattle.gamhilon_c.specs.Called.{HandsOut, PlacesText};
+ghost use Rattle.gamhilon_c.specs.OfTexts.{HandsOutOfTexts};
 
+use cite_call::error::CallError;
 use cite_document::error::RunError;
 
 /// The buffer begins with the text, or there is nothing to refuse.
@@ -30,6 +32,24 @@ pub(crate) fn hand_out(
     needed: &mut usize,
 ) -> u32
     ensures { HandsOut text.now result buffer.old buffer.new needed.new }
+{
+    match text {
+        Ok(text) => place(text.as_bytes(), buffer, needed),
+        Err(error) => {
+            *needed = 0;
+            u32::from(error.status())
+        }
+    }
+}
+
+/// Puts what comes of texts into the buffer, if it is there and the buffer is as long, and tells its
+/// length.
+pub(crate) fn hand_out_of_texts(
+    text: &Result<String, CallError>,
+    buffer: &mut [u8],
+    needed: &mut usize,
+) -> u32
+    ensures { HandsOutOfTexts text.now result buffer.old buffer.new needed.new }
 {
     match text {
         Ok(text) => place(text.as_bytes(), buffer, needed),

@@ -1,7 +1,7 @@
 //! Documents answered for callers in C, and for whatever calls C.
 //!
-//! Each call stands alone: it is given a document and a buffer for what it has to say, and keeps
-//! nothing.
+//! Each call stands alone: it is given a document, or texts, and a buffer for what it has to say,
+//! and keeps nothing.
 #![tactic(auto)]
 
 mod buffer;
@@ -16,10 +16,13 @@ ghost use Rattle.gamhilon_c.specs.Called.{Called};
 ghost use Rattle.gamhilon_c.specs.CalledDriven.{CalledDriven};
 ghost use Rattle.gamhilon_c.specs.FindsFault.{FindsFault};
 ghost use Rattle.gamhilon_c.specs.KeepsLimits.{KeepsLimits};
+ghost use Rattle.gamhilon_c.specs.OfTexts.{HandsText, IsCiteStatus, IsFaultStatus};
 ghost use Rattle.gamhilon_c.specs.Ring.{FindsRing};
 
-use crate::buffer::{ANSWERED, hand_out};
+use crate::buffer::{ANSWERED, hand_out, hand_out_of_texts};
 use crate::ring::{GamhilonRing, hand_out_ring};
+use cite_call::calling::{cite, find_fault};
+use cite_call::texts::CallTexts;
 use cite_document::faults::print_fault_bytes;
 use cite_document::limits::check_limits;
 use cite_document::running::{answer_bytes, print_bytes, print_json_bytes};
@@ -131,4 +134,58 @@ pub extern "C" fn gamhilon_find_driven_fault(
 {
     let text = print_driven_fault_bytes(alloc, document);
     hand_out(&text, buffer, needed)
+}
+
+/// Puts the citations and the bibliography of these texts, as JSON, into the buffer, and tells how
+/// many bytes that takes. Gives the status.
+#[unsafe(no_mangle)]
+pub extern "C" fn gamhilon_cite(
+    alloc: Global,
+    style: &[u8],
+    locales: &[u8],
+    items: &[u8],
+    citations: &[u8],
+    options: &[u8],
+    buffer: &mut [u8],
+    needed: &mut usize,
+) -> u32
+    ensures text { HandsText result buffer.old buffer.new needed.new }
+    ensures status { IsCiteStatus result }
+{
+    let texts = CallTexts {
+        style,
+        locales,
+        items,
+        citations,
+        options,
+    };
+    let text = cite(alloc, texts);
+    hand_out_of_texts(&text, buffer, needed)
+}
+
+/// Puts what is wrong and odd in these texts, as JSON, into the buffer, and tells how many bytes
+/// that takes. Gives the status.
+#[unsafe(no_mangle)]
+pub extern "C" fn gamhilon_find_cite_fault(
+    alloc: Global,
+    style: &[u8],
+    locales: &[u8],
+    items: &[u8],
+    citations: &[u8],
+    options: &[u8],
+    buffer: &mut [u8],
+    needed: &mut usize,
+) -> u32
+    ensures text { HandsText result buffer.old buffer.new needed.new }
+    ensures status { IsFaultStatus result }
+{
+    let texts = CallTexts {
+        style,
+        locales,
+        items,
+        citations,
+        options,
+    };
+    let text = find_fault(alloc, texts);
+    hand_out_of_texts(&text, buffer, needed)
 }

@@ -1,15 +1,29 @@
-//! References that aren't cited.
+//! Citations that show nothing, for items that are to be listed.
 use cite_host::cites::{Citation, Cite};
 use csl_references::reference::References;
 use indexmap::IndexSet;
 use std::alloc::{AllocError, Global};
+
+/// A citation of all references, which isn't shown.
+///
+/// # Errors
+///
+/// Where memory is refused.
+pub fn citation_of_all(
+    alloc: Global,
+    references: &References,
+) -> Result<Vec<Citation>, AllocError> {
+    let mut citations = Vec::new(alloc);
+    citations.push(uncited(alloc, references, &[])?)?;
+    Ok(citations)
+}
 
 /// A citation of the references that these citations don't cite, which isn't shown.
 ///
 /// # Errors
 ///
 /// Where memory is refused.
-pub(crate) fn uncited(
+pub fn uncited(
     alloc: Global,
     references: &References,
     citations: &[Citation],

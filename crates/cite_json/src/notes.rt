@@ -9,7 +9,7 @@ use std::alloc::{AllocError, Global};
 /// # Errors
 ///
 /// Where memory is refused.
-pub(crate) fn number_notes(alloc: Global, citations: &mut [Citation]) -> Result<(), AllocError> {
+pub fn number_notes(alloc: Global, citations: &mut [Citation]) -> Result<(), AllocError> {
     let told = told_notes(alloc, citations)?;
     if told.is_empty() {
         return Ok(());

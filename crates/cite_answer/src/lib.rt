@@ -1,0 +1,6 @@
+//! Answers in a style file as JSON, whose trees are those of the driver's answers.
+#![tactic(auto)]
+
+pub mod printing;
+mod quotes;
+mod rendered;

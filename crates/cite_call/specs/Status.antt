@@ -1,0 +1,11 @@
+-- The statuses of a call.
+use Rattle.std.specs.Prelude.{ℕ}
+use Rattle.cite_call.specs.declared.error.CallError.{CallError}
+use Rattle.cite_call.specs.declared.error.CallError.TheVariants as errors
+
+-- those that cite_document has, where it has them; an answer has the status 0
+abbrev pub status : CallError → ℕ
+status (errors.Fault fault) = 2
+status errors.TooManyItems = 4
+status errors.Unsettled = 9
+status errors.OutOfMemory = 5

@@ -1,0 +1,94 @@
+//! The calls.
+ghost use Rattle.std.specs.Prelude.{◌≡◌, IfErr};
+
+use crate::document::CallDocument;
+use crate::error::{CallError, answer_refusal};
+use crate::findings::print_findings;
+use crate::reader::TextReader;
+use crate::remark::Fault;
+use crate::style::check_length;
+use crate::texts::CallTexts;
+use cite_answer::printing::print_answer;
+use cite_host::answer::{Answer, Document};
+use cite_locale::chain::LocaleChain;
+use std::alloc::Global;
+
+/// The citations and the bibliography of these texts as JSON: the answer's form is that of the
+/// driver's answers, and a bibliography is there where the style has one.
+///
+/// # Errors
+///
+/// `Fault` where a text is wrong; `TooManyItems`; `Unsettled`; `OutOfMemory`.
+pub fn cite(alloc: Global, texts: CallTexts<'_>) -> Result<String, CallError> {
+    let mut reader = TextReader::new(alloc);
+    let document = reader.document(texts)?;
+    print_document(alloc, &document)
+}
+
+fn print_document(alloc: Global, document: &CallDocument) -> Result<String, CallError> {
+    let style = &document.style;
+    let language = document.language.as_str();
+    let locale = LocaleChain::new(alloc, language, &style.locales, &document.locales)?;
+    let mut answer = answer_of(alloc, document, &locale)?;
+    answer.citations.truncate(document.shown);
+    let marks = locale.quote_marks();
+    Ok(print_answer(alloc, style, &document.citations, &answer, marks)?)
+}
+
+fn answer_of(
+    alloc: Global,
+    document: &CallDocument,
+    locale: &LocaleChain<'_>,
+) -> Result<Answer, CallError> {
+    let asked = Document {
+        style: &document.style,
+        locale: &*locale,
+        references: &document.references,
+        citations: &document.citations,
+    };
+    match asked.answer(alloc) {
+        Ok(answer) => Ok(answer),
+        Err(error) => Err(answer_refusal(alloc, error)),
+    }
+}
+
+/// What is wrong and odd in these texts, as a JSON object: `fault`, where a text is wrong, and the
+/// list `warnings`, of what was read otherwise than it stands in the texts, up to the fault. Nothing
+/// is written.
+///
+/// # Errors
+///
+/// `OutOfMemory`, and no other.
+pub fn find_fault(alloc: Global, texts: CallTexts<'_>) -> Result<String, CallError>
+    ensures { IfErr result (λ e. e ≡ CallError.OutOfMemory) }
+{
+    let mut reader = TextReader::new(alloc);
+    let fault = match first_fault(alloc, &mut reader, texts) {
+        Ok(fault) => fault,
+        Err(_) => return Err(CallError::OutOfMemory),
+    };
+    let TextReader { warnings, .. } = reader;
+    match print_findings(alloc, fault, warnings) {
+        Ok(text) => Ok(text),
+        Err(_) => Err(CallError::OutOfMemory),
+    }
+}
+
+/// What is wrong in these texts.
+fn first_fault(
+    alloc: Global,
+    reader: &mut TextReader,
+    texts: CallTexts<'_>,
+) -> Result<Option<Fault>, CallError> {
+    match checked(alloc, reader, texts) {
+        Ok(()) => Ok(None),
+        Err(CallError::Fault(fault)) => Ok(Some(fault)),
+        Err(error) => Err(error),
+    }
+}
+
+/// Reads these texts, and keeps nothing but warnings.
+fn checked(alloc: Global, reader: &mut TextReader, texts: CallTexts<'_>) -> Result<(), CallError> {
+    let document = reader.document(texts)?;
+    check_length(alloc, &document.style)
+}

@@ -1,0 +1,78 @@
+//! The citations of a call.
+use crate::error::CallError;
+use crate::json::{no_json, no_utf8, wrong_part};
+use crate::reader::TextReader;
+use crate::texts::TextName;
+use cite_host::cites::Citation;
+use cite_json::fault::CitationsError;
+use cite_json::notes::number_notes;
+use cite_json::reading::read_citations;
+use csl_references::reference::References;
+use std::alloc::Global;
+
+impl TextReader {
+    /// The citations of JSON, each cite of which is of one of these items.
+    ///
+    /// # Errors
+    ///
+    /// `Fault` where the text is none, or cites another item; `OutOfMemory`.
+    pub(crate) fn citations(
+        &mut self,
+        bytes: &[u8],
+        references: &References,
+    ) -> Result<Vec<Citation>, CallError> {
+        match read_citations(self.alloc, bytes) {
+            Ok(read) => {
+                for warning in &read.warnings {
+                    self.warn_of_part(TextName::Citations, &warning.pointer, &warning.kind)?;
+                }
+                let mut citations = read.citations;
+                check_ids(self.alloc, &citations, references)?;
+                number_notes(self.alloc, &mut citations)?;
+                Ok(citations)
+            }
+            Err(error) => Err(citations_refusal(self.alloc, &error)),
+        }
+    }
+}
+
+/// Why a text has no citations.
+fn citations_refusal(alloc: Global, error: &CitationsError) -> CallError {
+    match error {
+        CitationsError::NoUtf8 { byte } => no_utf8(alloc, TextName::Citations, *byte),
+        CitationsError::NoJson { line, column } => {
+            no_json(alloc, TextName::Citations, *line, *column)
+        }
+        CitationsError::Fault(fault) => {
+            wrong_part(alloc, TextName::Citations, &fault.pointer, &fault.wanted)
+        }
+        CitationsError::OutOfMemory => CallError::OutOfMemory,
+    }
+}
+
+/// Refuses a cite of an item that isn't there.
+fn check_ids(
+    alloc: Global,
+    citations: &[Citation],
+    references: &References,
+) -> Result<(), CallError> {
+    for (number, citation) in citations.iter().enumerate() {
+        for (place, cite) in citation.cites.iter().enumerate() {
+            let id = cite.id.as_str();
+            if references.get(id).is_none() {
+                return Err(no_item(alloc, number, place, id));
+            }
+        }
+    }
+    Ok(())
+}
+
+fn no_item(alloc: Global, number: usize, place: usize, id: &str) -> CallError {
+    let Ok(pointer) = format!(in alloc; "/{number}/{place}/id") else {
+        return CallError::OutOfMemory;
+    };
+    match format!(in alloc; "there is no item `{id}`") {
+        Ok(why) => wrong_part(alloc, TextName::Citations, &pointer, &why),
+        Err(_) => CallError::OutOfMemory,
+    }
+}

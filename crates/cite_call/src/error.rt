@@ -1,0 +1,108 @@
+//! Why a call has no answer.
+ghost use Rattle.std.specs.Prelude.{◌≡◌};
+ghost use Rattle.cite_call.specs.Status.{status};
+
+use crate::remark::{Fault, Remark, TextPlace};
+use crate::texts::TextName;
+use cite_host::error::AnswerError;
+use std::alloc::{AllocError, AllocFailed, Global};
+use std::fmt;
+
+/// Why a call has no answer.
+#[derive(Debug, Drop)]
+pub enum CallError {
+    /// A text is wrong.
+    Fault(Fault),
+    /// There are too many items to number them.
+    TooManyItems,
+    /// The cites can't be disambiguated: what the driver asks for has no end.
+    Unsettled,
+    OutOfMemory,
+}
+
+impl CallError {
+    /// The status that tells it: 2, 4, 9 or 5.
+    pub fn status(&self) -> u8
+        ensures { result ≡ status self.now }
+    {
+        match self {
+            CallError::Fault(_) => 2,
+            CallError::TooManyItems => 4,
+            CallError::OutOfMemory => 5,
+            CallError::Unsettled => 9,
+        }
+    }
+}
+
+/// The error of a text that is wrong at a place.
+pub(crate) fn refusal<W: fmt::Display>(
+    alloc: Global,
+    text: TextName,
+    place: TextPlace,
+    why: &W,
+) -> CallError {
+    match format!(in alloc; "{why}") {
+        Ok(message) => CallError::Fault(Fault {
+            remark: Remark {
+                text,
+                place,
+                message,
+            },
+            parent: None,
+        }),
+        Err(_) => CallError::OutOfMemory,
+    }
+}
+
+/// Why a document of these texts has no answer.
+pub(crate) fn answer_refusal(alloc: Global, error: AnswerError) -> CallError {
+    match error {
+        AnswerError::NoReference { citation, id } => no_item(alloc, citation, id.as_str()),
+        AnswerError::StyleTooLong => refusal(alloc, TextName::Style, TextPlace::Whole, &error),
+        AnswerError::TooManyItems => CallError::TooManyItems,
+        AnswerError::Unsettled => CallError::Unsettled,
+        AnswerError::OutOfMemory => CallError::OutOfMemory,
+    }
+}
+
+/// The error of a citation that cites no item.
+fn no_item(alloc: Global, citation: usize, id: &str) -> CallError {
+    let Ok(pointer) = format!(in alloc; "/{citation}") else {
+        return CallError::OutOfMemory;
+    };
+    match format!(in alloc; "there is no item `{id}`") {
+        Ok(why) => refusal(
+            alloc,
+            TextName::Citations,
+            TextPlace::Pointer(pointer),
+            &why,
+        ),
+        Err(_) => CallError::OutOfMemory,
+    }
+}
+
+impl From<AllocError> for CallError {
+    fn from(_error: AllocError) -> CallError {
+        CallError::OutOfMemory
+    }
+}
+
+impl<T: Drop> From<AllocFailed<T>> for CallError {
+    fn from(_error: AllocFailed<T>) -> CallError {
+        CallError::OutOfMemory
+    }
+}
+
+impl fmt::Display for CallError {
+    fn fmt<W: fmt::Write>(&self, f: &mut fmt::Formatter<W>) -> fmt::Result {
+        match self {
+            CallError::Fault(fault) => {
+                let remark = &fault.remark;
+                write!(f, "{remark}")
+            }
+            CallError::TooManyItems => f.write_str("there are too many items"),
+            CallError::Unsettled => f.write_str("the cites can't be disambiguated"),
+            CallError::OutOfMemory => f.write_str("out of memory"),
+        }
+    }
+}

@@ -1,0 +1,68 @@
+//! What is wrong and odd in the texts of a call, as JSON.
+use crate::remark::{Fault, ParentStyle, Remark, TextPlace};
+use serde_json::{Map, Value, put};
+use std::alloc::{AllocError, Global};
+
+/// A JSON object with the fault, if there is one, and the warnings.
+///
+/// # Errors
+///
+/// Where memory is refused.
+pub(crate) fn print_findings(
+    alloc: Global,
+    fault: Option<Fault>,
+    warnings: Vec<Remark>,
+) -> Result<String, AllocError> {
+    let mut members = Map::new(alloc);
+    if let Some(fault) = fault {
+        let value = Value::Object(fault_members(alloc, fault)?);
+        put(&mut members, alloc, "fault", value)?;
+    }
+    let mut values = Vec::new(alloc);
+    for warning in warnings {
+        values.push(Value::Object(remark_members(alloc, warning)?))?;
+    }
+    put(&mut members, alloc, "warnings", Value::Array(values))?;
+    Value::Object(members).to_string(alloc)
+}
+
+fn fault_members(alloc: Global, fault: Fault) -> Result<Map<String, Value>, AllocError> {
+    let Fault { remark, parent } = fault;
+    let mut members = remark_members(alloc, remark)?;
+    if let Some(parent) = parent {
+        let ParentStyle { link, language } = parent;
+        put(&mut members, alloc, "parent", Value::String(link))?;
+        if let Some(language) = language {
+            put(
+                &mut members,
+                alloc,
+                "parent_locale",
+                Value::String(language),
+            )?;
+        }
+    }
+    Ok(members)
+}
+
+fn remark_members(alloc: Global, remark: Remark) -> Result<Map<String, Value>, AllocError> {
+    let Remark {
+        text,
+        place,
+        message,
+    } = remark;
+    let mut members = Map::new(alloc);
+    let name = format!(in alloc; "{text}")?;
+    put(&mut members, alloc, "file", Value::String(name))?;
+    put(&mut members, alloc, "message", Value::String(message))?;
+    match place {
+        TextPlace::Whole => {}
+        TextPlace::Line { line, column } => {
+            put(&mut members, alloc, "line", Value::from(line))?;
+            put(&mut members, alloc, "column", Value::from(column))?;
+        }
+        TextPlace::Pointer(pointer) => {
+            put(&mut members, alloc, "pointer", Value::String(pointer))?;
+        }
+    }
+    Ok(members)
+}

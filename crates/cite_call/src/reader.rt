@@ -1,0 +1,48 @@
+//! The reader of texts, and what it warns of.
+use crate::remark::{Remark, TextPlace};
+use crate::texts::TextName;
+use std::alloc::{AllocError, Global};
+use std::fmt;
+
+/// Reads texts, and keeps what is odd in them.
+#[derive(Drop)]
+pub(crate) struct TextReader {
+    pub alloc: Global,
+    pub warnings: Vec<Remark>,
+}
+
+impl TextReader {
+    pub(crate) fn new(alloc: Global) -> TextReader {
+        TextReader {
+            alloc,
+            warnings: Vec::new(alloc),
+        }
+    }
+
+    /// Warns of a place of a text.
+    pub(crate) fn warn<W: fmt::Display>(
+        &mut self,
+        text: TextName,
+        place: TextPlace,
+        what: &W,
+    ) -> Result<(), AllocError> {
+        let message = format!(in self.alloc; "{what}")?;
+        self.warnings.push(Remark {
+            text,
+            place,
+            message,
+        })?;
+        Ok(())
+    }
+
+    /// Warns of a part of a text's JSON.
+    pub(crate) fn warn_of_part<P: fmt::Display, W: fmt::Display>(
+        &mut self,
+        text: TextName,
+        pointer: &P,
+        what: &W,
+    ) -> Result<(), AllocError> {
+        let pointer = format!(in self.alloc; "{pointer}")?;
+        self.warn(text, TextPlace::Pointer(pointer), what)
+    }
+}

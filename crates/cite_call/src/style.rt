@@ -1,0 +1,136 @@
+//! The style of a call.
+use crate::error::{CallError, refusal};
+use crate::reader::TextReader;
+use crate::remark::{Fault, ParentStyle, Remark, TextPlace};
+use crate::texts::TextName;
+use cite_program::build::program_of;
+use cite_program::program::ProgramError;
+use cite_sorting::order::keys_of;
+use std::alloc::{AllocError, Global};
+use style_faults::error::StyleError;
+use style_faults::warning::Warning;
+use style_file::style::{CslStyle, DependentStyle, StyleFile};
+use style_reader::file::read_style;
+use xml_reader::error::{Place, place_at};
+
+impl TextReader {
+    /// The style of a style file.
+    ///
+    /// # Errors
+    ///
+    /// `Fault` where the text is no style file, or a dependent style; `OutOfMemory`.
+    pub(crate) fn style(&mut self, bytes: &[u8]) -> Result<CslStyle, CallError> {
+        match str::from_utf8(bytes) {
+            Ok(text) => self.style_in(text),
+            Err(error) => Err(no_utf8(self.alloc, bytes, error.valid_up_to())),
+        }
+    }
+
+    fn style_in(&mut self, text: &str) -> Result<CslStyle, CallError> {
+        match read_style(self.alloc, text) {
+            Ok((file, warnings)) => {
+                self.warn_of_file(TextName::Style, &warnings)?;
+                independent(self.alloc, file)
+            }
+            Err(error) => Err(file_refusal(self.alloc, TextName::Style, &error)),
+        }
+    }
+
+    /// Warns of what is odd in a style file or a locale file.
+    pub(crate) fn warn_of_file(
+        &mut self,
+        name: TextName,
+        warnings: &[Warning],
+    ) -> Result<(), AllocError> {
+        for warning in warnings {
+            self.warn(name, text_place(warning.place), warning)?;
+        }
+        Ok(())
+    }
+}
+
+/// The error of a style file that is no UTF-8 from this byte on.
+fn no_utf8(alloc: Global, bytes: &[u8], byte: usize) -> CallError {
+    let valid = &bytes[..byte.min(bytes.len())];
+    let text = str::from_utf8(valid).unwrap_or("");
+    let place = text_place(place_at(text, byte));
+    match format!(in alloc; "no UTF-8 from byte {byte}") {
+        Ok(why) => refusal(alloc, TextName::Style, place, &why),
+        Err(_) => CallError::OutOfMemory,
+    }
+}
+
+/// Why a text is no style file or no locale file.
+pub(crate) fn file_refusal(alloc: Global, name: TextName, error: &StyleError) -> CallError {
+    match error {
+        StyleError::Malformed(fault, place) => refusal(alloc, name, text_place(*place), fault),
+        StyleError::Refused(fault, place) => refusal(alloc, name, text_place(*place), fault),
+        StyleError::OutOfMemory => CallError::OutOfMemory,
+    }
+}
+
+fn text_place(place: Place) -> TextPlace {
+    TextPlace::Line {
+        line: place.line,
+        column: place.column,
+    }
+}
+
+/// A style that stands for itself.
+fn independent(alloc: Global, file: StyleFile) -> Result<CslStyle, CallError> {
+    match file {
+        StyleFile::Independent(style) => Ok(style),
+        StyleFile::Dependent(style) => Err(CallError::Fault(dependent_fault(alloc, style)?)),
+    }
+}
+
+/// What is wrong with a style that stands for another one.
+fn dependent_fault(alloc: Global, style: DependentStyle) -> Result<Fault, AllocError> {
+    let DependentStyle {
+        info: _,
+        default_locale,
+        parent,
+    } = style;
+    let link = parent.as_str();
+    let message = format!(in alloc; "it stands for the style `{link}`, which is to be given")?;
+    Ok(Fault {
+        remark: Remark {
+            text: TextName::Style,
+            place: TextPlace::Whole,
+            message,
+        },
+        parent: Some(ParentStyle {
+            link: parent,
+            language: default_locale,
+        }),
+    })
+}
+
+/// Refuses a style whose macros make a layout or a key too long.
+///
+/// # Errors
+///
+/// `Fault` where they do; `OutOfMemory`.
+pub(crate) fn check_length(alloc: Global, style: &CslStyle) -> Result<(), CallError> {
+    match build_programs(alloc, style) {
+        Ok(()) => Ok(()),
+        Err(ProgramError::TooLong) => {
+            let why = "the macros of the style are too long";
+            Err(refusal(alloc, TextName::Style, TextPlace::Whole, &why))
+        }
+        Err(ProgramError::OutOfMemory) => Err(CallError::OutOfMemory),
+    }
+}
+
+/// Builds the programs of a style, and keeps none.
+fn build_programs(alloc: Global, style: &CslStyle) -> Result<(), ProgramError> {
+    let macros = style.macros.as_slice();
+    let citation = &style.citation;
+    let _layout = program_of(alloc, macros, &citation.layout.elements)?;
+    let _keys = keys_of(alloc, style, &citation.sort)?;
+    if let Some(bibliography) = &style.bibliography {
+        let _layout = program_of(alloc, macros, &bibliography.layout.elements)?;
+        let _keys = keys_of(alloc, style, &bibliography.sort)?;
+    }
+    Ok(())
+}

@@ -1,0 +1,9 @@
+//! Citations read from JSON: a list of citations, each of which is a list of cites.
+#![tactic(auto)]
+
+pub mod fault;
+pub mod listing;
+pub mod notes;
+mod oddities;
+pub mod reading;
+pub mod warning;

@@ -1,0 +1,217 @@
+//! Reading citations.
+use crate::fault::{CitationFault, CitationsError, Wanted};
+use crate::oddities::{note_number, oddity_of};
+use crate::warning::{CiteWarning, WarningKind};
+use cite_host::cites::{Citation, Cite};
+use cite_walk::cite::CiteLocator;
+use csl_json::fault::{Pointer, Step};
+use csl_references::rich_text::RichText;
+use csl_vocabulary::locator::LocatorType;
+use serde_json::{Map, Value};
+use std::alloc::{AllocError, Global};
+
+/// What was read of citations.
+#[derive(Drop)]
+pub struct ReadCitations {
+    pub citations: Vec<Citation>,
+    /// What is otherwise than it stands in the JSON, in the order of the cites.
+    pub warnings: Vec<CiteWarning>,
+}
+
+/// The citations of JSON: a list of lists of cites. A cite is an object with an `id` and maybe a
+/// `locator`, a `label`, which is `page` where it tells none, a `prefix` and a `suffix`, which may
+/// have markup as the texts of items, `suppress-author`, `author-only`, `hidden` and `note`.
+///
+/// # Errors
+///
+/// `NoUtf8` and `NoJson` where the bytes are none; `Fault` with the first part that is not of its
+/// form; `OutOfMemory`.
+pub fn read_citations(alloc: Global, bytes: &[u8]) -> Result<ReadCitations, CitationsError> {
+    let value = value_of(alloc, bytes)?;
+    let Some(items) = value.as_array() else {
+        return Err(refusal(Place::Whole.pointer(alloc)?, Wanted::Citations));
+    };
+    let mut reader = Reader {
+        alloc,
+        warnings: Vec::new(alloc),
+    };
+    let mut citations = Vec::new(alloc);
+    for (index, item) in items.iter().enumerate() {
+        let citation = reader.citation(index, item)?;
+        citations.push(citation)?;
+    }
+    Ok(ReadCitations {
+        citations,
+        warnings: reader.warnings,
+    })
+}
+
+/// The JSON value that the bytes are.
+fn value_of(alloc: Global, bytes: &[u8]) -> Result<Value, CitationsError> {
+    let text = match str::from_utf8(bytes) {
+        Ok(text) => text,
+        Err(error) => {
+            return Err(CitationsError::NoUtf8 {
+                byte: error.valid_up_to(),
+            });
+        }
+    };
+    match Value::from_str(alloc, text) {
+        Ok(value) => Ok(value),
+        Err(error) if error.is_memory() => Err(CitationsError::OutOfMemory),
+        Err(error) => Err(CitationsError::NoJson {
+            line: error.line(),
+            column: error.column(),
+        }),
+    }
+}
+
+fn refusal(pointer: Pointer, wanted: Wanted) -> CitationsError {
+    CitationsError::Fault(CitationFault { pointer, wanted })
+}
+
+/// A place in the list of citations, by indexes from 0.
+#[derive(Clone, Copy)]
+enum Place {
+    Whole,
+    Citation(usize),
+    Cite { citation: usize, cite: usize },
+}
+
+impl Place {
+    /// The pointer to the place.
+    fn pointer(self, alloc: Global) -> Result<Pointer, AllocError> {
+        let mut steps = Vec::new(alloc);
+        match self {
+            Place::Whole => {}
+            Place::Citation(citation) => steps.push(Step::Item(citation))?,
+            Place::Cite { citation, cite } => {
+                steps.push(Step::Item(citation))?;
+                steps.push(Step::Item(cite))?;
+            }
+        }
+        Ok(Pointer { steps })
+    }
+
+    /// The pointer to the member of this key.
+    fn member(self, alloc: Global, key: &str) -> Result<Pointer, AllocError> {
+        let mut pointer = self.pointer(alloc)?;
+        let key = String::from_str(alloc, key)?;
+        pointer.steps.push(Step::Key(key))?;
+        Ok(pointer)
+    }
+}
+
+/// Reads citations, and keeps what is odd in them.
+#[derive(Drop)]
+struct Reader {
+    alloc: Global,
+    warnings: Vec<CiteWarning>,
+}
+
+impl Reader {
+    fn citation(&mut self, citation: usize, item: &Value) -> Result<Citation, CitationsError> {
+        let Some(members) = item.as_array() else {
+            let pointer = Place::Citation(citation).pointer(self.alloc)?;
+            return Err(refusal(pointer, Wanted::Citation));
+        };
+        let mut cites = Vec::new(self.alloc);
+        let mut note = None;
+        for (cite, member) in members.iter().enumerate() {
+            let place = Place::Cite { citation, cite };
+            let Some(object) = member.as_object() else {
+                return Err(refusal(place.pointer(self.alloc)?, Wanted::Cite));
+            };
+            cites.push(self.cite(place, object)?)?;
+            note = note.or(note_of(object));
+        }
+        Ok(Citation { cites, note })
+    }
+
+    fn cite(&mut self, place: Place, object: &Map<String, Value>) -> Result<Cite, CitationsError> {
+        let alloc = self.alloc;
+        let Some(id) = text_at(alloc, object, "id")? else {
+            return Err(refusal(place.pointer(alloc)?, Wanted::Id));
+        };
+        self.warn_of_members(place, object)?;
+        Ok(Cite {
+            id,
+            locator: locator_of(alloc, object)?,
+            prefix: text_at(alloc, object, "prefix")?.unwrap_or(String::new(alloc)),
+            suffix: text_at(alloc, object, "suffix")?.unwrap_or(String::new(alloc)),
+            suppresses_author: flag_at(object, "suppress-author"),
+            is_author_only: flag_at(object, "author-only"),
+            is_hidden: flag_at(object, "hidden"),
+        })
+    }
+
+    /// Warns of each member that is left out.
+    fn warn_of_members(
+        &mut self,
+        place: Place,
+        object: &Map<String, Value>,
+    ) -> Result<(), AllocError> {
+        for key in object.keys() {
+            let key = key.as_str();
+            if let Some(kind) = oddity_of(object, key) {
+                self.warn(place, key, kind)?;
+            }
+        }
+        Ok(())
+    }
+
+    fn warn(&mut self, place: Place, key: &str, kind: WarningKind) -> Result<(), AllocError> {
+        let pointer = place.member(self.alloc, key)?;
+        self.warnings.push(CiteWarning { pointer, kind })?;
+        Ok(())
+    }
+}
+
+fn note_of(object: &Map<String, Value>) -> Option<usize> {
+    note_number(object.get("note")?)
+}
+
+fn locator_of(
+    alloc: Global,
+    object: &Map<String, Value>,
+) -> Result<Option<CiteLocator>, AllocError> {
+    let Some(text) = text_at(alloc, object, "locator")? else {
+        return Ok(None);
+    };
+    let text = RichText::of_markup(alloc, text.as_str())?;
+    if text.is_empty() {
+        return Ok(None);
+    }
+    let kind = locator_type_of(object);
+    Ok(Some(CiteLocator { kind, text }))
+}
+
+/// The kind of the locator of a cite: a page where it tells none that is known.
+fn locator_type_of(object: &Map<String, Value>) -> LocatorType {
+    match object.get("label") {
+        Some(Value::String(name)) => {
+            LocatorType::of_name(name.as_str()).unwrap_or(LocatorType::Page)
+        }
+        _ => LocatorType::Page,
+    }
+}
+
+fn flag_at(object: &Map<String, Value>, name: &str) -> bool {
+    match object.get(name) {
+        Some(value) => value.as_bool().unwrap_or(false),
+        None => false,
+    }
+}
+
+/// The text or the number at a key.
+fn text_at(
+    alloc: Global,
+    object: &Map<String, Value>,
+    name: &str,
+) -> Result<Option<String>, AllocError> {
+    match object.get(name) {
+        Some(Value::String(text)) => Ok(Some(text.clone()?)),
+        Some(Value::Number(number)) => Ok(Some(format!(in alloc; "{number}")?)),
+        _ => Ok(None),
+    }
+}

@@ -1,0 +1,53 @@
+//! What is read of citations otherwise than it stands in the JSON.
+use csl_json::fault::Pointer;
+use std::fmt;
+
+/// What the value of a key is.
+#[derive(Clone, Copy, Debug, PartialEq, Eq)]
+pub enum ValueKind {
+    /// A text, or a number that stands for one.
+    Text,
+    /// A truth value.
+    Flag,
+    /// The number of a note.
+    NoteNumber,
+}
+
+/// What was done with a member of a cite.
+#[derive(Clone, Copy, Debug, PartialEq, Eq)]
+pub enum WarningKind {
+    /// No cite has this key, so it was left out.
+    UnknownKey,
+    /// The value is none of this kind, so it was left out.
+    OtherValue(ValueKind),
+    /// CSL has no locator type of this name, so the locator is a page.
+    UnknownLocator,
+}
+
+/// A member of a cite that is read otherwise than it stands in the JSON.
+#[derive(Debug, Drop)]
+pub struct CiteWarning {
+    /// The way to the member.
+    pub pointer: Pointer,
+    pub kind: WarningKind,
+}
+
+impl fmt::Display for WarningKind {
+    fn fmt<W: fmt::Write>(&self, f: &mut fmt::Formatter<W>) -> fmt::Result {
+        f.write_str(match self {
+            WarningKind::UnknownKey => "unknown key, left out",
+            WarningKind::OtherValue(ValueKind::Text) => "no text, left out",
+            WarningKind::OtherValue(ValueKind::Flag) => "neither true nor false, left out",
+            WarningKind::OtherValue(ValueKind::NoteNumber) => "no number of a note, left out",
+            WarningKind::UnknownLocator => "unknown kind of locator, taken for a page",
+        })
+    }
+}
+
+impl fmt::Display for CiteWarning {
+    fn fmt<W: fmt::Write>(&self, f: &mut fmt::Formatter<W>) -> fmt::Result {
+        let pointer = &self.pointer;
+        let kind = &self.kind;
+        write!(f, "{pointer}: {kind}")
+    }
+}
