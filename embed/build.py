@@ -33,6 +33,8 @@ ARCHIVE = f'{CRATE}/out/libgamhilon_c.a'
 NOTE = 'gamhilon_build.json'
 PAUSE = 30
 EXPORTS = [
+    'gamhilon_cite',
+    'gamhilon_find_cite_fault',
     'gamhilon_drive',
     'gamhilon_find_driven_fault',
     'gamhilon_find_fault',

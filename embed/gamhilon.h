@@ -1,8 +1,8 @@
 /* Gamhilon: citations and bibliographies, for C99 and C++17.
  *
- * A call takes a document, which is JSON (docs/DOCUMENT.md; for the driven calls docs/DRIVEN.md), and puts
- * what comes of it into a buffer of the caller's. Nothing stays between calls, and nothing is to be
- * initialised or freed.
+ * gamhilon_cite takes the texts of a style file, of items and of citations (docs/WRITER.md). The other calls take
+ * a document, which is JSON (docs/DOCUMENT.md; for the driven calls docs/DRIVEN.md). A call puts what comes of
+ * them into a buffer of the caller's. Nothing stays between calls, and nothing is to be initialised or freed.
  *
  * As long as the first number of GAMHILON_VERSION stays 0, a change of its second number may change calls; from
  * 1.0.0 on the calls, the statuses and the name of the shared object stay as long as the first number stays. */
@@ -30,7 +30,8 @@ extern "C" {
 #define GAMHILON_OK 0u
 
 /* The document isn't JSON, or not of the form of a document. gamhilon_find_fault tells where it is wrong, and
- * gamhilon_find_driven_fault where a driven document is. */
+ * gamhilon_find_driven_fault where a driven document is. Of gamhilon_cite: a text is not of its form, and
+ * gamhilon_find_cite_fault tells where. */
 #define GAMHILON_DOCUMENT_REFUSED 2u
 
 /* The macros of a style call each other in a ring. gamhilon_find_ring tells where. */
@@ -50,6 +51,10 @@ extern "C" {
 
 /* A layout has more elements than gamhilon_check_limits was told. */
 #define GAMHILON_TOO_MANY_ELEMENTS 8u
+
+/* The cites can't be disambiguated: something was still missing after 10,000 calls of the driver. Of gamhilon_cite
+ * alone. */
+#define GAMHILON_UNSETTLED 9u
 
 /* A text for people that tells what a status means. It has no line feed, ends with a NUL, and is never freed. */
 const char *gamhilon_status_text(uint32_t status);
@@ -74,8 +79,8 @@ const char *gamhilon_status_text(uint32_t status);
  *
  *   Each call does the whole work, so a first buffer that will mostly do is better: text is rarely longer than
  *   its document; JSON is mostly four to five times as long, and rarely more than eight times.
- * - Document, buffer and `needed` are the caller's before and after the call, and must not overlap. The library
- *   keeps no pointer to them. A pointer may be null where its length is 0; `needed` must not be null.
+ * - Document or texts, buffer and `needed` are the caller's before and after the call, and must not overlap. The
+ *   library keeps no pointer to them. A pointer may be null where its length is 0; `needed` must not be null.
  * - Any number of threads may call at once, on buffers of their own. A call reads no file, no environment, no
  *   locale and no clock, and writes to no stream. It must not be made from a signal handler, nor in a forked
  *   child of a process with several threads before that calls exec.
@@ -103,6 +108,60 @@ uint32_t gamhilon_render_text(const uint8_t *document, size_t document_length,
  * Ends with the statuses of gamhilon_render_text. */
 uint32_t gamhilon_render_json(const uint8_t *document, size_t document_length,
                               uint8_t *buffer, size_t buffer_length, size_t *needed);
+
+/* ---- Style files ------------------------------------------------------------------------------------------
+ *
+ * Both calls take five texts in UTF-8, of which no file is opened:
+ *
+ * - `style`: a style file of CSL 1.0.2 that stands for itself. One that stands for another style is refused, and
+ *   gamhilon_find_cite_fault tells which that is.
+ * - `locales`: a JSON list of the texts of locale files. Words are looked for in those of the dialect, of the
+ *   language's primary dialect and of American English (en-US), which is built in; the others aren't used. An
+ *   empty text is an empty list.
+ * - `items`: CSL-JSON (docs/REFERENCES.md).
+ * - `citations`: a JSON list of citations, each a list of cites: objects with `id`, and maybe `locator`, `label`,
+ *   `prefix`, `suffix`, `suppress-author`, `author-only`, `hidden` and `note` (docs/WRITER.md).
+ * - `options`: a JSON object of `locale`, a language tag that stands in place of the style's, and `nocite`: where
+ *   it is true, items that aren't cited are listed too. Other keys are refused. An empty text is an empty object.
+ *
+ * Answers may be longer than the texts: a first buffer of 64 KiB and eight times the length of items and
+ * citations together will mostly do. Give a thread that calls 512 KiB of stack. */
+
+/* Writes the citations and the bibliography, as JSON (docs/ANSWER.md). A style of notes tells the number of the
+ * note of each citation. Quotes have their marks as text, and no element tells what it was written for (`meta`).
+ *
+ * Ends with GAMHILON_OK, GAMHILON_DOCUMENT_REFUSED, GAMHILON_NUMBER_OVERFLOW, GAMHILON_OUT_OF_MEMORY,
+ * GAMHILON_BUFFER_TOO_SMALL or GAMHILON_UNSETTLED. That the text stands in the buffer is proved, and not which
+ * text it is. */
+uint32_t gamhilon_cite(const uint8_t *style, size_t style_length,
+                       const uint8_t *locales, size_t locales_length,
+                       const uint8_t *items, size_t items_length,
+                       const uint8_t *citations, size_t citations_length,
+                       const uint8_t *options, size_t options_length,
+                       uint8_t *buffer, size_t buffer_length, size_t *needed);
+
+/* Finds what is wrong and odd in the texts: puts a JSON object into the buffer, as
+ *
+ *     {"fault":{"column":3,"file":"style","line":7,"message":".."},"warnings":[]}
+ *     {"warnings":[{"file":"items","message":"unknown key, left out; is it `title`?","pointer":"/0/titel"}]}
+ *
+ * `fault` is there where gamhilon_cite ends with GAMHILON_DOCUMENT_REFUSED, and is the first thing that is wrong;
+ * texts are read in the order options, style, locales, items, citations. `warnings` is the list of what is read
+ * otherwise than it stands in the texts, up to the fault; where there is none, the list tells all.
+ *
+ * `file` is the text: `style`, `locales`, `locales/0` for the first of the locale files, `items`, `citations` or
+ * `options`. The place in it is a `line` and a `column`, both from 1, or the JSON Pointer `pointer` (RFC 6901);
+ * neither where the whole text is meant. `message` is for people. A style file that stands for another one has
+ * the link to that as `parent`, and maybe as `parent_locale` the language to be asked for by the option `locale`.
+ *
+ * It writes no citation, and takes far less time than gamhilon_cite. Ends with GAMHILON_OK, GAMHILON_OUT_OF_MEMORY
+ * or GAMHILON_BUFFER_TOO_SMALL. */
+uint32_t gamhilon_find_cite_fault(const uint8_t *style, size_t style_length,
+                                  const uint8_t *locales, size_t locales_length,
+                                  const uint8_t *items, size_t items_length,
+                                  const uint8_t *citations, size_t citations_length,
+                                  const uint8_t *options, size_t options_length,
+                                  uint8_t *buffer, size_t buffer_length, size_t *needed);
 
 /* ---- Documents from others ------------------------------------------------------------------------------ */
 

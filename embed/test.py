@@ -97,7 +97,7 @@ def compile_all(folder):
     strict = ['-Wall', '-Wextra', '-pedantic', '-Werror', f'-I{HERE}']
     wraps = ['-Wl,--wrap=malloc,--wrap=realloc,--wrap=free']
     sources = {'calls': [], 'stack': [], 'threads': [], 'many': [], 'about': [], 'limits': [],
-               'driven': [], 'failing': wraps, '../c/print': []}
+               'driven': [], 'cites': [], 'failing': wraps, '../c/print': [], '../c/cite': []}
     for name, more in sources.items():
         standard = '-std=c99' if name.startswith('..') else '-std=gnu11'
         made = ran(*compiler, standard, '-O1', '-g', '-pthread', *strict, *more, '-o',
@@ -323,6 +323,86 @@ def with_written(document, lines):
                                'font_weight': 'normal'}]}
                     for task in json.loads(line.partition(' ')[2])['missing']]
         yield {**document, 'written': list(written)}
+
+
+def put_texts(folder, name, files):
+    """Writes texts of gamhilon_cite into a folder of their own, and gives its path."""
+    place = f'{folder}/{name}'
+    os.makedirs(place)
+    for file, text in files.items():
+        with open(f'{place}/{file}', 'wb') as stream:
+            stream.write(text)
+    return place
+
+
+def answers_of_texts(folder, length, places):
+    """The status and the bytes of each call on the texts of some folders, in a buffer of that
+    length: of each folder the answer, and what is wrong and odd."""
+    done = ran(f'{folder}/cites', str(length), *places)
+    hold(done.returncode == 0, f'cites {length}: {done.stderr.decode()[:600]}')
+    answers, at = [], 0
+    while at < len(done.stdout):
+        end = done.stdout.index(b'\n', at)
+        status, size = map(int, done.stdout[at:end].split())
+        size = size if status == 0 else 0
+        answers.append((status, done.stdout[end + 1:end + 1 + size]))
+        at = end + 1 + size
+    return list(zip(answers[::2], answers[1::2]))
+
+
+def try_texts(folder):
+    """Citations of texts: the answers, the warnings and the faults of tests/texts.py, in a buffer
+    that fits and in one of a byte."""
+    sys.path.insert(0, f'{HERE}/tests')
+    import texts
+    schema = validator('answer')
+    answered = [put_texts(folder, f'answered {number}', case[1])
+                for number, case in enumerate(texts.ANSWERED)]
+    refused = [put_texts(folder, f'refused {number}', case[1])
+               for number, case in enumerate(texts.REFUSED)]
+    found = answers_of_texts(folder, 1 << 16, answered + refused)
+    hold(found == answers_of_texts(folder, 1, answered + refused), 'texts in a buffer of one byte')
+    for (name, _, cited, notes, listed, warnings), (answer, findings) in zip(texts.ANSWERED, found):
+        hold(answer[0] == 0 and findings[0] == 0, f'texts: {name}: {answer}, {findings}')
+        value = json.loads(answer[1] or b'{"citations":[]}')
+        hold([plain(citation['content']) for citation in value['citations']] == cited
+             and [citation['note_number'] for citation in value['citations']] == notes,
+             f'texts: {name}: the citations are {value["citations"]}')
+        hold(value.get('bibliography') == listed,
+             f'texts: {name}: the bibliography is {value.get("bibliography")}')
+        hold(json.loads(findings[1]) == {'warnings': warnings},
+             f'texts: {name}: the warnings are {findings[1].decode()}')
+        if schema:
+            hold(schema.is_valid(value), f'texts: {name}: its JSON against docs/answer.schema.json')
+    for (name, _, fault), (answer, findings) in zip(texts.REFUSED, found[len(answered):]):
+        told = json.loads(findings[1] or b'{}').get('fault', {})
+        hold(answer == (2, b'') and findings[0] == 0
+             and told.get('message', '').startswith(fault['message'])
+             and {**told, 'message': ''} == {**fault, 'message': ''},
+             f'texts: {name}: status {answer[0]}, the fault is {told}')
+    try_hard_texts(folder, texts, answered)
+
+
+def try_hard_texts(folder, texts, answered):
+    """Memory refused, valgrind, and the need of stack, of calls on texts."""
+    small = [put_texts(folder, f'small {number}', files)
+             for number, files in enumerate(texts.SMALL)]
+    done = ran(f'{folder}/failing', '--texts', *small, timeout=900)
+    hold(done.returncode == 0,
+         f'each allocation of texts refused in turn: {done.stdout.decode()[-600:]}')
+    if has_tool('valgrind', 'leaks and wrong reads of texts'):
+        done = ran('valgrind', '-q', '--error-exitcode=9', '--leak-check=full',
+                   '--errors-for-leak-kinds=all', f'{folder}/cites', '1', *small, answered[0])
+        hold(done.returncode == 0, f'valgrind, texts: {done.stderr.decode()[:900]}')
+    hold_stack(folder, ['--texts', *answered])
+    place = answered[0]
+    done = ran(f'{folder}/cite', *[f'{place}/{file}' for file in ('style.csl', 'items.json',
+                                                                   'citations.json')])
+    hold(done.returncode == 0 and b'Jane Doe' in done.stdout and not done.stderr,
+         f'c/cite.c: {done.returncode}, {done.stderr.decode()}')
+    done = ran(f'{folder}/cite', *[f'{place}/{file}' for file in ('items.json', 'items.json',
+                                                                   'citations.json')])
+    hold(done.returncode == 2 and b'"file":"style"' in done.stderr, 'c/cite.c: what is no style')
 
 
 def try_driven(folder):
@@ -554,7 +634,7 @@ def try_about(folder):
     hold(lines[1].startswith(build.version())
          and all(value in lines[1] for value in note.values() if value),
          'the version of the library')
-    hold(len(lines) == 12 and len(set(lines[2:])) == 9 and lines[3] == lines[11],
+    hold(len(lines) == 13 and len(set(lines[2:])) == 10 and lines[3] == lines[12],
          'each status has a text of its own, and others one')
 
 
@@ -717,6 +797,7 @@ def main(words):
                 try_from_python(cases, jsons)
                 try_limits(folder, cases)
                 try_driven(folder)
+                try_texts(folder)
                 try_driving()
                 try_building()
                 try_about(folder)

@@ -12,13 +12,14 @@ const char *gamhilon_version(void) {
 const char *gamhilon_status_text(uint32_t status) {
     switch (status) {
     case GAMHILON_OK: return "answered";
-    case GAMHILON_DOCUMENT_REFUSED: return "not of the form of a document";
+    case GAMHILON_DOCUMENT_REFUSED: return "not of the form of a document, or a text not of its form";
     case GAMHILON_MACRO_RING: return "the macros of a style call each other in a ring";
     case GAMHILON_NUMBER_OVERFLOW: return "the citation numbers don't fit 64 bits";
     case GAMHILON_OUT_OF_MEMORY: return "memory was refused";
     case GAMHILON_BUFFER_TOO_SMALL: return "the buffer is too small for the answer";
     case GAMHILON_TOO_DEEP: return "the elements of a layout nest too deep";
     case GAMHILON_TOO_MANY_ELEMENTS: return "a layout has too many elements";
+    case GAMHILON_UNSETTLED: return "the cites can't be disambiguated";
     default: return "a status that this version does not know";
     }
 }

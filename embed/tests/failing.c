@@ -1,10 +1,9 @@
-/* failing FILE..: each allocation of a call refused in turn, and each refused with all that come after it; of both texts, of
- * the fault, of the place of a ring, of the limits, and of a driven document and its fault. Linked with --wrap=malloc,--wrap=realloc,--wrap=free.
- * It fails too where there is no file, or a call without an allocation. */
-#include "gamhilon.h"
+/* failing FILE.., failing --texts FOLDER..: each allocation of a call refused in turn, and each refused with all that come after
+ * it; of a document both texts, the fault, the place of a ring, the limits, and a driven document and its fault; of the texts in a
+ * folder the answer, and what is wrong and odd. Linked with --wrap=malloc,--wrap=realloc,--wrap=free. It fails too where there is
+ * no file, or a call without an allocation. */
+#include "texts.h"
 
-#include <stdio.h>
-#include <stdlib.h>
 #include <string.h>
 
 void *__real_malloc(size_t);
@@ -42,10 +41,11 @@ void __wrap_free(void *p) {
     __real_free(p);
 }
 
-enum { BUFFER_LENGTH = 1 << 22 };
+enum { BUFFER_LENGTH = 1 << 22, DOCUMENT_FORMS = 7, FORMS = 9 };
 
 static uint8_t document[BUFFER_LENGTH], buffer[BUFFER_LENGTH], answer[BUFFER_LENGTH];
 static size_t n;
+static text texts[TEXTS];
 static gamhilon_ring_location ring;
 
 static uint32_t called(int form, uint8_t *into, size_t *length) {
@@ -57,7 +57,8 @@ static uint32_t called(int form, uint8_t *into, size_t *length) {
     if (form == 3) return gamhilon_find_ring(document, n, &ring);
     if (form == 4) return gamhilon_check_limits(document, n, 100, 100000);
     if (form == 5) return gamhilon_drive(document, n, into, BUFFER_LENGTH, length);
-    return gamhilon_find_driven_fault(document, n, into, BUFFER_LENGTH, length);
+    if (form == 6) return gamhilon_find_driven_fault(document, n, into, BUFFER_LENGTH, length);
+    return call_texts(form == 7 ? gamhilon_cite : gamhilon_find_cite_fault, texts, into, BUFFER_LENGTH, length);
 }
 
 /* Whether a call of which some allocation was refused is right: refused itself, or the answer all the same. */
@@ -76,28 +77,34 @@ static int is_read(const char *path) {
     return n != 0;
 }
 
-int main(int argc, char **argv) {
-    int wrong = argc < 2;
-    for (int i = 1; i < argc; i++) {
-        if (!is_read(argv[i])) return printf("%s: there is no document, wrong\n", argv[i]), 1;
-        for (int form = 0; form < 7; form++) {
-            size_t whole_length, length;
-            left = -1, made = open_blocks = 0;
-            uint32_t whole_status = called(form, answer, &whole_length);
-            long count = made, refused = 0, leaked = open_blocks, bad = leaked != 0;
-            for (and_all_after = 0; and_all_after < 2; and_all_after++)
-                for (long k = 0; k < count; k++) {
-                    memset(buffer, 7, 100);
-                    left = k, open_blocks = 0;
-                    uint32_t status = called(form, buffer, &length);
-                    left = -1;
-                    refused += status == GAMHILON_OUT_OF_MEMORY;
-                    bad += !is_right(status, length, whole_status, whole_length);
-                }
-            printf("%s: form %d, status %u, %ld allocations, %ld of %ld calls out of memory, %ld wrong\n", argv[i], form,
-                   (unsigned)whole_status, count, refused, 2 * count, bad);
-            wrong |= bad != 0 || count == 0 || refused < count;
+/* Refuses each allocation of a call; gives whether something of it was wrong. */
+static int is_wrong(const char *path, int form) {
+    size_t whole_length, length;
+    left = -1, made = open_blocks = 0;
+    uint32_t whole_status = called(form, answer, &whole_length);
+    long count = made, refused = 0, leaked = open_blocks, bad = leaked != 0;
+    for (and_all_after = 0; and_all_after < 2; and_all_after++)
+        for (long k = 0; k < count; k++) {
+            memset(buffer, 7, 100);
+            left = k, open_blocks = 0;
+            uint32_t status = called(form, buffer, &length);
+            left = -1;
+            refused += status == GAMHILON_OUT_OF_MEMORY;
+            bad += !is_right(status, length, whole_status, whole_length);
         }
+    printf("%s: form %d, status %u, %ld allocations, %ld of %ld calls out of memory, %ld wrong\n", path, form,
+           (unsigned)whole_status, count, refused, 2 * count, bad);
+    return bad != 0 || count == 0 || refused < count;
+}
+
+int main(int argc, char **argv) {
+    int of_texts = argc > 1 && strcmp(argv[1], "--texts") == 0, wrong = argc < 2 + of_texts;
+    for (int i = 1 + of_texts; i < argc; i++) {
+        if (of_texts) read_texts(argv[i], texts);
+        if (of_texts ? texts[0].length == 0 : !is_read(argv[i])) return printf("%s: there is no document, wrong\n", argv[i]), 1;
+        for (int form = of_texts ? DOCUMENT_FORMS : 0; form < (of_texts ? FORMS : DOCUMENT_FORMS); form++)
+            wrong |= is_wrong(argv[i], form);
+        if (of_texts) free_texts(texts);
     }
     return wrong;
 }

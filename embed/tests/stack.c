@@ -1,16 +1,17 @@
-/* stack FILE..: how much stack the deepest call takes, of both forms, of the fault, of the place of a ring, of the limits, and of
- * a driven document and its fault: the mark that it leaves in a stack that was filled before. Writes a line for each form: the bytes and the document. */
-#include "gamhilon.h"
+/* stack FILE.., stack --texts FOLDER..: how much stack the deepest call takes: of both forms of a document, of the fault, of the
+ * place of a ring, of the limits, and of a driven document and its fault; or of the texts in a folder, and of what is wrong in
+ * them. That is the mark that it leaves in a stack that was filled before. Writes a line for each form: the bytes and the
+ * document. */
+#include "texts.h"
 
 #include <pthread.h>
-#include <stdio.h>
-#include <stdlib.h>
 #include <string.h>
 
-enum { STACK = 2 << 20, BUFFER_LENGTH = 1 << 22 };
+enum { STACK = 2 << 20, BUFFER_LENGTH = 1 << 22, DOCUMENT_FORMS = 7, FORMS = 9 };
 
 static uint8_t document[BUFFER_LENGTH], buffer[BUFFER_LENGTH], *stack;
 static size_t n;
+static text texts[TEXTS];
 static int form;
 
 static void *worker(void *unused) {
@@ -22,7 +23,8 @@ static void *worker(void *unused) {
     else if (form == 3) gamhilon_find_ring(document, n, &ring);
     else if (form == 4) gamhilon_check_limits(document, n, 100, 100000);
     else if (form == 5) gamhilon_drive(document, n, buffer, BUFFER_LENGTH, &length);
-    else gamhilon_find_driven_fault(document, n, buffer, BUFFER_LENGTH, &length);
+    else if (form == 6) gamhilon_find_driven_fault(document, n, buffer, BUFFER_LENGTH, &length);
+    else call_texts(form == 7 ? gamhilon_cite : gamhilon_find_cite_fault, texts, buffer, BUFFER_LENGTH, &length);
     return unused;
 }
 
@@ -40,21 +42,28 @@ static size_t taken(void) {
     return STACK - mark;
 }
 
+static void read_document(const char *path) {
+    FILE *file = fopen(path, "rb");
+    n = fread(document, 1, sizeof document, file);
+    fclose(file);
+}
+
 int main(int argc, char **argv) {
-    static const char *const forms[] = {"text", "json", "fault", "ring", "limits", "drive", "drive_fault"};
-    size_t most[7] = {0, 0, 0, 0, 0, 0, 0};
-    int of[7] = {1, 1, 1, 1, 1, 1, 1};
+    static const char *const forms[FORMS] = {"text", "json", "fault", "ring", "limits", "drive", "drive_fault", "cite", "cite_fault"};
+    size_t most[FORMS] = {0};
+    int of[FORMS] = {0}, of_texts = argc > 1 && strcmp(argv[1], "--texts") == 0;
+    int first = of_texts ? DOCUMENT_FORMS : 0, end = of_texts ? FORMS : DOCUMENT_FORMS;
     if (posix_memalign((void **)&stack, 4096, STACK) != 0) return 1;
     memset(stack, 0xA5, STACK);
-    for (int i = 1; i < argc; i++) {
-        FILE *file = fopen(argv[i], "rb");
-        n = fread(document, 1, sizeof document, file);
-        fclose(file);
-        for (form = 0; form < 7; form++) {
+    for (int i = 1 + of_texts; i < argc; i++) {
+        if (of_texts) read_texts(argv[i], texts);
+        else read_document(argv[i]);
+        for (form = first; form < end; form++) {
             size_t bytes = taken();
             if (bytes > most[form]) most[form] = bytes, of[form] = i;
         }
+        if (of_texts) free_texts(texts);
     }
-    for (form = 0; form < 7; form++) printf("%s %zu %s\n", forms[form], most[form], argc > 1 ? argv[of[form]] : "");
+    for (form = first; form < end; form++) printf("%s %zu %s\n", forms[form], most[form], of[form] > 0 ? argv[of[form]] : "");
     return 0;
 }

@@ -53,8 +53,8 @@ fn answer_of(
 }
 
 /// What is wrong and odd in these texts, as a JSON object: `fault`, where a text is wrong, and the
-/// list `warnings`, of what was read otherwise than it stands in the texts, up to the fault. Nothing
-/// is written.
+/// list `warnings`, of what was read otherwise than it stands in the texts, up to the fault. No
+/// citation is written.
 ///
 /// # Errors
 ///

@@ -42,8 +42,8 @@ pub(crate) fn hand_out(
     }
 }
 
-/// Puts what comes of texts into the buffer, if it is there and the buffer is as long, and tells its
-/// length.
+/// Puts what comes of texts into the buffer, if there is something and the buffer is as long, and
+/// tells its length.
 pub(crate) fn hand_out_of_texts(
     text: &Result<String, CallError>,
     buffer: &mut [u8],

@@ -7,6 +7,13 @@
 //!     Err(refusal) => eprintln!("{refusal}"),
 //! }
 //! ```
+//!
+//! `cite` writes citations by a style file, from texts.
+mod findings;
+mod texts;
+
+pub use texts::{cite, find_cite_fault, CiteError, Findings, TextFault, TextPlace, TextRemark, Texts};
+
 use std::ffi::CStr;
 use std::fmt;
 use std::os::raw::c_char;
@@ -92,6 +99,8 @@ pub enum Refusal {
     TooDeep,
     /// A layout has more elements than the limit.
     TooManyElements,
+    /// The cites can't be disambiguated. Of `cite` alone.
+    Unsettled,
     /// The library ended the call with a status that this crate doesn't know.
     Unknown(u32),
 }
@@ -106,18 +115,26 @@ impl Refusal {
             Refusal::OutOfMemory => 5,
             Refusal::TooDeep => 7,
             Refusal::TooManyElements => 8,
+            Refusal::Unsettled => 9,
             Refusal::Unknown(status) => status,
         }
     }
 
     fn of(status: u32, document: &[u8]) -> Refusal {
         match status {
-            2 => Refusal::Document,
             3 => ring_of(document),
-            4 => Refusal::NumberOverflow,
-            5 => Refusal::OutOfMemory,
             7 => Refusal::TooDeep,
             8 => Refusal::TooManyElements,
+            _ => Refusal::of_texts(status),
+        }
+    }
+
+    fn of_texts(status: u32) -> Refusal {
+        match status {
+            2 => Refusal::Document,
+            4 => Refusal::NumberOverflow,
+            5 => Refusal::OutOfMemory,
+            9 => Refusal::Unsettled,
             _ => Refusal::Unknown(status),
         }
     }
@@ -137,6 +154,7 @@ impl fmt::Display for Refusal {
             Refusal::OutOfMemory => write!(f, "memory was refused"),
             Refusal::TooDeep => write!(f, "the elements of a layout nest too deep"),
             Refusal::TooManyElements => write!(f, "a layout has too many elements"),
+            Refusal::Unsettled => write!(f, "the cites can't be disambiguated"),
             Refusal::Unknown(status) => {
                 write!(f, "the library ended with status {status}, which this crate does not know")
             }

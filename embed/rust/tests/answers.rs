@@ -75,3 +75,37 @@ fn the_version_is_that_of_the_header() {
     let version = gamhilon::version().split(' ').next().unwrap_or("");
     assert!(header.contains(&format!("#define GAMHILON_VERSION \"{version}\"")));
 }
+
+const STYLE: &[u8] = include_bytes!("../../../examples/styles/author-date.csl");
+const ITEMS: &[u8] = br#"[{"id": "doe99", "type": "book", "title": "On Order", "author": [{"family": "Doe"}],
+    "issued": {"date-parts": [[1999]]}}]"#;
+
+fn texts(citations: &'static [u8]) -> gamhilon::Texts<'static> {
+    gamhilon::Texts { style: STYLE, items: ITEMS, citations, ..gamhilon::Texts::default() }
+}
+
+#[test]
+fn a_citation_is_written_by_a_style_file() -> Result<(), Box<dyn Error>> {
+    let json = gamhilon::cite(&texts(br#"[[{"id": "doe99", "locator": "4"}]]"#))?;
+    assert!(json.contains("Doe") && json.contains("1999"), "{json}");
+    let findings = gamhilon::find_cite_fault(&texts(br#"[[{"id": "doe99", "page": 4}]]"#))?;
+    assert_eq!(findings.fault, None);
+    let warnings: Vec<String> = findings.warnings.iter().map(ToString::to_string).collect();
+    assert_eq!(warnings, ["citations: /0/0/page: unknown key, left out"]);
+    Ok(())
+}
+
+#[test]
+fn a_text_that_is_wrong_has_its_place() {
+    let error = gamhilon::cite(&texts(br#"[[{"id": "roe"}]]"#)).unwrap_err();
+    assert_eq!(error.status(), 2);
+    assert_eq!(error.to_string(), "citations: /0/0/id: there is no item `roe`");
+    let style = gamhilon::Texts { style: b"<style", ..texts(b"[]") };
+    match gamhilon::cite(&style) {
+        Err(gamhilon::CiteError::Text(fault)) => {
+            assert_eq!(fault.remark.file, "style");
+            assert!(matches!(fault.remark.place, gamhilon::TextPlace::Line { line: 1, .. }), "{fault:?}");
+        }
+        other => panic!("{other:?}"),
+    }
+}

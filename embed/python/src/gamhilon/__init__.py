@@ -9,6 +9,10 @@
 A document from others is answered within limits: `gamhilon.render(document,
 limits=gamhilon.Limits(100, 100000))`.
 
+Citations are written by a published style from its text:
+
+    answer = gamhilon.cite(style, items, citations)
+
 A host that writes cites itself, such as a CSL processor, has the driver tell it what to write:
 `gamhilon.render_with(document, write)`, as docs/DRIVEN.md tells it.
 
@@ -19,27 +23,30 @@ line. Calls may be made from any number of threads and processes at once.
 from __future__ import annotations
 
 import json
-from typing import Any, Dict, Optional, Union
+from typing import Any, Dict, Optional, Sequence, Union
 
 from . import csl, csl_json, references, styles
+from ._citing import Json, cite_texts, texts_of
 from ._driving import Missing, State, Task, Writer, Written, drive_bytes, render_with_all
 from ._library import library
 from ._limits import Limits
 from ._version import Version, __version__, version
 from .answer import Answer, Bibliography, Citation, Item, Node, Tree, answer_of, plain
 from .errors import (DocumentRefused, LibraryMissing, LimitExceeded, MacroRing, NumberOverflow,
-                     OutOfMemory, Refused,
-                     TooDeep, TooManyElements)
+                     OutOfMemory, Refused, TextRefused,
+                     TooDeep, TooManyElements, Unsettled)
 from .html_writer import bibliography_to_html, style_sheet, to_html
 from .latex_writer import bibliography_to_latex, to_latex
 from .markdown_writer import bibliography_to_markdown, to_markdown
+from .texts import TextFault, TextWarning
 
 __all__ = [
     'Answer', 'Bibliography', 'Citation', 'Document', 'DocumentRefused', 'Item', 'LibraryMissing',
     'LimitExceeded', 'Limits', 'MacroRing', 'Missing', 'Node', 'NumberOverflow', 'OutOfMemory',
-    'Refused', 'State', 'Task', 'TooDeep', 'TooManyElements', 'Tree', 'Version', 'Writer',
+    'Refused', 'State', 'Task', 'TextFault', 'TextRefused', 'TextWarning', 'TooDeep',
+    'TooManyElements', 'Tree', 'Unsettled', 'Version', 'Writer',
     'Written', '__version__', 'bibliography_to_html', 'bibliography_to_latex',
-    'bibliography_to_markdown', 'check', 'csl', 'csl_json', 'drive_once', 'plain',
+    'bibliography_to_markdown', 'check', 'cite', 'csl', 'csl_json', 'drive_once', 'plain',
     'print_document', 'print_json', 'references', 'render', 'render_with', 'style_sheet', 'styles',
     'to_html', 'to_latex', 'to_markdown', 'version',
 ]
@@ -94,6 +101,26 @@ def render(document: Document, *, limits: Optional[Limits] = None) -> Answer:
     TooManyElements, each a LimitExceeded and so a Refused.
     """
     return answer_of(print_json(document, limits=limits))
+
+
+def cite(style: Union[str, bytes], items: Json, citations: Json, *,
+         locales: Sequence[str] = (), locale: Optional[str] = None,
+         nocite: bool = False) -> Answer:
+    """Citations and a bibliography by a style file, from texts alone (docs/WRITER.md).
+
+    `style` is the text of a style file of CSL 1.0.2, `items` CSL-JSON, and `citations` a list of
+    citations, which are lists of cites: dicts with `id`, and maybe `locator`, `label`, `prefix`,
+    `suffix`, `suppress-author`, `author-only`, `hidden` and `note`. Both may be JSON or its value.
+    `locales` are the texts of locale files, beside that of American English, which is built in;
+    `locale` is a language tag, in place of the style's. With `nocite` all items are listed.
+
+        answer = gamhilon.cite(open('apa.csl').read(), items, [[{'id': 'doe99', 'locator': '4'}]])
+
+    What is read otherwise than it stands in the texts is in `answer.warnings`. Raises TextRefused,
+    NumberOverflow, OutOfMemory or Unsettled, each a Refused, where there is no answer, and
+    LibraryMissing where there is no library, or one that is older than this call.
+    """
+    return cite_texts(texts_of(style, items, citations, locales, locale, nocite))
 
 
 def drive_once(document: Document) -> Union[Answer, Missing]:

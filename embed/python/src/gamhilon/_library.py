@@ -8,12 +8,12 @@ from __future__ import annotations
 import ctypes
 import json
 import os
-from typing import Any, List, Optional, Tuple
+from typing import Any, Callable, List, NamedTuple, Optional, Tuple
 
 from . import _faults
 from ._limits import Limits
 from .errors import (DocumentRefused, LibraryMissing, MacroRing, NumberOverflow, OutOfMemory,
-                     TooDeep, TooManyElements)
+                     TooDeep, TooManyElements, Unsettled)
 
 HERE = os.path.dirname(os.path.abspath(__file__))
 NAME = 'libgamhilon.so'
@@ -21,6 +21,7 @@ OK, BUFFER_TOO_SMALL = 0, 6
 FAULT_BUFFER = 4096
 # Calls that older libraries of the same name lack.
 DRIVE, DRIVE_FAULT = 'gamhilon_drive', 'gamhilon_find_driven_fault'
+CITE, CITE_FAULT = 'gamhilon_cite', 'gamhilon_find_cite_fault'
 
 
 class RingLocation(ctypes.Structure):
@@ -28,6 +29,20 @@ class RingLocation(ctypes.Structure):
 
     _fields_ = [('of_bibliography', ctypes.c_size_t), ('request', ctypes.c_size_t),
                 ('macro_index', ctypes.c_size_t)]
+
+
+class CiteTexts(NamedTuple):
+    """The texts of a document in a style file, as gamhilon_cite takes them."""
+
+    style: bytes
+    locales: bytes
+    items: bytes
+    citations: bytes
+    options: bytes
+
+    def arguments(self) -> List[Any]:
+        """Each text and its length."""
+        return [argument for text in self for argument in (text, len(text))]
 
 
 class Library:
@@ -60,6 +75,28 @@ class Library:
             raise self._refusal(status, document)
         return text
 
+    def cite(self, texts: CiteTexts, buffer_length: Optional[int] = None) -> bytes:
+        """The JSON of what comes of a document in a style file. Raises LibraryMissing where the
+        library is older than this call, and DocumentRefused, with no place, where a text is
+        wrong: `find_cite_fault` tells the place."""
+        if buffer_length is None:
+            buffer_length = 8 * (len(texts.items) + len(texts.citations)) + 4096
+        function = self._newer(CITE)
+        status, text = _filled(lambda *buffer: function(*texts.arguments(), *buffer), buffer_length)
+        if status == DocumentRefused.status:
+            raise DocumentRefused('a text of the document is wrong', '', 'a fault', 'none')
+        if status != OK:
+            raise self._refusal(status, b'')
+        return text
+
+    def find_cite_fault(self, texts: CiteTexts) -> bytes:
+        """The JSON of what is wrong and odd in a document in a style file."""
+        function = self._newer(CITE_FAULT)
+        status, text = _filled(lambda *buffer: function(*texts.arguments(), *buffer), FAULT_BUFFER)
+        if status != OK:
+            raise self._refusal(status, b'')
+        return text
+
     def check(self, document: bytes) -> None:
         """Raises what `render` would raise, and gives nothing where there is an answer."""
         status, _ = self._ring(document)
@@ -85,16 +122,8 @@ class Library:
         return text
 
     def _called(self, function: Any, document: bytes, buffer_length: int) -> Tuple[int, bytes]:
-        """The status of a call, and what it put into its buffer, which grows where it is too
-        small."""
-        length = ctypes.c_size_t(buffer_length)
-        while True:
-            # (of a bytearray only what is written takes memory)
-            buffer = bytearray(max(length.value, 1))
-            shared = (ctypes.c_char * len(buffer)).from_buffer(buffer)
-            status = function(document, len(document), shared, length.value, ctypes.byref(length))
-            if status != BUFFER_TOO_SMALL:
-                return status, bytes(memoryview(buffer)[:length.value]) if status == OK else b''
+        """The status of a call with a document, and what it put into its buffer."""
+        return _filled(lambda *buffer: function(document, len(document), *buffer), buffer_length)
 
     def _newer(self, name: str) -> Any:
         """A call that the library has unless it is older than the call."""
@@ -117,6 +146,8 @@ class Library:
             return NumberOverflow("the citation numbers don't fit 64 bits")
         if status == OutOfMemory.status:
             return OutOfMemory('memory was refused')
+        if status == Unsettled.status:
+            return Unsettled("the cites can't be disambiguated")
         return RuntimeError(f'{NAME} ended a call with status {status}, '
                             'which this package does not know')
 
@@ -140,6 +171,18 @@ class Library:
         return MacroRing(message, None if ring.of_bibliography else ring.request, ring.macro_index)
 
 
+def _filled(call: Callable[..., int], buffer_length: int) -> Tuple[int, bytes]:
+    """The status of a call, and what it put into its buffer, which grows where it is too small."""
+    length = ctypes.c_size_t(buffer_length)
+    while True:
+        # (of a bytearray only what is written takes memory)
+        buffer = bytearray(max(length.value, 1))
+        shared = (ctypes.c_char * len(buffer)).from_buffer(buffer)
+        status = call(shared, length.value, ctypes.byref(length))
+        if status != BUFFER_TOO_SMALL:
+            return status, bytes(memoryview(buffer)[:length.value]) if status == OK else b''
+
+
 def path() -> str:
     """Where the library is looked for: the first of the places that has it, or the first of all."""
     named = os.environ.get('GAMHILON_LIBRARY')
@@ -157,16 +200,19 @@ def _loaded() -> ctypes.CDLL:
         texts = [library.gamhilon_render_text, library.gamhilon_render_json,
                  library.gamhilon_find_fault]
         texts += [getattr(library, name) for name in (DRIVE, DRIVE_FAULT) if hasattr(library, name)]
+        cites = [getattr(library, name) for name in (CITE, CITE_FAULT) if hasattr(library, name)]
         rings, limits = [library.gamhilon_find_ring], [library.gamhilon_check_limits]
     except (OSError, AttributeError) as error:
         raise LibraryMissing(f'{error}: install the wheel of gamhilon, build {NAME} by '
                              'embed/build.py, or name it in the environment as '
                              'GAMHILON_LIBRARY') from error
     given: List[Any] = [ctypes.c_char_p, ctypes.c_size_t]
+    buffer = [ctypes.c_void_p, ctypes.c_size_t, ctypes.POINTER(ctypes.c_size_t)]
     for function in texts:
-        function.restype = ctypes.c_uint32
-        function.argtypes = [*given, ctypes.c_void_p, ctypes.c_size_t,
-                             ctypes.POINTER(ctypes.c_size_t)]
+        function.restype, function.argtypes = ctypes.c_uint32, [*given, *buffer]
+    for function in cites:
+        arguments = len(CiteTexts._fields) * given
+        function.restype, function.argtypes = ctypes.c_uint32, [*arguments, *buffer]
     for function in rings:
         function.restype, function.argtypes = ctypes.c_uint32, [*given, ctypes.POINTER(RingLocation)]
     for function in limits:

@@ -1,10 +1,11 @@
 """The answer to a document, as values."""
 from __future__ import annotations
 
-from dataclasses import dataclass
-from typing import Any, Dict, List, Optional, Union
+from dataclasses import dataclass, field
+from typing import Any, Dict, List, Optional, Sequence, Union
 
 from . import _deep_json
+from .texts import TextWarning
 
 __all__ = ['Answer', 'Bibliography', 'Citation', 'Item', 'Node', 'Tree', 'plain']
 
@@ -47,25 +48,26 @@ class Bibliography:
 @dataclass(frozen=True)
 class Answer:
     """A citation for each request, in the order of the requests, and the bibliography, if the style
-    has one."""
+    has one. Of `gamhilon.cite` also what it reads otherwise than it stands in its texts."""
 
     citations: List[Citation]
     bibliography: Optional[Bibliography] = None
+    warnings: List[TextWarning] = field(default_factory=list)
 
 
-def answer_of(text: str) -> Answer:
+def answer_of(text: str, warnings: Sequence[TextWarning] = ()) -> Answer:
     """The answer of which this is the JSON (docs/ANSWER.md)."""
-    return answer_of_value(_deep_json.loads(text))
+    return answer_of_value(_deep_json.loads(text), warnings)
 
 
-def answer_of_value(said: Dict[str, Any]) -> Answer:
+def answer_of_value(said: Dict[str, Any], warnings: Sequence[TextWarning] = ()) -> Answer:
     """The answer that a value says, as JSON reads it."""
     citations = [Citation(**citation) for citation in said['citations']]
     if 'bibliography' not in said:
-        return Answer(citations)
+        return Answer(citations, None, list(warnings))
     settings: Dict[str, Any] = dict(said['bibliography'])
     settings['items'] = [Item(**item) for item in settings['items']]
-    return Answer(citations, Bibliography(**settings))
+    return Answer(citations, Bibliography(**settings), list(warnings))
 
 
 def tree_of(part: Union[Citation, Node, Tree]) -> Tree:

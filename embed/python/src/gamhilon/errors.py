@@ -1,11 +1,13 @@
 """Why there is no answer."""
 from __future__ import annotations
 
-from typing import Optional
+from typing import List, Optional
+
+from .texts import TextFault, TextWarning
 
 __all__ = [
     'DocumentRefused', 'LibraryMissing', 'LimitExceeded', 'MacroRing', 'NumberOverflow',
-    'OutOfMemory', 'Refused', 'TooDeep', 'TooManyElements',
+    'OutOfMemory', 'Refused', 'TextRefused', 'TooDeep', 'TooManyElements', 'Unsettled',
 ]
 
 
@@ -31,6 +33,23 @@ class DocumentRefused(Refused, ValueError):
 
     def __str__(self) -> str:
         return str(self.args[0])
+
+
+class TextRefused(Refused, ValueError):
+    """A text of `gamhilon.cite` is wrong.
+
+    `fault` is the first thing that is wrong, with its place; `warnings` has what is read otherwise
+    than it stands in the texts before it.
+    """
+
+    status = 2
+
+    def __init__(self, fault: TextFault, warnings: List[TextWarning]) -> None:
+        super().__init__(fault, warnings)
+        self.fault, self.warnings = fault, warnings
+
+    def __str__(self) -> str:
+        return str(self.fault)
 
 
 class MacroRing(Refused, ValueError):
@@ -77,6 +96,12 @@ class TooManyElements(LimitExceeded):
     """A layout has more elements than the limit."""
 
     status = 8
+
+
+class Unsettled(Refused, RuntimeError):
+    """The cites of a document can't be told apart: what the driver asks for has no end."""
+
+    status = 9
 
 
 class LibraryMissing(OSError):

@@ -1,0 +1,57 @@
+"""The call for citations by a style file."""
+from __future__ import annotations
+
+import json
+from typing import Any, Dict, List, Optional, Sequence, Union
+
+from ._library import CiteTexts, library
+from .answer import Answer, answer_of
+from .errors import DocumentRefused, OutOfMemory, TextRefused
+from .texts import TextFault, findings_of
+
+__all__ = ['Json', 'cite_texts', 'texts_of']
+
+Json = Union[List[Any], Dict[str, Any], str, bytes]
+"""JSON: the value, or its text."""
+
+
+def texts_of(style: Union[str, bytes], items: Json, citations: Json, locales: Sequence[str],
+             locale: Optional[str], nocite: bool) -> CiteTexts:
+    """The texts of the call. Raises TextRefused where one can't be written as JSON."""
+    options: Dict[str, Any] = {'nocite': True} if nocite else {}
+    if locale is not None:
+        options['locale'] = locale
+    return CiteTexts(style=_bytes_of(style), locales=_json_of('locales', list(locales)),
+                     items=_json_of('items', items), citations=_json_of('citations', citations),
+                     options=_json_of('options', options))
+
+
+def cite_texts(texts: CiteTexts) -> Answer:
+    """The answer to these texts, with what is odd in them."""
+    try:
+        text = library().cite(texts)
+    except DocumentRefused:
+        raise _refusal(texts) from None
+    _, warnings = findings_of(json.loads(library().find_cite_fault(texts)))
+    return answer_of(text.decode(), warnings)
+
+
+def _refusal(texts: CiteTexts) -> Exception:
+    """What is wrong with these texts."""
+    fault, warnings = findings_of(json.loads(library().find_cite_fault(texts)))
+    return OutOfMemory('memory was refused') if fault is None else TextRefused(fault, warnings)
+
+
+def _bytes_of(text: Union[str, bytes]) -> bytes:
+    """The bytes of a text. Half of a surrogate pair becomes what the library refuses."""
+    return text if isinstance(text, bytes) else text.encode('utf-8', 'surrogatepass')
+
+
+def _json_of(file: str, value: Json) -> bytes:
+    if isinstance(value, (str, bytes)):
+        return _bytes_of(value)
+    try:
+        return json.dumps(value).encode()
+    except RecursionError:
+        message = 'a value that nests deeper than 127 levels'
+        raise TextRefused(TextFault(file, message), []) from None

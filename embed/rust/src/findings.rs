@@ -1,0 +1,200 @@
+//! The JSON of findings, read.
+use crate::texts::{Findings, TextFault, TextPlace, TextRemark};
+
+/// What of JSON findings have.
+enum Value {
+    Text(String),
+    Number(usize),
+    List(Vec<Value>),
+    Object(Vec<(String, Value)>),
+}
+
+impl Value {
+    fn member(&self, key: &str) -> Option<&Value> {
+        match self {
+            Value::Object(members) => members.iter().find(|member| member.0 == key).map(|member| &member.1),
+            _ => None,
+        }
+    }
+
+    fn text(&self, key: &str) -> Option<String> {
+        match self.member(key)? {
+            Value::Text(text) => Some(text.clone()),
+            _ => None,
+        }
+    }
+
+    fn number(&self, key: &str) -> Option<usize> {
+        match self.member(key)? {
+            Value::Number(number) => Some(*number),
+            _ => None,
+        }
+    }
+}
+
+/// What this JSON says.
+pub(crate) fn findings_of(json: &str) -> Option<Findings> {
+    let mut reader = Reader { rest: json };
+    let value = reader.value()?;
+    if !reader.rest.is_empty() {
+        return None;
+    }
+    let fault = match value.member("fault") {
+        Some(fault) => Some(fault_of(fault)?),
+        None => None,
+    };
+    let warnings = match value.member("warnings")? {
+        Value::List(items) => items.iter().map(remark_of).collect::<Option<Vec<_>>>()?,
+        _ => return None,
+    };
+    Some(Findings { fault, warnings })
+}
+
+fn fault_of(value: &Value) -> Option<TextFault> {
+    Some(TextFault {
+        remark: remark_of(value)?,
+        parent: value.text("parent"),
+        parent_locale: value.text("parent_locale"),
+    })
+}
+
+fn remark_of(value: &Value) -> Option<TextRemark> {
+    let place = match (value.number("line"), value.number("column"), value.text("pointer")) {
+        (Some(line), Some(column), _) => TextPlace::Line { line, column },
+        (_, _, Some(pointer)) => TextPlace::Pointer(pointer),
+        _ => TextPlace::Whole,
+    };
+    Some(TextRemark { file: value.text("file")?, place, message: value.text("message")? })
+}
+
+/// Reads compact JSON, as the library writes it.
+struct Reader<'t> {
+    rest: &'t str,
+}
+
+impl Reader<'_> {
+    fn value(&mut self) -> Option<Value> {
+        match self.rest.chars().next()? {
+            '"' => Some(Value::Text(self.text()?)),
+            '[' => Some(Value::List(self.items('[', ']', Reader::value)?)),
+            '{' => Some(Value::Object(self.items('{', '}', Reader::pair)?)),
+            _ => self.number(),
+        }
+    }
+
+    /// Whether this character comes next, which is read then.
+    fn takes(&mut self, wanted: char) -> bool {
+        match self.rest.strip_prefix(wanted) {
+            Some(rest) => {
+                self.rest = rest;
+                true
+            }
+            None => false,
+        }
+    }
+
+    /// What stands between brackets, with commas between.
+    fn items<T>(&mut self, open: char, close: char, item: fn(&mut Self) -> Option<T>) -> Option<Vec<T>> {
+        let mut items = Vec::new();
+        if !self.takes(open) {
+            return None;
+        }
+        if self.takes(close) {
+            return Some(items);
+        }
+        loop {
+            items.push(item(self)?);
+            if self.takes(close) {
+                return Some(items);
+            }
+            if !self.takes(',') {
+                return None;
+            }
+        }
+    }
+
+    fn pair(&mut self) -> Option<(String, Value)> {
+        let key = self.text()?;
+        if self.takes(':') {
+            Some((key, self.value()?))
+        } else {
+            None
+        }
+    }
+
+    fn number(&mut self) -> Option<Value> {
+        let length = self.rest.bytes().take_while(u8::is_ascii_digit).count();
+        let (digits, rest) = self.rest.split_at(length);
+        self.rest = rest;
+        Some(Value::Number(digits.parse().ok()?))
+    }
+
+    fn text(&mut self) -> Option<String> {
+        let mut text = String::new();
+        if !self.takes('"') {
+            return None;
+        }
+        loop {
+            let c = self.next_char()?;
+            match c {
+                '"' => return Some(text),
+                '\\' => text.push(self.escaped()?),
+                c => text.push(c),
+            }
+        }
+    }
+
+    fn next_char(&mut self) -> Option<char> {
+        let mut chars = self.rest.chars();
+        let c = chars.next()?;
+        self.rest = chars.as_str();
+        Some(c)
+    }
+
+    /// The character of an escape. Only control characters are written by their numbers.
+    fn escaped(&mut self) -> Option<char> {
+        match self.next_char()? {
+            'n' => Some('\n'),
+            't' => Some('\t'),
+            'r' => Some('\r'),
+            'b' => Some('\u{8}'),
+            'f' => Some('\u{c}'),
+            'u' => {
+                let digits = self.rest.get(..4)?;
+                self.rest = &self.rest[4..];
+                char::from_u32(u32::from_str_radix(digits, 16).ok()?)
+            }
+            c => Some(c),
+        }
+    }
+}
+
+#[cfg(test)]
+mod tests {
+    use super::*;
+
+    fn remark(file: &str, place: TextPlace, message: &str) -> TextRemark {
+        TextRemark { file: file.to_string(), place, message: message.to_string() }
+    }
+
+    #[test]
+    fn what_the_library_writes_is_read() {
+        let json = r#"{"fault":{"file":"style","message":"it stands \"for\"\u0001\n","parent":"p","parent_locale":"de"},
+            "warnings":[{"column":2,"file":"locales/0","line":1,"message":"ä"},{"file":"items","message":"","pointer":"/0/a"}]}"#;
+        let json = json.replace("\n            ", "");
+        let findings = findings_of(&json).expect("findings");
+        let fault = findings.fault.expect("a fault");
+        assert_eq!(fault.remark, remark("style", TextPlace::Whole, "it stands \"for\"\u{1}\n"));
+        assert_eq!((fault.parent.as_deref(), fault.parent_locale.as_deref()), (Some("p"), Some("de")));
+        let places = [TextPlace::Line { line: 1, column: 2 }, TextPlace::Pointer("/0/a".to_string())];
+        let [first, second] = places;
+        assert_eq!(findings.warnings, [remark("locales/0", first, "ä"), remark("items", second, "")]);
+    }
+
+    #[test]
+    fn what_is_no_such_json_has_no_findings() {
+        for json in ["", "{", "{}", "[]", "{\"warnings\":[}", "{\"warnings\":[]}x", "{\"warnings\":[{\"file\":1}]}"] {
+            assert_eq!(findings_of(json), None, "{json}");
+        }
+    }
+}

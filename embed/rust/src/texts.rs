@@ -1,0 +1,229 @@
+//! Citations and a bibliography by a style file.
+use crate::findings::findings_of;
+use crate::{buffer_of, Refusal};
+use std::fmt;
+
+type TextCall = unsafe extern "C" fn(
+    *const u8,
+    usize,
+    *const u8,
+    usize,
+    *const u8,
+    usize,
+    *const u8,
+    usize,
+    *const u8,
+    usize,
+    *mut u8,
+    usize,
+    *mut usize,
+) -> u32;
+
+extern "C" {
+    fn gamhilon_cite(
+        style: *const u8,
+        style_length: usize,
+        locales: *const u8,
+        locales_length: usize,
+        items: *const u8,
+        items_length: usize,
+        citations: *const u8,
+        citations_length: usize,
+        options: *const u8,
+        options_length: usize,
+        buffer: *mut u8,
+        buffer_length: usize,
+        needed: *mut usize,
+    ) -> u32;
+    fn gamhilon_find_cite_fault(
+        style: *const u8,
+        style_length: usize,
+        locales: *const u8,
+        locales_length: usize,
+        items: *const u8,
+        items_length: usize,
+        citations: *const u8,
+        citations_length: usize,
+        options: *const u8,
+        options_length: usize,
+        buffer: *mut u8,
+        buffer_length: usize,
+        needed: *mut usize,
+    ) -> u32;
+}
+
+/// The texts of a call, as gamhilon.h tells them. Locales and options may be empty.
+#[derive(Debug, Clone, Copy, Default)]
+pub struct Texts<'t> {
+    /// A style file of CSL 1.0.2 that stands for itself.
+    pub style: &'t [u8],
+    /// A JSON list of the texts of locale files. American English is built in.
+    pub locales: &'t [u8],
+    /// CSL-JSON (docs/REFERENCES.md).
+    pub items: &'t [u8],
+    /// A JSON list of citations, which are lists of cites (docs/WRITER.md).
+    pub citations: &'t [u8],
+    /// A JSON object: `locale`, a language tag, and `nocite`, whether items that aren't cited are listed.
+    pub options: &'t [u8],
+}
+
+/// Where in a text something is.
+#[derive(Debug, Clone, PartialEq, Eq)]
+pub enum TextPlace {
+    /// In the text as a whole.
+    Whole,
+    /// At this line and this column, both from 1.
+    Line { line: usize, column: usize },
+    /// At the part of its JSON to which this JSON Pointer leads.
+    Pointer(String),
+}
+
+/// Something that is wrong or odd in a text.
+#[derive(Debug, Clone, PartialEq, Eq)]
+pub struct TextRemark {
+    /// The text: `style`, `locales`, `locales/0` for the first locale file, `items`, `citations` or `options`.
+    pub file: String,
+    pub place: TextPlace,
+    /// What it is, for people.
+    pub message: String,
+}
+
+/// What is wrong with a text.
+#[derive(Debug, Clone, PartialEq, Eq)]
+pub struct TextFault {
+    pub remark: TextRemark,
+    /// The link to the style that is to be given in place of one that stands for it.
+    pub parent: Option<String>,
+    /// The language to be asked for then.
+    pub parent_locale: Option<String>,
+}
+
+/// What is wrong and odd in texts.
+#[derive(Debug, Clone, PartialEq, Eq)]
+pub struct Findings {
+    pub fault: Option<TextFault>,
+    /// What is read otherwise than it stands in the texts, up to the fault.
+    pub warnings: Vec<TextRemark>,
+}
+
+/// Why there are no citations.
+#[derive(Debug, Clone, PartialEq, Eq)]
+pub enum CiteError {
+    /// A text is wrong.
+    Text(Box<TextFault>),
+    /// Another reason: `NumberOverflow`, `OutOfMemory`, `Unsettled` or `Unknown`.
+    Refused(Refusal),
+}
+
+impl CiteError {
+    /// The status of gamhilon.h.
+    pub fn status(&self) -> u32 {
+        match self {
+            CiteError::Text(_) => Refusal::Document.status(),
+            CiteError::Refused(refusal) => refusal.status(),
+        }
+    }
+}
+
+impl From<Refusal> for CiteError {
+    fn from(refusal: Refusal) -> CiteError {
+        CiteError::Refused(refusal)
+    }
+}
+
+impl fmt::Display for TextRemark {
+    fn fmt(&self, f: &mut fmt::Formatter<'_>) -> fmt::Result {
+        let TextRemark { file, place, message } = self;
+        match place {
+            TextPlace::Whole => write!(f, "{file}: {message}"),
+            TextPlace::Line { line, column } => write!(f, "{file}:{line}:{column}: {message}"),
+            TextPlace::Pointer(pointer) => write!(f, "{file}: {pointer}: {message}"),
+        }
+    }
+}
+
+impl fmt::Display for CiteError {
+    fn fmt(&self, f: &mut fmt::Formatter<'_>) -> fmt::Result {
+        match self {
+            CiteError::Text(fault) => write!(f, "{}", fault.remark),
+            CiteError::Refused(refusal) => write!(f, "{refusal}"),
+        }
+    }
+}
+
+impl std::error::Error for CiteError {}
+
+/// The citations and the bibliography of texts as JSON (docs/ANSWER.md).
+///
+/// ```no_run
+/// let style = std::fs::read("examples/styles/author-date.csl").unwrap();
+/// let texts = gamhilon::Texts {
+///     style: &style,
+///     items: br#"[{"id": "doe99", "type": "book", "title": "On Order", "issued": {"date-parts": [[1999]]}}]"#,
+///     citations: br#"[[{"id": "doe99", "locator": "4"}]]"#,
+///     ..gamhilon::Texts::default()
+/// };
+/// match gamhilon::cite(&texts) {
+///     Ok(json) => println!("{json}"),
+///     Err(error) => eprintln!("{error}"),
+/// }
+/// ```
+///
+/// What is odd in the texts is told by `find_cite_fault`.
+pub fn cite(texts: &Texts<'_>) -> Result<String, CiteError> {
+    let needed = texts.items.len().saturating_add(texts.citations.len()).saturating_mul(8).saturating_add(1 << 16);
+    match text_by(gamhilon_cite, texts, needed) {
+        Err(Refusal::Document) => Err(fault_of(texts)),
+        Err(refusal) => Err(CiteError::Refused(refusal)),
+        Ok(json) => Ok(json),
+    }
+}
+
+/// What is wrong and odd in texts. Writes no citation.
+pub fn find_cite_fault(texts: &Texts<'_>) -> Result<Findings, Refusal> {
+    let json = text_by(gamhilon_find_cite_fault, texts, 1 << 12)?;
+    findings_of(&json).ok_or(Refusal::Unknown(0))
+}
+
+/// The error of texts that are refused.
+fn fault_of(texts: &Texts<'_>) -> CiteError {
+    match find_cite_fault(texts) {
+        Ok(Findings { fault: Some(fault), .. }) => CiteError::Text(Box::new(fault)),
+        Ok(Findings { fault: None, .. }) => CiteError::Refused(Refusal::Unknown(2)),
+        Err(refusal) => CiteError::Refused(refusal),
+    }
+}
+
+/// What a call puts into its buffer, which has `needed` bytes at first, and as many as are needed then.
+fn text_by(call: TextCall, texts: &Texts<'_>, mut needed: usize) -> Result<String, Refusal> {
+    let Texts { style, locales, items, citations, options } = *texts;
+    loop {
+        let mut buffer = buffer_of(needed)?;
+        // SAFETY: slices are valid for their lengths, and the buffer and the length don't overlap with them.
+        let status = unsafe {
+            call(
+                style.as_ptr(),
+                style.len(),
+                locales.as_ptr(),
+                locales.len(),
+                items.as_ptr(),
+                items.len(),
+                citations.as_ptr(),
+                citations.len(),
+                options.as_ptr(),
+                options.len(),
+                buffer.as_mut_ptr(),
+                buffer.len(),
+                &mut needed,
+            )
+        };
+        match status {
+            0 => {
+                buffer.truncate(needed);
+                return Ok(String::from_utf8(buffer).expect("an answer is UTF-8"));
+            }
+            6 => continue,
+            status => return Err(Refusal::of_texts(status)),
+        }
+    }
+}
