@@ -1,9 +1,7 @@
 //! Text that goes into the caller's buffer.
 ghost use Rattle.std.specs.Prelude.{◌≡◌, length};
 ghost use Rattle.gamhilon_c.specs.Called.{HandsOut, PlacesText};
-ghost use Rattle.gamhilon_c.specs.OfTexts.{HandsOutOfTexts};
 
-use cite_call::error::CallError;
 use cite_document::error::RunError;
 
 /// The buffer begins with the text, or there is nothing to refuse.
@@ -13,7 +11,7 @@ pub(crate) const ANSWERED: u32 = 0;
 const BUFFER_TOO_SMALL: u32 = 6;
 
 /// Puts the text at the beginning of the buffer, if the buffer is as long, and tells its length.
-fn place(text: &[u8], buffer: &mut [u8], needed: &mut usize) -> u32
+pub(crate) fn place(text: &[u8], buffer: &mut [u8], needed: &mut usize) -> u32
     ensures { PlacesText text.now result buffer.old buffer.new needed.new }
 {
     let length = text.len();
@@ -32,24 +30,6 @@ pub(crate) fn hand_out(
     needed: &mut usize,
 ) -> u32
     ensures { HandsOut text.now result buffer.old buffer.new needed.new }
-{
-    match text {
-        Ok(text) => place(text.as_bytes(), buffer, needed),
-        Err(error) => {
-            *needed = 0;
-            u32::from(error.status())
-        }
-    }
-}
-
-/// Puts what comes of texts into the buffer, if there is something and the buffer is as long, and
-/// tells its length.
-pub(crate) fn hand_out_of_texts(
-    text: &Result<String, CallError>,
-    buffer: &mut [u8],
-    needed: &mut usize,
-) -> u32
-    ensures { HandsOutOfTexts text.now result buffer.old buffer.new needed.new }
 {
     match text {
         Ok(text) => place(text.as_bytes(), buffer, needed),

@@ -6,6 +6,7 @@
 
 mod buffer;
 mod ring;
+mod texts;
 
 ghost use Rattle.json_document.specs.Faults.{value_in};
 ghost use Rattle.json_document.specs.Form.{form};
@@ -19,8 +20,9 @@ ghost use Rattle.gamhilon_c.specs.KeepsLimits.{KeepsLimits};
 ghost use Rattle.gamhilon_c.specs.OfTexts.{HandsText, IsCiteStatus, IsFaultStatus};
 ghost use Rattle.gamhilon_c.specs.Ring.{FindsRing};
 
-use crate::buffer::{ANSWERED, hand_out, hand_out_of_texts};
+use crate::buffer::{ANSWERED, hand_out};
 use crate::ring::{GamhilonRing, hand_out_ring};
+use crate::texts::hand_out_of_texts;
 use cite_call::calling::{cite, find_fault};
 use cite_call::texts::CallTexts;
 use cite_document::faults::print_fault_bytes;

@@ -214,7 +214,8 @@ def _loaded() -> ctypes.CDLL:
         arguments = len(CiteTexts._fields) * given
         function.restype, function.argtypes = ctypes.c_uint32, [*arguments, *buffer]
     for function in rings:
-        function.restype, function.argtypes = ctypes.c_uint32, [*given, ctypes.POINTER(RingLocation)]
+        function.restype = ctypes.c_uint32
+        function.argtypes = [*given, ctypes.POINTER(RingLocation)]
     for function in limits:
         function.restype = ctypes.c_uint32
         function.argtypes = [*given, ctypes.c_size_t, ctypes.c_size_t]
