@@ -92,6 +92,30 @@ def try_help(program):
         raise Failed('--version: status %d, %r, %r' % (status, out, error))
 
 
+def plain(tree):
+    """The texts of a tree of docs/ANSWER.md."""
+    return ''.join(plain(node['children']) if 'children' in node else node['text'] for node in tree)
+
+
+def try_json(program):
+    """Either command prints the whole answer as JSON."""
+    italics = {'font_style': 'italic', 'font_weight': 'normal', 'font_variant': 'small-caps', 'text': 'A “b”'}
+    items = [{'content': [italics], 'key': 'a'}]
+    listed = {'entry_spacing': 0, 'hanging_indent': False, 'items': items, 'line_spacing': 2, 'second_field_align': 'flush'}
+    section = ('<bibliography line-spacing="2" entry-spacing="0" second-field-align="flush"><layout>'
+               '<text variable="title" font-style="italic" font-variant="small-caps"/></layout></bibliography></style>')
+    files = {'s.csl': STYLE.replace('</style>', section), 'r.json': REFERENCES.replace('"A"', '"A \\"b\\""'), 'c.json': CITATIONS}
+    for verb in ('cite', 'bibliography'):
+        with tempfile.TemporaryDirectory(prefix='writer-') as folder:
+            written(folder, files)
+            status, out, error = ended(program, verb, '--style', 's.csl', '--to', 'json', 'r.json', 'c.json', cwd=folder)
+        if status or error or out.count('\n') != 1:
+            raise Failed('%s: status %d, %r, %s' % (verb, status, out, error))
+        answer = json.loads(out)
+        if [plain(citation['content']) for citation in answer['citations']] != ['A “b”'] or answer['bibliography'] != listed:
+            raise Failed('%s: %r' % (verb, answer))
+
+
 # The styles of examples/styles
 
 
@@ -154,7 +178,7 @@ def refused_in_turn(program, verb):
 
 
 def tests_of(program):
-    tests = [('help', try_help)]
+    tests = [('help', try_help), ('JSON', try_json)]
     tests += [('case: ' + case.name, try_case, case) for case in CASES]
     tests += [('fault: ' + fault.name, try_fault, fault) for fault in FAULTS]
     tests += [('style: ' + os.path.basename(path), try_check, path) for path in pandoc.STYLES]
