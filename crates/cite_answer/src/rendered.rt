@@ -67,9 +67,9 @@ fn shown_tree(
     marks: QuoteMarks<'_>,
 ) -> Result<ElemChildren, AllocError> {
     let stream = with_marks(alloc, pieces, marks)?;
-    let mut tree = tree_of(alloc, stream, TextFormatting::NORMAL, &[])?;
-    tree.simplify_children()?;
-    Ok(tree)
+    let mut children = tree_of(alloc, stream, TextFormatting::NORMAL, &[])?;
+    children.simplify_children()?;
+    Ok(children)
 }
 
 /// The node of a stream.

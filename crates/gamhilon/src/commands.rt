@@ -82,7 +82,7 @@ fn citations_of(
             count: 0,
         });
     };
-    let mut citations = read_at(rt, path)?;
+    let mut citations = shown_citations(rt, path)?;
     let count = citations.len();
     number_notes(rt.alloc(), &mut citations)?;
     if options.lists_uncited {
@@ -93,7 +93,7 @@ fn citations_of(
 }
 
 /// The citations in a file. What is odd in them is printed.
-fn read_at(
+fn shown_citations(
     rt: &(impl Files + Input + Eprint + AllocGlobal),
     path: &str,
 ) -> Result<Vec<Citation>, CommandError> {

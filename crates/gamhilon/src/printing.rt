@@ -79,7 +79,7 @@ pub(crate) fn print_bibliography(
             print_list(rt, items, marks)?;
             Ok(println!(rt; "{PAGE_END}")?)
         }
-        format => print_items(rt, format, items, marks),
+        _ => print_items(rt, options.format, items, marks),
     }
 }
 
