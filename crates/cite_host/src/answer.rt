@@ -43,7 +43,8 @@ pub struct Document<'d> {
 /// What comes of a document.
 #[derive(Drop)]
 pub struct Answer {
-    /// A citation for each of the document, in its order; empty where nothing of it shows.
+    /// A citation for each of the document, in its order; empty where nothing of it shows. Each
+    /// cite is marked as an entry, by its place in the citation of the document.
     pub citations: Vec<Pieces>,
     /// The bibliography; absent where the style has none.
     pub bibliography: Option<Vec<ListedItem>>,
@@ -63,6 +64,14 @@ pub struct ListedItem {
 struct Written {
     rendered: Rendered,
     suffixes: Vec<Vec<Option<ShownSuffix>>>,
+}
+
+/// What is known of the cites of a citation, by their places in its request.
+#[derive(Clone, Copy)]
+struct ShownCites<'w> {
+    /// Their places in the citation of the document.
+    places: &'w [usize],
+    suffixes: &'w [Option<ShownSuffix>],
 }
 
 /// How often the driver is asked at most.
@@ -86,7 +95,7 @@ impl<'d> Document<'d> {
         let items = Items::cited(alloc, setting, self.references, self.citations)?;
         let citations = sorted_citations(alloc, setting, &items, self.citations)?;
         let written = self.written(alloc, setting, &items, &citations)?;
-        self.finished(alloc, &written)
+        self.finished(alloc, &written, &citations)
     }
 
     /// What the driver answers, in styles of its own.
@@ -113,13 +122,21 @@ impl<'d> Document<'d> {
     }
 
     /// The answer as streams, with their punctuation in order.
-    fn finished(&self, alloc: Global, written: &Written) -> Result<Answer, AnswerError> {
+    fn finished(
+        &self,
+        alloc: Global,
+        written: &Written,
+        sorted: &[SortedCitation<'d>],
+    ) -> Result<Answer, AnswerError> {
         let rendered = &written.rendered;
         let mut citations = Vec::new(alloc);
         for (place, asked) in self.citations.iter().enumerate() {
             if let Some(citation) = rendered.citations.as_slice().get(place) {
-                let suffixes = suffixes_at(written, place);
-                citations.push(self.citation(alloc, citation, suffixes, asked)?)?;
+                let shown = ShownCites {
+                    places: places_at(sorted, place),
+                    suffixes: suffixes_at(written, place),
+                };
+                citations.push(self.citation(alloc, citation, shown, asked)?)?;
             }
         }
         let bibliography = match &rendered.bibliography {
@@ -137,13 +154,13 @@ impl<'d> Document<'d> {
         &self,
         alloc: Global,
         citation: &RenderedCitation,
-        suffixes: &[Option<ShownSuffix>],
+        shown: ShownCites<'_>,
         asked: &Citation,
     ) -> Result<Pieces, AllocError> {
         let collapse = self.style.citation.options.collapse;
         let is_ranged = collapse == Some(Collapse::YearSuffixRanged);
         let cites = cites_of(alloc, &citation.citation)?;
-        let stream = joined(alloc, cites, suffixes, is_ranged)?;
+        let stream = joined(alloc, cites, shown.places, shown.suffixes, is_ranged)?;
         let stream = self.enclosed(alloc, stream, asked)?;
         punctuated(alloc, stream, self.locale.has_punctuation_in_quotes())
     }
@@ -211,6 +228,14 @@ fn listed_item(
         first_field,
         content: punctuated(alloc, content, in_quotes)?,
     })
+}
+
+/// The places that the cites of a citation have in the document.
+fn places_at<'s>(sorted: &'s [SortedCitation<'_>], place: usize) -> &'s [usize] {
+    match sorted.get(place) {
+        Some(citation) => citation.places.as_slice(),
+        None => &[],
+    }
 }
 
 /// The suffixes that the cites of a citation show.

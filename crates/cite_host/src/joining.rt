@@ -1,4 +1,5 @@
 //! The cites of a citation are joined.
+use cite_pieces::piece::{Mark, Wrap};
 use cite_pieces::pieces::Pieces;
 use cite_trees::streams::CiteStream;
 use std::alloc::{AllocError, Global};
@@ -14,9 +15,10 @@ pub(crate) struct ShownSuffix {
 const RANGE: &str = "–";
 
 /// The stream of a citation: its cites, without those that are empty, and what stands between
-/// them, but before one that begins with a comma, a semicolon or a period. `suffixes` has those
-/// of the cites at their places; where `is_ranged`, three or more that follow each other are a
-/// range (CSL 1.0.2, `year-suffix-ranged`).
+/// them, but before one that begins with a comma, a semicolon or a period. Each is marked as an
+/// entry by what `places` has at its place. `suffixes` has those of the cites at their places; where
+/// `is_ranged`, three or more that follow each other are a range (CSL 1.0.2,
+/// `year-suffix-ranged`).
 ///
 /// # Errors
 ///
@@ -24,22 +26,23 @@ const RANGE: &str = "–";
 pub(crate) fn joined(
     alloc: Global,
     cites: Vec<CiteStream>,
+    places: &[usize],
     suffixes: &[Option<ShownSuffix>],
     is_ranged: bool,
 ) -> Result<Pieces, AllocError> {
-    let mut places = Vec::new(alloc);
+    let mut shown = Vec::new(alloc);
     for cite in &cites {
-        places.push(suffix_at(suffixes, cite.place))?;
+        shown.push(suffix_at(suffixes, cite.place))?;
     }
     let mut stream = Pieces::new(alloc);
     for (number, cite) in cites.into_iter().enumerate() {
         let CiteStream {
-            place: _,
+            place,
             before,
             cite,
         } = cite;
         let (rises, goes_on) = if is_ranged {
-            around(places.as_slice(), number)
+            around(shown.as_slice(), number)
         } else {
             (Rises::Not, false)
         };
@@ -51,7 +54,8 @@ pub(crate) fn joined(
         } else if !stream.has_no_text() && !begins_with_mark(&cite) {
             stream.push_pieces(before)?;
         }
-        stream.push_pieces(cite)?;
+        let place = places.get(place).copied().unwrap_or(place);
+        stream.push_wrapped(Wrap::Mark(Mark::Entry(place)), cite)?;
     }
     Ok(stream)
 }

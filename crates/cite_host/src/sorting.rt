@@ -11,6 +11,8 @@ use std::alloc::{AllocError, Global};
 #[derive(Drop)]
 pub(crate) struct SortedCitation<'d> {
     pub cites: Vec<&'d Cite>,
+    /// The places of the cites in the citation of the document.
+    pub places: Vec<usize>,
     pub note: usize,
 }
 
@@ -28,36 +30,37 @@ pub(crate) fn sorted_citations<'d>(
     let keys = setting.programs.citation_keys.as_slice();
     let mut sorted = Vec::new(alloc);
     for (number, citation) in citations.iter().enumerate() {
-        let cites = if keys.is_empty() {
-            all_cites(alloc, citation)?
+        let places = if keys.is_empty() {
+            own_places(alloc, citation)?
         } else {
-            cites_by_keys(alloc, setting, keys, items, citation)?
+            places_by_keys(alloc, setting, keys, items, citation)?
         };
         sorted.push(SortedCitation {
-            cites,
+            cites: cites_at(alloc, citation, places.as_slice())?,
+            places,
             note: citation.note.unwrap_or(number.saturating_add(1)),
         })?;
     }
     Ok(sorted)
 }
 
-/// The cites of a citation, in their order.
-fn all_cites<'d>(alloc: Global, citation: &'d Citation) -> Result<Vec<&'d Cite>, AllocError> {
-    let mut cites = Vec::new(alloc);
-    for cite in &citation.cites {
-        cites.push(cite)?;
+/// The places of the cites of a citation, in their order.
+fn own_places(alloc: Global, citation: &Citation) -> Result<Vec<usize>, AllocError> {
+    let mut places = Vec::new(alloc);
+    for (place, _) in citation.cites.iter().enumerate() {
+        places.push(place)?;
     }
-    Ok(cites)
+    Ok(places)
 }
 
-/// The cites of a citation, in the order of the keys.
-fn cites_by_keys<'s, 'd>(
+/// The places of the cites of a citation, in the order of the keys.
+fn places_by_keys<'s>(
     alloc: Global,
     setting: Setting<'s>,
     keys: &'s [Key<'s>],
-    items: &Items<'d>,
-    citation: &'d Citation,
-) -> Result<Vec<&'d Cite>, AllocError> {
+    items: &Items<'_>,
+    citation: &Citation,
+) -> Result<Vec<usize>, AllocError> {
     let mut facts = Vec::new(alloc);
     for cite in &citation.cites {
         let place = items.place(cite.id.as_str()).unwrap_or(0);
@@ -66,12 +69,20 @@ fn cites_by_keys<'s, 'd>(
             facts.push(first_cite(reference, cite.locator.as_ref(), number))?;
         }
     }
-    let places = sorted_places(alloc, setting.cite_keys(), keys, facts.as_slice())?;
-    let mut ordered = Vec::new(alloc);
+    sorted_places(alloc, setting.cite_keys(), keys, facts.as_slice())
+}
+
+/// The cites at these places of a citation.
+fn cites_at<'d>(
+    alloc: Global,
+    citation: &'d Citation,
+    places: &[usize],
+) -> Result<Vec<&'d Cite>, AllocError> {
+    let mut cites = Vec::new(alloc);
     for place in places {
-        if let Some(cite) = citation.cites.get(place) {
-            ordered.push(cite)?;
+        if let Some(cite) = citation.cites.get(*place) {
+            cites.push(cite)?;
         }
     }
-    Ok(ordered)
+    Ok(cites)
 }

@@ -137,7 +137,8 @@ impl Builder<'_> {
             Mark::Date(_) => ElemMeta::Date,
             Mark::CitationNumber => ElemMeta::CitationNumber,
             Mark::CitationLabel => ElemMeta::CitationLabel,
-            Mark::YearSuffix | Mark::Locator | Mark::Entry(_) | Mark::Other(_) => return Ok(None),
+            Mark::Entry(place) => ElemMeta::Entry(place),
+            Mark::YearSuffix | Mark::Locator | Mark::Other(_) => return Ok(None),
         };
         Ok(Some(meta))
     }
