@@ -128,7 +128,8 @@ uint32_t gamhilon_render_json(const uint8_t *document, size_t document_length,
  * citations together will mostly do. Give a thread that calls 512 KiB of stack. */
 
 /* Writes the citations and the bibliography, as JSON (docs/ANSWER.md). A style of notes tells the number of the
- * note of each citation. Quotes have their marks as text; of the values of `meta` there is that of a cite at most.
+ * note of each citation. Quotes have their marks as text. Of what an element was written for (`meta`) cites alone
+ * are told: each by its place in the citation that was handed in.
  *
  * Ends with GAMHILON_OK, GAMHILON_DOCUMENT_REFUSED, GAMHILON_NUMBER_OVERFLOW, GAMHILON_OUT_OF_MEMORY,
  * GAMHILON_BUFFER_TOO_SMALL or GAMHILON_UNSETTLED. That the text stands in the buffer is proved, and not which

@@ -1,27 +1,30 @@
 #!/usr/bin/env python3
-"""compare.py [--model] [--texts | --each N] [STYLE..]: published styles by Gamhilon, by citeproc-py alone, and by pandoc.
+"""compare.py [--program FILE] [--texts | --each N] [STYLE..]: published styles by Gamhilon and by
+pandoc.
 
-Renders the citations of citations.json, of the works of references.json, in each style (those of styles.json where none is
-named), and prints which of them read as pandoc's do, in the table of docs/STYLES.md; with --texts each text that doesn't, too.
-styles.json has by hand why citations differ, by the names of causes.json. The exit status is 1 where a citation differs and no
-cause is told, where one is told and nothing differs, and, where no style is named, where docs/STYLES.md doesn't have the
-citations, the table and the causes as they are here.
-With --each N nothing is compared: each N-th of the published styles is rendered, and those are told in which citeproc-py ends in an
-error, with Gamhilon and alone.
-It needs Debian's python3-citeproc, citation-style-language-styles and pandoc, and runs by Debian's Python. With --model the
-model of the driver stands in for the library.
+Writes the citations of citations.json, of the works of references.json, in each style (those of
+styles.json where none is named), by the program gamhilon and by `pandoc --citeproc`, and prints
+which of them read alike, in the table of docs/STYLES.md; with --texts each text that doesn't, too.
+styles.json has by hand why citations differ, by the names of causes.json. The exit status is 1
+where a citation differs and no cause is told, where one is told and nothing differs, and, where no
+style is named, where docs/STYLES.md doesn't have the citations, the table and the causes as they
+are here.
+With --each N nothing is compared: each N-th of the published styles writes the citations and the
+bibliography, and those are told in which that ends with another status than 0.
+It needs the program (crates/gamhilon/out/gamhilon, or --program), Debian's
+citation-style-language-styles and citation-style-language-locales, and, but for --each, pandoc.
 """
 import json
 import os
 import subprocess
 import sys
-import warnings
+import tempfile
 
 HERE = os.path.dirname(os.path.abspath(__file__))
 ROOT = os.path.normpath(f'{HERE}/../..')
-PROJECT = f'{ROOT}/embed/python'
+PROGRAM = f'{ROOT}/crates/gamhilon/out/gamhilon'
+STYLES = '/usr/share/citation-style-language/styles'
 LABELS = {'page': 'p.', 'chapter': 'chap.'}
-FAILED = 'citeproc-py fails: '
 QUOTES = {'DoubleQuote': '“”', 'SingleQuote': '‘’'}
 
 
@@ -41,7 +44,8 @@ def markdown(citation):
     """A citation as pandoc's Markdown has it."""
     cites = []
     for cite in citation:
-        locator = f', {{{LABELS[cite.get("label", "page")]} {cite["locator"]}}}' if 'locator' in cite else ''
+        label = LABELS[cite.get('label', 'page')]
+        locator = f', {{{label} {cite["locator"]}}}' if 'locator' in cite else ''
         sign = '-@' if cite.get('suppress-author') else '@'
         cites.append(f'{cite.get("prefix", "")}{sign}{cite["id"]}{locator}{cite.get("suffix", "")}')
     return f'[{"; ".join(cites)}]'
@@ -59,89 +63,53 @@ def shown(node):
     if kind == 'Quoted':
         opening, closing = QUOTES[content[0]['t']]
         return opening + shown(content[1]) + closing
-    if kind in ('Cite', 'Span', 'Div'):
-        return shown(content[1])
-    if kind == 'Link':
+    if kind in ('Cite', 'Span', 'Div', 'Link'):
         return shown(content[1])
     return shown(content)
 
 
-def by_pandoc(style, citations):
+def by_pandoc(path, citations):
+    """The texts of citations in a style, by pandoc."""
     text = '\n\n'.join(map(markdown, citations))
-    words = ['pandoc', '-f', 'markdown', '-t', 'json', '--citeproc', '--csl', style, '--bibliography', f'{HERE}/references.json',
-             '-M', 'suppress-bibliography=true']
+    words = ['pandoc', '-f', 'markdown', '-t', 'json', '--citeproc', '--csl', path,
+             '--bibliography', f'{HERE}/references.json', '-M', 'suppress-bibliography=true']
     done = subprocess.run(words, input=text, capture_output=True, text=True, check=True)
-    blocks = [it for it in json.loads(done.stdout)['blocks'] if it['t'] == 'Para']
-    return [normal(shown(it['c'])) for it in blocks[:len(citations)]]
-
-
-# citeproc-py alone
-
-def by_citeproc(style, entries, citations, lists_items=False):
-    """The texts, or what error a citation ended in."""
-    import citeproc
-    from citeproc.formatter import plain
-    from citeproc.source.json import CiteProcJSON
-    source = CiteProcJSON(json.loads(json.dumps(entries)))
-    bibliography = citeproc.CitationStylesBibliography(citeproc.CitationStylesStyle(style, validate=False), source, plain)
-    made = [citeproc.Citation([item(it) for it in citation]) for citation in citations]
-    for citation in made:
-        bibliography.register(citation)
-    if bibliography.style.has_bibliography():
-        bibliography.sort()
-    texts = [text_or_error(bibliography, it) for it in made]
-    if bibliography.style.has_bibliography() and lists_items:
-        bibliography.bibliography()
-    return texts
-
-
-def item(cite):
-    import citeproc
-    more = {key: cite[key] for key in ('prefix', 'suffix') if key in cite}
-    if 'locator' in cite:
-        more['locator'] = citeproc.Locator(cite.get('label', 'page'), cite['locator'])
-    return citeproc.CitationItem(cite['id'], **more)
-
-
-def text_or_error(bibliography, citation):
-    try:
-        return normal(str(bibliography.cite(citation, lambda it: None)))
-    except Exception as error:
-        return f'{FAILED}{type(error).__name__}'
+    blocks = [block for block in json.loads(done.stdout)['blocks'] if block['t'] == 'Para']
+    return [normal(shown(block['c'])) for block in blocks[:len(citations)]]
 
 
 # Gamhilon
 
-def by_gamhilon(style, entries, citations):
-    import gamhilon
-    return [normal(it) for it in gamhilon.csl.render(style, entries, citations).citations]
+def ran(program, verb, path, citations):
+    """What the program does with citations in a style."""
+    with tempfile.NamedTemporaryFile('w', suffix='.json', encoding='utf-8') as file:
+        json.dump(citations, file)
+        file.flush()
+        words = [program, verb, '--style', path, f'{HERE}/references.json', file.name]
+        return subprocess.run(words, capture_output=True, text=True, timeout=600)
 
 
-def use_model():
-    """Has the model answer the driven call, as the tests of the package do."""
-    sys.path.insert(0, f'{PROJECT}/tests')
-    from gamhilon import _library
-    from stand_ins import ModelOfTheDriver
-    _library._library = _library.Library(ModelOfTheDriver())
+def by_gamhilon(program, path, citations):
+    """The texts of citations in a style, by the program."""
+    done = ran(program, 'cite', path, citations)
+    if done.returncode:
+        sys.exit(f'compare.py: {path}: status {done.returncode}: {done.stderr}')
+    return [normal(line) for line in done.stdout.split('\n')[:len(citations)]]
 
 
-def fails(render, *given):
-    """Whether citeproc-py ends in an error, in a citation or in all of them together."""
-    try:
-        return any(it.startswith(FAILED) for it in render(*given))
-    except Exception:
-        return True
-
-
-def try_each(step, entries, citations):
-    """Renders each style of a sample, and tells in which citeproc-py fails."""
-    from gamhilon.csl.style import STYLES
-    names = sorted(it[:-len('.csl')] for it in os.listdir(STYLES) if it.endswith('.csl'))[::step]
-    driven = [it for it in names if fails(by_gamhilon, it, entries, citations)]
-    alone = [it for it in names if fails(by_citeproc, f'{STYLES}/{it}.csl', entries, citations, True)]
-    print(f'{len(names)} styles; citeproc-py fails in {len(driven)} with Gamhilon: {", ".join(driven)}')
-    print(f'and in {len(alone)} alone: {", ".join(alone)}')
-    return 0
+def try_each(program, step, citations):
+    """Writes each style of a sample, and tells in which that fails."""
+    names = sorted(name for name in os.listdir(STYLES) if name.endswith('.csl'))[::step]
+    failed = {}
+    for name in names:
+        for verb in ('cite', 'bibliography'):
+            done = ran(program, verb, f'{STYLES}/{name}', citations)
+            if done.returncode:
+                failed[name] = f'status {done.returncode}: {done.stderr.splitlines()[-1:]}'
+    print(f'{len(names)} styles, {len(failed)} of which fail')
+    for name, why in failed.items():
+        print(f'{name}: {why}')
+    return 1 if failed else 0
 
 
 # The table
@@ -154,23 +122,22 @@ def runs(numbers):
             parts[-1][1] = number
         else:
             parts.append([number, number])
-    return ', '.join(str(a) if a == b else f'{a}–{b}' for a, b in parts) or 'none'
+    return ', '.join(str(first) if first == last else f'{first}–{last}'
+                     for first, last in parts) or 'none'
 
 
-def equal(texts, wanted):
-    return [place + 1 for place, (one, other) in enumerate(zip(texts, wanted)) if one == other]
+def path_of(name):
+    return name if name.endswith('.csl') else f'{STYLES}/{name}.csl'
 
 
-def compare(name, entries, citations, tells_texts):
-    """The numbers of the citations that read as pandoc's, by citeproc-py alone and by Gamhilon."""
-    from gamhilon.csl import style
-    path = style.find(name)
-    wanted = by_pandoc(path, citations)
-    alone, driven = by_citeproc(path, entries, citations), by_gamhilon(path, entries, citations)
-    for place, (one, two, three) in enumerate(zip(wanted, driven, alone)):
-        if tells_texts and one != two:
-            print(f'{name} {place + 1}\n    pandoc       {one}\n    Gamhilon     {two}\n    citeproc-py  {three}')
-    return equal(alone, wanted), equal(driven, wanted)
+def compare(program, name, citations, tells_texts):
+    """The numbers of the citations that read as pandoc's."""
+    path = path_of(name)
+    wanted, written = by_pandoc(path, citations), by_gamhilon(program, path, citations)
+    for place, (one, other) in enumerate(zip(wanted, written)):
+        if tells_texts and one != other:
+            print(f'{name} {place + 1}\n    pandoc    {one}\n    Gamhilon  {other}')
+    return [place + 1 for place, (one, other) in enumerate(zip(wanted, written)) if one == other]
 
 
 def causes_of(told):
@@ -178,48 +145,64 @@ def causes_of(told):
     return '; '.join(f'{cause}: {runs(numbers)}' for cause, numbers in told.items())
 
 
-def unexplained(told, count, driven):
+def unexplained(told, count, equal):
     """The citations that differ with no cause, and those that have one and don't differ."""
     explained = {number for numbers in told.values() for number in numbers}
-    return sorted(explained ^ (set(range(1, count + 1)) - set(driven)))
+    return sorted(explained ^ (set(range(1, count + 1)) - set(equal)))
 
 
 def table(results, all_styles, count):
     """The lines of the table."""
-    lines = ['| Style | citeproc-py alone | with Gamhilon | Why others differ |', '|---|---|---|---|']
-    for name, (alone, driven) in results.items():
-        cells = [name, f'{len(alone)}: {runs(alone)}', f'{len(driven)}: {runs(driven)}', causes_of(all_styles.get(name, {}))]
+    lines = ['| Style | Equal | Why others differ |', '|---|---|---|']
+    for name, equal in results.items():
+        cells = [name, f'{len(equal)}: {runs(equal)}', causes_of(all_styles.get(name, {}))]
         lines.append(f'| {" | ".join(cells)} |')
-    alone, driven = (sum(len(it[which]) for it in results.values()) for which in (0, 1))
-    return [*lines, f'| of {len(results) * count} | {alone} | {driven} | |']
+    whole = sum(map(len, results.values()))
+    return [*lines, f'| of {len(results) * count} | {whole} | |']
 
 
 def undocumented(lines, citations):
     """The lines of the table, of the citations and of the causes that docs/STYLES.md lacks."""
     with open(f'{ROOT}/docs/STYLES.md', encoding='utf-8') as file:
         documented = set(file.read().splitlines())
-    wanted = [f'{place + 1}. {it["what"]}: `{markdown(it["cites"])}`' for place, it in enumerate(citations)]
+    wanted = [f'{place + 1}. {told["what"]}: `{markdown(told["cites"])}`'
+              for place, told in enumerate(citations)]
     wanted += [f'- **{name}**: {cause}' for name, cause in read('causes.json').items()]
-    return [it for it in lines + wanted if it not in documented]
+    return [line for line in lines + wanted if line not in documented]
+
+
+def option(words, name):
+    """The value of an option, which is taken out of the words; None where it is absent."""
+    if name not in words:
+        return None
+    place = words.index(name)
+    value = words[place + 1]
+    del words[place:place + 2]
+    return value
 
 
 def main(words):
-    warnings.simplefilter('ignore')
-    sys.path.insert(0, f'{PROJECT}/src')
-    if '--model' in words:
-        use_model()
-    entries, all_styles, all_citations = read('references.json'), read('styles.json'), read('citations.json')
-    citations = [it['cites'] for it in all_citations]
-    if '--each' in words:
-        return try_each(int(words[words.index('--each') + 1]), entries, citations)
-    named = [it for it in words if not it.startswith('--')]
-    results = {it: compare(it, entries, citations, '--texts' in words) for it in named or all_styles}
+    program = option(words, '--program') or PROGRAM
+    step = option(words, '--each')
+    if not os.path.exists(program):
+        sys.exit(f'compare.py: there is no program {program}: build it by rt run, or name it by '
+                 '--program')
+    all_styles, all_citations = read('styles.json'), read('citations.json')
+    citations = [told['cites'] for told in all_citations]
+    if step is not None:
+        return try_each(program, int(step), citations)
+    tells_texts = '--texts' in words
+    named = [word for word in words if word != '--texts']
+    results = {name: compare(program, name, citations, tells_texts)
+               for name in named or all_styles}
     lines = table(results, all_styles, len(citations))
     print(*lines, sep='\n')
-    wrong = {name: unexplained(all_styles.get(name, {}), len(citations), driven) for name, (_, driven) in results.items()}
-    told = [f'{name}: not as styles.json says: {runs(numbers)}' for name, numbers in wrong.items() if numbers]
+    wrong = {name: unexplained(all_styles.get(name, {}), len(citations), equal)
+             for name, equal in results.items()}
+    told = [f'{name}: not as styles.json says: {runs(numbers)}'
+            for name, numbers in wrong.items() if numbers]
     if not named:
-        told += [f'docs/STYLES.md lacks: {it}' for it in undocumented(lines, all_citations)]
+        told += [f'docs/STYLES.md lacks: {line}' for line in undocumented(lines, all_citations)]
     print(*told, sep='\n', end='\n' if told else '', file=sys.stderr)
     return 1 if told else 0
 
