@@ -1,5 +1,5 @@
-"""Builds the wheel of the package: its files, the shared library, and what tells its licence and of
-what it was built.
+"""Builds the wheel of the package: its files, the shared library, the styles of examples/styles, and
+what tells its licence and of what it was built.
 
 It is the build backend of pyproject.toml (PEP 517), which has all that it says of the package but
 the version, and on Python 3.11 or later it needs nothing from a package registry. The library and
@@ -22,8 +22,9 @@ HERE = os.path.dirname(os.path.abspath(__file__))
 ROOT = os.path.normpath(f'{HERE}/../..')
 OUT = os.path.normpath(f'{HERE}/../out')
 SOURCE = f'{HERE}/src'
+STYLES = f'{ROOT}/examples/styles'
 NAME = 'gamhilon'
-SUFFIXES = ('.py', '.json', '.css', '.typed')
+SUFFIXES = ('.py', '.css', '.typed')
 LICENSES = ('LICENSE', 'LICENSE-MIT', 'LICENSE-APACHE')
 WHEEL = """Wheel-Version: 1.0
 Generator: gamhilon_wheel
@@ -92,6 +93,9 @@ def files():
             if name.endswith(SUFFIXES):
                 path = os.path.join(folder, name)
                 found[os.path.relpath(path, SOURCE)] = read(path)
+    for name in sorted(os.listdir(STYLES)):
+        if name.endswith('.csl'):
+            found[f'{NAME}/style_files/{name}'] = read(f'{STYLES}/{name}')
     found[f'{NAME}/libgamhilon.so'] = read(library)
     found[f'{NAME}/gamhilon_build.json'] = read(note) if os.path.exists(note) else b'{}\n'
     info = f'{NAME}-{version()}.dist-info'

@@ -14,6 +14,7 @@ ROOT = os.path.normpath(f'{PROJECT}/../..')
 sys.path.insert(0, SOURCE)
 
 from gamhilon import _library  # noqa: E402
+from gamhilon.csl import locales, style  # noqa: E402
 
 from stand_ins import MadeUpLibrary, ModelOfTheDriver, ModelOfTheLibrary  # noqa: E402
 
@@ -47,6 +48,13 @@ def drives(built):
         pytest.skip('the library is older than the driven call (embed/build.py)')
 
 
+@pytest.fixture
+def cites(built):
+    """For tests of styles, which the shared library writes."""
+    if not hasattr(_library._loaded(), _library.CITE):
+        pytest.skip('the library is older than the call of style files (embed/build.py)')
+
+
 @pytest.fixture(params=['model', 'library'])
 def driver(request, monkeypatch):
     """For tests of the driven call: first its model, and then that of the shared library."""
@@ -66,19 +74,12 @@ def library(request, monkeypatch):
 
 
 @pytest.fixture
-def citeproc():
-    """For tests in which citeproc-py writes."""
-    pytest.importorskip('citeproc', reason='there is no citeproc-py (Debian: python3-citeproc)')
-
-
-@pytest.fixture
-def published(citeproc):
+def published():
     """For tests of published styles."""
-    from gamhilon.csl import style
-    try:
-        style.find('apa')
-    except style.StyleMissing:
-        pytest.skip('there are no published styles (Debian: citation-style-language-styles)')
+    for folder, package in ((style.FOLDER, 'styles'), (locales.FOLDER, 'locales')):
+        if not os.path.isdir(folder):
+            pytest.skip('there are no published styles '
+                        f'(Debian: citation-style-language-{package})')
 
 
 @pytest.fixture
@@ -91,6 +92,16 @@ def pybtex():
 def yaml():
     """For tests that read YAML."""
     pytest.importorskip('yaml', reason='there is no PyYAML (Debian: python3-yaml)')
+
+
+@pytest.fixture
+def document(example):
+    """A document in the style of a file of examples/, without entries and requests."""
+    def made(name):
+        said = json.loads(example(f'{name}.json'))
+        return {**said, 'entries': [], 'requests': [],
+                'bibliography': {'style': said['bibliography']['style']}}
+    return made
 
 
 @pytest.fixture
@@ -115,25 +126,17 @@ REFERENCES = [
 
 FILTER = '''#!{python}
 import sys
-from gamhilon import _library
 from gamhilon.pandoc_filter import main
-if {is_model}:
-    from stand_ins import ModelOfTheLibrary
-    _library._library = _library.Library(ModelOfTheLibrary())
 sys.exit(main())
 '''
 
 
-@pytest.fixture(params=['model', 'library'])
-def pandoc(request, tmp_path):
-    """Runs pandoc over a text, and gives what it writes and what it says; first over the model of
-    the library."""
-    is_model = request.param == 'model'
-    if not is_model:
-        request.getfixturevalue('built')
+@pytest.fixture
+def pandoc(cites, tmp_path):
+    """Runs pandoc over a text, and gives what it writes and what it says."""
     (tmp_path / 'refs.json').write_text(json.dumps(REFERENCES))
     script = tmp_path / 'filter.py'
-    script.write_text(FILTER.format(python=sys.executable, is_model=is_model))
+    script.write_text(FILTER.format(python=sys.executable))
     script.chmod(0o755)
 
     def run(text, *words, to='plain', own=True, **metadata):
@@ -142,7 +145,7 @@ def pandoc(request, tmp_path):
         fields = [f'--metadata={name.replace("_", "-")}={value}'
                   for name, value in metadata.items()]
         way = ['--filter', str(script)] if own else ['--citeproc']
-        environment = {**os.environ, 'PYTHONPATH': f'{SOURCE}{os.pathsep}{HERE}'}
+        environment = {**os.environ, 'PYTHONPATH': SOURCE}
         done = subprocess.run(['pandoc', '-f', 'markdown', '-t', to, '--wrap=none', *fields, *way,
                                *words],
                               input=None if text is None else text.encode(),

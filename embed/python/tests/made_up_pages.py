@@ -8,7 +8,7 @@ VALUES = ['refs.json', 'none.json', 'x', '', 'true', 'de', 'numeric', 'apa', '19
 PARTS = ['id', 'title', 'author', 'issued', 'year', 'month', 'family', 'given', 'literal',
          'date-parts', 'type', 'DOI',
          'note', 'season']
-FIELDS = ['bibliography', 'references', 'resource-path', 'gamhilon-style', 'lang', 'nocite',
+FIELDS = ['bibliography', 'references', 'resource-path', 'csl', 'lang', 'nocite',
           'link-citations',
           'link-bibliography', 'notes-after-punctuation', 'suppress-bibliography',
           'reference-section-title', 'title']
@@ -81,8 +81,7 @@ def block(random):
 def page(random):
     fields = {'bibliography': text('refs.json')} if random.random() < 0.7 else {}
     if random.random() < 0.9:
-        fields['gamhilon-style'] = text(random.choice(['numeric', 'note', 'author-date',
-                                                       'alphanumeric']))
+        fields['csl'] = text(random.choice(['numeric', 'notes', 'author-date', 'labels']))
     for name in random.sample(FIELDS, random.choice([0, 0, 1, 2, 4])):
         fields[name] = meta(random)
     return {'pandoc-api-version': [1, 22], 'meta': fields,

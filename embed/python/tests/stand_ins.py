@@ -1,4 +1,5 @@
-"""What stands in for the shared library: one that is made up, and the model of the driver."""
+"""What stands in for the shared library: one that is made up, a made-up style, and the model of the
+driver."""
 import importlib
 import json
 import os
@@ -87,3 +88,42 @@ class ModelOfTheLibrary(ModelOfTheDriver):
         if of_model('form').refusal(document) is not None:
             return 2
         return of_model('model').Document(json.loads(document)).status()
+
+
+class MadeUpStyle(MadeUpLibrary):
+    """Stands in for a library that writes by style files: each cite is the author's family name,
+    the title, and the locator, whatever the style says."""
+
+    def gamhilon_cite(self, style, style_length, locales, locales_length, items, items_length,
+                      citations, citations_length, options, options_length, *buffer):
+        works = {item['id']: item for item in json.loads(items)}
+        made = {'citations': [{'content': _citation(works, cites)}
+                              for cites in json.loads(citations)],
+                'bibliography': {'items': [{'key': key, 'content': [_text(key)]} for key in works],
+                                 'hanging_indent': True, 'line_spacing': 1, 'entry_spacing': 1}}
+        return self._put(json.dumps(made).encode(), 0, items, items_length, *buffer)
+
+    def gamhilon_find_cite_fault(self, style, style_length, *given):
+        return self._put(b'{"warnings":[]}', 0, style, style_length, *given[-3:])
+
+
+def _citation(works, cites):
+    content = []
+    for place, cite in enumerate(cites):
+        if not cite.get('hidden'):
+            content += [*([_text('; ')] if content else []),
+                        {'meta': {'entry': place}, 'children': [_text(_cite(works, cite))]}]
+    return [_text('('), *content, _text(')')] if content else []
+
+
+def _cite(works, cite):
+    work = works[cite['id']]
+    names = [name['family'] for name in work.get('author', [])[:1]
+             if isinstance(name, dict) and isinstance(name.get('family'), str)]
+    told = [*(names if not cite.get('suppress-author') else []), str(work.get('title', '')),
+            *([cite['locator']] if 'locator' in cite else [])]
+    return cite.get('prefix', '') + ', '.join(told) + cite.get('suffix', '')
+
+
+def _text(words):
+    return {'text': words, 'font_style': 'normal', 'font_weight': 'normal'}

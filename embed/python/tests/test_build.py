@@ -57,6 +57,7 @@ def tree(tmp_path, monkeypatch):
                     ignore=shutil.ignore_patterns('__pycache__'))
     for name in ('LICENSE', 'LICENSE-MIT', 'LICENSE-APACHE'):
         shutil.copy(f'{ROOT}/{name}', root)
+    shutil.copytree(f'{ROOT}/examples/styles', root / 'examples' / 'styles')
     (root / 'crates' / 'gamhilon_c').mkdir(parents=True)
     (root / 'crates' / 'cite_run').mkdir()
     (root / 'crates' / 'cite_run' / 'stdin').write_text('{}')

@@ -33,11 +33,14 @@ def test_no_words_is_not_a_command_line():
     ['rendre'], ['render'], ['render', 'a', '--to', 'pdf'], ['styles', 'apa'], ['check'],
     ['render', 'a', '--depth'], ['render', 'a', '--depth', '-1'], ['check', 'a', '--elements', 'x'],
     ['check', 'a', '--elements', '18446744073709551616'], ['entries', 'a', '--depth', '1'],
-    ['entries'], ['entries', 'a', '--from', 'ris'],
+    ['entries'], ['entries', 'a', '--from', 'ris'], ['cite', 'a', 'b'],
+    ['cite', '--style', 'notes', 'a'], ['bibliography', '--style', 'notes'],
+    ['cite', '--style', 'notes', 'a', 'b', '--standalone'],
 ])
 def test_wrong_words_are_not_a_command_line(words):
     status, out, error = run(*words)
-    assert status == 64 and out == '' and error.startswith(('usage', 'gamhilon: there is no style'))
+    assert status == 64 and out == ''
+    assert error.startswith(('usage', 'gamhilon: there is no style', 'gamhilon: --standalone'))
 
 
 def test_the_version():
@@ -160,8 +163,9 @@ def test_entries_of_csl_json(tmp_path):
 
 
 def test_styles():
-    assert run('styles') == (0, 'alphanumeric\nauthor-date\nnote\nnumeric\n', '')
-    assert json.loads(run('styles', 'note')[1]) == gamhilon.styles.document('note')
+    assert run('styles') == (0, 'author-date\nlabels\nnotes\nnumeric\n', '')
+    assert run('styles', 'notes') == (0, gamhilon.styles.text('notes'), '')
+    assert {'author-date', 'notes'} < set(run('styles', '--all')[1].split('\n'))
 
 
 def test_files_that_are_not_there_or_are_folders_are_status_1():
@@ -173,12 +177,12 @@ def test_files_that_are_not_there_or_are_folders_are_status_1():
 
 def test_output_that_cannot_be_written_is_status_1():
     with open('/dev/full', 'wb') as full:
-        status, _, error = run('styles', 'note', stdout=full)
+        status, _, error = run('styles', 'notes', stdout=full)
     assert (status, error) == (1, 'gamhilon: standard output: No space left on device\n')
     reader, writer = os.pipe()
     os.close(reader)
     try:
-        status, _, error = run('styles', 'note', stdout=writer)
+        status, _, error = run('styles', 'notes', stdout=writer)
     finally:
         os.close(writer)
     assert status == 1 and error.count('\n') == 1
@@ -323,3 +327,91 @@ def test_references_are_checked(tmp_path, pybtex, capfd):
         'references: 2, of which 1 book, 1 document',
         'remark: a: editorc: CSL has no place for more names of the kind founder ("X")']
     assert error == f'gamhilon: {path}: syntax error in line 2: premature end of file\n'
+
+
+WORKS = [{'id': 'one', 'type': 'book', 'title': 'On order', 'issued': {'date-parts': [[1999]]},
+          'author': [{'family': 'Doe', 'given': 'Jane'}]},
+         {'id': 'two', 'type': 'book', 'title': 'On time', 'issued': {'date-parts': [[2001]]},
+          'author': [{'family': 'Roe', 'given': 'Al'}]}]
+
+
+@pytest.fixture
+def files(tmp_path):
+    """A file of references, one of citations, and one with what is odd."""
+    (tmp_path / 'works.json').write_text(json.dumps(WORKS))
+    (tmp_path / 'cites.json').write_text('[[{"id": "one", "locator": "4"}], [{"id": "one"}]]')
+    (tmp_path / 'odd.json').write_text('[[{"id": "one", "locater": "4"}]]')
+    return tmp_path
+
+
+def test_cite_and_bibliography(cites, files):
+    works, cited = str(files / 'works.json'), str(files / 'cites.json')
+    assert run('cite', '--style', 'author-date', works, cited) == (0, '(Doe 1999, p. 4)\n'
+                                                                      '(Doe 1999)\n', '')
+    words = ['bibliography', '--style', 'author-date', works]
+    assert run(*words)[:2] == (0, 'Doe, J. 1999. On order.\nRoe, A. 2001. On time.\n')
+    assert run(*words, cited)[:2] == (0, 'Doe, J. 1999. On order.\n')
+    assert run(*words, cited, '--nocite')[1] == run(*words)[1]
+    for form, mark in (('html', '<i>On order</i>'), ('markdown', '*On order*'),
+                       ('latex', r'\textit{On order}')):
+        assert mark in run(*words, '--to', form)[1]
+    told = json.loads(run('cite', '--style', 'author-date', works, cited, '--to', 'json')[1])
+    assert [gamhilon.plain(citation['content']) for citation in told] == ['(Doe 1999, p. 4)',
+                                                                          '(Doe 1999)']
+    page = run(*words, '--to', 'html', '--standalone')[1]
+    assert page.startswith('<!DOCTYPE html>') and gamhilon.style_sheet() in page
+
+
+def test_cite_takes_references_of_several_files_and_forms(cites, files, pybtex):
+    (files / 'b.bib').write_text('@book{three, title={C}, author={Poe, E.}, year={1845}}')
+    (files / 'three.json').write_text('[[{"id": "three"}], [{"id": "two"}]]')
+    given = (files / 'three.json').read_bytes()
+    words = ['cite', '--style', 'author-date', str(files / 'works.json'), '--references',
+             str(files / 'b.bib')]
+    for last, how in ((str(files / 'three.json'), {}), ('-', {'given': given})):
+        assert run(*words, last, **how) == (0, '(Poe 1845)\n(Roe 2001)\n', '')
+
+
+def test_what_is_odd_is_told_and_costs_nothing(cites, files):
+    words = ['cite', '--style', 'author-date', str(files / 'works.json')]
+    assert run(*words, str(files / 'odd.json')) == (
+        0, '(Doe 1999)\n', 'gamhilon: warning: citation 0, cite 0, locater: cites have no such key, '
+        "left out: is 'locator' meant?\n")
+    own = files / 'own.csl'
+    own.write_text(gamhilon.styles.text('author-date').split('<bibliography')[0] + '</style>')
+    status, out, error = run('bibliography', '--style', str(own), str(files / 'works.json'))
+    assert (status, out) == (0, '') and error == (f'gamhilon: {own}: warning: the style has no '
+                                                  'bibliography\n')
+
+
+@pytest.mark.parametrize('style, cited, status, said', [
+    ('no-such-style', 'cites.json', 1, "gamhilon: there is no style 'no-such-style': looked for "),
+    ('own.csl', 'cites.json', 2, 'own.csl:1:1: '), ('notes', 'none.json', 1, 'none.json: No such'),
+    ('notes', 'own.csl', 2, 'own.csl: Expecting value'),
+    ('notes', 'works.json', 2, 'works.json: citation 0: no citation, which is a list of cites'),
+    ('notes', 'else.json', 2, "else.json: citation 0, cite 0, id: there is no entry 'else'"),
+])
+def test_what_can_not_be_cited_is_told_with_its_place(cites, files, style, cited, status, said):
+    (files / 'own.csl').write_text('x')
+    (files / 'else.json').write_text('[[{"id": "else"}]]')
+    told = run('cite', '--style', style, 'works.json', cited, cwd=files)
+    assert told[:2] == (status, '') and said in told[2] and told[2].count('\n') == 1
+
+
+def test_styles_and_locales_are_checked(cites, tmp_path, capfd):
+    good, odd, wrong = (tmp_path / name for name in ('good.csl', 'odd.csl', 'wrong.csl'))
+    text = gamhilon.styles.text('notes')
+    good.write_text(text)
+    odd.write_text(text.replace('<info>', '<info colour="red">'))
+    wrong.write_text(text.replace('et-al-min="4"', 'et-al-min="four"'))
+    locale = tmp_path / 'locale.xml'
+    locale.write_text('<locale xmlns="http://purl.org/net/xbiblio/csl" version="1.0" '
+                      'xml:lang="de-DE"><terms/></locale>')
+    assert command_line.main(['check', str(good)]) == 0
+    assert capfd.readouterr() == ('style Gamhilon notes: note, with a bibliography\n', '')
+    assert command_line.main(['check', str(odd), str(locale)]) == 0
+    out, error = capfd.readouterr()
+    assert error == '' and f'{odd}: remark: {odd}:3:' in out and f'{locale}: locale\n' in out
+    assert command_line.main(['check', str(wrong)]) == 2
+    out, error = capfd.readouterr()
+    assert out == '' and error.startswith(f'gamhilon: {wrong}:') and 'four' in error

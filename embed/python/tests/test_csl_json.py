@@ -207,7 +207,7 @@ def test_whatever_stands_in_items_their_entries_are_of_the_form_of_entries():
         assert bool(csl_json.summary(converted.losses)) == bool(converted.losses)
 
 
-def test_entries_are_entries_of_a_document(built):
+def test_entries_are_entries_of_a_document(built, document):
     import gamhilon
     items = [{'id': 'a', 'type': 'book', 'title': 'T',
               'author': [{'family': 'Doe', 'given': 'Jane', 'suffix': 'Jr.'}],
@@ -215,7 +215,7 @@ def test_entries_are_entries_of_a_document(built):
               'URL': 'https://x', 'citation-label': 'L',
               **{variable: {'date-parts': [[2000]]}
                  for variable in DATE_VARIABLES if variable != 'issued'}}]
-    document = gamhilon.styles.document('author-date')
-    document['entries'] = csl_json.entries(json.loads(json.dumps(items))).entries
-    document['requests'] = [{'style': 'author-date', 'items': [{'entry': 'a'}]}]
-    assert gamhilon.print_document(document).startswith('(Doe Jr. 44 BC)\n')
+    entries = csl_json.entries(json.loads(json.dumps(items))).entries
+    requests = [{'style': 'author-date', 'items': [{'entry': 'a'}]}]
+    made = {**document('author_date'), 'entries': entries, 'requests': requests}
+    assert gamhilon.print_document(made).startswith('(Doe Jr. 44 BC)\n')

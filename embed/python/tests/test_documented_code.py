@@ -43,28 +43,21 @@ def test_the_loop_of_the_driven_document(driver):
     assert [gamhilon.plain(citation.content) for citation in answer.citations] == ['(Doe 1999, 4)']
 
 
-def test_the_host_of_the_readme(driver):
-    code = block('embed/README.md', 'gamhilon.render_with(document, write)')
+def test_the_host_of_thirty_lines(driver):
+    code = block('docs/DRIVEN.md', 'gamhilon.render_with(document, write)')
     assert len(code.strip().splitlines()) <= 30
     assert printed(code) == '(Doe 1999a, b, 4; Roe 2003)\n(John Doe 1999)\n'
 
 
-@pytest.mark.filterwarnings('ignore')
-def test_published_styles_of_the_documentation(published, driver):
+def test_published_styles_of_the_documentation(published, cites):
     assert printed(block('docs/STYLES.md',
                          'csl.render')) == '(A. Smith, 2010, p. 4)\n(see B. Smith, 2010)\n'
 
 
-@pytest.mark.parametrize('page', ['README.md', 'embed/python/README.md'])
-def test_the_document_of_the_readme(page, library, monkeypatch):
+@pytest.mark.parametrize('page, locator', [('README.md', '84'), ('embed/README.md', 'p. 84'),
+                                           ('embed/python/README.md', 'p. 84')])
+def test_the_style_of_the_readme(page, locator, published, cites, monkeypatch):
     monkeypatch.chdir(f'{ROOT}/embed/python/example')
-    first, *items = printed(block(page, 'gamhilon.render(document)')).splitlines()
-    assert first == '(<a href="#ref-darwin">Darwin 1859, 84</a>)'
+    first, *items = printed(block(page, 'gamhilon.csl.render')).splitlines()
+    assert first == f'(<a href="#ref-darwin">Darwin 1859, {locator}</a>)'
     assert '<div id="ref-darwin" class="csl-entry">' in ''.join(items)
-
-
-@pytest.mark.filterwarnings('ignore')
-def test_the_published_style_of_the_readme(published, driver, monkeypatch):
-    monkeypatch.chdir(f'{ROOT}/embed/python/example')
-    assert printed(block('README.md', 'gamhilon.csl.render'),
-                   gamhilon=gamhilon) == "['(Darwin 1859, 84)']\n"

@@ -120,15 +120,15 @@ def test_the_style_sheet_has_rules_for_what_is_written():
     assert all(f'var({name}, 1)' in sheet for name in ('--csl-line-spacing', '--csl-entry-spacing'))
 
 
-def test_the_commands_write_the_style_sheet(monkeypatch, tmp_path, capfd):
+def test_the_commands_write_the_style_sheet(monkeypatch, tmp_path, capfd, document):
     monkeypatch.setattr(_library, '_library', _library.Library(ModelOfTheLibrary()))
     monkeypatch.setattr(_library.Library, 'check_limits', lambda *_: None)
     assert command_line.main(['css']) == 0 and capfd.readouterr().out == gamhilon.style_sheet()
-    document = gamhilon.styles.document('author-date')
-    document['entries'] = [{'key': 'doe', 'author': [['Doe']], 'title': 'T', 'issued': 1999}]
-    document['requests'] = [{'style': 'author-date', 'items': [{'entry': 'doe'}]}]
+    entries = [{'key': 'doe', 'author': [['Doe']], 'title': 'T', 'issued': 1999}]
+    requests = [{'style': 'author-date', 'items': [{'entry': 'doe'}]}]
     path = tmp_path / 'a.json'
-    path.write_text(json.dumps(document))
+    path.write_text(json.dumps({**document('author_date'), 'entries': entries,
+                                'requests': requests}))
     assert command_line.main(['render', '--to', 'html', '--standalone', str(path)]) == 0
     page = capfd.readouterr().out
     assert page.startswith('<!DOCTYPE html>\n<html lang="en">\n') and gamhilon.style_sheet() in page

@@ -1,6 +1,5 @@
 """The filter for pandoc, with Debian's pandoc. What citations read like is held to pandoc's own, of
---citeproc, whose style is Chicago's author-date and so near the author-date style here that entries
-of one author read alike."""
+--citeproc, in the same style."""
 import json
 import re
 import shutil
@@ -10,8 +9,11 @@ from random import Random
 import pytest
 from conftest import PROJECT, REFERENCES, ROOT
 
-from gamhilon import _locators
+from gamhilon import _locators, _pandoc_marks, _pandoc_names
+from gamhilon._writing import Piece
+from gamhilon.csl.style import FOLDER
 
+CHICAGO = f'{FOLDER}/chicago-author-date.csl'
 pytestmark = pytest.mark.skipif(not shutil.which('pandoc'), reason='there is no pandoc')
 
 LIKE_CITEPROC = [
@@ -38,12 +40,12 @@ LOCATORS = ['p. 3', 'pp. 3-5', 'chap. 2', '3', 'vol. 2', 'sec. 1.2', 'l. 4', 'fi
             'pt. 4', 'col. 3', 'n. 3']
 
 
-def test_citations_read_as_pandoc_writes_them(pandoc, known):
+def test_citations_read_as_pandoc_writes_them(pandoc, published, known):
     # (each between lines of its own, since the notes stand at the end)
     text = '\n\n'.join(f'{text}\n\n-- {place} --' for place, text in enumerate(LIKE_CITEPROC))
-    wanted, said, _ = pandoc(text, own=False, suppress_bibliography='true')
+    wanted, said, _ = pandoc(text, own=False, csl=CHICAGO, suppress_bibliography='true')
     assert said == ''
-    out, said, status = pandoc(text, suppress_bibliography='true')
+    out, said, status = pandoc(text, csl=CHICAGO, suppress_bibliography='true')
     assert out.split('\n\n') == wanted.split('\n\n') and (said, status) == ('', 0)
 
 
@@ -63,7 +65,7 @@ def random_citation(random):
     return f'T {parts[0][parts[0].index("@"):][:3]}' + (f' [{inner}]' if inner else '') + ' end.'
 
 
-def test_random_citations_read_as_pandoc_writes_them(pandoc, known, tmp_path):
+def test_random_citations_read_as_pandoc_writes_them(pandoc, published, known, tmp_path):
     authors = ['Doe', 'Roe', 'Äbc', 'van Dyke', 'Li']
     (tmp_path / 'random.json').write_text(json.dumps([
         {'id': f'k{place}', 'title': f'T{place}', 'author': [{'family': author, 'given': 'A.'}],
@@ -71,7 +73,7 @@ def test_random_citations_read_as_pandoc_writes_them(pandoc, known, tmp_path):
         for place, author in enumerate(authors)]))
     random = Random(7)
     texts = [random_citation(random) for _ in range(150)]
-    how = {'bibliography': 'random.json', 'suppress_bibliography': 'true'}
+    how = {'bibliography': 'random.json', 'csl': CHICAGO, 'suppress_bibliography': 'true'}
     wanted, own = (pandoc('\n\n'.join(texts), own=way, **how) for way in (False, True))
     assert own[1:] == ('', 0)
     for text, one, other in zip(texts, wanted[0].split('\n\n'), own[0].split('\n\n')):
@@ -104,8 +106,7 @@ def test_entries_are_listed_without_being_cited(pandoc):
     assert re.findall(r'id="ref-(\w+)"', out) == ['doe99', 'roe00'] and status == 0
     assert said == 'gamhilon-pandoc: nocite: no entry has the key nobody\n'
     everything = pandoc('---\nnocite: "@*"\n---\n', to='html')[0]
-    assert re.findall(r'class="csl-entry"[^>]*>\s*(?:<p>)?(.+?) \d',
-                      everything) == ['Äh.', 'J. Doe.', '———.', 'R. Roe.']
+    assert re.findall(r'id="ref-(\w+)"', everything) == ['__e4_h__20_b', 'doe99', 'doe01', 'roe00']
 
 
 def test_ids_are_of_keys_that_have_spaces(pandoc, tmp_path):
@@ -122,11 +123,12 @@ def test_ids_are_of_keys_that_have_spaces(pandoc, tmp_path):
 
 
 def test_keys_that_are_not_there_are_told_with_their_place(pandoc):
-    out, said, status = pandoc('A [@doe99].\n\nB [see @nobody, p. 3; @roe00] and [@no1; @no2].',
+    out, said, status = pandoc('A [@doe99].\n\nB [see @doe98, p. 3; @roe00] and [@no1; @no2].',
                                suppress_bibliography='true')
-    assert out == 'A (Doe 1999).\n\nB (nobody?; Roe 2000) and (no1?; no2?).\n' and status == 0
+    assert out == 'A (Doe 1999).\n\nB (doe98?; Roe 2000) and (no1?; no2?).\n' and status == 0
     assert said.splitlines() == [
-        'gamhilon-pandoc: citation 2, [see @nobody, p. 3; @roe00]: no entry has the key nobody',
+        'gamhilon-pandoc: citation 2, [see @doe98, p. 3; @roe00]: no entry has the key doe98: is '
+        "'doe99' meant?",
         'gamhilon-pandoc: citation 3, [@no1; @no2]: no entry has the key no1',
         'gamhilon-pandoc: citation 3, [@no1; @no2]: no entry has the key no2',
     ]
@@ -134,7 +136,7 @@ def test_keys_that_are_not_there_are_told_with_their_place(pandoc):
 
 def test_numbers(pandoc):
     text = 'A [@roe00]. B [@roe00; @doe99; @doe01]. C [see @doe99, p. 3; @roe00]. @doe01 says.'
-    out = pandoc(text, gamhilon_style='numeric')[0].split('\n')
+    out = pandoc(text, csl='numeric')[0].split('\n')
     assert out[0] == 'A [1]. B [1–3]. C [see 2, p. 3, 1]. J. Doe [3] says.'
     assert [line for line in out
             if line.startswith('[')] == ['[1] R. Roe, A Reply, 2000.',
@@ -142,7 +144,7 @@ def test_numbers(pandoc):
 
 
 def test_labels(pandoc):
-    out = pandoc('A [@roe00; @doe99, p. 3].', gamhilon_style='alphanumeric')[0].split('\n')
+    out = pandoc('A [@roe00; @doe99, p. 3].', csl='labels')[0].split('\n')
     assert out[0] == 'A [Roe00; Doe99, p. 3].'
     assert [line for line in out[1:]
             if line] == ['Doe99 J. Doe. On Order. 1999.', 'Roe00 R. Roe. A Reply. 2000.']
@@ -152,7 +154,7 @@ def test_notes(pandoc):
     text = ('A [see @doe99, p. 3]. B [@doe99, p. 4], and @roe00 [p. 5; @doe01]. '
             'C^[Own note with [@roe00, p. 6] and more.] '
             'D [@roe00].\n\nE [-@doe99, etc.]. F [@nobody].')
-    out, said, _ = pandoc(text, gamhilon_style='note', suppress_bibliography='true')
+    out, said, _ = pandoc(text, csl='notes', suppress_bibliography='true')
     assert out.strip().split('\n\n') == [
         'A.[1] B,[2] and Richard Roe.[3] C[4] D.[5]', 'E.[6] F (nobody?).',
         '[1] see Jane Doe, On Order (1999), 3.', '[2] Ibid., 4.',
@@ -163,47 +165,19 @@ def test_notes(pandoc):
     assert said == 'gamhilon-pandoc: citation 7, [@nobody]: no entry has the key nobody\n'
 
 
-def test_a_style_of_a_file_and_one_that_shows_no_locators(pandoc, tmp_path):
-    style = {'citation': {'elements': [{'kind': 'names', 'variables': ['author']}], 'prefix': '<',
-                          'suffix': '>'}}
-    (tmp_path / 'own.json').write_text(json.dumps({'styles': {'own': style},
-                                                   'bibliography': {'style': 'own'}}))
-    out, said, status = pandoc('A [@doe99, p. 3]. [-@roe00]', gamhilon_style='own.json')
-    assert out == 'A <Jane Doe>. <>\n' and status == 0
-    assert said.splitlines() == [
-        'gamhilon-pandoc: citation 1, [@doe99, p. 3]: the style shows no locators: 3',
-        'gamhilon-pandoc: citation 2, [-@roe00]: the style writes nothing of roe00 but its author',
-    ]
-
-
 @pytest.mark.parametrize('metadata, word', [
     ({'bibliography': 'nowhere.json'}, 'bibliography: there is no file nowhere.json: looked in .'),
     ({'bibliography': 'wrong.json'}, 'bibliography: wrong.json: no JSON'),
-    ({'gamhilon_style': 'apa'}, 'the styles by name are alphanumeric, author-date, note, numeric'),
+    ({'gamhilon_style': 'note'}, 'gamhilon-style: styles are named by csl:'),
+    ({'csl': 'own.csl'}, 'csl: own.csl:2:1: '),
     ({'csl': 'https://example.org/apa.csl'},
      'csl: https://example.org/apa.csl: styles are not fetched'),
 ])
 def test_what_can_not_be_read_is_told(pandoc, tmp_path, metadata, word):
     (tmp_path / 'wrong.json').write_text('[')
+    (tmp_path / 'own.csl').write_text('<style>\n</stile>')
     out, said, status = pandoc('[@doe99]', **metadata)
     assert out == '' and status != 0 and word in said and 'Traceback' not in said
-
-
-def test_what_entries_can_not_hold_is_told_where_the_style_would_have_shown_it(pandoc, tmp_path):
-    """No style of this form shows pages, types, places or months; the suffix of a name it shows."""
-    doe = {**REFERENCES[0], 'type': 'book', 'page': '1-2', 'publisher-place': 'Rome',
-           'issued': {'date-parts': [[1999, 5]]}, 'title': '<i>On</i> Order', 'note': ['x']}
-    roe = {**REFERENCES[1], 'author': [{'family': 'Roe', 'suffix': 'Jr.'}]}
-    for items, told in (([doe], 'title'), ([roe], 'author'), ([doe, roe], 'author, title')):
-        (tmp_path / 'more.json').write_text(json.dumps(items))
-        said = pandoc('[@doe99]', bibliography='more.json', nocite='@*')[1].splitlines()
-        reason = f'not wholly kept of what the style shows: {told}'
-        assert said[0] == f'gamhilon-pandoc: more.json: {reason}'
-    style = {'citation': {'elements': [{'kind': 'names', 'variables': ['author']}]}}
-    own = {'styles': {'own': style}, 'bibliography': {'style': 'own'}}
-    (tmp_path / 'own.json').write_text(json.dumps(own))
-    (tmp_path / 'more.json').write_text(json.dumps([doe]))
-    assert pandoc('[@doe99]', bibliography='more.json', gamhilon_style='own.json')[1] == ''
 
 
 def test_the_example_page(pandoc, tmp_path):
@@ -249,17 +223,50 @@ def test_texts_that_nest_deeply(pandoc):
 
 
 @pytest.mark.parametrize('suffix, locator, rest', [
-    (', p. 4', ['page', '4'], ''), (', pp.\u00a033--35, x', ['page', '33–35'], ', x'),
-    (', § 3', ['section', '3'], ''),
-    (', ¶¶ 3-4', ['paragraph', '3–4'], ''), (', col. 3', ['custom', 'col. 3'], ''),
-    (', {} x', None, ', {} x'),
+    (', p. 4', ('page', '4'), ''), (', pp.\u00a033--35, x', ('page', '33–35'), ', x'),
+    (', § 3', ('section', '3'), ''),
+    (', ¶¶ 3-4', ('paragraph', '3–4'), ''), (', col. 3', ('column', '3'), ''),
+    (', no. 3', ('issue', '3'), ''), (', s.v. 3', ('sub-verbo', '3'), ''), (', {} x', None, ', {} x'),
     (', bookish', None, ', bookish'),
-    (', pseudo 3', None, ', pseudo 3'), (', vol. 2, p. 3', ['volume', '2'], ', p. 3'),
+    (', pseudo 3', None, ', pseudo 3'), (', vol. 2, p. 3', ('volume', '2'), ', p. 3'),
     ('', None, ''),
-    (', n. 12', ['note', '12'], ''),
-    (', supp. 2', ['supplement', '2'], ''), (', {a-b, chap. 3}', ['page', 'a–b, chap. 3'], ''),
+    (', n. 12', ('note', '12'), ''),
+    (', supp. 2', ('supplement', '2'), ''), (', {a-b, chap. 3}', ('page', 'a–b, chap. 3'), ''),
     (', i think', None, ', i think'),
 ])
 def test_locators(suffix, locator, rest):
-    found, _, left = _locators.split(suffix)
-    assert (found, left) == (locator, rest)
+    assert _locators.split(suffix) == (locator, rest)
+
+
+NORMAL = {'font_style': 'normal', 'font_weight': 'normal'}
+
+
+def test_parts_of_a_citation():
+    """By marks, by the tree, or by both; what stands between is of no cite."""
+    def text(words, **more):
+        return {**NORMAL, **more, 'text': words}
+
+    one, two = _pandoc_marks.opening(0), _pandoc_marks.closing(0)
+    for tree in ([text(f'({one}Doe '), text('T', font_style='italic'), text(f'{two}; Roe)')],
+                 [text('('), {'meta': {'entry': 0}, 'children': [
+                     text(f'{one}Doe '), text('T', font_style='italic'), text(two)]},
+                  text('; Roe)')],
+                 [text('('), {'meta': {'entry': 0}, 'children': [
+                     text('Doe '), text('T', font_style='italic')]}, text('; Roe)')]):
+        parts = _pandoc_marks.parts_of(tree)
+        assert [(part.place, _pandoc_marks.text_of_pieces(part.pieces)) for part in parts] == [
+            (None, '('), (0, 'Doe T'), (None, '; Roe)')]
+    assert _pandoc_marks.without_marks({'a': [f'x{one}y', 3]}) == {'a': ['xy', 3]}
+
+
+@pytest.mark.parametrize('whole, rest, names', [
+    ('Doe 1999', '1999', 'Doe'), ('Doe et al. 1999, p. 4', '1999, p. 4', 'Doe et al.'),
+    ('Smith, ed., A 19', 'A 19', 'Smith, ed.'), ('3', '3', ''), ('Doe', '', 'Doe'),
+    ('On order, Doe, 1999', 'On order, 1999', 'Doe'), ('', '', ''),
+])
+def test_names_are_what_a_cite_has_more_with_its_author(whole, rest, names):
+    def pieces(words):
+        return [Piece('text', {**NORMAL, 'text': run}) for run in re.split(r'(?<= )', words)]
+
+    found = _pandoc_names.names_in(pieces(whole), pieces(rest))
+    assert _pandoc_marks.text_of_pieces(found) == names

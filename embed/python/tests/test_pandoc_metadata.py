@@ -11,13 +11,18 @@ import pytest
 from conftest import REFERENCES
 
 from gamhilon import _library, _pandoc_command, _pandoc_metadata, pandoc_filter
-from stand_ins import ModelOfTheLibrary
+from stand_ins import MadeUpStyle
 
 pytestmark = pytest.mark.skipif(not shutil.which('pandoc'), reason='there is no pandoc')
 
 BOOK = {'id': 'book', 'type': 'book', 'title': 'A Book',
         'author': [{'family': 'Poe', 'given': 'Edgar'}],
         'issued': {'date-parts': [[1845]]}, 'DOI': '10.1000/xyz', 'URL': 'https://example.org/a_b'}
+
+
+TITLES = ('<style xmlns="http://purl.org/net/xbiblio/csl" version="1.0" class="in-text">'
+          '<info><title>Own</title><id>own</id><updated>2026-11-27T00:00:00+00:00</updated></info>'
+          '<citation><layout delimiter=" "><text variable="title"/></layout></citation></style>')
 
 
 def page(metadata, text='[@doe99]'):
@@ -58,17 +63,14 @@ def test_files_are_looked_for_beside_the_page_and_in_the_resource_path(of_file, 
         (tmp_path / folder).mkdir(exist_ok=True)
         (tmp_path / folder / f'{folder}.json').write_text(json.dumps([{'id': folder,
                                                                        'title': title}]))
-    style = {'citation': {'elements': [{'kind': 'text', 'variable': 'title'}]}}
-    own = {'styles': {'own': style}, 'bibliography': {'style': 'own'}}
-    (tmp_path / 'shared' / 'own.json').write_text(json.dumps(own))
-    metadata = ('bibliography: [docs.json, shared.json]\nresource-path: shared\n'
-                'gamhilon-style: own.json')
+    (tmp_path / 'shared' / 'own.csl').write_text(TITLES)
+    metadata = 'bibliography: [docs.json, shared.json]\nresource-path: shared\ncsl: own.csl'
     out = of_file(metadata, '[@docs] [@shared]', name='docs/page.md')
     assert out == ('Beside Shared\n', '', 0)
     metadata = ('bibliography: [docs.json, shared.json, more.json]\n'
-                'resource-path: [shared, more]\ngamhilon-style: own.json')
+                'resource-path: [shared, more]\ncsl: own.csl')
     assert of_file(metadata, '[@docs] [@more]', name='docs/page.md')[0] == 'Beside More\n'
-    metadata = 'bibliography: [docs.json, shared.json]\ngamhilon-style: shared/own.json'
+    metadata = 'bibliography: [docs.json, shared.json]\ncsl: shared/own.csl'
     out = of_file(metadata, '[@shared]', '--resource-path', '.:shared', name='docs/page.md')
     assert out == ('Shared\n', '', 0)
     out, said, status = of_file('bibliography: none.json\nresource-path: shared', '[@x]',
@@ -178,26 +180,11 @@ def test_an_id_that_is_none_is_told(of_file):
 
 # Styles
 
-def test_a_style_that_is_not_there_is_an_error(pandoc, citeproc, tmp_path):
+def test_a_style_that_is_not_there_is_an_error(pandoc, tmp_path):
     for name in ('no-such-style', 'none.csl', 'folder/none'):
         out, said, status = pandoc('[@doe99]', csl=name)
         assert out == '' and status != 0
         assert told(said)[0].startswith(f"csl: there is no style '{name}'")
-
-
-def test_a_style_that_nothing_writes_is_an_error(pandoc, tmp_path):
-    """Where citeproc-py is missing."""
-    (tmp_path / 'citeproc.py').write_text('raise ImportError("no citeproc here")')
-    out, said, status = pandoc('[@doe99]', csl='apa')
-    assert out == '' and status != 0
-    assert told(said)[0].startswith('csl: no citeproc here: install python3-citeproc')
-
-
-def test_of_two_styles_the_filter_takes_its_own_and_says_so(pandoc):
-    out, said, status = pandoc('[@doe99]', csl='apa', gamhilon_style='numeric',
-                               suppress_bibliography='true')
-    assert (out, status) == ('[1]\n', 0)
-    assert told(said) == ['csl: apa is not used: gamhilon-style: names a style too']
 
 
 CITATIONS = [
@@ -245,32 +232,66 @@ def test_the_language_of_the_page_is_that_of_its_published_style(pandoc, publish
         assert out == '(Doe, 1999, S. 3–5)\n'
 
 
-def test_a_published_style_of_a_file_beside_the_page(of_file, citeproc, tmp_path):
+def test_a_style_of_a_file_beside_the_page(of_file, tmp_path):
+    """It goes before one of the same name elsewhere."""
     (tmp_path / 'docs').mkdir()
-    (tmp_path / 'docs' / 'own.csl').write_text(
-        '<style xmlns="http://purl.org/net/xbiblio/csl" version="1.0" class="in-text"><citation>'
-        '<layout prefix="&lt;" suffix="&gt;"><text variable="title"/></layout></citation></style>')
-    for name in ('own.csl', 'own', 'docs/own.csl'):
+    for name in ('own', 'notes'):
+        (tmp_path / 'docs' / f'{name}.csl').write_text(TITLES)
+    for name in ('own.csl', 'own', 'docs/own.csl', 'notes'):
         out, said, status = of_file(f'bibliography: refs.json\ncsl: {name}', '[@doe99]',
                                     name='docs/page.md')
-        assert (out, status) == ('<On Order>\n', 0)
+        assert (out, said, status) == ('On Order\n', '', 0)
 
 
-def test_the_language_of_a_style_without_terms_of_it_is_told(pandoc):
-    out, said, status = pandoc('[@doe99, p. 3]', lang='fr-FR', suppress_bibliography='true')
-    assert out == '(Doe 1999, 3)\n'
-    assert told(said) == ['lang: the style has no terms of fr-FR: those of en-US are written']
-    assert pandoc('[@doe99]', lang='en-GB')[1] == ''
+def test_a_style_may_be_an_option_of_pandoc(pandoc, tmp_path):
+    (tmp_path / 'own.csl').write_text(TITLES)
+    assert pandoc('[@doe99]', '--csl', 'own.csl') == ('On Order\n', '', 0)
 
 
-def test_the_locale_of_a_style_is_that_of_the_page(pandoc, tmp_path):
-    style = {'citation': {'elements': [{'kind': 'text', 'term': 'and'}]}}
-    locales = [{'lang': tag, 'terms': [{'name': 'and', 'single': word}]}
-               for tag, word in (('en-US', 'and'), ('de-DE', 'und'))]
-    own = {'styles': {'own': style}, 'locales': locales, 'bibliography': {'style': 'own'}}
-    (tmp_path / 'own.json').write_text(json.dumps(own))
-    for lang, word in (('de', 'und'), ('de-AT', 'und'), ('en-US', 'and')):
-        assert pandoc('[@doe99]', gamhilon_style='own.json', lang=lang)[:2] == (f'{word}\n', '')
+def test_a_language_without_a_locale_file_is_told(pandoc):
+    out, said, status = pandoc('[@doe99, p. 3]', lang='xx', suppress_bibliography='true')
+    assert (out, status) == ('(Doe 1999, p. 3)\n', 0)
+    assert told(said) == ['locales: no locale of `xx`, its words are those of American English']
+
+
+def test_what_is_odd_in_references_is_told_and_costs_nothing(pandoc, tmp_path):
+    odd = [{**REFERENCES[0], 'titel': 'x'}, {**REFERENCES[1], 'volume': {}}]
+    (tmp_path / 'odd.json').write_text(json.dumps(odd))
+    out, said, status = pandoc('[@doe99; @roe00]', bibliography='odd.json',
+                               suppress_bibliography='true')
+    assert (out, status) == ('(Doe 1999; Roe 2000)\n', 0)
+    assert [line.split(': ')[0] for line in told(said)] == ['entry roe00, volume',
+                                                            'entry doe99, titel']
+
+
+# Authors
+
+def test_the_author_stands_in_the_text_where_the_style_writes_it(pandoc, published, known,
+                                                                 tmp_path):
+    (tmp_path / 'more.json').write_text(json.dumps([*REFERENCES, {
+        'id': 'anon', 'type': 'book', 'title': 'Nameless', 'issued': {'date-parts': [[1950]]}}]))
+    text = 'A @doe99 says. B @anon [p. 3] says. C @doe99 [p. 4; @roe00]. D [-@doe99, p. 5].'
+    for style in ('chicago-author-date', 'apa', 'modern-language-association', 'ieee'):
+        how = {'bibliography': 'more.json', 'suppress_bibliography': 'true',
+               'csl': f'/usr/share/citation-style-language/styles/{style}.csl'}
+        wanted, own = (pandoc(text, own=way, **how)[0] for way in (False, True))
+        assert own == wanted, style
+
+
+def test_an_author_in_the_text_of_a_style_of_notes_is_never_ibid(pandoc):
+    out = pandoc('A @doe99 says. B @doe99 too. C [@doe99].', csl='notes',
+                 suppress_bibliography='true')[0].strip().split('\n\n')
+    assert out[0] == 'A Jane Doe[1] says. B Doe[2] too. C.[3]'
+    assert out[2] == '[2] On Order.' and out[3] == '[3] Ibid.'
+
+
+def test_a_cite_of_which_nothing_but_its_author_is_written_is_told(pandoc, published):
+    out, said, status = pandoc('A [-@doe99]. B @roe00 says. C [-@doe99; @roe00].',
+                               csl='modern-language-association', suppress_bibliography='true')
+    assert (out, status) == ('A . B Roe says. C (Roe).\n', 0)
+    assert told(said) == [
+        'citation 1, [-@doe99]: the style writes nothing of doe99 but its author',
+        'citation 3, [-@doe99; @roe00]: the style writes nothing of doe99 but its author']
 
 
 # Citations in the words around cites
@@ -279,7 +300,7 @@ def test_a_cite_in_the_words_behind_another_is_told_and_written(pandoc):
     """pandoc reads one cite, with `@roe00` in its suffix."""
     out, said, status = pandoc('A [see @doe99, p. 3 and *also @roe00*, p. 4].',
                                suppress_bibliography='true')
-    assert (out, status) == ('A (see Doe 1999, 3 and also Roe (2000), p.\u00a04).\n', 0)
+    assert (out, status) == ('A (see Doe 1999, p. 3 and also Roe (2000), p.\u00a04).\n', 0)
     assert told(said) == [
         'citation 1, [see @doe99, p. 3 and *also @roe00*, p. 4]: @roe00 stands in the words around '
         '@doe99, so that it is no cite beside it: a semicolon between them makes it one']
@@ -289,21 +310,22 @@ def test_a_cite_in_the_words_behind_another_is_told_and_written(pandoc):
 
 
 def test_a_cite_in_the_words_of_a_note_stands_in_that_note(pandoc):
-    out = pandoc('A [see @doe99 and @roe00]. B [@doe99].', gamhilon_style='note',
+    out = pandoc('A [see @doe99 and @roe00]. B [@doe99].', csl='notes',
                  suppress_bibliography='true')[0]
     assert out.strip().split('\n\n') == [
-        'A.[1] B.[2]', '[1] see Jane Doe, On Order (1999) and Richard Roe, A Reply (2000).',
-        '[2] Doe, On Order (see n. 1).']
+        'A.[1] B.[2]',
+        '[1] See Jane Doe, “On Order” (1999) and Richard Roe, “A Reply” (2000).',
+        '[2] Doe, “On Order.”']
 
 
 def test_a_key_that_is_nearly_one_is_told(pandoc):
     assert told(pandoc('[@doe98; @nobody]', suppress_bibliography='true')[1]) == [
-        'citation 1, [@doe98; @nobody]: no entry has the key doe98: is doe99 meant?',
+        'citation 1, [@doe98; @nobody]: no entry has the key doe98: is \'doe99\' meant?',
         'citation 1, [@doe98; @nobody]: no entry has the key nobody']
 
 
 def test_notes_may_stay_before_punctuation(pandoc):
-    how = {'gamhilon_style': 'note', 'suppress_bibliography': 'true'}
+    how = {'csl': 'notes', 'suppress_bibliography': 'true'}
     assert pandoc('A [@doe99].', **how)[0].startswith('A.[1]\n')
     assert pandoc('A [@doe99].', notes_after_punctuation='false', **how)[0].startswith('A[1].\n')
 
@@ -351,20 +373,18 @@ def test_what_no_list_by_name_has_stands_in_the_other(lists):
 
 
 def test_addresses_in_the_list_are_links(pandoc, tmp_path):
-    style = {'citation': {'elements': []}, 'bibliography': {'elements': [
-        {'kind': 'text', 'variable': 'title'},
-        {'kind': 'text', 'variable': 'note', 'prefix': ' '}]}}
-    own = {'styles': {'own': style}, 'bibliography': {'style': 'own'}}
-    (tmp_path / 'own.json').write_text(json.dumps(own))
+    (tmp_path / 'own.csl').write_text(TITLES.replace(
+        '</style>', '<bibliography><layout><text variable="title"/><text variable="note" '
+        'prefix=" "/></layout></bibliography></style>'))
     note = 'doi:10.1000/x(y)z, https://example.org/a_b; (see https://example.org/c).'
     (tmp_path / 'more.json').write_text(json.dumps([{**BOOK, 'note': note}]))
-    how = {'bibliography': 'more.json', 'gamhilon_style': 'own.json', 'to': 'html'}
+    how = {'bibliography': 'more.json', 'csl': 'own.csl', 'to': 'html'}
     out = pandoc('[@book]', **how)[0]
-    assert re.findall(r'<a[^>]* href="([^"]+)"[^>]*>([^<]+)</a>', out.replace('\n', ' ')) == [
+    assert re.findall(r'<a[^>]* href="([^"#]+)"[^>]*>([^<]+)</a>', out.replace('\n', ' ')) == [
         ('https://doi.org/10.1000/x(y)z', '10.1000/x(y)z'),
         ('https://example.org/a_b', 'https://example.org/a_b'),
         ('https://example.org/c', 'https://example.org/c')]
-    assert '<a' not in pandoc('[@book]', link_bibliography='false', **how)[0]
+    assert 'href="http' not in pandoc('[@book]', link_bibliography='false', **how)[0]
 
 
 def cites_in(value):
@@ -376,7 +396,7 @@ def cites_in(value):
 
 
 def test_whatever_a_page_says_ends_in_a_page_or_in_an_error_of_ours(monkeypatch, tmp_path):
-    monkeypatch.setattr(_library, '_library', _library.Library(ModelOfTheLibrary()))
+    monkeypatch.setattr(_library, '_library', _library.Library(MadeUpStyle()))
     monkeypatch.chdir(tmp_path)
     (tmp_path / 'refs.json').write_text(json.dumps(REFERENCES))
     random, answered = Random(5), 0

@@ -10,11 +10,18 @@ from test_documented_code import block
 pytest.importorskip('mypy', reason='there is no mypy')
 
 USER = '''
-from typing import List, Optional
+from typing import Any, Dict, List, Optional
 import gamhilon
 
+def cited(path: str) -> List[str]:
+    rendered = gamhilon.csl.render('notes', gamhilon.references.load(path).items,
+                                   [[gamhilon.csl.Cite('doe', '4')], [{'id': 'roe'}]], locale='de')
+    warnings: List[gamhilon.csl.Warned] = rendered.warnings
+    place: Optional[int] = warnings[0].citation if warnings else None
+    return [*rendered.citations, *rendered.bibliography.values(), str(place)]
+
 def pages(path: str) -> List[str]:
-    document = gamhilon.styles.document('note')
+    document: Dict[str, Any] = {'styles': {}, 'requests': [], 'bibliography': {'style': 's'}}
     document['entries'] = gamhilon.csl_json.entries(gamhilon.csl_json.load(path)).entries
     try:
         answer = gamhilon.render(document)
@@ -43,6 +50,7 @@ import gamhilon
 gamhilon.render(3)
 gamhilon.render({}).citations[0].note_number + 1
 gamhilon.render({}, gamhilon.Limits(1, 1))
+gamhilon.csl.render('notes', [], [[3]])
 '''
 
 
@@ -61,9 +69,8 @@ def test_the_package_passes(tmp_path):
 
 
 DOCUMENTED = [
-    ('README.md', 'gamhilon.render(document)', ''),
-    ('embed/README.md', 'gamhilon.render(document)', ''),
-    ('README.md', 'gamhilon.csl.render', 'import gamhilon\n'),
+    ('README.md', 'gamhilon.csl.render', ''), ('embed/README.md', 'gamhilon.csl.render', ''),
+    ('embed/python/README.md', 'gamhilon.csl.render', ''),
 ]
 
 
@@ -83,4 +90,4 @@ def test_callers_see_the_types(tmp_path):
     assert mypy(tmp_path, 'user.py').startswith('Success')
     told = mypy(tmp_path, 'wrong.py')
     assert told.count('wrong.py:3: error') == 1
-    assert 'wrong.py:4: error' in told and 'wrong.py:5: error' in told
+    assert all(f'wrong.py:{line}: error' in told for line in (4, 5, 6))

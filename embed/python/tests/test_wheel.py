@@ -51,8 +51,11 @@ def test_it_has_what_a_user_needs(wheel):
         info = next(name.split('/')[0] for name in names if '.dist-info/' in name)
         for name in ('__init__.py', '__main__.py', 'py.typed', 'libgamhilon.so',
                      'gamhilon_build.json',
-                     'style_documents/note.json', 'csl/__init__.py', 'gamhilon.css'):
+                     'csl/__init__.py', 'gamhilon.css'):
             assert f'gamhilon/{name}' in names
+        for name in ('author-date', 'labels', 'notes', 'numeric'):
+            with open(f'{ROOT}/examples/styles/{name}.csl', 'rb') as file:
+                assert archive.read(f'gamhilon/style_files/{name}.csl') == file.read()
         assert not any('__pycache__' in name or name.endswith('.pyc') for name in names)
         for name in ('LICENSE', 'LICENSE-MIT', 'LICENSE-APACHE'):
             with open(f'{ROOT}/{name}', 'rb') as file:
@@ -91,11 +94,13 @@ def test_one_library_makes_one_wheel(wheel, tmp_path):
 def test_its_version_tells_the_commit_and_the_toolchain(wheel, tmp_path):
     with zipfile.ZipFile(wheel) as archive:
         archive.extractall(tmp_path / 'site')
-    words = 'import gamhilon; print(gamhilon.version()); print(gamhilon.version().commit)'
+    words = ('import gamhilon; print(gamhilon.version()); print(gamhilon.version().commit); '
+             'print(gamhilon.styles.path("notes"))')
     how = {'cwd': tmp_path, 'env': {'PYTHONPATH': str(tmp_path / 'site')}}
     done = subprocess.run([sys.executable, '-c', words], capture_output=True, text=True, **how)
     version = gamhilon_wheel.version()
-    assert done.stdout == f'gamhilon {version} (commit c0ffee, proved by kit-1)\nc0ffee\n'
+    assert done.stdout == (f'gamhilon {version} (commit c0ffee, proved by kit-1)\nc0ffee\n'
+                           f'{tmp_path}/site/gamhilon/style_files/notes.csl\n')
 
 
 def test_a_library_that_is_not_there_is_told(tmp_path, monkeypatch):

@@ -1,6 +1,14 @@
-"""Gamhilon for Python: citations and bibliographies of a document, with formatting, links and keys.
+"""Gamhilon for Python: citations and bibliographies, with formatting, links and keys.
 
     import gamhilon
+
+    rendered = gamhilon.csl.render('author-date', entries, [[{'id': 'doe99', 'locator': '4'}]])
+    for citation in rendered.answer.citations:
+        print(gamhilon.to_html(citation.content))
+
+`csl` renders in published styles, and in the four of `styles`, which come with the package;
+`references` reads the files of reference managers as CSL-JSON. A document of the driver's own form,
+whose entries `csl_json` makes of CSL-JSON, is answered by
 
     answer = gamhilon.render(document)          # a dict as docs/DOCUMENT.md tells it
     for citation in answer.citations:
@@ -16,9 +24,8 @@ Citations are written by a published style from its text:
 A host that writes cites itself, such as a CSL processor, has the driver tell it what to write:
 `gamhilon.render_with(document, write)`, as docs/DRIVEN.md tells it.
 
-`references` reads the files of reference managers, `csl_json` makes a document's entries of them,
-`styles` has four styles to begin with, and `python -m gamhilon` does the same from the command
-line. Calls may be made from any number of threads and processes at once.
+`python -m gamhilon` does the same from the command line. Calls may be made from any number of threads
+and processes at once.
 """
 from __future__ import annotations
 

@@ -1,4 +1,5 @@
-"""python -m gamhilon: documents answered and checked, and references read."""
+"""python -m gamhilon: citations and reference lists in styles, documents answered, files checked, and
+references read."""
 from __future__ import annotations
 
 import argparse
@@ -8,8 +9,9 @@ import sys
 from functools import partial
 from typing import Any, Dict, List, NoReturn, Optional, Sequence, Tuple
 
-from . import (Limits, _console, _faults, _remarks, check, csl_json, pages, references,
+from . import (Limits, _console, _faults, _remarks, check, csl, csl_json, pages, references,
                style_sheet, styles, version)
+from ._cite_command import Asked, bibliography_command, cite_command
 from ._console import (INPUT_OR_OUTPUT_FAILED, NOT_OF_ITS_FORM, json_text, name_of, progress, read,
                        reason_and_status, say, write)
 from ._limits import DEFAULT_DEPTH, DEFAULT_ELEMENTS, UNLIMITED
@@ -38,17 +40,46 @@ def parser() -> argparse.ArgumentParser:
     made.add_argument('--version', action='store_true',
                       help='the version, and what the library was built of')
     commands = made.add_subparsers(dest='command', metavar='COMMAND')
+    _add_cite(commands)
     _add_render(commands)
-    checked = commands.add_parser('check', help='what is wrong in documents and references, or '
-                                                'what they hold')
+    checked = commands.add_parser('check', help='what is wrong in styles, locales, documents and '
+                                                'references, or what they hold')
     checked.add_argument('files', nargs='+', metavar='FILE',
-                         help='a document, or references; - for standard input')
+                         help='a style or a locale, a document, or references; - for standard '
+                              'input')
     _add_limits(checked)
     _add_entries(commands)
-    named = commands.add_parser('styles', help='the names of the styles, or a document in one')
+    named = commands.add_parser('styles', help='the names of the styles that come with this '
+                                               'package, or the file of one')
     named.add_argument('name', nargs='?', help='a name of a style')
+    named.add_argument('--all', action='store_true', help="Debian's published styles too")
     commands.add_parser('css', help='the style sheet of reference lists in HTML')
     return made
+
+
+def _add_cite(commands: Any) -> None:
+    for name, what, count in (('cite', 'citations in a style', None),
+                              ('bibliography', 'the items that are cited, or all where there are '
+                                               'no citations', '?')):
+        made = commands.add_parser(name, help=what)
+        made.add_argument('references', metavar='REFERENCES',
+                          help="CSL-JSON, BibLaTeX, BibTeX or hayagriva's YAML; - for standard "
+                               'input')
+        made.add_argument('citations', nargs=count, metavar='CITATIONS',
+                          help='a JSON list of citations, which are lists of cites; - for standard '
+                               'input')
+        made.add_argument('--style', required=True,
+                          help='a style: its name (gamhilon styles --all), or a file')
+        made.add_argument('--references', dest='more', action='append', default=[], metavar='FILE',
+                          help='more references; it may stand several times')
+        made.add_argument('--locale', metavar='TAG', help="the language, in place of the style's")
+        made.add_argument('--locales', metavar='FOLDER', help='where locale files are')
+        made.add_argument('--nocite', action='store_true',
+                          help='references are listed that no cite is of')
+        made.add_argument('--to', choices=pages.FORMS, default='text',
+                          help='the form of what is written (text)')
+        made.add_argument('--standalone', action='store_true',
+                          help='a whole page, with the style sheet (of the form html alone)')
 
 
 def _add_render(commands: Any) -> None:
@@ -110,7 +141,7 @@ def main(arguments: Optional[List[str]] = None) -> int:
     if not words.version and not words.command:
         made.print_help(sys.stderr)
         return BAD_COMMAND_LINE
-    if words.command == 'render' and words.standalone and words.to != 'html':
+    if getattr(words, 'standalone', False) and words.to != 'html':
         made.error('--standalone makes a page of the form html: add --to html')
     return _console.interruptible(partial(run, words))
 
@@ -120,6 +151,10 @@ def run(words: argparse.Namespace) -> int:
     try:
         if words.version:
             write(f'{version()}\n')
+        elif words.command in ('cite', 'bibliography'):
+            asked = Asked(words.style, words.locale, words.locales, words.to, words.standalone,
+                          [words.references, *words.more], words.citations, words.nocite)
+            return (cite_command if words.command == 'cite' else bibliography_command)(asked)
         elif words.command == 'render':
             job = Job(words.to, words.standalone, Limits(words.depth, words.elements))
             return render_command(words.document, words.output, job, words.jobs)
@@ -130,7 +165,7 @@ def run(words: argparse.Namespace) -> int:
         elif words.command == 'css':
             write(style_sheet())
         else:
-            return styles_command(words.name)
+            return styles_command(words.name, words.all)
         return 0
     except _console.OutputFailed as error:
         say(f'standard output: {error}')
@@ -144,7 +179,8 @@ def run(words: argparse.Namespace) -> int:
 def refusal(path: str, error: Exception) -> int:
     """Tells why nothing comes of a file, with its name, and gives the exit status."""
     message, status = reason_and_status(error)
-    say(f'{name_of(path)}: {message}')
+    # (the place of a fault in a style begins with its file)
+    say(message if isinstance(error, csl.StyleRefused) else f'{name_of(path)}: {message}')
     return status
 
 
@@ -190,14 +226,28 @@ def check_command(paths: Sequence[str], limits: Limits) -> int:
 
 
 def _check_one(path: str, data: bytes, limits: Limits) -> Tuple[List[str], List[str]]:
-    """What a document or a file of references holds, and remarks on it; and what in it is no
-    entry."""
+    """What a style, a locale, a document or a file of references holds, and remarks on it; and what
+    in it is no entry."""
+    if data.lstrip(b'\xef\xbb\xbf \t\r\n')[:1] == b'<' and not references.is_named(path):
+        return _check_xml(name_of(path), data.decode('utf-8-sig', 'surrogateescape')), []
     if references.is_named(path) or data.lstrip(b'\xef\xbb\xbf \t\r\n')[:1] == b'[':
         told = references.read(path, data)
         return _remarks.of_references(told), told.problems
     check(data, limits=limits)
     said: Dict[str, Any] = json.loads(data)
     return [*_remarks.holds(said), *[f'remark: {remark}' for remark in _remarks.remarks(said)]], []
+
+
+def _check_xml(file: str, text: str) -> List[str]:
+    """What a style or a locale is, and remarks on it. Raises StyleRefused where it is neither."""
+    if csl.is_locale(text):
+        return ['locale', *[f'remark: {warned}' for warned in csl.check_locale(text, file)]]
+    warnings = csl.check_style(text, file)
+    about = csl.about(text)
+    kind = 'note' if about.is_note else 'in-text'
+    has_list = 'with a bibliography' if about.has_bibliography else 'without a bibliography'
+    return [f'style {about.title}: {kind}, {has_list}',
+            *[f'remark: {warned}' for warned in warnings]]
 
 
 def entries_command(paths: Sequence[str], form: Optional[str], lang: str, to: str) -> int:
@@ -237,13 +287,13 @@ def _say_what_is_lost(path: str, told: references.References) -> None:
         say(f'{name_of(path)}: {problem}')
 
 
-def styles_command(name: Optional[str]) -> int:
-    """Writes the names of the styles, or a document in one."""
+def styles_command(name: Optional[str], tells_all: bool) -> int:
+    """Writes the names of the styles, or the file of one."""
     if name and name not in styles.names():
         say(f'there is no style {name!r}: the styles are {", ".join(styles.names())}')
         return BAD_COMMAND_LINE
-    write(json_text(styles.document(name)) if name
-          else ''.join(name + '\n' for name in styles.names()))
+    names = csl.names() if tells_all else styles.names()
+    write(styles.text(name) if name else ''.join(name + '\n' for name in names))
     return 0
 
 

@@ -207,7 +207,7 @@ def _loaded() -> ctypes.CDLL:
                              'embed/build.py, or name it in the environment as '
                              'GAMHILON_LIBRARY') from error
     given: List[Any] = [ctypes.c_char_p, ctypes.c_size_t]
-    buffer = [ctypes.c_void_p, ctypes.c_size_t, ctypes.POINTER(ctypes.c_size_t)]
+    buffer: List[Any] = [ctypes.c_void_p, ctypes.c_size_t, ctypes.POINTER(ctypes.c_size_t)]
     for function in texts:
         function.restype, function.argtypes = ctypes.c_uint32, [*given, *buffer]
     for function in cites:

@@ -2,26 +2,19 @@
 from __future__ import annotations
 
 import re
-from typing import List, Optional, Tuple
+from typing import NamedTuple, Optional, Tuple
 
 _LABELS = {
     'book': 'book books bk. bks.', 'chapter': 'chapter chapters chap. chaps. ch.',
-    'figure': 'figure figures fig. figs.', 'line': 'line lines l. ll.', 'note': 'note notes n. nn.',
+    'column': 'column columns col. cols.', 'figure': 'figure figures fig. figs.',
+    'folio': 'folio folios fol. fols.', 'issue': 'number numbers no. nos.',
+    'line': 'line lines l. ll.', 'note': 'note notes n. nn.', 'opus': 'opus opera op. opp.',
     'page': 'page pages p. pp.', 'paragraph': 'paragraph paragraphs para. paras. ¶¶ ¶',
     'part': 'part parts pt. pts.', 'section': 'section sections sec. secs. §§ §',
-    'supplement': 'supplement supplements supp. supps.', 'verse': 'verse verses v. vv.',
-    'volume': 'volume volumes vol. vols.',
+    'sub-verbo': 's.v. s.vv.', 'supplement': 'supplement supplements supp. supps.',
+    'verse': 'verse verses v. vv.', 'volume': 'volume volumes vol. vols.',
 }
-# What documents have no kind for keeps its label as a part of the text.
-_OTHERS = {
-    'column': 'column columns col. cols.', 'folio': 'folio folios fol. fols.',
-    'issue': 'number numbers no. nos.', 'opus': 'opus opera op. opp.', 'sub-verbo': 's.v. s.vv.',
-}
-_OTHER_KINDS = {label: kind for kind, labels in _OTHERS.items() for label in labels.split(' ')}
-_KINDS = {
-    **{label: kind for kind, labels in _LABELS.items() for label in labels.split(' ')},
-    **{label: 'custom' for label in _OTHER_KINDS},
-}
+_KINDS = {label: kind for kind, labels in _LABELS.items() for label in labels.split(' ')}
 _LABEL = '|'.join(re.escape(kind) for kind in sorted(_KINDS, key=len, reverse=True))
 _DIGITS = r'[A-Za-z]?\d\w*(?:[.:/]\w+)*'
 _TOKEN = rf'(?:{_DIGITS}|[ivxlcdm]+(?!\w)|[IVXLCDM]+(?!\w))'
@@ -34,24 +27,20 @@ _BARE = re.compile(rf'\s*,?\s*(?=[A-Za-z]?\d)(?P<numbers>{_NUMBERS})')
 _BRACED = re.compile(rf'\s*,?\s*\{{\s*(?:(?P<label>{_LABEL})(?!\w)\s*)?(?P<numbers>[^{{}}]*)\}}')
 
 
-def split(suffix: str) -> Tuple[Optional[List[str]], Optional[str], str]:
-    """The locator at the beginning of a suffix, as a document has it, its label, and the rest.
-    Numbers without a label are pages."""
+class Locator(NamedTuple):
+    """A locator: its kind, as CSL names it, and its text."""
+
+    kind: str
+    text: str
+
+
+def split(suffix: str) -> Tuple[Optional[Locator], str]:
+    """The locator at the beginning of a suffix, and the rest. Numbers without a label are pages."""
     for pattern in (_BRACED, _LABELLED, _BARE):
         match = pattern.match(suffix)
         if match and match.group('numbers').strip():
             label = match.groupdict().get('label')
-            kind = _KINDS[label] if label else 'page'
             numbers = re.sub(r'(?<=[\w)])\s*[-\u2013\u2014]+\s*(?=[\w(])', '\u2013',
                              match.group('numbers').strip())
-            return [kind, f'{label} {numbers}' if kind == 'custom'
-                    else numbers], label, suffix[match.end():]
-    return None, None, suffix
-
-
-def as_csl_has_it(locator: List[str], label: Optional[str]) -> Tuple[str, str]:
-    """The label of a locator, as CSL names it, and its numbers."""
-    kind, text = locator
-    if kind != 'custom' or label is None:
-        return kind, text
-    return _OTHER_KINDS[label], text[len(label):].strip()
+            return Locator(_KINDS[label] if label else 'page', numbers), suffix[match.end():]
+    return None, suffix

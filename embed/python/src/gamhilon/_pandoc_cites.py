@@ -1,19 +1,18 @@
-"""Pandoc's citations as requests, and the answers to these as inlines."""
+"""Pandoc's citations as citations of a style, and what is written of these as inlines."""
 from __future__ import annotations
 
-import copy
 from dataclasses import dataclass, field
-from typing import Any, Dict, List, Optional, Sequence, Set, Tuple
+from typing import Any, List, Optional, Set
 
-from . import _locators
-from ._pandoc_inlines import (SPACE, Inlines, inlines_of, inlines_of_pieces, joined, leading_text,
-                              linked, strong, text_of,
-                              words)
-from ._writing import Piece, pieces
-from .answer import Node, Tree
+from . import _locators, csl
+from ._locators import Locator
+from ._pandoc_inlines import (SPACE, Inlines, inlines_of_pieces, joined, leading_text, linked,
+                              strong, text_of, words)
+from ._pandoc_marks import Part, closing, opening, parts_of, text_of_pieces
+from ._pandoc_names import names_in
+from .answer import Tree
 
-AUTHOR_IN_TEXT, SUPPRESS_AUTHOR = 'AuthorInText', 'SuppressAuthor'
-DELIMITERS = ' ,;:.'
+NORMAL, AUTHOR_IN_TEXT, SUPPRESS_AUTHOR = 'NormalCitation', 'AuthorInText', 'SuppressAuthor'
 
 
 @dataclass
@@ -24,18 +23,7 @@ class Cited:
     mode: str
     prefix: Inlines
     suffix: Inlines
-    locator: Optional[List[str]]
-    label: Optional[str] = None
-
-    def keep_label(self) -> None:
-        """Has the locator's text tell what kind it is, where that is no page: for styles that
-        don't."""
-        if self.locator and self.label and self.locator[0] not in ('page', 'custom'):
-            self.locator = ['custom', f'{self.label} {self.locator[1]}']
-
-    def item(self) -> Dict[str, Any]:
-        """The item of a request."""
-        return {'entry': self.key, 'locator': self.locator} if self.locator else {'entry': self.key}
+    locator: Optional[Locator]
 
 
 @dataclass
@@ -56,16 +44,20 @@ class Citation:
         """Whether the author of the first entry stands in the text, before the citation."""
         return bool(self.cited) and self.cited[0].mode == AUTHOR_IN_TEXT and not self.keeps_names
 
-    @property
-    def is_plain(self) -> bool:
-        """Whether the entries are as a style may group and collapse them."""
-        return all(not cite.prefix and not cite.suffix and cite.mode == 'NormalCitation'
-                   for cite in self.cited)
+    def cites(self, keeps_authors: bool = False) -> List[csl.Cite]:
+        """The cites of a style: without the author that stands in the text, unless it is kept. The
+        words of the page are marks."""
+        return [self._cite(place, cited, keeps_authors)
+                for place, cited in enumerate(self.cited)]
 
-    def request(self, style: str) -> Dict[str, Any]:
-        """The request for this citation in a style."""
-        note = {} if self.note is None else {'note': self.note}
-        return {'style': style, **note, 'items': [cite.item() for cite in self.cited]}
+    def _cite(self, place: int, cited: Cited, keeps_authors: bool) -> csl.Cite:
+        is_named = place == 0 and self.names_author
+        is_marked = bool(cited.prefix or cited.suffix) or is_named
+        leaves_out = cited.mode == SUPPRESS_AUTHOR or is_named and not keeps_authors
+        kind, text = cited.locator or ('page', None)
+        return csl.Cite(cited.key, text, kind, opening(place) if is_marked else '',
+                        closing(place) if is_marked else '', suppress_author=leaves_out,
+                        note=self.note)
 
 
 def citation_of(cite: Any, number: int, known: Set[str]) -> Citation:
@@ -93,104 +85,93 @@ def citation_of(cite: Any, number: int, known: Set[str]) -> Citation:
 
 def _cited_of(part: Any) -> Cited:
     text, behind = leading_text(part['citationSuffix'])
-    locator, label, rest = _locators.split(text)
-    if locator is None:
-        rest = text
+    locator, rest = _locators.split(text)
     suffix = joined([*words(rest), *behind])
     if not text_of(suffix).strip():
         suffix = []
     return Cited(part['citationId'], part['citationMode']['t'], list(part['citationPrefix']),
-                 suffix, locator, label)
-
-
-def unshrunk(style: Dict[str, Any]) -> Dict[str, Any]:
-    """The style without grouping and collapsing, for citations whose cites have words of their own
-    around them."""
-    made = copy.deepcopy(style)
-    for key in ('collapse', 'cite_group_delimiter'):
-        made['citation'].pop(key, None)
-    return made
+                 suffix, locator)
 
 
 @dataclass
 class Written:
-    """A citation as inlines: the author's names where they stand in the text, and the rest."""
+    """A citation as inlines: the author's names where they stand in the text, and the rest; and
+    what of it shows nothing."""
 
     names: Inlines
     rest: Inlines
     lost: List[str]
+    begins_with_words: bool = False
 
 
-def written(citation: Citation, tree: Tree, layout_suffix: str, links: bool,
-            leaves_out_authors: bool) -> Written:
-    """The inlines of a citation, of which this is the tree of the answer. The suffix of the layout,
-    which the driver leaves out behind a cite that ends with it, stands all the same where words of
-    the text's own come between. Authors that the text suppresses are left out here, unless the
-    style leaves them out."""
+def written(citation: Citation, tree: Tree, with_authors: Optional[Tree], links: bool) -> Written:
+    """The inlines of a citation, of which this is the tree of the answer; and where its author
+    stands in the text, the tree with it."""
     made = Written([], [], [])
-    for node in tree:
-        place = _entry_of(node)
-        if place is not None:
-            made.rest += _cite(citation, place, node, links, leaves_out_authors, made)
-        elif not (node is tree[-1] and node.get('text') == '.'
-                  and text_of(made.rest).endswith('.')):
-            made.rest += inlines_of([node])
-    last = _entry_of(tree[-1]) if tree else None
-    if last is not None and citation.cited[last].suffix:
-        made.rest += words(layout_suffix)
+    parts = parts_of(tree)
+    shown = {part.place for part in parts if text_of_pieces(part.pieces).strip()}
+    for part in _without_empty(citation, parts, shown):
+        if part.place is None:
+            made.rest += _between(made.rest, part)
+        else:
+            made.rest += _cite(citation, part, links)
+    if with_authors is not None:
+        made.names = inlines_of_pieces(names_in(_first(parts_of(with_authors)), _first(parts)))
+    for place, cited in enumerate(citation.cited):
+        if cited.mode == SUPPRESS_AUTHOR and place not in shown:
+            made.lost.append(f'the style writes nothing of {cited.key} but its author')
+    first = next((part.place for part in parts if part.place is not None), None)
+    made.begins_with_words = first is not None and bool(citation.cited[first].prefix)
     made.rest = joined(made.rest)
     return made
 
 
-def _cite(citation: Citation, place: int, node: Node, links: bool, leaves_out_authors: bool,
-          made: Written) -> Inlines:
+def _without_empty(citation: Citation, parts: List[Part], shown: Set[Optional[int]]) -> List[Part]:
+    """The parts without cites of which nothing is written and that have no words of the page
+    around them; nothing where no others are left."""
+    cites = [at for at, part in enumerate(parts) if part.place is not None]
+    kept = [at for at in cites if parts[at].place in shown or _has_words(citation, parts[at])]
+    if len(kept) == len(cites):
+        return parts
+    if not kept:
+        return []
+    found = parts[:cites[0]]
+    for at in kept:
+        before = max((cite for cite in cites if cite < at), default=at)
+        found += [*(parts[before + 1:at] if at != kept[0] else []), parts[at]]
+    return [*found, *parts[cites[-1] + 1:]]
+
+
+def _has_words(citation: Citation, part: Part) -> bool:
+    cited = citation.cited[part.place or 0]
+    return bool(cited.prefix or cited.suffix)
+
+
+def _first(parts: List[Part]) -> List[Any]:
+    """What is written of the first cite of a citation."""
+    return [piece for part in parts if part.place == 0 for piece in part.pieces]
+
+
+def _between(before: Inlines, part: Part) -> Inlines:
+    """What stands between cites or behind them, without a full stop behind another one."""
+    inlines = inlines_of_pieces(part.pieces)
+    is_doubled = bool(inlines) and inlines[0].get('t') == 'Str' \
+        and inlines[0]['c'].startswith('.') and text_of(before).endswith('.')
+    if not is_doubled:
+        return inlines
+    rest = inlines[0]['c'][1:]
+    return [*([{'t': 'Str', 'c': rest}] if rest else []), *inlines[1:]]
+
+
+def _cite(citation: Citation, part: Part, links: bool) -> Inlines:
+    """A cite, with the words of the page around it."""
+    place = part.place or 0
     cited = citation.cited[place]
-    parts = pieces(node)
-    is_named = place == 0 and citation.names_author
-    if is_named or cited.mode == SUPPRESS_AUTHOR and not leaves_out_authors:
-        names, rest = without_names(parts)
-        if is_named:
-            made.names = inlines_of_pieces(names)
-        if names and not any(piece.kind == 'text' and piece.node['text'].strip() for piece in rest):
-            made.lost.append(f'the style writes nothing of {cited.key} but its author')
-        parts = rest
-    content = inlines_of_pieces(parts)
+    content = inlines_of_pieces(part.pieces)
     if links:
         content = linked(content, cited.key)
-    return [*_before(cited.prefix), *content,
-            *_behind(cited.suffix, is_named and not cited.locator)]
-
-
-def without_names(parts: Sequence[Piece]) -> Tuple[List[Piece], List[Piece]]:
-    """The first names of a cite, and the cite without them and without the punctuation behind
-    them."""
-    start = next((at for at, piece in enumerate(parts)
-                  if piece.kind == 'open' and _is_names(piece.node)), None)
-    if start is None:
-        return [], list(parts)
-    node = parts[start].node
-    end = next(at for at in range(start, len(parts)) if parts[at].kind == 'close'
-               and parts[at].node is node)
-    rest = list(parts[:start])
-    has_begun = False
-    for piece in parts[end + 1:]:
-        if piece.kind == 'text' and not has_begun:
-            text = piece.node['text'].lstrip(DELIMITERS)
-            has_begun = bool(text)
-            piece = piece._replace(node={**piece.node, 'text': text})
-        rest.append(piece)
-    return list(parts[start:end + 1]), rest
-
-
-def _entry_of(node: Node) -> Optional[int]:
-    meta = node.get('meta')
-    place = meta.get('entry') if isinstance(meta, dict) else None
-    return place if isinstance(place, int) else None
-
-
-def _is_names(node: Node) -> bool:
-    meta = node.get('meta')
-    return isinstance(meta, dict) and 'names' in meta
+    needs_comma = place == 0 and citation.names_author and not cited.locator
+    return [*_before(cited.prefix), *content, *_behind(cited.suffix, needs_comma)]
 
 
 def _before(prefix: Inlines) -> Inlines:

@@ -4,8 +4,7 @@ from __future__ import annotations
 import re
 from typing import Any, Dict, List, Sequence, Tuple
 
-from ._writing import Piece, anchor, formats, pieces, safe_url, single_spaced
-from .answer import Tree
+from ._writing import Piece, anchor, formats, safe_url, single_spaced
 from .references.latex_math import math_runs
 from .references.rich_text import csl_title
 
@@ -120,11 +119,6 @@ def leading_text(inlines: Inlines) -> Tuple[str, Inlines]:
     return text, []
 
 
-def inlines_of(tree: Tree) -> Inlines:
-    """A tree as inlines, with its links and formatting."""
-    return inlines_of_pieces(pieces(tree))
-
-
 def inlines_of_pieces(parts: Sequence[Piece]) -> Inlines:
     """The parts of a tree as inlines. What has a display is a span of class `csl-block` and so
     on."""
@@ -160,6 +154,25 @@ def linked(content: Inlines, key: str) -> Inlines:
     if not content or _has_link(content):
         return content
     return [link(content, '#' + anchor(key))]
+
+
+def capitalized(inlines: Inlines) -> Inlines:
+    """The inlines with a capital for their first letter, where that stands in words."""
+    for place, inline in enumerate(inlines):
+        kind: str = inline['t']
+        content: Any = inline.get('c')
+        if kind in ('Space', 'SoftBreak'):
+            continue
+        if kind == 'Str':
+            made: Any = re.sub(r'\w', lambda match: match.group().upper(), content, count=1)
+        elif kind in _KINDS.values():
+            made = capitalized(content)
+        elif kind in ('Quoted', 'Span'):
+            made = [content[0], capitalized(content[1])]
+        else:
+            break
+        return [*inlines[:place], {'t': kind, 'c': made}, *inlines[place + 1:]]
+    return inlines
 
 
 def _has_link(inlines: Inlines) -> bool:

@@ -70,6 +70,19 @@ def answer_of_value(said: Dict[str, Any], warnings: Sequence[TextWarning] = ()) 
     return Answer(citations, Bibliography(**settings), list(warnings))
 
 
+def data_of(answer: Answer) -> Dict[str, Any]:
+    """The value of which `answer_of_value` makes this answer."""
+    said: Dict[str, Any] = {'citations': [_told(citation) for citation in answer.citations]}
+    if answer.bibliography is not None:
+        said['bibliography'] = _told(answer.bibliography)
+        said['bibliography']['items'] = [_told(item) for item in answer.bibliography.items]
+    return said
+
+
+def _told(part: Union[Bibliography, Citation, Item]) -> Dict[str, Any]:
+    return {key: value for key, value in vars(part).items() if value is not None}
+
+
 def tree_of(part: Union[Citation, Node, Tree]) -> Tree:
     """The tree of a citation, or the tree or node itself, as a tree."""
     if isinstance(part, Citation):

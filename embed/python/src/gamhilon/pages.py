@@ -1,15 +1,16 @@
-"""Whole answers in each form that `python -m gamhilon render` gives."""
+"""Whole answers in each form that `python -m gamhilon` gives: those of `render`, and those of `cite`
+and `bibliography`."""
 from __future__ import annotations
 
 import json
 from typing import Any, Callable, Dict, List
 
-from .answer import Answer, answer_of
+from .answer import Answer, Item, answer_of, data_of, plain
 from .html_writer import bibliography_to_html, style_sheet, to_html
 from .latex_writer import bibliography_to_latex, to_latex
 from .markdown_writer import bibliography_to_markdown, to_markdown
 
-__all__ = ['FORMS', 'standalone', 'written']
+__all__ = ['FORMS', 'bibliography_in', 'citations_in', 'standalone', 'written']
 
 FORMS = ('text', 'html', 'markdown', 'latex', 'json')
 
@@ -37,6 +38,36 @@ def written(form: str, document: bytes, print_document: Callable[[bytes], str],
     if form == 'json':
         return text + '\n'
     return _WRITERS[form](answer_of(text), _keys(json.loads(document)))
+
+
+def citations_in(form: str, answer: Answer) -> str:
+    """The citations of an answer in a form, each on a line."""
+    if form == 'json':
+        return json.dumps(data_of(Answer(answer.citations))['citations'], ensure_ascii=False) + '\n'
+    writers: Dict[str, Callable[..., str]] = {
+        'text': plain, 'html': to_html, 'markdown': to_markdown, 'latex': to_latex}
+    return ''.join(f'{writers[form](citation)}\n' for citation in answer.citations)
+
+
+def bibliography_in(form: str, answer: Answer) -> str:
+    """The bibliography of an answer in a form; nothing where there is none."""
+    if form == 'json':
+        said = data_of(answer).get('bibliography')
+        return json.dumps(said, ensure_ascii=False) + '\n'
+    if form == 'text':
+        items = answer.bibliography.items if answer.bibliography else []
+        return ''.join(f'{_line(item)}\n' for item in items)
+    writers: Dict[str, Callable[..., str]] = {
+        'html': bibliography_to_html, 'markdown': bibliography_to_markdown,
+        'latex': bibliography_to_latex}
+    return writers[form](answer.bibliography)
+
+
+def _line(item: Item) -> str:
+    """The text of an item, its first field in front."""
+    if item.first_field is None:
+        return plain(item.content)
+    return f'{plain(item.first_field).rstrip()} {plain(item.content)}'
 
 
 def standalone(content: str) -> str:

@@ -8,9 +8,8 @@ It reads from the metadata of the text:
                              of the id refs-NAME lists what is cited from the files of that name
     references               references of the text itself, as pandoc has them
     resource-path            the folders in which files are looked for, after that of the text
-    gamhilon-style           alphanumeric, author-date (where it is absent), note or numeric; or a
-                             file (styles.from_file)
-    csl                      a published style, by its name or the path of its file (gamhilon.csl)
+    csl                      a style: author-date (where it is absent), labels, notes, numeric, the
+                             name of a published one, or the path of a file (gamhilon.csl)
     lang                     the language of the text
     nocite                   entries that are listed and not cited; @* for all
     link-citations           whether citations link to the reference list; true where it is absent
@@ -23,19 +22,18 @@ an error, and no other is taken in its place.
 """
 from __future__ import annotations
 
-import difflib
 import json
 import re
 import sys
 from typing import Any, Dict, Iterator, List, Optional, Sequence, Tuple, Union
 
-from . import _addresses, _console
-from ._pandoc_cites import Citation, Written, citation_of, written
-from ._pandoc_inlines import (SPACE, Inlines, div, inlines_of, inlines_of_pieces, joined, span,
-                              strong,
-                              text_of, words)
+from . import _addresses, _console, csl
+from ._nearest import meant
+from ._pandoc_cites import NORMAL, Citation, Written, citation_of, written
+from ._pandoc_inlines import (SPACE, Inlines, capitalized, div, inlines_of_pieces, joined, span,
+                              strong, text_of, words)
 from ._pandoc_metadata import FilterError, Metadata, Source, Warn, plain_value
-from ._pandoc_styles import style_of
+from ._pandoc_style import Style
 from ._writing import anchor, pieces
 from .answer import Bibliography, Item, Node, Tree
 from .errors import LibraryMissing, Refused
@@ -81,7 +79,7 @@ class _Filter:
     def __init__(self, text: Dict[str, Any], warn: Warn) -> None:
         self.text, self.fields, self.warn = text, text.get('meta', {}), warn
         self.meta = Metadata(self.fields, warn)
-        self.style = style_of(self.meta)
+        self.style = Style(self.meta)
         self.links = self.meta.truth('link-citations', True)
         self.links_addresses = self.meta.truth('link-bibliography', True)
         self.moves_punctuation = self.meta.truth('notes-after-punctuation', True)
@@ -132,7 +130,6 @@ class _Filter:
             citation.note = self.notes
         for key in citation.missing:
             self.warn(f'{citation.place}: no entry has the key {key}{self.near(key)}')
-        self.style.note(citation)
         self.citations[id(cite)] = citation
         self.collect_words(cite, citation, is_in_note or self.style.is_note, is_in_link)
 
@@ -149,8 +146,7 @@ class _Filter:
 
     def near(self, key: str) -> str:
         """A key that may have been meant."""
-        found = difflib.get_close_matches(key, sorted(self.style.keys), 1, 0.75)
-        return f': is {found[0]} meant?' if found else ''
+        return meant(key, self.style.keys)
 
     def nocite(self) -> List[str]:
         """The keys that are listed and not cited."""
@@ -173,26 +169,23 @@ class _Filter:
         asked = [(place, citation) for place, citation in self.citations.items() if citation.cited]
         nocite = list(dict.fromkeys(self.nocite()))
         answer = self.style.answer([citation for _, citation in asked], nocite)
-        for (place, citation), said in zip(asked, answer.citations):
+        for (place, citation), tree, whole in zip(asked, answer.trees, answer.with_authors):
             links = self.links and answer.bibliography is not None and not citation.is_in_link
-            self.written[place] = written(citation, said.content, self.style.suffix, links,
-                                          self.style.leaves_out_authors)
-        self.name_authors()
+            self.written[place] = written(citation, tree, whole, links)
+        self.tell([citation for _, citation in asked], answer.warnings)
         for place, citation in asked:
             for lost in self.written[place].lost:
                 self.warn(f'{citation.place}: {lost}')
         return answer.bibliography
 
-    def name_authors(self) -> None:
-        """Has the style write the authors that stand in the text and are no part of their
-        citation."""
-        unnamed = [place for place, citation in self.citations.items()
-                   if citation.names_author and not self.written[place].names]
-        if not unnamed:
-            return
-        keys = [self.citations[place].cited[0].key for place in unnamed]
-        for place, tree in zip(unnamed, self.style.authors(keys)):
-            self.written[place].names = inlines_of(tree)
+    def tell(self, citations: List[Citation], warnings: Sequence[csl.Warned]) -> None:
+        """Tells what the style found odd. Of citations without an author that they have this is
+        told otherwise."""
+        for warned in warnings:
+            if warned.citation is None:
+                self.warn(str(warned))
+            elif all(cited.mode == NORMAL for cited in citations[warned.citation].cited):
+                self.warn(f'{citations[warned.citation].place}: {warned.message}')
 
     # What is put in
 
@@ -246,7 +239,8 @@ class _Filter:
                 before.append({'t': 'Str', 'c': mark[:len(mark) - len(rest)]})
                 after[:1] = [{'t': 'Str', 'c': rest}] if rest else []
         if made.rest:
-            content = self.shown(citation, self.replaced_list(made.rest))
+            rest = self.replaced_list(made.rest)
+            content = self.shown(citation, capitalized(rest) if made.begins_with_words else rest)
             before.append({'t': 'Note', 'c': [{'t': 'Para', 'c': [content]}]})
 
     @staticmethod

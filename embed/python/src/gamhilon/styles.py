@@ -1,45 +1,43 @@
-"""Four styles to begin with, and styles of files.
+"""Four styles that come with the package: files of CSL 1.0.2, as examples/styles of the repository
+has them.
 
-Each is a document (docs/DOCUMENT.md) without entries and requests: the style, its locale, and the
-bibliography's request. They are the styles of the repository's examples, with short terms for all
-kinds of locators.
+    from gamhilon import csl, styles
+
+    csl.render('author-date', entries, citations)
+    print(styles.text('author-date'))           # the file, to be changed
 """
 from __future__ import annotations
 
-import json
 import os
-from typing import Any, Dict, List
+from typing import List
 
-__all__ = ['document', 'from_file', 'names']
+__all__ = ['names', 'path', 'text']
 
-_FOLDER = os.path.join(os.path.dirname(os.path.abspath(__file__)), 'style_documents')
+_HERE = os.path.dirname(os.path.abspath(__file__))
+_FOLDERS = (os.path.join(_HERE, 'style_files'),
+            os.path.normpath(os.path.join(_HERE, '../../../../examples/styles')))
+_SUFFIX = '.csl'
 
 
 def names() -> List[str]:
-    """The names of the styles: alphanumeric, author-date, note, numeric."""
-    return sorted(name[:-len('.json')] for name in os.listdir(_FOLDER) if name.endswith('.json'))
+    """The names of the styles: author-date, labels, notes, numeric."""
+    return sorted(name[:-len(_SUFFIX)] for name in os.listdir(_folder())
+                  if name.endswith(_SUFFIX))
 
 
-def document(name: str) -> Dict[str, Any]:
-    """A new document in the style of this name, to which entries and requests are to be added. The
-    style's name in it is `name`. Raises ValueError where there is no such style."""
+def path(name: str) -> str:
+    """The path of the style of this name. Raises ValueError where there is no such style."""
     if name not in names():
         raise ValueError(f'there is no style {name!r}: the styles are {", ".join(names())}')
-    return from_file(os.path.join(_FOLDER, f'{name}.json'))
+    return os.path.join(_folder(), name + _SUFFIX)
 
 
-def from_file(path: str) -> Dict[str, Any]:
-    """A new document in the style of the bibliography of the document that a file holds, without
-    its entries and requests. Raises ValueError where it has no such style, and OSError where it
-    can't be read."""
-    with open(path, encoding='utf-8') as file:
-        said = json.load(file)
-    try:
-        name = said['bibliography']['style']
-        style = said['styles'][name]
-    except (KeyError, TypeError):
-        reason = 'not a document whose bibliography names one of its styles'
-        raise ValueError(f'{path}: {reason}') from None
-    wanted = {key: value for key, value in said['bibliography'].items() if key != 'order'}
-    kept = {key: said[key] for key in ('locales', 'rounds') if key in said}
-    return {'styles': {name: style}, **kept, 'entries': [], 'requests': [], 'bibliography': wanted}
+def text(name: str) -> str:
+    """The text of the style of this name. Raises ValueError where there is no such style."""
+    with open(path(name), encoding='utf-8') as file:
+        return file.read()
+
+
+def _folder() -> str:
+    """Where the styles are: in the wheel, or in the repository."""
+    return next(folder for folder in _FOLDERS if os.path.isdir(folder))

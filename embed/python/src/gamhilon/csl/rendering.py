@@ -1,157 +1,171 @@
-"""What is known, and noted, while one task is written."""
+"""Citations and a bibliography in a style."""
 from __future__ import annotations
 
-from dataclasses import dataclass, field
-from typing import Any, Dict, List, Optional, Sequence, Set, Tuple
+from dataclasses import dataclass, replace
+from typing import Any, Dict, List, Mapping, Optional, Sequence
 
-from .._driving import Task, Written
-from ..answer import Tree
-from .given_names import FORMS, GivenNames
-from .marks import Marks
+from .._nearest import meant
+from ..answer import Answer, Item, Node, Tree, plain
+from ..errors import TextRefused
+from .calling import Document, steps_of
+from .cites import Cite, CiteLike, CitationReader
+from .entries import Entry, EntryReader, stand_in, warned_of_stand_in
+from .errors import CitationRefused, StyleRefused
+from .locales import LocaleFile, Locales, files_for, with_dialect
+from .style import About, Style, load
+from .warned import Warned
 
-_NAME_VARIABLES = ('author', 'editor', 'translator')
+__all__ = ['Rendered', 'about', 'check_locale', 'check_style', 'render']
+
+NOTHING = 'the style writes nothing of it'
+LANGUAGE = 'en-US'
+"""The language where neither the caller nor the style tells one."""
 
 
-@dataclass
-class Rendering:
-    """One task. While keys of sorting are written there is no task, and nothing is marked.
+@dataclass(frozen=True)
+class Rendered:
+    """The answer, with its trees: a citation for each that was handed in, in that order; and what
+    was odd in the style, the entries and the citations, each with its place."""
 
-    `leaves_out_names` tells whether the names that come first are left out,
-    `writes_suffix_implicitly` whether a year suffix stands behind the first date, and
-    `names_are_replaced_at_once` whether repeated authors are replaced as a whole: then what stands
-    between names is a part of them.
-    """
-
-    task: Optional[Task] = None
-    leaves_out_names: bool = False
-    writes_suffix_implicitly: bool = False
-    names_are_replaced_at_once: bool = False
-    given_names: GivenNames = field(default_factory=GivenNames)
-    marks: Marks = field(default_factory=Marks)
-    name_options: Dict[str, Any] = field(default_factory=dict)
-    first_name: Optional[Tuple[str, ...]] = None
-    disambiguate_tested: bool = False
-    identifiers: Set[str] = field(default_factory=set)
-    has_written_year: bool = False
+    answer: Answer
+    warnings: List[Warned]
 
     @property
-    def is_cut_to_suffix(self) -> bool:
-        """Whether the cite is cut to the suffix of its year."""
-        return self.task is not None and self.task.verdict == 'suffix'
+    def citations(self) -> List[str]:
+        """The text of each citation."""
+        return [plain(citation.content) for citation in self.answer.citations]
 
-    def written(self, tree: Tree) -> Written:
-        """What is told of this rendering."""
-        usage: Optional[str] = ('both' if len(self.identifiers) == 2
-                                else ''.join(self.identifiers) or None)
-        return Written(tree, self.disambiguate_tested, self.first_name, usage)
-
-    # Names
-
-    def may_write_names(self) -> bool:
-        """Whether names are written here: those that come first are left out where the cite is
-        cut."""
-        leaves_out, self.leaves_out_names = self.leaves_out_names, False
-        return not leaves_out
-
-    def forms(self, own: Tuple[str, ...], persons: List[List[str]]) -> Tuple[str, ...]:
-        """The forms in which names are written. In the first names of a cite, whose forms are
-        noted, each is at least what tells its person from others, and what the state of the entry
-        asks for. Items of the bibliography have the forms of their style, as CSL has it."""
-        if self.first_name is not None or not own:
-            return own
-        if self.task is None or self.task.kind != 'cite':
-            self.first_name = own
-            return own
-        rule = self.given_names.forms(persons)
-        self.first_name = _raised(own, rule)
-        return _raised(_with_those_between(self.first_name, self.task.name_forms or ()), rule)
-
-    def names(self, text: str, reference: Any, roles: List[str]) -> str:
-        """A text with its names, marked."""
-        blocks = [{'variable': _variable(role),
-                   'persons': [person(name) for name in reference[role]]} for role in roles]
-        return self.marks.around(text, meta={'names': blocks})
-
-    def name(self, text: str, variable: str, place: int) -> str:
-        """A text with one name, marked."""
-        return self.marks.around(text,
-                                 meta={'name': {'variable': _variable(variable), 'place': place}})
-
-    # Dates and identifiers
-
-    def date(self, text: str) -> str:
-        """A date, marked, with the year suffix where the style writes it by itself: behind the
-        first date."""
-        suffix = self.suffix_here()
-        if self.is_cut_to_suffix:
-            text = ''
-        return self.marks.around(text + suffix, meta='date') if text or suffix else ''
-
-    def suffix_here(self) -> str:
-        """The year suffix behind a date or a label: behind the first of them, where the style has
-        no place of its own."""
-        is_first, self.has_written_year = not self.has_written_year, True
-        return (self.task.year_suffix if self.task and self.writes_suffix_implicitly and is_first
-                else '')
-
-    def identifier(self, text: str, variable: str) -> str:
-        """The number or the label of an entry with its affixes, marked."""
-        self.identifiers.add('number' if variable == 'citation-number' else 'label')
-        return self.marks.around(text, meta=variable)
-
-    # Conditions
-
-    def disambiguates(self) -> bool:
-        """A condition `disambiguate`, which is noted."""
-        self.disambiguate_tested = True
-        return self.task is not None and self.task.disambiguates
-
-    def holds(self, position: str) -> bool:
-        """Whether a cite is at a position. Where cites are compared none repeats the one before it:
-        what reads `Ibid.` says nothing of its work. Items of the bibliography have no position."""
-        task = self.task
-        if task is None or task.kind != 'cite':
-            return False
-        if position in ('first', 'subsequent'):
-            return task.first == (position == 'first')
-        if position == 'near-note':
-            return task.near_note
-        if not task.is_final or task.first:
-            return False
-        return task.repeats == 'ibid-with-locator' or task.repeats == position == 'ibid'
+    @property
+    def bibliography(self) -> Dict[str, str]:
+        """The text of each item, by the id of its entry, in their order; empty where the style has
+        no bibliography."""
+        items = self.answer.bibliography.items if self.answer.bibliography else []
+        return {item.key: _text_of(item) for item in items}
 
 
-def _added(forms: Tuple[str, ...], wanted: Sequence[str]) -> Tuple[str, ...]:
-    """The forms, each as far as is wanted; where the list of these ends they stay."""
-    raised = [max(one, other, key=FORMS.index) for one, other in zip(forms, wanted)]
-    return (*raised, *forms[len(raised):])
+def render(style: str, entries: Sequence[Mapping[str, Any]],
+           citations: Sequence[Sequence[CiteLike]], *, locale: Optional[str] = None,
+           locales: Optional[Locales] = None) -> Rendered:
+    """Citations and the bibliography in a style: its name, its path, or its text. `locale` is the
+    language in place of the style's; `locales` a folder of locale files in place of Debian's, or
+    the paths or texts of some.
+
+    What is odd is a warning of what is rendered. An entry that can't be written as it is loses the
+    field that is wrong, or its id stands for it. Raises StyleMissing where there is no such style,
+    StyleRefused where a style or a locale file isn't one, CitationRefused where a citation isn't
+    one or cites an entry that isn't there, EntriesRefused where the entries are no list (each of
+    these is a ValueError); Unsettled, NumberOverflow or OutOfMemory, and LibraryMissing.
+    """
+    entry_reader, citation_reader = EntryReader(), CitationReader()
+    found = load(style)
+    cites = citation_reader.citations(citations)
+    known = _cited(entry_reader.entries(entries), cites)
+    language = with_dialect(locale or found.language or LANGUAGE)
+    files = files_for(language, locales)
+    document = Document(found, files, list(known.values()), cites, language)
+    warnings = [*entry_reader.warnings, *citation_reader.warnings]
+    return _rendered(document, warnings)
 
 
-def _with_those_between(forms: Tuple[str, ...], wanted: Sequence[str]) -> Tuple[str, ...]:
-    """The forms, each as far as is wanted. Names before one that is added are written too, as CSL
-    has it: the driver tells the least that tells works from each other."""
-    added = [place for place, (one, other) in enumerate(zip(forms, wanted))
-             if one == 'count' != other]
-    least = ['short'] * (added[-1] if added else 0)
-    return _added(_added(forms, wanted), least)
+def about(style: str) -> About:
+    """What a style is. Raises StyleMissing and StyleRefused, as `render` does."""
+    found = load(style)
+    if found.about is not None:
+        return found.about
+    _refuse(_of_style(found))
+    raise StyleRefused(found.file, None, None, 'it is no XML')
 
 
-def _raised(forms: Tuple[str, ...], wanted: Sequence[str]) -> Tuple[str, ...]:
-    """The same of the names that are written, while those that are cut stay cut."""
-    return tuple(one if one == 'count' else other
-                 for one, other in zip(forms, _added(forms, wanted)))
+def check_style(text: str, file: str = 'the style') -> List[Warned]:
+    """What is odd in the text of a style, which places name `file`. Raises StyleMissing and
+    StyleRefused, as `render` does."""
+    return _refuse(_of_style(load(text, file)))
 
 
-def person(name: Any) -> List[str]:
-    """A person as trees have it, of a name of citeproc-py: what is written in short forms, and the
-    rest."""
-    given, family, dropping, non_dropping, suffix = name.parts()
-    short = ' '.join(part for part in (non_dropping, family) if part)
-    rest = ', '.join(part for part in (' '.join(part for part in (given, dropping) if part), suffix)
-                     if part)
-    return [short, rest] if rest else [short]
+def check_locale(text: str, file: str = 'the locale') -> List[Warned]:
+    """What is odd in the text of a locale file, which places name `file`. Raises StyleRefused where
+    it isn't one."""
+    return _refuse(replace(_of_style(load('author-date')), locales=[LocaleFile(file, text)]))
 
 
-def _variable(role: str) -> str:
-    """The variable that a mark names: trees know three of them."""
-    return role if role in _NAME_VARIABLES else 'author'
+def _of_style(style: Style) -> Document:
+    return Document(style, [], [], [], style.language or LANGUAGE)
+
+
+def _refuse(document: Document) -> List[Warned]:
+    """The warnings of a document. Raises what is wrong in it."""
+    try:
+        answer = document.answer()
+    except TextRefused as refusal:
+        raise document.error(refusal) from refusal
+    return [document.warned(warning) for warning in answer.warnings]
+
+
+def _cited(entries: Dict[str, Entry], citations: Sequence[Sequence[Cite]]) -> Dict[str, Entry]:
+    """The entries that are cited. Raises CitationRefused where one isn't there."""
+    cited = set()
+    for number, citation in enumerate(citations):
+        for index, cite in enumerate(citation):
+            if cite.id not in entries:
+                fault = f'there is no entry {cite.id!r}{meant(cite.id, entries)}'
+                raise CitationRefused(number, index, 'id', fault)
+            cited.add(cite.id)
+    return {key: entry for key, entry in entries.items() if key in cited}
+
+
+def _rendered(document: Document, warnings: List[Warned]) -> Rendered:
+    """The answer to a document. Fields of entries that are wrong are left out."""
+    while True:
+        try:
+            answer = document.answer()
+            break
+        except TextRefused as refusal:
+            document = _mended(document, refusal, warnings)
+    warnings += [document.warned(warning) for warning in answer.warnings]
+    return Rendered(_with_stand_ins(document, answer, warnings), warnings)
+
+
+def _mended(document: Document, refusal: TextRefused, warnings: List[Warned]) -> Document:
+    """The document without what is wrong in an entry, of which it warns. Raises what is wrong
+    elsewhere."""
+    steps, fault = steps_of(refusal.fault), refusal.fault.message
+    if refusal.fault.file != 'items' or not steps:
+        raise document.error(refusal) from refusal
+    number, entries = int(steps[0]), list(document.entries)
+    entry = entries[number]
+    key = str(entry['id'])
+    if len(steps) > 1 and steps[1] in entry and steps[1] != 'id':
+        message = f'{fault}: the field is left out'
+        warnings.append(Warned(f'entry {key}, {steps[1]}', message, entry=key))
+        entries[number] = {name: value for name, value in entry.items() if name != steps[1]}
+    else:
+        warnings.append(warned_of_stand_in(key, fault))
+        entries[number] = stand_in(key)
+    return replace(document, entries=entries)
+
+
+def _with_stand_ins(document: Document, answer: Answer, warnings: List[Warned]) -> Answer:
+    """The answer, in whose list the id stands for an entry of which the style writes nothing. Warns
+    of that, and of citations that show nothing."""
+    for number, (citation, cites) in enumerate(zip(answer.citations, document.citations)):
+        if not plain(citation.content).strip() and not all(cite.hidden for cite in cites):
+            warnings.append(Warned(f'citation {number}', NOTHING, citation=number))
+    if answer.bibliography is None:
+        return answer
+    items = []
+    for item in answer.bibliography.items:
+        if not _text_of(item).strip():
+            warnings.append(warned_of_stand_in(item.key, NOTHING))
+            item = Item(item.key, _stand_in(item.key))
+        items.append(item)
+    return replace(answer, bibliography=replace(answer.bibliography, items=items))
+
+
+def _stand_in(key: str) -> Tree:
+    node: Node = {'text': key, 'font_style': 'normal', 'font_weight': 'bold'}
+    return [node]
+
+
+def _text_of(item: Item) -> str:
+    first = plain(item.first_field) if item.first_field else ''
+    return first + plain(item.content)

@@ -1,115 +1,146 @@
-"""Styles of .csl files: where they are, and their elements as classes of this package."""
+"""Styles: where they are, on which others they depend, and what has to be known of one before
+anything is written in it."""
 from __future__ import annotations
 
 import os
-from typing import Any, Iterator, List, Optional, Tuple
+from dataclasses import dataclass
+from typing import List, Optional
+from xml.etree import ElementTree
 
-from citeproc import model  # type: ignore
-from lxml import etree  # type: ignore
-
-from .elements import ELEMENTS
+from .. import styles
+from .._nearest import meant
 from .errors import StyleMissing
-from .rendering import Rendering
+from .files import is_text, text_of
 
-STYLES = '/usr/share/citation-style-language/styles'
-"""Where Debian's package citation-style-language-styles has them."""
+__all__ = ['FOLDER', 'About', 'Style', 'find', 'is_locale', 'load', 'names']
 
-_CSL = 'http://purl.org/net/xbiblio/csl'
+FOLDER = '/usr/share/citation-style-language/styles'
+"""Where Debian's package citation-style-language-styles has styles."""
+
+THE_TEXT = 'the style'
+"""How messages name a style whose text was handed in."""
+
+_CSL = '{http://purl.org/net/xbiblio/csl}'
+_SUFFIX = '.csl'
 
 
-class _Formatter:
-    """What citeproc-py calls to write formats: those that trees have are marked, and others are
-    left out."""
+@dataclass(frozen=True)
+class About:
+    """What a style is: its title, whether it is one of notes, and whether it has a
+    bibliography."""
 
-    def __init__(self, root: Any) -> None:
-        self._root = root
+    title: str
+    is_note: bool
+    has_bibliography: bool
 
-    @staticmethod
-    def preformat(text: str) -> str:
-        return text
 
-    def Italic(self, text: Any) -> str:
-        return self._marked(text, font_style='italic')
+@dataclass(frozen=True)
+class Style:
+    """A style that stands for itself: its text, where that was found, the language that it or the
+    style which depends on it asks for, and what it is; None where its text is no XML."""
 
-    Oblique = Italic
+    file: str
+    text: str
+    language: Optional[str]
+    about: Optional[About]
 
-    def Bold(self, text: Any) -> str:
-        return self._marked(text, font_weight='bold')
 
-    def _marked(self, text: Any, **formats: str) -> str:
-        rendering = self._root.rendering
-        return str(text if rendering.task is None else rendering.marks.around(str(text), **formats))
-
-    Light = Underline = Superscript = Subscript = SmallCaps = staticmethod(str)
+def names() -> List[str]:
+    """The names of the styles that are there: those of this package, and Debian's."""
+    folders = [FOLDER, os.path.join(FOLDER, 'dependent')]
+    files = [name for folder in folders if os.path.isdir(folder) for name in os.listdir(folder)]
+    published = {name[:-len(_SUFFIX)] for name in files if name.endswith(_SUFFIX)}
+    return sorted(published.union(styles.names()))
 
 
 def find(style: str) -> str:
-    """The path of a style: a path itself, or the name of one of Debian's. Raises StyleMissing."""
-    names = [f'{STYLES}/{style}.csl', f'{STYLES}/dependent/{style}.csl']
-    places = [style] if style.endswith('.csl') or os.sep in style else names
+    """The path of a style: a path itself, or the name of one of this package or of Debian's. Raises
+    StyleMissing."""
+    if style in styles.names():
+        return styles.path(style)
+    is_path = style.endswith(_SUFFIX) or os.sep in style
+    places = [style] if is_path else [f'{FOLDER}/{style}.csl', f'{FOLDER}/dependent/{style}.csl']
     for place in places:
         if os.path.isfile(place):
             return place
-    raise StyleMissing(f'there is no style {style!r}: looked for {", ".join(places)}')
+    near = '' if is_path else meant(style, names())
+    raise StyleMissing(f'there is no style {style!r}: looked for {", ".join(places)}{near}')
 
 
-def load(style: str, locale: Optional[str] = None) -> Any:
-    """The root element of a style, which is that of its parent where it depends on one. It has the
-    attributes `rendering` and `formatter`. Raises StyleMissing."""
-    root, wanted = _independent(find(style))
-    for names in root.iter(f'{{{_CSL}}}names'):
-        if names.getparent().tag != f'{{{_CSL}}}substitute' and names.name is None:
-            # (citeproc-py would put an element of no namespace in, anew at each rendering)
-            names.insert(0, names.makeelement(f'{{{_CSL}}}name'))
-    root.rendering = Rendering()
-    root.formatter = _Formatter(root)
-    root.set_locale_list(locale or wanted or 'en-US', validate=False)
-    return root
+def load(style: str, file: str = THE_TEXT) -> Style:
+    """A style by its name, its path or its text, which messages then name `file`; where it depends
+    on another, that one. Raises StyleMissing where there is none, or its parent isn't there."""
+    if is_text(style):
+        return _independent(file, style)
+    path = find(style)
+    return _independent(path, _read(path))
 
 
-def writes_suffix_itself(root: Any) -> bool:
-    """Whether the style has a text of the variable `year-suffix`; else it stands behind the first
-    date."""
-    return bool(root.xpath_search('.//cs:text[@variable="year-suffix"]'))
+def is_locale(text: str) -> bool:
+    """Whether a text of XML is a locale file, by its root."""
+    root = _root_of(text)
+    return root is not None and root.tag == f'{_CSL}locale'
 
 
-def _independent(path: str) -> Tuple[Any, Optional[str]]:
-    """The root element of a style that stands for itself, and the locale that the first style asks
-    for."""
+def _read(path: str) -> str:
+    try:
+        return text_of(path)
+    except OSError as error:
+        raise StyleMissing(f'{path}: {error.strerror or error}') from error
+
+
+def _independent(file: str, text: str) -> Style:
+    """The style that stands for itself on which another one depends, in one step or in several."""
+    language: Optional[str] = None
     seen: List[str] = []
-    locale: Optional[str] = None
     while True:
-        root = _parsed(path)
-        locale = locale or root.get('default-locale')
-        parent = next(_parents(root), None)
+        root = _root_of(text)
+        if root is None:
+            return Style(file, text, language, None)
+        language = language or root.get('default-locale')
+        parent = _parent_of(root)
         if parent is None:
-            return root, locale
-        seen.append(path)
-        path = _beside(path, parent)
-        if path in seen:
-            raise StyleMissing(f'{path} depends on itself')
+            return Style(file, text, language, _about(root))
+        seen.append(file)
+        child, file = file, _beside(file, parent)
+        if file in seen:
+            raise StyleMissing(f'{child}: the style depends on itself, by {file}')
+        text = _read(file)
 
 
-def _beside(path: str, parent: str) -> str:
-    """The path of a style that another one depends on: beside that, or one of Debian's."""
-    beside = os.path.join(os.path.dirname(path), f'{parent}.csl')
-    return beside if os.path.isfile(beside) else find(parent)
+def _root_of(text: str) -> Optional[ElementTree.Element]:
+    """The root of an XML text; None where it is no XML, of which the library tells the place."""
+    try:
+        return ElementTree.fromstring(text.encode('utf-8', 'surrogateescape'))
+    except (ElementTree.ParseError, ValueError):
+        return None
 
 
-def _parents(root: Any) -> Iterator[str]:
-    for link in root.iter(f'{{{_CSL}}}link'):
-        if link.get('rel') == 'independent-parent':
-            yield link.get('href').rstrip('/').rsplit('/', 1)[-1]
+def _parent_of(root: ElementTree.Element) -> Optional[str]:
+    """The name of the style on which one depends that has no layout of its own."""
+    if root.find(f'{_CSL}citation') is not None:
+        return None
+    links = [link.get('href', '') for link in root.iter(f'{_CSL}link')
+             if link.get('rel') == 'independent-parent']
+    return links[0].rstrip('/').rsplit('/', 1)[-1] if links else None
 
 
-def _parsed(path: str) -> Any:
-    lookup = etree.ElementNamespaceClassLookup()
-    namespace = lookup.get_namespace(_CSL)
-    namespace[None] = model.CitationStylesElement
-    for base in model.CitationStylesElement.__subclasses__():
-        namespace[base.__name__.replace('_', '-').lower()] = base
-    for name, element in ELEMENTS.items():
-        namespace[name] = element
-    parser = etree.XMLParser(remove_comments=True, no_network=True, resolve_entities=False)
-    parser.set_element_class_lookup(lookup)
-    return etree.parse(path, parser).getroot()
+def _beside(child: str, parent: str) -> str:
+    """The path of a parent: beside the style that depends on it, or by its name."""
+    if os.path.isfile(child):
+        folder = os.path.dirname(child)
+        for place in (folder, os.path.dirname(folder)):
+            path = os.path.join(place, parent + _SUFFIX)
+            if os.path.isfile(path):
+                return path
+    try:
+        return find(parent)
+    except StyleMissing as missing:
+        raise StyleMissing(f'{child}: the style that it depends on is missing: {missing}') \
+            from missing
+
+
+def _about(root: ElementTree.Element) -> About:
+    title = root.findtext(f'{_CSL}info/{_CSL}title') or ''
+    return About(title.strip(), root.get('class') == 'note',
+                 root.find(f'{_CSL}bibliography') is not None)

@@ -1,6 +1,7 @@
 """YAML as plain values, by PyYAML: all scalars are texts, as they are written."""
 from __future__ import annotations
 
+from importlib import import_module
 from typing import Any, Dict, List, Tuple
 
 from .errors import ReaderMissing, ReferencesError
@@ -14,7 +15,8 @@ def load_values(text: str) -> Tuple[Any, List[str]]:
     dict, each with its line. Raises ReferencesError where it is no YAML, and ReaderMissing where
     there is no PyYAML."""
     try:
-        import yaml  # type: ignore
+        # (what mypy knows of PyYAML depends on what is installed beside it)
+        yaml: Any = import_module('yaml')
     except ImportError as error:
         raise ReaderMissing(f'{error}: YAML is read by PyYAML: install python3-yaml (Debian), '
                             'or pyyaml by pip') from error

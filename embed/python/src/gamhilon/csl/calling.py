@@ -1,0 +1,103 @@
+"""The library's call, from the texts of a document to its answer, its warnings and its faults."""
+from __future__ import annotations
+
+import json
+from dataclasses import dataclass
+from typing import List, Optional, Sequence
+
+from .._citing import cite_texts
+from .._library import CiteTexts
+from ..answer import Answer
+from ..errors import TextRefused
+from ..texts import TextWarning
+from .cites import Cite
+from .entries import Entry
+from .errors import CitationRefused, EntriesRefused, StyleRefused, place
+from .locales import LocaleFile
+from .style import Style
+from .warned import Warned
+
+
+@dataclass(frozen=True)
+class Document:
+    """What is rendered: a style, locale files, entries, citations, and the language in place of the
+    style's."""
+
+    style: Style
+    locales: Sequence[LocaleFile]
+    entries: Sequence[Entry]
+    citations: Sequence[Sequence[Cite]]
+    language: str
+
+    def answer(self) -> Answer:
+        """The answer. Raises TextRefused where a part of the document is wrong; Unsettled,
+        NumberOverflow or OutOfMemory; and LibraryMissing."""
+        cites = [[cite.data() for cite in citation] for citation in self.citations]
+        return cite_texts(CiteTexts(
+            style=bytes_of(self.style.text), items=json_of(self.entries), citations=json_of(cites),
+            locales=json_of([locale.text for locale in self.locales]),
+            options=json_of({'locale': self.language})))
+
+    def warned(self, remark: TextWarning) -> Warned:
+        """A remark of the library, with its place in the document."""
+        steps = steps_of(remark)
+        first = _index(steps, 0)
+        if remark.file == 'items' and first is not None and first < len(self.entries):
+            key = str(self.entries[first]['id'])
+            where = ', '.join([f'entry {key}', *steps[1:2]]) + _pointer(steps[2:])
+            return Warned(where, remark.message, entry=key)
+        if remark.file == 'citations' and first is not None:
+            where = place(first, _index(steps, 1), _step(steps, 2))
+            return Warned(where, remark.message, citation=first)
+        line = '' if remark.line is None else f':{remark.line}:{remark.column}'
+        return Warned(f'{self._file(remark.file)}{line}{_pointer(steps)}', remark.message)
+
+    def error(self, refusal: TextRefused) -> Exception:
+        """A fault as an error that tells its place in the document."""
+        fault = refusal.fault
+        if fault.file == 'citations':
+            steps = steps_of(fault)
+            return CitationRefused(_index(steps, 0), _index(steps, 1), _step(steps, 2),
+                                   fault.message)
+        if fault.file == 'items':
+            return EntriesRefused(str(self.warned(fault)))
+        return StyleRefused(self._file(fault.file), fault.line, fault.column, fault.message)
+
+    def _file(self, file: str) -> str:
+        """How messages name a text of the document."""
+        if file == 'style':
+            return self.style.file
+        name, slash, number = file.partition('/')
+        return self.locales[int(number)].file if slash and name == 'locales' else file
+
+
+def steps_of(remark: TextWarning) -> List[str]:
+    """The steps of the JSON Pointer (RFC 6901) of a remark."""
+    return [step.replace('~1', '/').replace('~0', '~')
+            for step in (remark.pointer or '').split('/')[1:]]
+
+
+def json_of(value: object) -> bytes:
+    """A value as JSON, with a question mark for each half of a surrogate pair."""
+    return json.dumps(value, ensure_ascii=False).encode('utf-8', 'replace')
+
+
+def bytes_of(text: str) -> bytes:
+    """The bytes of a text, as they were where it was read of a file."""
+    try:
+        return text.encode('utf-8', 'surrogateescape')
+    except UnicodeEncodeError:
+        return text.encode('utf-8', 'replace')
+
+
+def _pointer(steps: Sequence[str]) -> str:
+    return ''.join(f'/{step}' for step in steps)
+
+
+def _step(steps: Sequence[str], at: int) -> Optional[str]:
+    return steps[at] if at < len(steps) else None
+
+
+def _index(steps: Sequence[str], at: int) -> Optional[int]:
+    step = _step(steps, at)
+    return int(step) if step is not None and step.isdigit() else None
