@@ -5,10 +5,10 @@ tests/documents/ and examples/; then it runs the tests of the Python package.
 
 It needs the toolchain and a C compiler. What else it would use (c++, cargo, cmake, pkg-config,
 valgrind, pip, venv, pandoc, chromium, pytest, mypy, python3-pandocfilters, python3-jsonschema,
-python3-pybtex, python3-yaml, python3-distributed, python3-citeproc and its styles) is left out
-where it is missing, and a line says so. --many N has valgrind watch N calls in four threads, where
-it is 300 else. The last line is 'N passed, M failed', and the exit status is 1 where a test
-failed."""
+python3-pybtex, python3-yaml, python3-distributed, citation-style-language-styles and
+citation-style-language-locales) is left out where it is missing, and a line says so. --many N has
+valgrind watch N calls in four threads, where it is 300 else. The last line is 'N passed, M failed',
+and the exit status is 1 where a test failed."""
 import collections
 import glob
 import json
@@ -567,7 +567,7 @@ def try_wheel(folder):
                        '"issued": {"date-parts": [[1999]]}}]')
         words = ['pandoc', '--filter', 'gamhilon-pandoc', '-M', 'bibliography=refs.json', '-t',
                  'plain']
-        hold(ran(*words, input=b'[@doe99, p. 4]', **how).stdout.startswith(b'(Doe 1999, 4)\n'),
+        hold(ran(*words, input=b'[@doe99, p. 4]', **how).stdout.startswith(b'(Doe 1999, p. 4)\n'),
              'gamhilon-pandoc, from the wheel')
 
 
@@ -660,7 +660,7 @@ def python_with_pytest():
         return os.path.exists(python) and ran(python, '-c', f'import {module}').returncode == 0
 
     pythons = [python for python in (sys.executable, '/usr/bin/python3') if has(python, 'pytest')]
-    names = ('mypy', 'pandocfilters', 'jsonschema', 'citeproc', 'pybtex', 'yaml', 'distributed')
+    names = ('mypy', 'pandocfilters', 'jsonschema', 'pybtex', 'yaml', 'distributed')
     return max(pythons, key=lambda python: sum(has(python, name) for name in names), default=None)
 
 

@@ -251,13 +251,14 @@ def test_affixes_and_suppressed_authors_are_of_the_cite(render):
 
 
 def test_nothing_stands_in_for_a_suppressed_author(render):
+    """And what stands in for an author is left out as it is, as pandoc has it."""
     names = ('<names variable="author"><name/>'
              '<substitute><text variable="title"/></substitute></names>')
     told = render(f'<group delimiter=" ">{names}{DATE}</group>',
                   [entry('one', 'Doe', year=1999), entry('two', year=2000)],
                   [{'id': 'one', 'suppress-author': True}],
                   [{'id': 'two', 'suppress-author': True}])
-    assert told.citations == ['(1999)', '(Title two 2000)']
+    assert told.citations == ['(1999)', '(2000)']
 
 
 def test_cites_are_sorted_and_tell_their_places(render):
@@ -357,7 +358,6 @@ def test_the_number_is_the_first_field(render):
                   bibliography=bibliography)
     item = told.answer.bibliography.items[0]
     assert gamhilon.plain(item.first_field) == '1.' and gamhilon.plain(item.content) == 'Title one'
-    assert item.first_field['meta'] == 'citation-number'
 
 
 # Trees
@@ -524,7 +524,7 @@ def test_a_style_that_is_none_is_told_with_its_place(cites, tmp_path, old, new, 
 def test_what_is_odd_in_a_style_is_told_with_its_place(cites, tmp_path):
     path = tmp_path / 'own.csl'
     path.write_text(style_of('\n <text variable="title" colour="red"/>'))
-    told = csl.render(str(path), [entry('one')], [['one']] and [[{'id': 'one'}]])
+    told = csl.render(str(path), [entry('one')], [[{'id': 'one'}]])
     assert told.citations == ['(Title one)'] and len(told.warnings) == 1
     assert str(told.warnings[0]).startswith(f'{path}:2:') and 'colour' in str(told.warnings[0])
 

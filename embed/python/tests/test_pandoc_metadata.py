@@ -11,6 +11,7 @@ import pytest
 from conftest import REFERENCES
 
 from gamhilon import _library, _pandoc_command, _pandoc_metadata, pandoc_filter
+from gamhilon.csl.style import FOLDER
 from stand_ins import MadeUpStyle
 
 pytestmark = pytest.mark.skipif(not shutil.which('pandoc'), reason='there is no pandoc')
@@ -199,22 +200,19 @@ CITATIONS = [
                           'american-sociological-association'])
 def test_published_styles_as_pandoc_writes_them(pandoc, known, published, style):
     text = '\n\n'.join(f'{citation}\n\n-- {place} --' for place, citation in enumerate(CITATIONS))
-    path = f'/usr/share/citation-style-language/styles/{style}.csl'
+    path = f'{FOLDER}/{style}.csl'
     wanted = pandoc(text, own=False, csl=path, suppress_bibliography='true')[0]
     for name in (style, path):
         out, said, status = pandoc(text, csl=name, suppress_bibliography='true')
         assert out.split('\n\n') == wanted.split('\n\n') and status == 0 and 'gamhilon' not in said
 
 
-def test_published_styles_of_notes(pandoc, published):
+def test_published_styles_of_notes(pandoc, published, known):
     text = 'A [@doe99, p. 3]. B @roe00 [p. 5], C^[Own [@doe99, p. 4].] D [@doe99].'
-    out, said, status = pandoc(text, csl='chicago-fullnote-bibliography',
-                               suppress_bibliography='true')
-    assert out.strip().split('\n\n') == [
-        'A.[1] B Richard Roe,[2] C[3] D.[4]', '[1] Jane Doe, “On Order”, 1999, 3.',
-        '[2] “A Reply”, 2000, 5.',
-        '[3] Own Doe, “On Order”, 4.', '[4] Doe, “On Order”.']
-    assert status == 0
+    how = {'csl': f'{FOLDER}/chicago-fullnote-bibliography.csl', 'suppress_bibliography': 'true'}
+    wanted, own = (pandoc(text, own=way, **how) for way in (False, True))
+    assert own == (wanted[0], '', 0)
+    assert own[0].startswith('A.[1] B Richard Roe,[2] C[3] D.[4]\n\n[1] Jane Doe, ')
 
 
 def test_published_styles_link_to_their_lists_and_list_what_is_not_cited(pandoc, published,
@@ -273,7 +271,7 @@ def test_the_author_stands_in_the_text_where_the_style_writes_it(pandoc, publish
     text = 'A @doe99 says. B @anon [p. 3] says. C @doe99 [p. 4; @roe00]. D [-@doe99, p. 5].'
     for style in ('chicago-author-date', 'apa', 'modern-language-association', 'ieee'):
         how = {'bibliography': 'more.json', 'suppress_bibliography': 'true',
-               'csl': f'/usr/share/citation-style-language/styles/{style}.csl'}
+               'csl': f'{FOLDER}/{style}.csl'}
         wanted, own = (pandoc(text, own=way, **how)[0] for way in (False, True))
         assert own == wanted, style
 
@@ -314,8 +312,8 @@ def test_a_cite_in_the_words_of_a_note_stands_in_that_note(pandoc):
                  suppress_bibliography='true')[0]
     assert out.strip().split('\n\n') == [
         'A.[1] B.[2]',
-        '[1] See Jane Doe, “On Order” (1999) and Richard Roe, “A Reply” (2000).',
-        '[2] Doe, “On Order.”']
+        '[1] See Jane Doe, On Order (1999) and Richard Roe, A Reply (2000).',
+        '[2] Doe, On Order.']
 
 
 def test_a_key_that_is_nearly_one_is_told(pandoc):

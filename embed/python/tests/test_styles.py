@@ -57,7 +57,7 @@ def test_nothing_in_them_is_odd(cites, name):
 @pytest.mark.parametrize('name', ['author-date', 'labels', 'notes'])
 def test_family_names_stand_first_where_the_list_is_sorted_by_them(listed, name):
     items = listed(name)
-    assert list(items) == ['article', 'anonymous', 'book', 'chapter']
+    assert list(items) == ['article', 'book', 'anonymous', 'chapter']
     for key, family in (('article', 'Able, B'), ('book', 'Doe, J'), ('chapter', 'Poe, E')):
         assert family in items[key]
         assert items[key].split('] ')[-1].startswith(family.split(',')[0])

@@ -46,7 +46,8 @@ class Citation:
 
     def cites(self, keeps_authors: bool = False) -> List[csl.Cite]:
         """The cites of a style: without the author that stands in the text, unless it is kept. The
-        words of the page are marks."""
+        words of the page are marks; where there are none behind a cite, punctuation may move into
+        it."""
         return [self._cite(place, cited, keeps_authors)
                 for place, cited in enumerate(self.cited)]
 
@@ -56,7 +57,7 @@ class Citation:
         leaves_out = cited.mode == SUPPRESS_AUTHOR or is_named and not keeps_authors
         kind, text = cited.locator or ('page', None)
         return csl.Cite(cited.key, text, kind, opening(place) if is_marked else '',
-                        closing(place) if is_marked else '', suppress_author=leaves_out,
+                        closing(place) if cited.suffix else '', suppress_author=leaves_out,
                         note=self.note)
 
 

@@ -30,7 +30,7 @@ def opening(place: int) -> str:
 
 
 def closing(place: int) -> str:
-    """What stands behind a cite."""
+    """What stands behind a cite. Where there is none, it ends as the tree tells."""
     return chr(_FIRST + 2 * place + 1)
 
 
@@ -54,8 +54,8 @@ def parts_of(tree: Tree) -> List[Part]:
     for piece in pieces(tree):
         if piece.kind == 'open':
             entries.append(_entry_of(piece.node))
-        elif piece.kind == 'close':
-            entries.pop()
+        elif piece.kind == 'close' and entries.pop() == marked:
+            marked = None
         if piece.kind != 'text':
             is_of_cite = piece.kind in ('open', 'close') and _entry_of(piece.node) is not None
             if not is_of_cite:

@@ -286,6 +286,8 @@ class _Filter:
         if item.first_field is None:
             return self.inlines(item.content)
         first, rest = self.inlines(item.first_field), self.inlines(item.content)
+        while first and first[-1] == SPACE:
+            first.pop()
         return [span(['csl-left-margin'], first), SPACE, span(['csl-right-inline'], rest)]
 
     def inlines(self, tree: Union[Tree, Node]) -> Inlines:
