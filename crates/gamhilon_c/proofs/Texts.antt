@@ -1,10 +1,10 @@
 -- What is handed out is a text in its place, and the status is one of the call.
-use Rattle.std.proofs.Common.{◌≡◌, inl, inr, ℕ, ◌<◌, ◌⊎◌, List, length, Result, Ok, Err, String, Global, string_bytes, ap, ◌∙◌, arith}
+use Rattle.std.proofs.Common.{◌≡◌, inl, inr, ℕ, ◌⊎◌, List, Result, Ok, Err, String, Global, string_bytes, ap, ◌∙◌, arith}
 use Rattle.std.specs.Prelude.{IfErr}
 use Rattle.cite_call.specs.Status.{status}
 use Rattle.cite_call.specs.declared.error.CallError.{CallError}
 use Rattle.cite_call.specs.declared.error.CallError.TheVariants as errors
-use Rattle.gamhilon_c.specs.Called.{Fills, PlacesText}
+use Rattle.gamhilon_c.specs.Called.{PlacesText}
 use Rattle.gamhilon_c.specs.OfTexts.{HandsOutOfTexts, HandsText, IsCiteStatus, IsFaultStatus}
 
 module _ (code : ℕ) (before after : List ℕ) (needed : ℕ) where
@@ -25,10 +25,10 @@ module _ (code : ℕ) (before after : List ℕ) (needed : ℕ) where
   ]
 
   refused : (e : CallError) → code ≡ status e → after ≡ before → needed ≡ 0 → HandsText code before after needed
-  refused (errors.Fault fault) s same none = record { answered = λ c. absurd (omega (arith, s)); too_small = λ c. absurd (omega (arith, s)); kept = λ c. same; nothing_needed = λ c d. none }
-  refused errors.TooManyItems s same none = record { answered = λ c. absurd (omega (arith, s)); too_small = λ c. absurd (omega (arith, s)); kept = λ c. same; nothing_needed = λ c d. none }
-  refused errors.Unsettled s same none = record { answered = λ c. absurd (omega (arith, s)); too_small = λ c. absurd (omega (arith, s)); kept = λ c. same; nothing_needed = λ c d. none }
-  refused errors.OutOfMemory s same none = record { answered = λ c. absurd (omega (arith, s)); too_small = λ c. absurd (omega (arith, s)); kept = λ c. same; nothing_needed = λ c d. none }
+  refused (errors.Fault fault) s same none = record { answered = λ c. absurd (omega arith); too_small = λ c. absurd (omega arith); kept = λ c. same; nothing_needed = λ c d. none }
+  refused errors.TooManyItems s same none = record { answered = λ c. absurd (omega arith); too_small = λ c. absurd (omega arith); kept = λ c. same; nothing_needed = λ c d. none }
+  refused errors.Unsettled s same none = record { answered = λ c. absurd (omega arith); too_small = λ c. absurd (omega arith); kept = λ c. same; nothing_needed = λ c d. none }
+  refused errors.OutOfMemory s same none = record { answered = λ c. absurd (omega arith); too_small = λ c. absurd (omega arith); kept = λ c. same; nothing_needed = λ c d. none }
 
   pub hands_text : (text : Result (String Global) CallError) → HandsOutOfTexts text code before after needed → HandsText code before after needed
   hands_text (Ok text) h = placed (string_bytes text) h
