@@ -29,21 +29,26 @@ fn print_document(alloc: Global, document: &CallDocument) -> Result<String, Call
     let style = &document.style;
     let language = document.language.as_str();
     let locale = LocaleChain::new(alloc, language, &style.locales, &document.locales)?;
-    let asked = Document {
-        style,
-        locale: &locale,
-        references: &document.references,
-        citations: &document.citations,
-    };
-    let mut answer = answer_of(alloc, asked)?;
+    let mut answer = answer_of(alloc, document, &locale)?;
     answer.citations.truncate(document.shown);
     let marks = locale.quote_marks();
     let citations = &document.citations;
     Ok(print_answer(alloc, style, citations, &answer, marks)?)
 }
 
-fn answer_of(alloc: Global, document: Document<'_>) -> Result<Answer, CallError> {
-    match document.answer(alloc) {
+/// What comes of a document, with these locales.
+fn answer_of(
+    alloc: Global,
+    document: &CallDocument,
+    locale: &LocaleChain<'_>,
+) -> Result<Answer, CallError> {
+    let asked = Document {
+        style: &document.style,
+        locale,
+        references: &document.references,
+        citations: &document.citations,
+    };
+    match asked.answer(alloc) {
         Ok(answer) => Ok(answer),
         Err(error) => Err(answer_refusal(alloc, error)),
     }
