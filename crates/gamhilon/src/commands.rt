@@ -128,17 +128,10 @@ fn print_document(
     let language = found.language(options);
     let files = locales_of(rt, options, language)?;
     let locale = LocaleChain::new(rt.alloc(), language, &found.style.locales, &files)?;
-    let document = Document {
-        style: &found.style,
-        locale: &locale,
-        references,
-        citations: &cited.citations,
-    };
-    let mut answer = answer_of(rt.alloc(), options, document)?;
-    answer.citations.truncate(cited.count);
+    let answer = answer_of(rt.alloc(), options, found, references, cited, &locale)?;
     let marks = locale.quote_marks();
     if options.format == OutputFormat::Json {
-        return print_json(rt, document, &answer, marks);
+        return print_json(rt, &found.style, &cited.citations, &answer, marks);
     }
     match printed {
         Printed::Citations => print_citations(rt, options, &answer, marks),
@@ -146,14 +139,26 @@ fn print_document(
     }
 }
 
-/// What comes of a document.
+/// What comes of a document: the citations of the file, and the bibliography.
 fn answer_of(
     alloc: Global,
     options: &Options,
-    document: Document<'_>,
+    found: &FoundStyle,
+    references: &References,
+    cited: &Cited,
+    locale: &LocaleChain<'_>,
 ) -> Result<Answer, CommandError> {
+    let document = Document {
+        style: &found.style,
+        locale,
+        references,
+        citations: &cited.citations,
+    };
     match document.answer(alloc) {
-        Ok(answer) => Ok(answer),
+        Ok(mut answer) => {
+            answer.citations.truncate(cited.count);
+            Ok(answer)
+        }
         Err(error) => Err(placed(alloc, options, error)?),
     }
 }

@@ -2,12 +2,14 @@
 use crate::arguments::{Options, OutputFormat};
 use crate::error::CommandError;
 use cite_answer::printing::print_answer;
-use cite_host::answer::{Answer, Document, ListedItem};
+use cite_host::answer::{Answer, ListedItem};
+use cite_host::cites::Citation;
 use cite_pieces::html::html;
 use cite_pieces::pieces::Pieces;
 use cite_pieces::plain::plain_text;
 use csl_texts::quotes::QuoteMarks;
 use std::alloc::{AllocError, Global};
+use style_file::style::CslStyle;
 
 /// The head of a page.
 const PAGE: &str = "<!DOCTYPE html>
@@ -91,17 +93,12 @@ pub(crate) fn print_bibliography(
 /// `Output`; `OutOfMemory`.
 pub(crate) fn print_json(
     rt: &(impl Print + AllocGlobal),
-    document: Document<'_>,
+    style: &CslStyle,
+    citations: &[Citation],
     answer: &Answer,
     marks: QuoteMarks<'_>,
 ) -> Result<(), CommandError> {
-    let text = print_answer(
-        rt.alloc(),
-        document.style,
-        document.citations,
-        answer,
-        marks,
-    )?;
+    let text = print_answer(rt.alloc(), style, citations, answer, marks)?;
     Ok(println!(rt; "{}", text.as_str())?)
 }
 
