@@ -18,6 +18,7 @@ use cite_locale::chain::LocaleChain;
 use csl_references::reference::References;
 use std::alloc::{AllocError, Global};
 use std::rt::Files;
+use style_file::style::CslStyle;
 
 /// What of an answer is printed.
 #[derive(Clone, Copy, PartialEq, Eq)]
@@ -128,9 +129,29 @@ fn print_document(
     let language = found.language(options);
     let files = locales_of(rt, options, language)?;
     let locale = LocaleChain::new(rt.alloc(), language, &found.style.locales, &files)?;
+    print_in_locale(
+        rt,
+        options,
+        printed,
+        &found.style,
+        &locale,
+        references,
+        cited,
+    )
+}
+
+fn print_in_locale(
+    rt: &(impl Print + Eprint + AllocGlobal),
+    options: &Options,
+    printed: Printed,
+    style: &CslStyle,
+    locale: &LocaleChain<'_>,
+    references: &References,
+    cited: &Cited,
+) -> Result<(), CommandError> {
     let document = Document {
-        style: &found.style,
-        locale: &locale,
+        style,
+        locale,
         references,
         citations: &cited.citations,
     };
