@@ -79,7 +79,7 @@ def try_fault(program, fault):
         written(folder, {'s.csl': STYLE, 'r.json': REFERENCES, 'c.json': CITATIONS, **fault.files})
         words = [word.replace('FILE', folder) for word in fault.words]
         status, out, error = ended(program, *words, given=fault.given)
-        wanted = [line.replace('FILE', folder) for line in fault.lines]
+        wanted = [line.replace('FILE/', folder + '/') for line in fault.lines]
         wanted_out = fault.out.replace('FILE', folder)
     lines = error.splitlines()
     if status != fault.status or out != wanted_out or len(lines) != len(wanted) or not all(map(is_line, wanted, lines)):
