@@ -434,13 +434,6 @@ def test_a_work_with_an_empty_list_of_authors_has_no_author(render):
     assert render(names, [book], ['one']).citations == ['( Doe)']
 
 
-def test_et_al_alone_where_no_name_is_kept(render):
-    """Some published styles have et-al-use-first 0."""
-    told = render(NAMES, [entry('one', 'Doe', 'Roe', 'Poe')], ['one'],
-                  attributes='et-al-min="2" et-al-use-first="0"')
-    assert told.citations == ['( et al.)']
-
-
 def test_the_last_of_many_names_may_be_kept(render):
     """CSL: et-al-use-last writes an ellipsis and the last name."""
     told = render(NAMES, [entry('one', 'Doe', 'Roe', 'Poe', 'Lee')], ['one'],
