@@ -3,4 +3,4 @@ pub mod Rings
 pub mod Faults
 pub mod Limited
 pub mod DrivenCalls
-pub mod Texts
+pub mod TextCalls

@@ -1,5 +1,5 @@
 -- What is handed out stands in the buffer, and the status is one of the call.
-use Rattle.gamhilon_c.proofs.Texts.{cite_status, hands_text}
+use Rattle.gamhilon_c.proofs.TextCalls.{cite_status, hands_text}
 use Rattle.gamhilon_c.proofs.gamhilon_cite.Goals as goal
 
 pub returns : goal.returns
