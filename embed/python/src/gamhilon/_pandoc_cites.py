@@ -118,8 +118,9 @@ def written(citation: Citation, tree: Tree, with_authors: Optional[Tree], links:
             made.rest += _cite(citation, part, links)
     if with_authors is not None:
         made.names = inlines_of_pieces(names_in(_first(parts_of(with_authors)), _first(parts)))
+    tells_places = not parts or any(part.place is not None for part in parts)
     for place, cited in enumerate(citation.cited):
-        if cited.mode == SUPPRESS_AUTHOR and place not in shown:
+        if cited.mode == SUPPRESS_AUTHOR and tells_places and place not in shown:
             made.lost.append(f'the style writes nothing of {cited.key} but its author')
     first = next((part.place for part in parts if part.place is not None), None)
     made.begins_with_words = first is not None and bool(citation.cited[first].prefix)
