@@ -143,7 +143,7 @@ FAULTS = [
     cited('citations of the standard input', 0, [], out='A\n', given=CITATIONS,
           words=('--style', 'FILE/s.csl', 'FILE/r.json', '-')),
     cited('a style of the standard input', 0, [], out='A\n', given=STYLE, words=('--style', '-', 'FILE/r.json', 'FILE/c.json')),
-    cited('an option with its value', 0, [], out='["A"]\n', words=('--style=FILE/s.csl', '--to=json', 'FILE/r.json', 'FILE/c.json')),
+    cited('an option with its value', 0, [], out='A\n', words=('--style=FILE/s.csl', '--to=text', 'FILE/r.json', 'FILE/c.json')),
     Fault('several files of references', ['cite', '--style', 'FILE/s.csl', '--references', 'FILE/more.json', 'FILE/r.json', 'FILE/c.json'],
           0, ['FILE/more.json: warning: `a` replaces the item of a file before'], {'more.json': '[{"id": "a", "type": "book", "title": "B"}, '
               '{"id": "b", "type": "book", "title": "C"}]', 'c.json': '[[{"id": "a"}], [{"id": "b"}]]'}, None, 'B\nC\n'),

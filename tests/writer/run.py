@@ -104,12 +104,13 @@ def plain(tree):
 
 def try_json(program):
     """Either command prints the whole answer as JSON."""
-    italics = {'font_style': 'italic', 'font_weight': 'normal', 'font_variant': 'small-caps', 'text': 'A “b”'}
+    italics = {'font_style': 'italic', 'font_weight': 'normal', 'font_variant': 'small-caps', 'text': 'C'}
     items = [{'content': [italics], 'key': 'a'}]
     listed = {'entry_spacing': 0, 'hanging_indent': False, 'items': items, 'line_spacing': 2, 'second_field_align': 'flush'}
     section = ('<bibliography line-spacing="2" entry-spacing="0" second-field-align="flush"><layout>'
-               '<text variable="title" font-style="italic" font-variant="small-caps"/></layout></bibliography></style>')
-    files = {'s.csl': STYLE.replace('</style>', section), 'r.json': REFERENCES.replace('"A"', '"A \\"b\\""'), 'c.json': CITATIONS}
+               '<text variable="publisher" font-style="italic" font-variant="small-caps"/></layout></bibliography></style>')
+    references = REFERENCES.replace('"A"', '"A \\"b\\"", "publisher": "C"')
+    files = {'s.csl': STYLE.replace('</style>', section), 'r.json': references, 'c.json': CITATIONS}
     for verb in ('cite', 'bibliography'):
         with tempfile.TemporaryDirectory(prefix='writer-') as folder:
             written(folder, files)
