@@ -140,7 +140,8 @@ def strays():
         wanted(base)
     known = {base + ending for base in documents() for ending in ENDINGS}
     folders = {os.path.dirname(base) for base in documents()}
-    lost = [it.path for folder in folders for it in os.scandir(folder) if it.path not in known and it.name != 'README.md']
+    lost = [it.path for folder in folders for it in os.scandir(folder)
+            if it.is_file() and it.path not in known and it.name != 'README.md']
     if lost:
         raise Failed('no document is beside ' + ', '.join(os.path.relpath(it, ROOT) for it in lost))
 
