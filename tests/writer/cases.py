@@ -280,6 +280,13 @@ CASES = [
          '<text variable="citation-number" suffix=". "/><text variable="title"/>', [PAGE],
          ['<div class="csl-left-margin">1. </div><div class="csl-right-inline">Nobody</div>'], to='html',
          in_bibliography='second-field-align="flush"'),
+    cite('a mark that joins nothing', 'docs/WRITER.md, Streams: an affix at the beginning of a citation that is a mark and a space',
+         '<group prefix=". "><text variable="title"/></group><text variable="title" prefix=". "/>', [PAGE], ['Nobody. Nobody']),
+    cite('a labelled number', 'docs/WRITER.md, Numbers: a label behind a number', '<number variable="edition" form="ordinal"/>',
+         [{**BOOK, 'edition': '7, p. 3-8'}, {**BOOK, 'id': 'b', 'edition': 'third'}], ['7th, pp. 3–8', 'third'],
+         [cites('book'), cites('b')]),
+    cite('variables in a note', 'docs/REFERENCES.md: lines of a note', '<text variable="note"/><text variable="genre" prefix="/"/>',
+         [{**PAGE, 'note': 'genre: Sketch\nSeen.'}], ['Seen./Sketch']),
     # Cites
     cite('words around a cite', 'docs/WRITER.md: `prefix` and `suffix` of a cite, with a space where there is none', TEXT, [PAGE],
          ['(see Nobody, which is short)'], [[{'id': 'page', 'prefix': 'see', 'suffix': ', which is short'}]], affixes='prefix="(" suffix=")"'),
