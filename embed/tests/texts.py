@@ -40,12 +40,20 @@ def node(text, style='italic'):
 
 
 def listed(*items):
-    """The bibliography of these items."""
+    """The bibliography of these items, each with its key and its nodes."""
     return {'entry_spacing': 1, 'hanging_indent': True, 'line_spacing': 2,
-            'items': [{'content': [node(text)], 'key': key} for key, text in items]}
+            'items': [{'content': nodes, 'key': key} for key, *nodes in items]}
 
 
-TWO = listed(('a', 'A Reply'), ('b', 'On “Order” Now'))
+REPLY, MORE = ('a', node('A Reply')), ('c', node('More'))
+
+
+def order(opening, closing):
+    """The item with a quote in its title: the marks of a quote stand outside of the formatting, as those of a style do."""
+    return 'b', node('On '), node(opening, 'normal'), node('Order'), node(closing, 'normal'), node(' Now')
+
+
+TWO = listed(REPLY, order('“', '”'))
 CITED = ['Jane Doe, “On ‘Order’ Now,” 4.', 'Roe, “A Reply”; Jane Doe, “On ‘Order’ Now.”']
 
 # Name, files, the texts of the citations, their notes, the bibliography, and the warnings.
@@ -53,20 +61,20 @@ ANSWERED = [
     ('two notes', texts(), CITED, [1, 7], TWO, []),
     ('empty lists', texts(items=[], citations=[], locales=[], options={}), [], [], listed(), []),
     ('all items', texts(citations=[], options={'nocite': True}), [], [],
-     listed(('a', 'A Reply'), ('c', 'More'), ('b', 'On “Order” Now')), []),
+     listed(REPLY, MORE, order('“', '”')), []),
     ('a locale', texts(citations=[[{'id': 'b'}]], locales=[GERMAN], options={'locale': 'de-AT'}),
-     ['Jane Doe, „On ‚Order‘ Now“.'], [1], listed(('b', 'On „Order“ Now')), []),
+     ['Jane Doe, „On ‚Order‘ Now“.'], [1], listed(order('„', '“')), []),
     ('a locale that stands in place of the one that is built in', texts(citations=[[{'id': 'a'}]], locales=[ENGLISH]),
-     ['Roe, “A Reply”.'], [1], listed(('a', 'A Reply')), []),
+     ['Roe, “A Reply”.'], [1], listed(REPLY), []),
     ('no locale of the language', texts(citations=[[{'id': 'a'}]], options={'locale': 'fr-CA'}),
-     ['Roe, “A Reply.”'], [1], listed(('a', 'A Reply')),
+     ['Roe, “A Reply.”'], [1], listed(REPLY),
      [{'file': 'locales', 'message': 'no locale of `fr-CA`, its words are those of American English'}]),
     ('two locales of a language', texts(citations=[[{'id': 'a'}]], locales=[ENGLISH, ENGLISH]),
-     ['Roe, “A Reply”.'], [1], listed(('a', 'A Reply')),
+     ['Roe, “A Reply”.'], [1], listed(REPLY),
      [{'file': 'locales/1', 'message': 'a locale before it is of the same language, so it is left out'}]),
     ('odd texts', texts(STYLE.replace('<citation>', '<citation size="3">'), [{**ITEMS[1], 'a/b': 1}],
                         [[{'id': 'a', 'page': 3, 'hidden': 'no'}]]),
-     ['Roe, “A Reply.”'], [1], listed(('a', 'A Reply')),
+     ['Roe, “A Reply.”'], [1], listed(REPLY),
      [{'file': 'style', 'line': 3, 'column': 11, 'message': 'unknown attribute `size` of `citation`'},
       {'file': 'items', 'pointer': '/0/a~1b', 'message': 'unknown key, left out'},
       {'file': 'citations', 'pointer': '/0/0/hidden', 'message': 'neither true nor false, left out'},
@@ -87,14 +95,14 @@ REFUSED = [
     ('an unknown option', texts(options={'a/b': 1}), {'file': 'options', 'pointer': '/a~1b', 'message': 'unknown key; '}),
     ('a language that is no text', texts(options={'locale': None}), {'file': 'options', 'pointer': '/locale', 'message': 'wanted a language'}),
     ('a nocite that is no truth value', texts(options={'nocite': 1}), {'file': 'options', 'pointer': '/nocite', 'message': 'wanted true'}),
-    ('options that are no JSON', texts(options='{\n "locale"}'), {'file': 'options', 'line': 2, 'column': 11, 'message': 'no JSON'}),
+    ('options that are no JSON', texts(options='{\n "locale"}'), {'file': 'options', 'line': 2, 'column': 10, 'message': 'no JSON'}),
     ('locales that are no list', texts(locales={}), {'file': 'locales', 'pointer': '', 'message': 'wanted a list'}),
     ('a locale that is no text', texts(locales=[ENGLISH, 5]), {'file': 'locales', 'pointer': '/1', 'message': 'wanted the text'}),
     ('a locale that is a style', texts(locales=[STYLE]), {'file': 'locales/0', 'line': 1, 'column': 1, 'message': ''}),
     ('items that are no UTF-8', texts(items=b'["\xff"]'), {'file': 'items', 'message': 'no UTF-8 from byte 2'}),
     ('items that are no list', texts(items=5), {'file': 'items', 'pointer': '', 'message': 'found a number, wanted a list of items'}),
     ('an item without an id', texts(items=[{}]), {'file': 'items', 'pointer': '/0', 'message': 'found no `id`, wanted an `id`'}),
-    ('citations that are empty', texts(citations=''), {'file': 'citations', 'line': 1, 'message': 'no JSON'}),
+    ('citations that are empty', texts(citations=''), {'file': 'citations', 'line': 1, 'column': 0, 'message': 'no JSON'}),
     ('citations that are no list', texts(citations={}), {'file': 'citations', 'pointer': '', 'message': 'wanted a list of citations'}),
     ('a citation that is no list', texts(citations=[[], {}]), {'file': 'citations', 'pointer': '/1', 'message': 'wanted a citation'}),
     ('a cite that is no object', texts(citations=[[{'id': 'a'}, 'b']]), {'file': 'citations', 'pointer': '/0/1', 'message': 'wanted a cite'}),
