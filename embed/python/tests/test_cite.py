@@ -138,4 +138,4 @@ def test_a_dependent_style_tells_its_parent(cites):
 
 def test_the_style_of_the_readme(cites, monkeypatch):
     monkeypatch.chdir(ROOT)
-    assert printed(block('embed/README.md', 'gamhilon.cite(')) == '(Doe 1999, 4)\n'
+    assert printed(block('embed/README.md', 'gamhilon.cite(')) == '(Doe 1999, p. 4)\n'

@@ -402,7 +402,7 @@ def test_styles_and_locales_are_checked(cites, tmp_path, capfd):
     good, odd, wrong = (tmp_path / name for name in ('good.csl', 'odd.csl', 'wrong.csl'))
     text = gamhilon.styles.text('notes')
     good.write_text(text)
-    odd.write_text(text.replace('<info>', '<info colour="red">'))
+    odd.write_text(text.replace('<citation ', '<citation colour="red" '))
     wrong.write_text(text.replace('et-al-min="4"', 'et-al-min="four"'))
     locale = tmp_path / 'locale.xml'
     locale.write_text('<locale xmlns="http://purl.org/net/xbiblio/csl" version="1.0" '
@@ -411,7 +411,7 @@ def test_styles_and_locales_are_checked(cites, tmp_path, capfd):
     assert capfd.readouterr() == ('style Gamhilon notes: note, with a bibliography\n', '')
     assert command_line.main(['check', str(odd), str(locale)]) == 0
     out, error = capfd.readouterr()
-    assert error == '' and f'{odd}: remark: {odd}:3:' in out and f'{locale}: locale\n' in out
+    assert error == '' and f'{odd}: remark: {odd}:' in out and 'colour' in out and f'{locale}: locale\n' in out
     assert command_line.main(['check', str(wrong)]) == 2
     out, error = capfd.readouterr()
     assert out == '' and error.startswith(f'gamhilon: {wrong}:') and 'four' in error

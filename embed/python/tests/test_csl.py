@@ -217,7 +217,7 @@ def test_what_reads_ibid_is_not_ambiguous(render):
               '<choose><if disambiguate="true"><text value="!"/></if></choose></else></choose>')
     told = render(layout, [entry('one'), entry('two')], ['one'], ['one'], ['two'], ['two'],
                   style_class='note')
-    assert told.citations == ['(Title one)', '(ibid.)', '(Title two)', '(ibid.)']
+    assert told.citations == ['(Title one)', '(Ibid.)', '(Title two)', '(Ibid.)']
 
 
 def test_numbers_of_notes_may_be_given(render):
@@ -431,7 +431,7 @@ def test_a_work_with_an_empty_list_of_authors_has_no_author(render):
     names = ('<names variable="author"><name/></names>'
              '<names variable="editor" prefix=" "><name form="short"/></names>')
     book = {**entry('one'), 'author': [], 'editor': [{'family': 'Doe', 'given': 'Jane'}]}
-    assert render(names, [book], ['one']).citations == ['( Doe)']
+    assert render(names, [book], ['one']).citations == ['(Doe)']
 
 
 def test_the_last_of_many_names_may_be_kept(render):
