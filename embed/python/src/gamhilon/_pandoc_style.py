@@ -79,7 +79,7 @@ class Style:
         asked: List[List[csl.Cite]] = []
         for number, citation in enumerate(citations):
             if self.is_note and _repeats(citations, number):
-                asked.append(_between(citation))
+                asked.append(_between(citations[number - 1]))
             asked.append(citation.cites(keeps_authors))
         if nocite:
             asked.append([csl.Cite(key, hidden=True) for key in nocite])
@@ -98,9 +98,10 @@ def _repeats(citations: Sequence[Citation], number: int) -> bool:
     return before == [citations[number].cited[0].key]
 
 
-def _between(citation: Citation) -> List[csl.Cite]:
-    """What stands before a citation that isn't to be `Ibid.`: two cites that aren't shown."""
-    hidden = csl.Cite(citation.cited[0].key, hidden=True, note=citation.note)
+def _between(before: Citation) -> List[csl.Cite]:
+    """What stands between a citation and one that isn't to be `Ibid.`: two cites of its work that
+    aren't shown, in its note."""
+    hidden = csl.Cite(before.cited[0].key, hidden=True, note=before.note)
     return [hidden, hidden]
 
 
