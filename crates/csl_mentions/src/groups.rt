@@ -1,0 +1,50 @@
+//! Ambiguous groups: mentions that read alike, of several entries.
+ghost use Rattle.std.specs.Prelude.{◌≡◌, IfOk, List, map};
+ghost use Rattle.csl_mentions.specs.Classes.{AreClassesOf};
+ghost use Rattle.csl_mentions.specs.Groups.{group_of};
+ghost use Rattle.csl_mentions.specs.declared.mention.Mention.{Mention as MentionValue};
+
+use crate::classes::{Classes, add, group_found};
+use crate::mention::Mention;
+use std::alloc::{AllocError, Global};
+use std::collections::HashMap;
+
+/// The mentions by their texts.
+pub(crate) fn classes_of(alloc: Global, mentions: &[Mention]) -> Result<Classes, AllocError>
+    ensures { IfOk result (λ c. AreClassesOf c mentions.now) }
+{
+    let mut classes = HashMap::new(alloc);
+    for (k, mention) in mentions.iter().enumerate() {
+        add(&mut classes, k, mention)?;
+    }
+    Ok(classes)
+}
+
+/// The group of a mention among those that the classes are of.
+pub(crate) fn group_among(classes: &Classes, mention: &Mention) -> Option<usize>
+    ensures { (mentions : List MentionValue) → AreClassesOf classes.now mentions
+        → result ≡ group_of mentions mention.now }
+{
+    if mention.text.as_str().is_empty() {
+        return None;
+    }
+    group_found(classes, mention)
+}
+
+/// The ambiguous groups of a document's mentions (CSL 1.0.2, disambiguation): for each mention
+/// whose text is not empty, and is also that of a mention of another entry, the index of the
+/// first mention with its text.
+///
+/// # Errors
+///
+/// Where memory is refused.
+pub fn groups_of(alloc: Global, mentions: &[Mention]) -> Result<Vec<Option<usize>>, AllocError>
+    ensures { IfOk result (λ v. v.items ≡ map (group_of mentions.now) mentions.now) }
+{
+    let classes = classes_of(alloc, mentions)?;
+    let mut found = Vec::with_capacity(alloc, mentions.len())?;
+    for mention in mentions {
+        found.push(group_among(&classes, mention))?;
+    }
+    Ok(found)
+}
