@@ -1,0 +1,4 @@
+pub mod Keys
+pub mod Placing
+pub mod Sorting
+pub mod Dating

@@ -1,0 +1,23 @@
+use Rattle.std.proofs.Common.{length, refl, rules, subst}
+use Rattle.std.specs.List.Sorted.{IsPermutation, IsStableByKey}
+use Rattle.std.specs.Ordering.{nat_cmp}
+use Rattle.std.proofs.lemmas.List.Sorted.{IsNonDecreasingBy-from_sort, answers_always}
+use Rattle.csl_blocks.specs.declared.blocks.PlacedCite.{PlacedCite}
+use Rattle.csl_blocks.proofs.Placing.{blocks-within}
+use Rattle.csl_blocks.proofs.Sorting.{classes-stay, sorted-classes}
+use Rattle.csl_blocks.proofs.blocks.block_order.Goals as goal
+
+pub returns : goal.returns
+returns c =
+    let cites = c.args.cites.now in
+    let sorted = c.sort_by_key.new.self.items in
+    let key = λ (p : PlacedCite). p.block in
+    let moved = subst (λ xs. IsPermutation xs sorted) c.in_ok-placed.ensures c.sort_by_key.ensures.permutation in
+    let stable = subst (λ xs. IsStableByKey key nat_cmp xs sorted) c.in_ok-placed.ensures
+    (c.sort_by_key.ensures.stable key (answers_always _ _ _ (λ f a r g h. search rules))) in
+    record {
+      order = sorted-classes key (length cites) _ sorted (blocks-within cites) moved
+          (IsNonDecreasingBy-from_sort key sorted (c.in_ok-sort_by_key.ensures.sorted key (answers_always _ _ _ (λ f a r g h. search rules))))
+          (λ b. classes-stay key _ sorted stable (record { place = 0; block = b }) b refl);
+      once = moved;
+    }
