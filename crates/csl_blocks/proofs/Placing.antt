@@ -3,7 +3,7 @@ use Rattle.std.proofs.Common.{◌≡◌, ℕ, zero, suc, ◌+◌, ◌<◌, ◌�
 use Rattle.std.specs.Prelude.{find, nat_eq, option_map, slice_get}
 use Rattle.std.specs.HashMap.{HashMap, get}
 use Rattle.std.specs.Map.{lookup}
-use Rattle.std.specs.List.{enumerate_from}
+use Rattle.std.specs.List.{enumerate_from, range_with_len}
 use Rattle.std.specs.Option.{option_map_or, option_or}
 use Rattle.std.specs.Cmp.{nat_eq_equiv}
 use Rattle.std.proofs.lemmas.Bool.{and_from}
@@ -132,3 +132,8 @@ made-within f n h a (x ∷ xs) le =
 pub blocks-within : (cites : List GroupedCite) → All (λ c. c.block < length cites) (map (placed_cite cites) (enumerate_from 0 cites))
 blocks-within cites =
     made-within (placed_cite cites) (length cites) (λ p h. found-within (are_in_one_block cites p) (length cites) p.0 h 0 cites (omega arith)) 0 cites (omega arith)
+
+-- each place stands once in them
+pub places-from : (cites : List GroupedCite) (a : ℕ) (xs : List GroupedCite) → map (λ c. c.place) (map (placed_cite cites) (enumerate_from a xs)) ≡ range_with_len a (length xs)
+places-from cites a [] = refl
+places-from cites a (x ∷ xs) = ap (λ l. a ∷ l) (places-from cites (a + 1) xs)

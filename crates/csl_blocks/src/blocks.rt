@@ -1,6 +1,7 @@
 //! Blocks of cites that have the same names (CSL 1.0.2, cite grouping).
-ghost use Rattle.std.specs.Prelude.{◌≡◌, IfOk, OnOk, Some};
+ghost use Rattle.std.specs.Prelude.{◌≡◌, IfOk, OnOk, Some, length, map};
 ghost use Rattle.std.specs.HashMap.{get};
+ghost use Rattle.std.specs.List.{range_with_len};
 ghost use Rattle.std.specs.List.Sorted.{IsPermutation};
 ghost use Rattle.csl_runs.specs.Stretches.{both};
 ghost use Rattle.csl_blocks.specs.Blocks.{block_order, is_parted, placed_cites};
@@ -48,7 +49,8 @@ pub(crate) struct BlockKey {
 /// Where memory is refused.
 pub fn block_order(alloc: Global, cites: &[GroupedCite]) -> Result<Vec<PlacedCite>, AllocError>
     ensures order { IfOk result (λ v. v.items ≡ block_order cites.now) }
-    ensures once { IfOk result (λ v. IsPermutation (placed_cites cites.now) v.items) }
+    ensures once { IfOk result (λ v. IsPermutation (range_with_len 0 (length cites.now))
+        (map (λ c. c.place) v.items)) }
 {
     let mut placed = placed_cites(alloc, cites)?;
     placed.sort_by_key(|cite| cite.block)?;

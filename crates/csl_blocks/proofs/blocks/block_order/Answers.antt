@@ -1,9 +1,9 @@
-use Rattle.std.proofs.Common.{length, refl, rules, subst}
+use Rattle.std.proofs.Common.{length, map, refl, rules, subst}
 use Rattle.std.specs.List.Sorted.{IsPermutation, IsStableByKey}
 use Rattle.std.specs.Ordering.{nat_cmp}
-use Rattle.std.proofs.lemmas.List.Sorted.{IsNonDecreasingBy-from_sort, answers_always}
+use Rattle.std.proofs.lemmas.List.Sorted.{IsNonDecreasingBy-from_sort, IsPermutation-map, answers_always}
 use Rattle.csl_blocks.specs.declared.blocks.PlacedCite.{PlacedCite}
-use Rattle.csl_blocks.proofs.Placing.{blocks-within}
+use Rattle.csl_blocks.proofs.Placing.{blocks-within, places-from}
 use Rattle.csl_blocks.proofs.Sorting.{classes-stay, sorted-classes}
 use Rattle.csl_blocks.proofs.blocks.block_order.Goals as goal
 
@@ -19,5 +19,5 @@ returns c =
       order = sorted-classes key (length cites) _ sorted (blocks-within cites) moved
           (IsNonDecreasingBy-from_sort key sorted (c.in_ok-sort_by_key.ensures.sorted key (answers_always _ _ _ (λ f a r g h. search rules))))
           (λ b. classes-stay key _ sorted stable (record { place = 0; block = b }) b refl);
-      once = moved;
+      once = subst (λ ps. IsPermutation ps (map (λ c. c.place) sorted)) (places-from cites 0 cites) (IsPermutation-map (λ c. c.place) _ sorted moved);
     }
