@@ -13,6 +13,8 @@ use Rattle.csl_tables.specs.Steps.{all_changed, chosen_by, in_group, is_changed,
 use Rattle.csl_tables.specs.Tables.{first_table, mention_in, mentions_in, named, named_in, second_table, tasks_where, third_table, untold, with_choice, with_names}
 use Rattle.csl_tables.specs.declared.changed.Changed.{Changed}
 use Rattle.csl_tables.specs.declared.subject.Subject.{Subject}
+use Rattle.std.proofs.Math.ListN.{length-map}
+use Rattle.csl_tables.proofs.Changing.{zip-length}
 use Rattle.csl_tables.proofs.Groups.{in-group}
 
 -- what is asked for
@@ -108,3 +110,6 @@ module _ {M : Type 0} (write : M → MentionState → Written) where
     where
       same-less : (a b : ℕ) → suc a ≡ suc b → a ≡ b
       same-less a b e = cc
+
+  pub third-length : (ss : List (Subject M)) → length ss ≡ length (third_table write ss)
+  third-length ss = sym (length-map (zip ss (second_table write ss)) (λ p. with_choice write ss p.0 p.1) ∙ zip-length ss (second_table write ss) (second-length ss))

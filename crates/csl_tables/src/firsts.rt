@@ -63,11 +63,19 @@ fn add_first<M>(
     written: Written,
 ) -> Result<(), AllocError>
     ensures mentions { OnOk result (firsts.new.mentions.items ≡ firsts.old.mentions.items
-        ++ record { entry = subject.now.entry; is_first = subject.now.is_first; text = written.text;
-        adds_suffix = subject.now.adds_suffix } ∷ []) }
+        ++ record {
+          entry = subject.now.entry;
+          is_first = subject.now.is_first;
+          text = written.text;
+          adds_suffix = subject.now.adds_suffix;
+        } ∷ []) }
     ensures named { OnOk result (firsts.new.named.items ≡ firsts.old.named.items
-        ++ record { names = written.names; adds_names = subject.now.adds_names;
-        rule = subject.now.rule; group = None } ∷ []) }
+        ++ record {
+          names = written.names;
+          adds_names = subject.now.adds_names;
+          rule = subject.now.rule;
+          group = None;
+        } ∷ []) }
     ensures tested { OnOk result (firsts.new.tested.items ≡ firsts.old.tested.items
         ++ written.tested ∷ []) }
 {
