@@ -3,7 +3,7 @@ use mathlib.Core.Bool.{or-false}
 use Rattle.std.proofs.Common.{◌≡◌, ℕ, zero, suc, ◌+◌, ◌<◌, ◌≤◌, Bool, true, false, ◌&&◌, ◌||◌, Some, None, Option, List, [], ◌∷◌, ◌++◌, length, map, take, get_or, refl, ap, sym, ◌∙◌, add-one}
 use Rattle.std.specs.Prelude.{nat_eq, slice_get}
 use Rattle.std.specs.List.{enumerate_from, list_any}
-use Rattle.std.proofs.lemmas.List.{take_all}
+use Rattle.std.proofs.lemmas.List.{get_or_default, take_all}
 use Rattle.std.proofs.lemmas.List.Folds.{list_any-append}
 use Rattle.csl_runs.specs.Stretches.{both}
 use Rattle.csl_runs.proofs.Stepping.{made-next, next}
@@ -17,14 +17,17 @@ follows-at : (cites : List BlockCite) (k : ℕ) (c : BlockCite) → slice_get ci
 follows-at cites zero c s b hb = ap (λ o. both in_one_block o (Some c)) hb
 follows-at cites (suc k) c s b hb = λ i. both in_one_block (hb i) (sym s i)
 
-module _ (cites : List BlockCite) (k : ℕ) (c : BlockCite) (within : k < length cites) (here : c ≡ get_or cites k c) where
+pub collapses-next : (cites : List BlockCite) (how : YearCollapse) (k : ℕ) (f : Bool) → f ≡ follows cites k → (how.by_year || f) ≡ collapses cites how (k + 1)
+collapses-next cites how k f is = ap (λ b. how.by_year || b) is ∙ sym (ap (collapses cites how) (add-one k))
+
+module _ (cites : List BlockCite) (k : ℕ) (c d : BlockCite) (within : k < length cites) (given : c ≡ get_or cites k d) where
+  here : c ≡ get_or cites k c
+  here = given ∙ get_or_default cites k d c within
+
   pub follows-is : (b : Option BlockCite) (f : Bool) → b ≡ before_at cites k → f ≡ both in_one_block b (Some c) → f ≡ follows cites k
   follows-is b f hb is = is ∙ follows-at cites k c (stands cites k c within here) b hb
 
   module _ (how : YearCollapse) where
-    pub collapses-next : (f : Bool) → f ≡ follows cites k → (how.by_year || f) ≡ collapses cites how (k + 1)
-    collapses-next f is = ap (λ b. how.by_year || b) is ∙ sym (ap (collapses cites how) (add-one k))
-
     pub years-next : (found all : List BlockYear) (y : BlockYear) (f e l : Bool) → found ≡ map (year_of cites how) (take k (enumerate_from 0 cites)) → f ≡ follows cites k → e ≡ collapses cites how k
         → l ≡ is_located cites c.block → y ≡ year_by how c f e l → all ≡ found ++ y ∷ [] → all ≡ map (year_of cites how) (take (k + 1) (enumerate_from 0 cites))
     years-next found all y f e l so_far is_f is_e is_l is pushed =

@@ -1,20 +1,17 @@
 -- The first cites of blocks, noted by their keys.
 use mathlib.Core.Bool.{or-false}
-use Rattle.std.proofs.Common.{◌≡◌, ℕ, Bool, true, false, cond, ◌&&◌, Some, None, Option, refl, ap, sym, ◌∙◌, eqb-true}
+use Rattle.std.proofs.Common.{◌≡◌, ℕ, Bool, true, false, cond, ◌&&◌, Some, None, Option, refl, ap, sym, ◌∙◌}
 use Rattle.std.specs.Prelude.{nat_eq}
 use Rattle.std.specs.HashMap.{HashMap, get}
 use Rattle.std.specs.Option.{option_or}
 use Rattle.std.specs.Cmp.{nat_eq_equiv}
-use Rattle.std.proofs.lemmas.Bool.{and_parts}
+use Rattle.std.proofs.lemmas.Bool.{and_parts, eqb-true}
 use Rattle.csl_blocks.specs.Firsts.{IsNoted, is_key, same_key}
 use Rattle.csl_blocks.specs.declared.blocks.BlockKey.{BlockKey}
 
 or-none : {X : Type 0} (o : Option X) → option_or o None ≡ o
 or-none None = refl
 or-none (Some x) = refl
-
-keyed : ℕ → ℕ → BlockKey
-keyed names part = record { names = names; part = part }
 
 key-flips : (names part : ℕ) (q : BlockKey) → same_key (record { names = names; part = part }) q ≡ is_key q (Some names) part
 key-flips names part q = λ i. nat_eq_equiv.symm names q.names i && nat_eq_equiv.symm part q.part i

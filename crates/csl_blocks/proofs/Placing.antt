@@ -7,6 +7,7 @@ use Rattle.std.specs.List.{enumerate_from, range_with_len}
 use Rattle.std.specs.Option.{option_map_or, option_or}
 use Rattle.std.specs.Cmp.{nat_eq_equiv}
 use Rattle.std.proofs.lemmas.Bool.{and_from}
+use Rattle.std.proofs.lemmas.List.{get_or_default}
 use Rattle.std.proofs.lemmas.List.Elements.{All-cons, All-nil}
 use Rattle.std.proofs.lemmas.List.Folds.{find-append}
 use Rattle.std.proofs.lemmas.Option.{slice_get_read}
@@ -26,8 +27,8 @@ before_at xs (suc k) = slice_get xs k
 pub stands : {X : Type 0} (xs : List X) (k : ℕ) (x : X) → k < length xs → x ≡ get_or xs k x → slice_get xs k ≡ Some x
 stands xs k x within here = slice_get_read xs (length xs) k x refl within here
 
-pub before-next : {X : Type 0} (xs : List X) (k : ℕ) (x : X) → k < length xs → x ≡ get_or xs k x → Some x ≡ before_at xs (k + 1)
-before-next xs k x within here = sym (ap (before_at xs) (add-one k) ∙ stands xs k x within here)
+pub before-next : {X : Type 0} (xs : List X) (k : ℕ) (x d : X) → k < length xs → x ≡ get_or xs k d → Some x ≡ before_at xs (k + 1)
+before-next xs k x d within given = sym (ap (before_at xs) (add-one k) ∙ stands xs k x within (given ∙ get_or_default xs k d x within))
 
 -- the part of the cite before the one at k
 abbrev pub part_before : List GroupedCite → ℕ → ℕ
@@ -58,12 +59,15 @@ none-both : (o : Option ℕ) (b : Bool) → (both nat_eq None o && b) ≡ false
 none-both None b = refl
 none-both (Some n) b = refl
 
-module _ (cites : List GroupedCite) (k : ℕ) (c : GroupedCite) (within : k < length cites) (here : c ≡ get_or cites k c) where
+pub part-kept : (cites : List GroupedCite) (k p : ℕ) → p ≡ part cites k → p ≡ part_before cites (k + 1)
+part-kept cites k p h = h ∙ sym (ap (part_before cites) (add-one k))
+
+module _ (cites : List GroupedCite) (k : ℕ) (c d : GroupedCite) (within : k < length cites) (given : c ≡ get_or cites k d) where
+  here : c ≡ get_or cites k c
+  here = given ∙ get_or_default cites k d c within
+
   pub part-next : (p : ℕ) (b : Option GroupedCite) → p ≡ part_before cites k → b ≡ before_at cites k → part_by p k b c ≡ part cites k
   part-next = part-at cites k c (stands cites k c within here)
-
-  pub part-kept : (p : ℕ) → p ≡ part cites k → p ≡ part_before cites (k + 1)
-  part-kept p h = h ∙ sym (ap (part_before cites) (add-one k))
 
   known-next : (q : BlockKey) → known cites (k + 1) q ≡ option_or (known cites k q) (cond (is_key q c.names (part cites k)) (Some k) None)
   known-next q =

@@ -1,10 +1,11 @@
 -- A stable sort by numbers puts the members of each class together.
-use Rattle.std.proofs.Common.{◌≡◌, ℕ, zero, suc, ◌+◌, ◌<◌, ◌≤◌, Bool, true, false, cond, not, ◌&&◌, List, [], ◌∷◌, ◌++◌, All, filter, flat_map, length, get_or, is_lt, nat_cmp, refl, ap, sym, ◌∙◌, arith, eqb-true, suc-le-suc, zero-le}
+use Rattle.std.proofs.Common.{◌≡◌, ℕ, zero, suc, ◌+◌, ◌<◌, ◌≤◌, Bool, true, false, cond, not, ◌&&◌, List, [], ◌∷◌, ◌++◌, All, filter, flat_map, length, get_or, is_lt, nat_cmp, refl, ap, sym, ◌∙◌, arith, suc-le-suc, zero-le}
 use Rattle.std.specs.Prelude.{nat_eq}
 use Rattle.std.specs.List.{range_with_len}
 use Rattle.std.specs.List.Sorted.{IsNonDecreasingBy, IsPermutation, IsStableByKey, ties}
 use Rattle.std.specs.Cmp.{nat_eq_equiv}
-use Rattle.std.proofs.lemmas.Bool.Decides.{nat_tests}
+use Rattle.std.proofs.lemmas.Bool.{eqb-true}
+use Rattle.std.proofs.lemmas.Bool.Decides.{Decides-eqb, nat_tests}
 use Rattle.std.proofs.lemmas.List.Elements.{All-tail, filter_agree}
 use Rattle.std.proofs.lemmas.List.Sorted.{All-permutation}
 
@@ -13,14 +14,11 @@ same_test true b f g = sym (f refl)
 same_test false true f g = g refl
 same_test false false f g = refl
 
-tied : (m n : ℕ) → ties (λ x y. is_lt (nat_cmp x y)) m n ≡ true → nat_eq m n ≡ true
-tied m n h = grind (arith, nat_tests)
-
-ties-back : (m n : ℕ) → nat_eq m n ≡ true → ties (λ x y. is_lt (nat_cmp x y)) m n ≡ true
-ties-back m n h = grind (arith, nat_tests)
+ties-at : (m n : ℕ) → (ties (λ x y. is_lt (nat_cmp x y)) m n ≡ true → m ≡ n) × (m ≡ n → ties (λ x y. is_lt (nat_cmp x y)) m n ≡ true)
+ties-at m n = (λ h. grind (arith, nat_tests), λ h. grind (arith, nat_tests))
 
 ties-are : (m n : ℕ) → ties (λ x y. is_lt (nat_cmp x y)) m n ≡ nat_eq m n
-ties-are m n = same_test (ties (λ x y. is_lt (nat_cmp x y)) m n) (nat_eq m n) (tied m n) (ties-back m n)
+ties-are m n = same_test (ties (λ x y. is_lt (nat_cmp x y)) m n) (nat_eq m n) (λ h. (Decides-eqb m n).1 ((ties-at m n).0 h)) (λ h. (ties-at m n).1 (eqb-true m n h))
 
 other : (a b : ℕ) → a < b → nat_eq a b ≡ false
 other a b h = grind (arith, nat_tests)
@@ -64,7 +62,7 @@ module _ {X : Type 0} (key : X → ℕ) where
   rises-from a [] h s = tt
   rises-from a (y ∷ ys) h s = (
     h y (suc-le-suc zero-le),
-    rises-from (key y) ys (λ d lt. s zero 1 d zero-le (suc-le-suc lt)) (λ i j d le lt. s (suc i) (suc j) d (suc-le-suc le) (suc-le-suc lt)),
+    rises-from (key y) ys (λ d lt. s zero (suc zero) d zero-le (suc-le-suc lt)) (λ i j d le lt. s (suc i) (suc j) d (suc-le-suc le) (suc-le-suc lt)),
   )
 
   lower : (a b : ℕ) (ys : List X) → a ≤ b → Rises b ys → Rises a ys
@@ -84,7 +82,8 @@ module _ {X : Type 0} (key : X → ℕ) where
   classed : (n : ℕ) (ys : List X) → Rises 0 ys → All (λ y. key y < n) ys → flat_map (class ys) (range_with_len 0 n) ≡ ys
   classed n [] h all = classes-of-none 0 n
   classed n (y ∷ ys) h all =
-      put y (key y) (class ys) (λ j lt. none-below j (key y) ys lt h.1) 0 n zero-le (all 0 y (suc-le-suc zero-le))
+      let within : key y < n = all 0 y (suc-le-suc zero-le) in
+      put y (key y) (class ys) (λ j lt. none-below j (key y) ys lt h.1) 0 n zero-le (omega arith)
       ∙ ap (λ l. y ∷ l) (classed n ys (lower 0 (key y) ys zero-le h.1) (All-tail (λ y. key y < n) y ys all))
 
   -- members sorted by their keys, class by class

@@ -1,5 +1,4 @@
 use Rattle.std.proofs.Common.{ap, map, refl, sym, ◌∙◌}
-use Rattle.std.proofs.lemmas.List.{get_or_default}
 use Rattle.csl_blocks.specs.Blocks.{placed_cite}
 use Rattle.csl_blocks.proofs.Placing.{before-next, block-next, none-known, noted-next, part-kept, part-next, placed-next}
 use Rattle.csl_runs.proofs.Stepping.{enumerate-all}
@@ -17,18 +16,16 @@ pub loop-place-preserved : goal.loop-place-preserved
 loop-place-preserved c =
     let cites = c.args.cites.now in
     let k = c.loop-place.place in
-    let cite = c.index-cites-place.result in
     let within = c.loop-place-test.true in
-    let here = c.index-cites-place.is in
     let before = c.loop-place.invariant in
     let part = c.part_at-part.result in
-    let is_part = c.part_at-part.ensures ∙ part-next cites k cite within here c.loop-place.part c.loop-place.before before.part before.before in
+    let is_part = c.part_at-part.ensures ∙ part-next cites k _ _ within refl c.loop-place.part c.loop-place.before before.part before.before in
     record {
-      part = part-kept cites k cite within here part is_part;
-      before = before-next cites k cite within here;
-      firsts = noted-next cites k cite within here c.loop-place.firsts part before.firsts is_part c.block_at.new.firsts c.in_ok-block_at.ensures.noted;
-      placed = placed-next cites k cite within here c.loop-place.placed.items c.push.new.self.items c.in_ok-block_at.field-0 before.placed
-          (c.in_ok-block_at.ensures.block ∙ block-next cites k cite within here c.loop-place.firsts part before.firsts is_part) c.in_ok-push.ensures.items;
+      part = part-kept cites k part is_part;
+      before = before-next cites k _ _ within refl;
+      firsts = noted-next cites k _ _ within refl c.loop-place.firsts part before.firsts is_part c.block_at.new.firsts c.in_ok-block_at.ensures.noted;
+      placed = placed-next cites k _ _ within refl c.loop-place.placed.items c.push.new.self.items c.in_ok-block_at.field-0 before.placed
+          (c.in_ok-block_at.ensures.block ∙ block-next cites k _ _ within refl c.loop-place.firsts part before.firsts is_part) c.in_ok-push.ensures.items;
     }
 
 pub returns : goal.returns

@@ -9,16 +9,14 @@ pub loop-cite-preserved : goal.loop-cite-preserved
 loop-cite-preserved c =
     let cites = c.args.cites.now in
     let k = c.loop-cite.cite-index in
-    let cite = c.cite-item.result in
     let within = c.loop-cite-test.true in
-    let here = c.cite-item.is in
     let so_far = c.loop-cite.invariant in
-    let follows = follows-is cites k cite within here c.loop-cite.before c.in_one_block-follows.result so_far.before c.in_one_block-follows.ensures in
+    let follows = follows-is cites k _ _ within refl c.loop-cite.before c.in_one_block-follows.result so_far.before c.in_one_block-follows.ensures in
     record {
-      before = before-next cites k cite within here;
-      collapses = collapses-next cites k cite within here c.args.how c.in_one_block-follows.result follows;
-      found = years-next cites k cite within here c.args.how c.loop-cite.found.items c.push.new.self.items c.year_by.result c.in_one_block-follows.result c.loop-cite.collapses
-          c.contains-is_located.result so_far.found follows so_far.collapses (c.contains-is_located.ensures.value ∙ c.in_ok-located.ensures cite.block) c.year_by.ensures
+      before = before-next cites k _ _ within refl;
+      collapses = collapses-next cites c.args.how k c.in_one_block-follows.result follows;
+      found = years-next cites k _ _ within refl c.args.how c.loop-cite.found.items c.push.new.self.items c.year_by.result c.in_one_block-follows.result c.loop-cite.collapses
+          c.contains-is_located.result so_far.found follows so_far.collapses (c.contains-is_located.ensures.value ∙ c.in_ok-located.ensures _) c.year_by.ensures
           c.in_ok-push.ensures.items;
     }
 
