@@ -3,6 +3,7 @@
 use Rattle.std.specs.Prelude.{ℕ, Bool, false, not, List, ◌++◌, None, Option, filter, is_some, map}
 use Rattle.std.specs.List.{zip}
 use Rattle.csl_telling.specs.Told.{told_by_names}
+use Rattle.csl_telling.specs.declared.mention.MentionedName.{MentionedName}
 use Rattle.csl_telling.specs.declared.mention.NamedMention.{NamedMention}
 use Rattle.csl_mentions.specs.Groups.{group_of, is_chosen}
 use Rattle.csl_mentions.specs.Suffixes.{suffixes}
@@ -15,15 +16,29 @@ use Rattle.csl_tables.specs.declared.subject.Subject.{Subject}
 abbrev pub untold : MentionState
 untold = record { names = None; chosen = false }
 
+module _ {M : Type 0} where
+  -- a mention that reads so
+  abbrev pub mention_with : Subject M → List ℕ → Mention
+  mention_with s text = record {
+    entry = s.entry;
+    is_first = s.is_first;
+    text = text;
+    adds_suffix = s.adds_suffix;
+  }
+
+  -- a mention with these names, in a group
+  abbrev pub named_with : Option ℕ → Subject M → List MentionedName → NamedMention
+  named_with group s names = record {
+    names = names;
+    adds_names = s.adds_names;
+    rule = s.rule;
+    group = group;
+  }
+
 module _ {M : Type 0} (write : M → MentionState → Written) where
   -- a mention as it reads in some state
   abbrev pub mention_in : Subject M → MentionState → Mention
-  mention_in s state = record {
-    entry = s.entry;
-    is_first = s.is_first;
-    text = (write s.mention state).text;
-    adds_suffix = s.adds_suffix;
-  }
+  mention_in s state = mention_with s (write s.mention state).text
 
   -- mentions in a table, which gives each its state
   abbrev pub mentions_in : List (Subject M) → List MentionState → List Mention
@@ -31,12 +46,7 @@ module _ {M : Type 0} (write : M → MentionState → Written) where
 
   -- a mention with its names, in a group
   abbrev pub named_in : Option ℕ → Subject M → NamedMention
-  named_in group s = record {
-    names = (write s.mention untold).names;
-    adds_names = s.adds_names;
-    rule = s.rule;
-    group = group;
-  }
+  named_in group s = named_with group s (write s.mention untold).names
 
 module _ {M : Type 0} (subjects : List (Subject M)) where
   -- the first table is empty

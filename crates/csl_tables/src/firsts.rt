@@ -2,7 +2,7 @@
 ghost use Rattle.std.specs.Prelude.{◌≡◌, ◌∷◌, [], ◌++◌, IfOk, None, OnOk};
 ghost use Rattle.csl_tables.specs.Asked.{asked_for};
 ghost use Rattle.csl_tables.specs.Steps.{AreFirsts};
-ghost use Rattle.csl_tables.specs.Tables.{first_tasks, untold};
+ghost use Rattle.csl_tables.specs.Tables.{first_tasks, mention_with, named_with, untold};
 
 use crate::subject::Subject;
 use crate::writer::MentionWriter;
@@ -62,20 +62,10 @@ fn add_first<M>(
     subject: &Subject<M>,
     written: Written,
 ) -> Result<(), AllocError>
-    ensures mentions { OnOk result (firsts.new.mentions.items ≡ firsts.old.mentions.items
-        ++ record {
-          entry = subject.now.entry;
-          is_first = subject.now.is_first;
-          text = written.text;
-          adds_suffix = subject.now.adds_suffix;
-        } ∷ []) }
-    ensures named { OnOk result (firsts.new.named.items ≡ firsts.old.named.items
-        ++ record {
-          names = written.names;
-          adds_names = subject.now.adds_names;
-          rule = subject.now.rule;
-          group = None;
-        } ∷ []) }
+    ensures mentions { OnOk result (firsts.new.mentions.items
+        ≡ firsts.old.mentions.items ++ mention_with subject.now written.text ∷ []) }
+    ensures named { OnOk result (firsts.new.named.items
+        ≡ firsts.old.named.items ++ named_with None subject.now written.names ∷ []) }
     ensures tested { OnOk result (firsts.new.tested.items ≡ firsts.old.tested.items
         ++ written.tested ∷ []) }
 {
