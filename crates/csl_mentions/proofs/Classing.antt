@@ -11,7 +11,7 @@ use Rattle.std.proofs.lemmas.Bool.{eqb-true}
 use Rattle.std.proofs.lemmas.List.Folds.{find-append, list_any-append}
 use Rattle.csl_values.specs.Finds.{texts_find}
 use Rattle.csl_mentions.specs.Classes.{AreClassesOf, class_with, group_found, is_other, joined}
-use Rattle.csl_mentions.specs.Groups.{first_with, group_of, has_text}
+use Rattle.csl_mentions.specs.Groups.{first_with, group_of, has_text, text_of}
 use Rattle.csl_mentions.specs.declared.classes.Class.{Class}
 use Rattle.csl_mentions.specs.declared.mention.Mention.{Mention}
 
@@ -110,3 +110,7 @@ module _ {S : Type 0} where
   group-is c ms m h e =
       (λ i. cond (h.other m.text m.entry i) (h.first m.text i) None)
       ∙ ap (λ b. cond (b && list_any (λ n. bytes_eq m.text n.text && not (nat_eq m.entry n.entry)) ms) (first_with ms m.text) None) (sym e)
+
+  -- what it reads as
+  pub text-is : (c : HashMap (List ℕ) Class S) (ms : List Mention) (m : Mention) → AreClassesOf c ms → has_text m ≡ true → option_map (λ x. x.first) (get bytes_eq c m.text) ≡ text_of ms m
+  text-is c ms m h e = h.first m.text ∙ sym (ap (λ b. cond b (first_with ms m.text) None) e)

@@ -23,6 +23,10 @@ module _ (mentions : List Mention) where
   first_with text = option_map (λ p. p.0)
       (find (λ p. bytes_eq text p.1.text) (enumerate_from 0 mentions))
 
+  -- what a mention reads as, if it has a text, by the index of the first one with that text
+  abbrev pub text_of : Mention → Option ℕ
+  text_of m = if has_text m then first_with m.text else None
+
   -- the group of a mention, if it is in one, by the index of the group's first member
   abbrev pub group_of : Mention → Option ℕ
   group_of m = if is_ambiguous m then first_with m.text else None

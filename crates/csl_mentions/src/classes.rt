@@ -1,5 +1,5 @@
 //! What is known of the mentions that have a text.
-ghost use Rattle.std.specs.Prelude.{◌≡◌, ◌++◌, ◌∷◌, [], List, OnOk, Some, bytes_eq, length};
+ghost use Rattle.std.specs.Prelude.{◌≡◌, ◌++◌, ◌∷◌, [], List, OnOk, Some, bytes_eq, length, option_map};
 ghost use Rattle.std.specs.HashMap.{get};
 ghost use Rattle.csl_mentions.specs.Classes.{AreClassesOf, class_with, first_if, group_found, is_other, joined};
 ghost use Rattle.csl_mentions.specs.declared.mention.Mention.{Mention as MentionValue};
@@ -57,6 +57,16 @@ pub(crate) fn add(classes: &mut Classes, k: usize, mention: &Mention) -> Result<
     let class = class_with(classes, k, mention);
     classes.insert(mention.text.clone()?, class)?;
     Ok(())
+}
+
+/// The index of the first mention with this one's text.
+pub(crate) fn first_of(classes: &Classes, mention: &Mention) -> Option<usize>
+    ensures { result ≡ option_map (λ c. c.first) (get bytes_eq classes.now mention.now.text) }
+{
+    match classes.get(&mention.text) {
+        Some(class) => Some(class.first),
+        None => None,
+    }
 }
 
 /// The index of the first mention with this one's text, where another entry is mentioned by it.

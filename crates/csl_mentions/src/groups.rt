@@ -1,10 +1,10 @@
 //! Ambiguous groups: mentions that read alike, of several entries.
 ghost use Rattle.std.specs.Prelude.{◌≡◌, IfOk, List, map};
 ghost use Rattle.csl_mentions.specs.Classes.{AreClassesOf};
-ghost use Rattle.csl_mentions.specs.Groups.{group_of};
+ghost use Rattle.csl_mentions.specs.Groups.{group_of, text_of};
 ghost use Rattle.csl_mentions.specs.declared.mention.Mention.{Mention as MentionValue};
 
-use crate::classes::{Classes, add, group_found};
+use crate::classes::{Classes, add, first_of, group_found};
 use crate::mention::Mention;
 use std::alloc::{AllocError, Global};
 use std::collections::HashMap;
@@ -29,6 +29,34 @@ pub(crate) fn group_among(classes: &Classes, mention: &Mention) -> Option<usize>
         return None;
     }
     group_found(classes, mention)
+}
+
+/// What a mention reads as among those that the classes are of.
+fn text_among(classes: &Classes, mention: &Mention) -> Option<usize>
+    ensures { (mentions : List MentionValue) → AreClassesOf classes.now mentions
+        → result ≡ text_of mentions mention.now }
+{
+    if mention.text.as_str().is_empty() {
+        return None;
+    }
+    first_of(classes, mention)
+}
+
+/// What mentions read as: for each whose text is not empty, the index of the first one with its
+/// text. So two of them read alike where they have the same index.
+///
+/// # Errors
+///
+/// Where memory is refused.
+pub fn texts_of(alloc: Global, mentions: &[Mention]) -> Result<Vec<Option<usize>>, AllocError>
+    ensures { IfOk result (λ v. v.items ≡ map (text_of mentions.now) mentions.now) }
+{
+    let classes = classes_of(alloc, mentions)?;
+    let mut found = Vec::with_capacity(alloc, mentions.len())?;
+    for mention in mentions {
+        found.push(text_among(&classes, mention))?;
+    }
+    Ok(found)
 }
 
 /// The ambiguous groups of a document's mentions (CSL 1.0.2, disambiguation): for each mention

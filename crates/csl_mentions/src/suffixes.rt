@@ -95,11 +95,7 @@ pub fn suffixes_of(alloc: Global, laters: &[Mention]) -> Result<Vec<Option<usize
     let mut counts = HashMap::new(alloc);
     let mut found = Vec::with_capacity(alloc, laters.len())?;
     for later in laters {
-        found.push(next_suffix(
-            &mut counts,
-            &adding,
-            group_among(&classes, later),
-        )?)?;
+        found.push(next_suffix(&mut counts, &adding, group_among(&classes, later))?)?;
     }
     Ok(found)
 }
