@@ -16,7 +16,7 @@ loop-cite-preserved c =
       before = before-next cites k _ _ within refl;
       collapses = collapses-next cites c.args.how k c.in_one_block-follows.result follows;
       found = years-next cites k _ _ within refl c.args.how c.loop-cite.found.items c.push.new.self.items c.year_by.result c.in_one_block-follows.result c.loop-cite.collapses
-          c.contains-is_located.result so_far.found follows so_far.collapses (c.contains-is_located.ensures.value ∙ c.in_ok-located.ensures _) c.year_by.ensures
+          c.contains-is_located.result so_far.found follows so_far.collapses (c.contains-is_located.ensures ∙ c.in_ok-located.ensures _) c.year_by.ensures
           c.in_ok-push.ensures.items;
     }
 
