@@ -121,11 +121,13 @@ module _ (cites : List GroupedCite) (k : ℕ) (c d : GroupedCite) (within : k < 
 -- each block begins at a place of the request
 found-within : (test : ℕ × GroupedCite → Bool) (n d : ℕ) → d < n → (a : ℕ) (xs : List GroupedCite) → a + length xs ≤ n → option_map_or (λ q. q.0) (find test (enumerate_from a xs)) d < n
 found-within test n d h a [] le = h
-found-within test n d h a (x ∷ xs) le = by (test (a, x)) (found-within test n d h (a + 1) xs (omega arith))
+found-within test n d h a (x ∷ xs) le =
+    let here : a < n = omega arith in
+    by (test (a, x)) here (found-within test n d h (a + 1) xs (omega arith))
   where
-    by : (b : Bool) → option_map_or (λ q. q.0) (find test (enumerate_from (a + 1) xs)) d < n → option_map_or (λ q. q.0) (cond b (Some (a, x)) (find test (enumerate_from (a + 1) xs))) d < n
-    by true r = omega arith
-    by false r = r
+    by : (b : Bool) → a < n → option_map_or (λ q. q.0) (find test (enumerate_from (a + 1) xs)) d < n → option_map_or (λ q. q.0) (cond b (Some (a, x)) (find test (enumerate_from (a + 1) xs))) d < n
+    by true w r = w
+    by false w r = r
 
 made-within : (f : ℕ × GroupedCite → PlacedCite) (n : ℕ) → ((p : ℕ × GroupedCite) → p.0 < n → (f p).block < n) → (a : ℕ) (xs : List GroupedCite) → a + length xs ≤ n
     → All (λ c. c.block < n) (map f (enumerate_from a xs))
