@@ -1,7 +1,7 @@
 //! Ambiguous groups: mentions that read alike, of several entries.
 ghost use Rattle.std.specs.Prelude.{◌≡◌, IfOk, List, map};
 ghost use Rattle.csl_mentions.specs.Classes.{AreClassesOf};
-ghost use Rattle.csl_mentions.specs.Groups.{group_of, text_of};
+ghost use Rattle.csl_mentions.specs.Groups.{group_of, has_text, text_of};
 ghost use Rattle.csl_mentions.specs.declared.mention.Mention.{Mention as MentionValue};
 
 use crate::classes::{Classes, add, first_of, group_found};
@@ -20,15 +20,23 @@ pub(crate) fn classes_of(alloc: Global, mentions: &[Mention]) -> Result<Classes,
     Ok(classes)
 }
 
+/// Whether something was written of a mention.
+fn has_text(mention: &Mention) -> bool
+    ensures { result ≡ has_text mention.now }
+{
+    !mention.text.as_str().is_empty()
+}
+
 /// The group of a mention among those that the classes are of.
 pub(crate) fn group_among(classes: &Classes, mention: &Mention) -> Option<usize>
     ensures { (mentions : List MentionValue) → AreClassesOf classes.now mentions
         → result ≡ group_of mentions mention.now }
 {
-    if mention.text.as_str().is_empty() {
-        return None;
+    if has_text(mention) {
+        group_found(classes, mention)
+    } else {
+        None
     }
-    group_found(classes, mention)
 }
 
 /// What a mention reads as among those that the classes are of.
@@ -36,10 +44,11 @@ fn text_among(classes: &Classes, mention: &Mention) -> Option<usize>
     ensures { (mentions : List MentionValue) → AreClassesOf classes.now mentions
         → result ≡ text_of mentions mention.now }
 {
-    if mention.text.as_str().is_empty() {
-        return None;
+    if has_text(mention) {
+        first_of(classes, mention)
+    } else {
+        None
     }
-    first_of(classes, mention)
 }
 
 /// What mentions read as: for each whose text is not empty, the index of the first one with its
