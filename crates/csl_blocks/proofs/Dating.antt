@@ -17,8 +17,8 @@ follows-at : (cites : List BlockCite) (k : ℕ) (c : BlockCite) → slice_get ci
 follows-at cites zero c s b hb = ap (λ o. both in_one_block o (Some c)) hb
 follows-at cites (suc k) c s b hb = λ i. both in_one_block (hb i) (sym s i)
 
-pub collapses-next : (cites : List BlockCite) (how : YearCollapse) (k : ℕ) (f : Bool) → f ≡ follows cites k → (how.by_year || f) ≡ collapses cites how (k + 1)
-collapses-next cites how k f is = ap (λ b. how.by_year || b) is ∙ sym (ap (collapses cites how) (add-one k))
+pub collapses-next : (cites : List BlockCite) (how : YearCollapse) (k : ℕ) (f e : Bool) → f ≡ follows cites k → e ≡ (how.by_year || f) → e ≡ collapses cites how (k + 1)
+collapses-next cites how k f e is made = made ∙ ap (λ b. how.by_year || b) is ∙ sym (ap (collapses cites how) (add-one k))
 
 module _ (cites : List BlockCite) (k : ℕ) (c d : BlockCite) (within : k < length cites) (given : c ≡ get_or cites k d) where
   here : c ≡ get_or cites k c

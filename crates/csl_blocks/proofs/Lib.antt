@@ -1,4 +1,3 @@
-pub mod Keys
 pub mod Placing
 pub mod Sorting
 pub mod Dating

@@ -70,7 +70,7 @@ pub fn years_of_blocks(
         let follows = in_one_block(before, cite);
         let is_located = located.contains(&cite.block);
         found.push(year_by(how, cite, follows, collapses, is_located))?;
-        collapses = how.by_year || follows;
+        collapses = collapses_behind(how, follows);
         before = Some(*cite);
     }
     Ok(found)
@@ -84,6 +84,14 @@ fn in_one_block(before: Option<BlockCite>, cite: &BlockCite) -> bool
         Some(before) => before.block == cite.block,
         None => false,
     }
+}
+
+/// Whether the after-collapse delimiter stands behind a block whose last cite comes behind another
+/// of it, or doesn't.
+fn collapses_behind(how: YearCollapse, follows: bool) -> bool
+    ensures { result ≡ (how.by_year || follows) }
+{
+    how.by_year || follows
 }
 
 /// A cite, by whether it comes behind another of its block, whether the after-collapse delimiter

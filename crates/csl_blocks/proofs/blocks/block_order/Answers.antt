@@ -14,7 +14,7 @@ returns c =
     let sorted = c.sort_by_key.new.self.items in
     let moved = subst (λ xs. IsPermutation xs sorted) c.in_ok-placed.ensures c.sort_by_key.ensures.permutation in
     let stable = subst (λ xs. IsStableByKey (λ p. p.block) nat_cmp xs sorted) c.in_ok-placed.ensures
-        (c.sort_by_key.ensures.stable (λ p. p.block) (answers_always _ _ _ (λ f a r g h. search rules))) in
+    (c.sort_by_key.ensures.stable (λ p. p.block) (answers_always _ _ _ (λ f a r g h. search rules))) in
     let rises = c.in_ok-sort_by_key.ensures.sorted (λ p. p.block) (answers_always _ _ _ (λ f a r g h. search rules)) in
     record {
       order = sorted-classes (λ (p : PlacedCite). p.block) (length cites) (placed_cites cites) sorted (blocks-within cites) moved

@@ -14,7 +14,7 @@ loop-cite-preserved c =
     let follows = follows-is cites k _ _ within refl c.loop-cite.before c.in_one_block-follows.result so_far.before c.in_one_block-follows.ensures in
     record {
       before = before-next cites k _ _ within refl;
-      collapses = collapses-next cites c.args.how k c.in_one_block-follows.result follows;
+      collapses = collapses-next cites c.args.how k c.in_one_block-follows.result c.collapses_behind-collapses.result follows c.collapses_behind-collapses.ensures;
       found = years-next cites k _ _ within refl c.args.how c.loop-cite.found.items c.push.new.self.items c.year_by.result c.in_one_block-follows.result c.loop-cite.collapses
           c.contains-is_located.result so_far.found follows so_far.collapses (c.contains-is_located.ensures ∙ c.in_ok-located.ensures _) c.year_by.ensures
           c.in_ok-push.ensures.items;
