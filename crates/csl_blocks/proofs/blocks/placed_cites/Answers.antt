@@ -1,4 +1,4 @@
-use Rattle.std.proofs.Common.{ap, map, refl, sym, ◌∙◌}
+use Rattle.std.proofs.Common.{ap, map, refl, ◌∙◌}
 use Rattle.csl_blocks.specs.Blocks.{placed_cite}
 use Rattle.csl_blocks.proofs.Placing.{before-next, block-next, none-known, noted-next, part-kept, part-next, placed-next}
 use Rattle.csl_runs.proofs.Stepping.{enumerate-all}
