@@ -1,6 +1,6 @@
 -- What is known of the mentions of a text, as one more comes in.
 use mathlib.Core.Bool.{or-false, or-true}
-use Rattle.std.proofs.Common.{◌≡◌, ℕ, ◌+◌, zero, suc, Bool, true, false, cond, not, ◌&&◌, ◌||◌, Some, None, Option, List, [], ◌∷◌, ◌++◌, length, map, refl, ap, sym, subst, ◌∙◌, true≢false, arith}
+use Rattle.std.proofs.Common.{◌≡◌, ℕ, ◌+◌, Bool, true, false, cond, not, ◌&&◌, ◌||◌, Some, None, Option, List, [], ◌∷◌, ◌++◌, length, refl, ap, sym, ◌∙◌, true≢false, arith}
 use Rattle.std.specs.Prelude.{bytes_eq, find, nat_eq, option_map}
 use Rattle.std.specs.HashMap.{HashMap, get}
 use Rattle.std.specs.List.{enumerate_from, list_any}
@@ -10,7 +10,7 @@ use Rattle.std.specs.Cmp.{nat_eq_equiv}
 use Rattle.std.proofs.lemmas.Bool.{eqb-true}
 use Rattle.std.proofs.lemmas.List.Folds.{find-append, list_any-append}
 use Rattle.csl_values.specs.Finds.{texts_find}
-use Rattle.csl_mentions.specs.Classes.{AreClassesOf, class_with, group_found, is_other, joined}
+use Rattle.csl_mentions.specs.Classes.{AreClassesOf, class_with, group_found, is_other}
 use Rattle.csl_mentions.specs.Groups.{first_with, group_of, has_text, text_of}
 use Rattle.csl_mentions.specs.declared.classes.Class.{Class}
 use Rattle.csl_mentions.specs.declared.mention.Mention.{Mention}

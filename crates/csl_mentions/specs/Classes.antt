@@ -1,5 +1,5 @@
 -- For the code: the mentions that were looked at, by their texts.
-use Rattle.std.specs.Prelude.{◌≡◌, ℕ, Bool, true, false, not, ◌&&◌, ◌||◌, List, Option, None, Some, bytes_eq, if◌then◌else◌, nat_eq, option_map}
+use Rattle.std.specs.Prelude.{◌≡◌, ℕ, Bool, false, not, ◌&&◌, ◌||◌, List, Option, None, Some, bytes_eq, if◌then◌else◌, nat_eq, option_map}
 use Rattle.std.specs.HashMap.{HashMap, get}
 use Rattle.std.specs.List.{list_any}
 use Rattle.csl_mentions.specs.Groups.{first_with}
