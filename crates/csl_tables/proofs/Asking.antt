@@ -12,6 +12,6 @@ module _ {M N : Type 0} (before now after : MentionsWriter M N) (tasks more : Li
   asked-more p q =
       q ∙ ap (asked_for more) p ∙ (λ i. record before { notes = sym (noted-append before.noting tasks more before.notes) i })
 
-  -- what it writes stays
-  pub writes-same : now ≡ asked_for tasks before → now.write ≡ before.write
-  writes-same p = ap (λ w. w.write) p
+-- what it writes stays
+pub writes-same : {M N : Type 0} (before now : MentionsWriter M N) (tasks : List (M × MentionState)) → now ≡ asked_for tasks before → now.write ≡ before.write
+writes-same before now tasks p = ap (λ w. w.write) p

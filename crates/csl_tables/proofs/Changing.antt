@@ -60,7 +60,7 @@ module _ {A B : Type 0} where
 
   pub zip-length : (xs : List A) (ys : List B) → length xs ≡ length ys → length (zip xs ys) ≡ length xs
   zip-length [] ys h = refl
-  zip-length (x ∷ xs) [] h = h
+  zip-length (x ∷ xs) [] h = sym h
   zip-length (x ∷ xs) (y ∷ ys) h = let e : length xs ≡ length ys = omega arith in ap suc (zip-length xs ys e)
 
 pub take-next : {X : Type 0} (k : ℕ) (xs : List X) (x : X) → k < length xs → x ≡ get_or xs k x → take (k + 1) xs ≡ take k xs ++ x ∷ []
