@@ -1,4 +1,4 @@
-use Rattle.std.proofs.Common.{◌<◌, ◌≤◌, arith, ap, get_or, length, refl, subst, sym, ◌∙◌}
+use Rattle.std.proofs.Common.{◌<◌, ◌≤◌, arith, ap, get_or, length, refl, subst, sym, take, ◌∙◌}
 use Rattle.std.specs.Prelude.{flat_map}
 use Rattle.std.specs.List.{zip}
 use Rattle.std.proofs.lemmas.List.{take_all}
@@ -32,7 +32,7 @@ loop-k-preserved g c =
     let long_mentions = c.requires.mentions in
     let within : k < length pairs = subst (λ n. k < n) (sym (zip-length subjects states c.requires.states)) test in
     let here = zip-at k subjects states s t test (omega arith) c.index-subjects-k.is c.index-states-k.is in
-    let same = writes-same w0 w1 _ c.loop-k.invariant.asked in
+    let same = writes-same w0 w1 (flat_map (tasks_of c.args.changed) (take k pairs)) c.loop-k.invariant.asked in
     record {
       again = changed-more (rewritten w0.write c.args.changed) k pairs c.args.mentions.now c.loop-k.mentions (s, t) (s, t) m c.write_if_changed.new.mention c.loop-k.invariant.again within (omega arith) here
           (c.in_ok-write_if_changed.ensures.again ∙ ap (λ w. rewritten w c.args.changed (s, t) (get_or c.loop-k.mentions k m)) same);

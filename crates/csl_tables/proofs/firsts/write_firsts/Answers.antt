@@ -1,8 +1,8 @@
-use Rattle.std.proofs.Common.{None, ap, map, subst, [], ◌∷◌, ◌∙◌}
+use Rattle.std.proofs.Common.{None, ap, map, subst, take, [], ◌∷◌, ◌∙◌}
 use Rattle.std.proofs.lemmas.List.{take_all}
 use Rattle.csl_tables.specs.Asked.{asked_for}
 use Rattle.csl_tables.specs.Steps.{AreFirsts}
-use Rattle.csl_tables.specs.Tables.{mention_in, named_in, untold}
+use Rattle.csl_tables.specs.Tables.{first_tasks, mention_in, named_in, untold}
 use Rattle.csl_tables.proofs.Asking.{writes-same}
 use Rattle.csl_tables.proofs.Walking.{asked-next, pushed-next}
 use Rattle.csl_tables.proofs.firsts.write_firsts.Goals as goal
@@ -15,7 +15,7 @@ loop-subject-preserved g c =
     let subjects = c.args.subjects.now in
     let k = c.loop-subject.subject-index in
     let s = c.subject-item.result in
-    let same = writes-same w0 w1 (map (λ s. (s.mention, untold)) _) c.loop-subject.invariant.asked in
+    let same = writes-same w0 w1 (first_tasks (take k subjects)) c.loop-subject.invariant.asked in
     let written = c.in_ok-written.ensures.written ∙ (λ i. same i s.mention (c.untold-untold.ensures i)) in
     record {
       firsts = record {
