@@ -10,7 +10,7 @@ use Rattle.csl_mentions.specs.declared.mention.Mention.{Mention}
 use Rattle.csl_mentions.specs.declared.state.MentionState.{MentionState}
 use Rattle.csl_mentions.specs.declared.written.Written.{Written}
 use Rattle.csl_tables.specs.Steps.{all_changed, chosen_by, in_group, is_changed, rewritten, state_of, tasks_of}
-use Rattle.csl_tables.specs.Tables.{first_table, mention_in, mentions_in, named, named_in, second_table, tasks_where, third_table, untold, with_choice, with_names}
+use Rattle.csl_tables.specs.Tables.{first_table, mention_in, mentions_in, named, named_in, second_table, third_table, untold, with_choice, with_names}
 use Rattle.csl_tables.specs.declared.changed.Changed.{Changed}
 use Rattle.csl_tables.specs.declared.subject.Subject.{Subject}
 use Rattle.std.proofs.Math.ListN.{length-map}

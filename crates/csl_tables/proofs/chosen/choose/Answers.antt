@@ -1,4 +1,4 @@
-use Rattle.std.proofs.Common.{ap, length, map, sym, ◌∙◌}
+use Rattle.std.proofs.Common.{ap, length, sym, ◌∙◌}
 use Rattle.std.proofs.Math.ListN.{length-map}
 use Rattle.std.specs.List.{zip}
 use Rattle.csl_mentions.specs.Groups.{group_of}

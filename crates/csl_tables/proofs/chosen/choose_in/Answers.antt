@@ -1,4 +1,4 @@
-use Rattle.std.proofs.Common.{◌≤◌, arith, length, refl, sym, ◌∙◌}
+use Rattle.std.proofs.Common.{arith, refl, sym, ◌∙◌}
 use Rattle.std.specs.List.{zip}
 use Rattle.csl_tables.specs.Steps.{chosen_by}
 use Rattle.csl_tables.proofs.Changing.{changed-all, changed-none, chosen-more, zip-length}

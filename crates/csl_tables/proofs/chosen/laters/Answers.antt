@@ -1,6 +1,5 @@
-use Rattle.std.proofs.Common.{◌++◌, ap, filter, not, sym, ◌∙◌}
+use Rattle.std.proofs.Common.{◌++◌, ap, filter, not, ◌∙◌}
 use Rattle.std.specs.Vec.Iter.{into_iter_items}
-use Rattle.csl_tables.proofs.Walking.{kept-more, kept-skip}
 use Rattle.csl_tables.proofs.chosen.laters.Goals as goal
 
 pub loop-mention-init : goal.loop-mention-init

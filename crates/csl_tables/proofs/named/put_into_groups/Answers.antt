@@ -1,4 +1,4 @@
-use Rattle.std.proofs.Common.{◌<◌, ◌≤◌, arith, length, refl}
+use Rattle.std.proofs.Common.{arith, refl}
 use Rattle.csl_tables.specs.Steps.{in_group}
 use Rattle.csl_tables.proofs.Changing.{changed-all, changed-more, changed-none}
 use Rattle.csl_tables.proofs.named.put_into_groups.Goals as goal

@@ -1,4 +1,4 @@
-use Rattle.std.proofs.Common.{◌++◌, ap, map, sym, ◌∙◌}
+use Rattle.std.proofs.Common.{◌++◌, ap, map, ◌∙◌}
 use Rattle.std.specs.Vec.Iter.{into_iter_items}
 use Rattle.csl_tables.specs.Steps.{state_of}
 use Rattle.csl_tables.proofs.Walking.{made-more}

@@ -6,7 +6,7 @@ use Rattle.csl_mentions.specs.Groups.{group_of}
 use Rattle.csl_mentions.specs.Suffixes.{suffixes}
 use Rattle.csl_tables.specs.Asked.{asked_for}
 use Rattle.csl_tables.specs.Steps.{all_changed, chosen_by, rewritten, tasks_of}
-use Rattle.csl_tables.specs.Tables.{first_tasks, mentions_in, second_table, tasks_where, third_table}
+use Rattle.csl_tables.specs.Tables.{first_tasks, second_table, tasks_where, third_table}
 use Rattle.csl_tables.specs.declared.changed.Changed.{Changed}
 use Rattle.csl_tables.proofs.Asking.{asked-more, writes-same}
 use Rattle.csl_tables.proofs.Joined.{mentions-length, second-length, tasks-are, third-is, third-length, third-mentions}

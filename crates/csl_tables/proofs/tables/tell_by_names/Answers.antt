@@ -7,7 +7,7 @@ use Rattle.csl_mentions.specs.Groups.{group_of}
 use Rattle.csl_telling.specs.Told.{told_by_names}
 use Rattle.csl_tables.specs.Asked.{asked_for}
 use Rattle.csl_tables.specs.Steps.{all_changed, in_group, rewritten, tasks_of}
-use Rattle.csl_tables.specs.Tables.{first_tasks, mention_in, named, second_table, untold}
+use Rattle.csl_tables.specs.Tables.{first_tasks, named, second_table}
 use Rattle.csl_tables.specs.declared.changed.Changed.{Changed}
 use Rattle.csl_tables.proofs.Asking.{asked-more, writes-same}
 use Rattle.csl_tables.proofs.Joined.{grouped-are, renamed-are, second-is, second-length, tasks-are}
