@@ -1,5 +1,5 @@
 //! Names as they are shown, and whose they are.
-ghost use Rattle.std.specs.Prelude.{◌≡◌, ◌++◌, IfOk, OnOk, option_map};
+ghost use Rattle.std.specs.Prelude.{◌≡◌, ◌++◌, IfOk, OnOk, option_map, slice_get};
 ghost use Rattle.std.specs.Option.{option_to_list};
 ghost use Rattle.csl_trees.specs.ChildView.{child_view};
 ghost use Rattle.csl_shown.specs.Shown.{child_persons, person_at, persons_in, shown_in, shown_names, variables_of};
@@ -131,8 +131,14 @@ fn person_at(
 {
     for pair in variables {
         if pair.1 == variable {
-            return pair.0.as_slice().get(place);
+            return nth(pair.0.as_slice(), place);
         }
     }
     None
+}
+
+fn nth(persons: &[Person], place: usize) -> Option<&Person>
+    ensures { option_map (λ p. p.now) result ≡ slice_get persons.now place }
+{
+    persons.get(place)
 }
