@@ -104,10 +104,7 @@ fn repeated_names<N: PartialEq, P: PartialEq>(
 }
 
 /// Whether an item has names, and they and its persons are those of another.
-fn same_authors<N: PartialEq, P: PartialEq>(
-    before: &ItemNames<N, P>,
-    own: &ItemNames<N, P>,
-) -> bool
+fn same_authors<N: PartialEq, P: PartialEq>(before: &ItemNames<N, P>, own: &ItemNames<N, P>) -> bool
     ensures { result ≡ same_authors N.eq P.eq before.now own.now }
 {
     !own.names.is_empty()
