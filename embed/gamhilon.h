@@ -86,9 +86,9 @@ const char *gamhilon_status_text(uint32_t status);
  *   child of a process with several threads before that calls exec.
  * - Memory is taken by malloc and realloc and all freed when the call returns. malloc, realloc and free have to
  *   be of one allocator, which aligns a block to each power of two up to 16 that divides its size.
- * - The stack: give a thread that calls 256 KiB. Of the documents that the tests try the deepest take 111 KiB.
- *   JSON nests no deeper than 127, but macros that call one another deepen trees further: see
- *   gamhilon_check_limits. Running out of stack ends the process, as everywhere in C.
+ * - The stack: give a thread that calls 256 KiB, and for style files 2 MiB (below). Of the documents that the
+ *   tests try the deepest take 111 KiB. JSON nests no deeper than 127, but macros that call one another deepen
+ *   trees further: see gamhilon_check_limits. Running out of stack ends the process, as everywhere in C.
  * - The processor has to be an x86-64 of level v2 (SSE4.2 and POPCNT: those made since 2009) or above.
  *
  * What each call does with document, buffer, `needed` and `ring` is proved for callers that keep to these rules
@@ -125,7 +125,10 @@ uint32_t gamhilon_render_json(const uint8_t *document, size_t document_length,
  *   it is true, items that aren't cited are listed too. Other keys are refused. An empty text is an empty object.
  *
  * Answers may be longer than the texts: a first buffer of 64 KiB and eight times the length of items and
- * citations together will mostly do. Give a thread that calls 512 KiB of stack. */
+ * citations together will mostly do.
+ *
+ * Give a thread that calls 2 MiB of stack. Of 300 published styles the deepest take 111 KiB; a style file whose
+ * elements nest as deep as is read, 256, takes 1.7 MiB, and macros that call one another 1,000 deep 1 MiB. */
 
 /* Writes the citations and the bibliography, as JSON (docs/ANSWER.md). A style of notes tells the number of the
  * note of each citation. Quotes have their marks as text. Of what an element was written for (`meta`) cites alone

@@ -28,6 +28,7 @@ OUT = f'{HERE}/out'
 ROOT = os.path.dirname(HERE)
 FORMS = ('text', 'json')
 STACK_TOLD = 256 * 1024
+STACK_OF_TEXTS = 2 * 1024 * 1024
 DEPTH, ELEMENTS = 100, 100000
 TEN = ['rows/*.json', 'layouts/*.json', 'disambiguation/*.json', 'grouping/*.json',
        'collapsing/*.json', 'bibliography/*.json', 'parts/*.json', 'purposes/*.json',
@@ -394,7 +395,10 @@ def try_hard_texts(folder, texts, answered):
         done = ran('valgrind', '-q', '--error-exitcode=9', '--leak-check=full',
                    '--errors-for-leak-kinds=all', f'{folder}/cites', '1', *small, answered[0])
         hold(done.returncode == 0, f'valgrind, texts: {done.stderr.decode()[:900]}')
-    hold_stack(folder, ['--texts', *answered])
+    deep = [put_texts(folder, f'deep {number}', files) for number, files in enumerate(texts.DEEP)]
+    hold([int(answer[0]) for answer, _ in answers_of_texts(folder, 1 << 16, deep)] == [0, 0, 2],
+         'style files that nest as deep as is read are answered')
+    hold_stack(folder, ['--texts', *answered, *deep], STACK_OF_TEXTS)
     place = answered[0]
     done = ran(f'{folder}/cite', *[f'{place}/{file}' for file in ('style.csl', 'items.json',
                                                                    'citations.json')])
@@ -741,7 +745,7 @@ def ten(cases):
     return [case for case in cases if case.path in chosen]
 
 
-def hold_stack(folder, paths):
+def hold_stack(folder, paths, told=STACK_TOLD):
     """Measures the need of stack of each call, and holds it to what the header tells."""
     done = ran(f'{folder}/stack', *paths)
     hold(done.returncode == 0, 'the need of stack is measured')
@@ -749,8 +753,8 @@ def hold_stack(folder, paths):
         form, size, path = line.split(' ', 2)
         print(f'stack: {form} takes at most {int(size) // 1024} KiB, '
               f'at {os.path.relpath(path, ROOT)}')
-        hold(int(size) <= STACK_TOLD,
-             f'{form} takes {size} bytes of stack, and the header tells {STACK_TOLD}')
+        hold(int(size) <= told,
+             f'{form} takes {size} bytes of stack, and the header tells {told}')
 
 
 def try_hard(folder, cases, calls):

@@ -7,7 +7,7 @@
 #include <pthread.h>
 #include <string.h>
 
-enum { STACK = 2 << 20, BUFFER_LENGTH = 1 << 22, DOCUMENT_FORMS = 7, FORMS = 9 };
+enum { STACK = 4 << 20, BUFFER_LENGTH = 1 << 22, DOCUMENT_FORMS = 7, FORMS = 9 };
 
 static uint8_t document[BUFFER_LENGTH], buffer[BUFFER_LENGTH], *stack;
 static size_t n;

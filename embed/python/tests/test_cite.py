@@ -12,8 +12,10 @@ from gamhilon import _library
 
 STYLE = '''<style xmlns="http://purl.org/net/xbiblio/csl" class="in-text" version="1.0">
 <info><title>T</title><id>T</id><updated>2026-01-01T00:00:00+00:00</updated></info>
-<citation><layout prefix="(" suffix=")"><text variable="title"/><text variable="locator" prefix=", "/></layout></citation>
-<bibliography hanging-indent="true"><layout><text variable="title" font-style="italic"/></layout></bibliography>
+<citation><layout prefix="(" suffix=")">
+<text variable="title"/><text variable="locator" prefix=", "/></layout></citation>
+<bibliography hanging-indent="true">
+<layout><text variable="title" font-style="italic"/></layout></bibliography>
 </style>'''
 ITEMS = [{'id': 'a', 'type': 'book', 'title': 'Ärmel'}, {'id': 'b', 'type': 'book', 'title': 'B'}]
 ODD = {'file': 'items', 'pointer': '/0/titel', 'message': 'unknown key, left out'}
@@ -54,7 +56,8 @@ def cites(built):
 
 
 def test_texts_are_handed_on_as_they_are(made_up_texts):
-    library = made_up_texts({'warnings': [ODD]}, text=b'{"citations":[{"content":[],"note_number":3}]}')
+    library = made_up_texts({'warnings': [ODD]},
+                            text=b'{"citations":[{"content":[],"note_number":3}]}')
     answer = gamhilon.cite('ä', [{'id': 'ö'}], '[ ]', locales=['<l/>'], locale='de', nocite=True)
     style, locales, items, citations, options = library.texts[0]
     assert style == 'ä'.encode() and citations == b'[ ]'
@@ -116,8 +119,8 @@ def test_citations_and_items(cites):
 
 
 def test_a_language_and_its_locale(cites):
-    german = ('<locale xmlns="http://purl.org/net/xbiblio/csl" version="1.0" xml:lang="de-DE"><terms>'
-              '<term name="page">Seite</term></terms></locale>')
+    german = ('<locale xmlns="http://purl.org/net/xbiblio/csl" version="1.0" xml:lang="de-DE">'
+              '<terms><term name="page">Seite</term></terms></locale>')
     style = STYLE.replace('<text variable="title"/>', '<text term="page"/>')
     for more, text, warnings in (({}, '(page)', 0), ({'locale': 'de'}, '(page)', 1),
                                  ({'locale': 'de', 'locales': [german]}, '(Seite)', 0)):
@@ -127,7 +130,8 @@ def test_a_language_and_its_locale(cites):
 
 
 def test_a_dependent_style_tells_its_parent(cites):
-    style = ('<style xmlns="http://purl.org/net/xbiblio/csl" version="1.0" default-locale="fr-FR"><info><title>T</title><id>T</id>'
+    style = ('<style xmlns="http://purl.org/net/xbiblio/csl" version="1.0" default-locale="fr-FR">'
+             '<info><title>T</title><id>T</id>'
              '<link href="https://example.org/parent" rel="independent-parent"/>'
              '<updated>2026-01-01T00:00:00+00:00</updated></info></style>')
     with pytest.raises(gamhilon.TextRefused) as refusal:
