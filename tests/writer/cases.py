@@ -271,6 +271,10 @@ CASES = [
          '<text value="first"/></else></choose>', [BOOK, PAGE, PAPER], ['first', 'first', 'first', 'n. 2', 'n. 4', 'n. 3'],
          [[{'id': 'page', 'note': 2}], cites('paper'), cites('book'), [{'id': 'page', 'note': 5}], cites('book'), cites('paper')],
          class_='note'),
+    cite('words that begin a note', 'docs/WRITER.md: a capital, where a citation of a style of notes tells no note', TEXT, [PAGE],
+         ['See Nobody', 'cf. Nobody', 'Élan in Nobody'],
+         [[{'id': 'page', 'prefix': 'see'}], [{'id': 'page', 'prefix': 'cf. ', 'note': 9}], [{'id': 'page', 'prefix': 'élan in'}]],
+         class_='note'),
     # The bibliography
     item('repeated authors', 'Bibliography: `subsequent-author-substitute`',
          '<group delimiter=". "><names variable="author"><name name-as-sort-order="all"/></names><text variable="title"/></group>',

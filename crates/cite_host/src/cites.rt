@@ -24,6 +24,8 @@ pub struct Citation {
     pub cites: Vec<Cite>,
     /// The number of the note in which it stands; without one, each citation has a note of its own.
     pub note: Option<usize>,
+    /// Whether nothing else stands in its note, so that its words begin the note.
+    pub is_alone: bool,
 }
 
 impl Cite {

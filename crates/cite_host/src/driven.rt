@@ -184,13 +184,11 @@ fn driven_bibliography(
     })
 }
 
-/// The distance of lines; a single one where it is out of range.
+/// The distance of lines, of which a style file has one at least; the greatest that the driver
+/// knows where it is greater.
 fn spacing_of(lines: u32) -> NonZeroI16 {
     let lines = i16::try_from(lines).unwrap_or(i16::MAX);
-    match NonZeroI16::new(lines) {
-        Some(spacing) => spacing,
-        None => NonZeroI16::MIN,
-    }
+    NonZeroI16::new(lines).unwrap_or(NonZeroI16::MAX)
 }
 
 fn rule_of(rule: GivenNameRule) -> driven::DisambiguationRule {

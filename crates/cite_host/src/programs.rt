@@ -15,6 +15,9 @@ pub(crate) struct Programs<'s> {
     pub citation: Program<'s>,
     pub citation_keys: Vec<Key<'s>>,
     pub bibliography: Option<BibliographyProgram<'s>>,
+    /// Whether a year suffix stands behind the first date: no layout has a place for it (CSL 1.0.2,
+    /// "Disambiguation").
+    pub adds_year_suffix: bool,
 }
 
 /// The program of a bibliography.
@@ -42,22 +45,22 @@ impl<'s> Programs<'s> {
             }
             None => None,
         };
+        let citation = program_of(alloc, macros, &style.citation.layout.elements)?;
+        let adds_year_suffix = !writes_suffix(&citation) && !lists_suffix(&bibliography);
         Ok(Programs {
-            citation: program_of(alloc, macros, &style.citation.layout.elements)?,
+            citation,
             citation_keys: keys_of(alloc, style, &style.citation.sort)?,
             bibliography,
+            adds_year_suffix,
         })
     }
+}
 
-    /// Whether a year suffix stands behind the first date: no layout has a place for it (CSL 1.0.2,
-    /// "Disambiguation").
-    pub fn adds_year_suffix(&self) -> bool {
-        let has_place = writes_suffix(&self.citation);
-        let has_other = match &self.bibliography {
-            Some(bibliography) => writes_suffix(&bibliography.layout),
-            None => false,
-        };
-        !has_place && !has_other
+/// Whether items of the bibliography write the variable `year-suffix`.
+fn lists_suffix(bibliography: &Option<BibliographyProgram<'_>>) -> bool {
+    match bibliography {
+        Some(bibliography) => writes_suffix(&bibliography.layout),
+        None => false,
     }
 }
 

@@ -27,7 +27,7 @@ impl<'s> Setting<'s> {
             program: &self.programs.citation,
             names: &self.style.citation.names,
             kind: SceneKind::Cite,
-            adds_year_suffix: self.programs.adds_year_suffix(),
+            adds_year_suffix: self.programs.adds_year_suffix,
         }
     }
 
@@ -39,7 +39,7 @@ impl<'s> Setting<'s> {
             program: &bibliography.layout,
             names: &bibliography.section.names,
             kind: SceneKind::Item,
-            adds_year_suffix: self.programs.adds_year_suffix(),
+            adds_year_suffix: self.programs.adds_year_suffix,
         }
     }
 

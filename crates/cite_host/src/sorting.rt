@@ -14,6 +14,7 @@ pub(crate) struct SortedCitation<'d> {
     /// The places of the cites in the citation of the document.
     pub places: Vec<usize>,
     pub note: usize,
+    pub is_alone: bool,
 }
 
 /// The citations with their cites in the order of the style.
@@ -39,6 +40,7 @@ pub(crate) fn sorted_citations<'d>(
             cites: cites_at(alloc, citation, places.as_slice())?,
             places,
             note: citation.note.unwrap_or(number.saturating_add(1)),
+            is_alone: citation.is_alone,
         })?;
     }
     Ok(sorted)

@@ -4,6 +4,7 @@
 //! is where the condition `disambiguate` tells the others from it. CSL gives them in the order of
 //! the bibliography, and has the condition hold for all of them. It is for the host to do so.
 use csl_lookup::state::DisambiguateState;
+use indexmap::IndexMap;
 use std::alloc::{AllocError, Global};
 
 /// What disambiguates each work where it is shown. Works are named by their places in the
@@ -76,44 +77,40 @@ impl ShownStates {
     /// Works with suffixes that read alike, directly or by others, have them in the order of the
     /// bibliography.
     fn settle_suffixes(&mut self, works: &[ToShow]) -> Result<(), AllocError> {
-        let mut groups: Vec<Option<usize>> = vec![in self.alloc; None; self.suffixes.len()]?;
+        let mut groups = Groups::new(self.alloc, self.suffixes.len())?;
         for work in works {
             if work.state.year_suffix().is_some() {
-                if let Some(group) = groups.get_mut(work.place) {
-                    *group = Some(work.place);
-                }
+                groups.begin(work.place)?;
             }
         }
-        self.join_alike(&mut groups);
-        for place in 0..groups.len() {
-            let Some(group) = groups.get(place).copied().flatten() else {
-                continue;
-            };
-            let before = groups
-                .iter()
-                .take(place)
-                .filter(|other| **other == Some(group))
-                .count();
-            if let Some(suffix) = self.suffixes.get_mut(place) {
-                *suffix = Some(before);
+        self.join_alike(&mut groups)?;
+        for members in &mut groups.members {
+            members.sort_unstable();
+            for (suffix, place) in members.iter().enumerate() {
+                if let Some(settled) = self.suffixes.get_mut(*place) {
+                    *settled = Some(suffix);
+                }
             }
         }
         Ok(())
     }
 
     /// Gives works one group that read alike where nothing disambiguates them.
-    fn join_alike(&self, groups: &mut Vec<Option<usize>>) {
-        for (number, one) in self.read.iter().enumerate() {
-            if one.state != DisambiguateState::None {
+    fn join_alike(&self, groups: &mut Groups) -> Result<(), AllocError> {
+        let mut firsts: IndexMap<&str, usize> = IndexMap::new(self.alloc);
+        for read in &self.read {
+            if read.state != DisambiguateState::None {
                 continue;
             }
-            for other in self.read.iter().take(number) {
-                let is_alike = other.state == DisambiguateState::None && other.text == one.text;
-                if is_alike && other.place != one.place {
-                    join(groups, one.place, other.place);
+            match firsts.get(&read.text.as_str()) {
+                Some(first) => groups.join(*first, read.place)?,
+                None if groups.has(read.place) => {
+                    firsts.insert(read.text.as_str(), read.place)?;
                 }
+                None => {}
             }
         }
+        Ok(())
     }
 
     /// The condition `disambiguate` holds for a work that read as one did for which it holds.
@@ -149,15 +146,80 @@ fn is_chosen_in(works: &[ToShow], place: usize) -> bool {
     works.iter().any(|work| work.place == place && work.state == DisambiguateState::Choose)
 }
 
-/// Gives two works one group, where both have one.
-fn join(groups: &mut Vec<Option<usize>>, one: usize, other: usize) {
-    let first = groups.get(one).copied().flatten();
-    let second = groups.get(other).copied().flatten();
-    if let (Some(first), Some(second)) = (first, second) {
-        for group in groups.iter_mut() {
-            if *group == Some(second) {
-                *group = Some(first);
+/// Works in groups.
+#[derive(Drop)]
+struct Groups {
+    alloc: Global,
+    /// The group of each work, by its place.
+    of: Vec<Option<usize>>,
+    members: Vec<Vec<usize>>,
+}
+
+impl Groups {
+    /// None of so many works has a group.
+    fn new(alloc: Global, works: usize) -> Result<Groups, AllocError> {
+        Ok(Groups {
+            alloc,
+            of: vec![in alloc; None; works]?,
+            members: Vec::new(alloc),
+        })
+    }
+
+    fn has(&self, place: usize) -> bool {
+        self.group(place).is_some()
+    }
+
+    fn group(&self, place: usize) -> Option<usize> {
+        self.of.get(place).copied().flatten()
+    }
+
+    /// Gives a work that has none a group of its own.
+    fn begin(&mut self, place: usize) -> Result<(), AllocError> {
+        if self.has(place) {
+            return Ok(());
+        }
+        if let Some(group) = self.of.get_mut(place) {
+            *group = Some(self.members.len());
+            let mut members = Vec::new(self.alloc);
+            members.push(place)?;
+            self.members.push(members)?;
+        }
+        Ok(())
+    }
+
+    /// Gives two works one group, where both have one: the greater one takes the members of the
+    /// other.
+    fn join(&mut self, one: usize, other: usize) -> Result<(), AllocError> {
+        let (Some(one), Some(other)) = (self.group(one), self.group(other)) else {
+            return Ok(());
+        };
+        if one == other {
+            return Ok(());
+        }
+        let (kept, taken) = if self.count(one) < self.count(other) {
+            (other, one)
+        } else {
+            (one, other)
+        };
+        let mut moved = Vec::new(self.alloc);
+        if let Some(members) = self.members.get_mut(taken) {
+            moved.append(members)?;
+        }
+        for place in &moved {
+            if let Some(group) = self.of.get_mut(*place) {
+                *group = Some(kept);
             }
+        }
+        if let Some(members) = self.members.get_mut(kept) {
+            members.append(&mut moved)?;
+        }
+        Ok(())
+    }
+
+    fn count(&self, group: usize) -> usize {
+        match self.members.get(group) {
+            Some(members) => members.len(),
+            None => 0,
         }
     }
 }

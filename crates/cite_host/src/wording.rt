@@ -42,6 +42,11 @@ pub(crate) fn with_capital_term(alloc: Global, pieces: Pieces) -> Result<Pieces,
     if !begins_with_term(&pieces) {
         return Ok(pieces);
     }
+    with_capital(alloc, pieces)
+}
+
+/// A stream with a capital in front.
+fn with_capital(alloc: Global, pieces: Pieces) -> Result<Pieces, AllocError> {
     let element = Element {
         text_case: Some(TextCase::CapitalizeFirst),
         ..Element::PLAIN
@@ -63,14 +68,19 @@ fn begins_with_term(pieces: &Pieces) -> bool {
 }
 
 /// A cite between the words that stand around it. Where these have no space of their own beside it,
-/// one is put in.
+/// one is put in. Words that begin a note begin with a capital.
 pub(crate) fn with_affixes(
     alloc: Global,
     pieces: Pieces,
     cite: &Cite,
+    begins_note: bool,
 ) -> Result<Pieces, AllocError> {
-    let mut out = Pieces::new(alloc);
-    push_markup(alloc, &mut out, cite.prefix.as_str())?;
+    let prefix = of_markup(alloc, cite.prefix.as_str())?;
+    let mut out = if begins_note {
+        with_capital(alloc, prefix)?
+    } else {
+        prefix
+    };
     if needs_space_behind(cite.prefix.as_str()) {
         out.push_str(alloc, " ")?;
     }
@@ -78,7 +88,7 @@ pub(crate) fn with_affixes(
     if needs_space_before(cite.suffix.as_str()) {
         out.push_str(alloc, " ")?;
     }
-    push_markup(alloc, &mut out, cite.suffix.as_str())?;
+    out.push_pieces(of_markup(alloc, cite.suffix.as_str())?)?;
     Ok(out)
 }
 
@@ -96,12 +106,12 @@ fn needs_space_before(suffix: &str) -> bool {
     }
 }
 
-fn push_markup(alloc: Global, out: &mut Pieces, markup: &str) -> Result<(), AllocError> {
+fn of_markup(alloc: Global, markup: &str) -> Result<Pieces, AllocError> {
     if markup.is_empty() {
-        return Ok(());
+        return Ok(Pieces::new(alloc));
     }
     let text = RichText::of_markup(alloc, markup)?;
     let mut output = Output::new(alloc, Language::Other);
     output.push_rich(&text)?;
-    out.push_pieces(output.finish()?)
+    output.finish()
 }

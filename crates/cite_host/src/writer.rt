@@ -175,7 +175,7 @@ impl<'s, 'i, 'd> TaskWriter<'s, 'i, 'd> {
 
     /// A cite with the words that stand around it where it is shown.
     fn worded(&self, asked: Asked<'_>, pieces: Pieces) -> Result<Pieces, AllocError> {
-        let Some((_, own)) = asked.shown else {
+        let Some((citation, own)) = asked.shown else {
             return Ok(pieces);
         };
         let Some(cite) = self.shown_cite(asked) else {
@@ -187,7 +187,16 @@ impl<'s, 'i, 'd> TaskWriter<'s, 'i, 'd> {
         } else {
             pieces
         };
-        with_affixes(self.alloc, pieces, cite)
+        let begins_note = is_in_note && own == 0 && self.is_alone(citation);
+        with_affixes(self.alloc, pieces, cite, begins_note)
+    }
+
+    /// Whether nothing else stands in the note of a citation.
+    fn is_alone(&self, citation: usize) -> bool {
+        match self.citations.get(citation) {
+            Some(citation) => citation.is_alone,
+            None => false,
+        }
     }
 
     /// Writes an item of the bibliography, with the affixes of its layout.

@@ -35,7 +35,11 @@ pub fn uncited(
             cites.push(hidden_cite(alloc, id)?)?;
         }
     }
-    Ok(Citation { cites, note: None })
+    Ok(Citation {
+        cites,
+        note: None,
+        is_alone: false,
+    })
 }
 
 /// The ids of the references that are cited.

@@ -125,7 +125,11 @@ impl Reader {
             cites.push(self.cite(place, object)?)?;
             note = note.or(note_of(object));
         }
-        Ok(Citation { cites, note })
+        Ok(Citation {
+            cites,
+            note,
+            is_alone: note.is_none(),
+        })
     }
 
     fn cite(&mut self, place: Place, object: &Map<String, Value>) -> Result<Cite, CitationsError> {

@@ -1,16 +1,17 @@
 //! Chains of locales (CSL 1.0.2, Locale Fallback).
+use crate::indexed::IndexedLocale;
 use csl_texts::cases::Language;
 use csl_texts::quotes::QuoteMarks;
 use csl_vocabulary::term::{PlainTerm, TermForm};
 use std::alloc::{AllocError, Global};
 use style_file::date::DateForm;
 use style_file::fallback::{LocaleSource, is_same_language, lookup_order};
-use style_file::locale::{Locale, LocaleDate, LocaleFile, StyleLocale};
+use style_file::locale::{LocaleDate, LocaleFile, StyleLocale};
 
 /// The locales in which the words of a language are looked for, in their order.
 #[derive(Drop)]
 pub struct LocaleChain<'a> {
-    pub(crate) locales: Vec<&'a Locale>,
+    pub(crate) locales: Vec<IndexedLocale<'a>>,
     language: Language,
 }
 
@@ -31,9 +32,11 @@ impl<'a> LocaleChain<'a> {
         let mut locales = Vec::new(alloc);
         for source in lookup_order(alloc, tag)? {
             match source {
-                LocaleSource::Style(tag) => push_of_style(&mut locales, of_style, Some(tag))?,
-                LocaleSource::StyleForAll => push_of_style(&mut locales, of_style, None)?,
-                LocaleSource::File(tag) => push_file(&mut locales, files, tag)?,
+                LocaleSource::Style(tag) => {
+                    push_of_style(alloc, &mut locales, of_style, Some(tag))?;
+                }
+                LocaleSource::StyleForAll => push_of_style(alloc, &mut locales, of_style, None)?,
+                LocaleSource::File(tag) => push_file(alloc, &mut locales, files, tag)?,
             }
         }
         let language = Language::of_tag(tag);
@@ -48,7 +51,7 @@ impl<'a> LocaleChain<'a> {
     /// The date of this form, which is that of the first locale that has it.
     pub fn date(&self, form: DateForm) -> Option<&'a LocaleDate> {
         for locale in &self.locales {
-            for date in &locale.dates {
+            for date in &locale.locale.dates {
                 if date.form == form {
                     return Some(date);
                 }
@@ -61,7 +64,7 @@ impl<'a> LocaleChain<'a> {
     /// first locale says that tells; not where none does.
     pub fn has_punctuation_in_quotes(&self) -> bool {
         for locale in &self.locales {
-            if let Some(value) = locale.options.punctuation_in_quote {
+            if let Some(value) = locale.locale.options.punctuation_in_quote {
                 return value;
             }
         }
@@ -72,7 +75,7 @@ impl<'a> LocaleChain<'a> {
     /// first locale says that tells; not where none does.
     pub fn limits_day_ordinals(&self) -> bool {
         for locale in &self.locales {
-            if let Some(value) = locale.options.limit_day_ordinals_to_day_1 {
+            if let Some(value) = locale.locale.options.limit_day_ordinals_to_day_1 {
                 return value;
             }
         }
@@ -105,7 +108,8 @@ impl<'a> LocaleChain<'a> {
 
 /// Adds the style's locales for this language; without one, those for all languages.
 fn push_of_style<'a>(
-    locales: &mut Vec<&'a Locale>,
+    alloc: Global,
+    locales: &mut Vec<IndexedLocale<'a>>,
     of_style: &'a [StyleLocale],
     language: Option<&str>,
 ) -> Result<(), AllocError> {
@@ -116,7 +120,7 @@ fn push_of_style<'a>(
             _ => false,
         };
         if is_wanted {
-            locales.push(&own.locale)?;
+            locales.push(IndexedLocale::new(alloc, &own.locale)?)?;
         }
     }
     Ok(())
@@ -124,13 +128,14 @@ fn push_of_style<'a>(
 
 /// Adds the locale file of this language.
 fn push_file<'a>(
-    locales: &mut Vec<&'a Locale>,
+    alloc: Global,
+    locales: &mut Vec<IndexedLocale<'a>>,
     files: &'a [LocaleFile],
     language: &str,
 ) -> Result<(), AllocError> {
     for file in files {
         if is_same_language(file.language.as_str(), language) {
-            locales.push(&file.locale)?;
+            locales.push(IndexedLocale::new(alloc, &file.locale)?)?;
             return Ok(());
         }
     }

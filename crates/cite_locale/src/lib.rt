@@ -4,6 +4,7 @@
 
 pub mod chain;
 mod find;
+mod indexed;
 pub mod ordinals;
 pub mod terms;
 #[cfg(test)]

@@ -1,8 +1,9 @@
 //! Ordinals (CSL 1.0.2, Ordinals, Ordinal Suffixes and Long Ordinals).
 use crate::chain::LocaleChain;
-use crate::find::{Wanted, term_of, words_of};
+use crate::find::{Wanted, words_of};
+use crate::indexed::IndexedLocale;
 use csl_vocabulary::term::{Gender, OrdinalMatch, PlainTerm, TermForm, TermName};
-use style_file::locale::{Locale, Term};
+use style_file::locale::Term;
 
 impl<'a> LocaleChain<'a> {
     /// What stands behind the digits of an ordinal, for a noun of this gender; empty where no
@@ -13,7 +14,7 @@ impl<'a> LocaleChain<'a> {
     /// last digit, and that before the term `ordinal`.
     pub fn ordinal_suffix(&self, number: u32, gender: Option<Gender>) -> &'a str {
         for locale in &self.locales {
-            if has_ordinals(locale) {
+            if locale.has_ordinals {
                 return match suffix_of(locale, number, gender) {
                     Some(term) => words_of(term, false),
                     None => "",
@@ -41,19 +42,11 @@ impl<'a> LocaleChain<'a> {
     }
 }
 
-fn has_ordinals(locale: &Locale) -> bool {
-    for term in &locale.terms {
-        if matches!(
-            term.name,
-            TermName::Ordinal(_) | TermName::Plain(PlainTerm::Ordinal)
-        ) {
-            return true;
-        }
-    }
-    false
-}
-
-fn suffix_of<'a>(locale: &'a Locale, number: u32, gender: Option<Gender>) -> Option<&'a Term> {
+fn suffix_of<'a>(
+    locale: &IndexedLocale<'a>,
+    number: u32,
+    gender: Option<Gender>,
+) -> Option<&'a Term> {
     let ending = (number % 100) as u8;
     let digit = ending % 10;
     if number < 100 {
@@ -67,31 +60,25 @@ fn suffix_of<'a>(locale: &'a Locale, number: u32, gender: Option<Gender>) -> Opt
     if let Some(term) = matched(locale, digit, OrdinalMatch::LastDigit, gender) {
         return Some(term);
     }
-    term_of(
-        locale,
-        Wanted {
-            name: TermName::Plain(PlainTerm::Ordinal),
-            form: TermForm::Long,
-            gender,
-        },
-    )
+    locale.term(Wanted {
+        name: TermName::Plain(PlainTerm::Ordinal),
+        form: TermForm::Long,
+        gender,
+    })
 }
 
 /// The term `ordinal-NN` of this NN, if it is for numbers that match in this way.
 fn matched<'a>(
-    locale: &'a Locale,
+    locale: &IndexedLocale<'a>,
     ending: u8,
     how: OrdinalMatch,
     gender: Option<Gender>,
 ) -> Option<&'a Term> {
-    let term = term_of(
-        locale,
-        Wanted {
-            name: TermName::Ordinal(ending),
-            form: TermForm::Long,
-            gender,
-        },
-    )?;
+    let term = locale.term(Wanted {
+        name: TermName::Ordinal(ending),
+        form: TermForm::Long,
+        gender,
+    })?;
     let own = match term.ordinal_match {
         Some(own) => own,
         None => default_match(ending),

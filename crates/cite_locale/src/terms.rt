@@ -1,6 +1,6 @@
 //! Terms in their forms (CSL 1.0.2, Terms).
 use crate::chain::LocaleChain;
-use crate::find::{Wanted, term_of, words_of};
+use crate::find::{Wanted, words_of};
 use csl_vocabulary::term::{Gender, PlainTerm, TermForm, TermName};
 use style_file::locale::Term;
 
@@ -46,7 +46,7 @@ impl<'a> LocaleChain<'a> {
     /// The term of the first locale that has it.
     pub(crate) fn find(&self, wanted: Wanted) -> Option<&'a Term> {
         for locale in &self.locales {
-            if let Some(term) = term_of(locale, wanted) {
+            if let Some(term) = locale.term(wanted) {
                 return Some(term);
             }
         }

@@ -3,22 +3,26 @@
 //! "givenname-disambiguation-rule", but for `by-cite`).
 use csl_base::entry::Person;
 use csl_base::names::DisambiguatedNameForm;
+use indexmap::IndexMap;
 use std::alloc::{AllocError, Global};
 use style_file::sections::GivenNameRule;
 
 /// The persons of a document, and the rule that tells them from each other.
 #[derive(Drop)]
 pub struct GivenNames {
+    alloc: Global,
     rule: GivenNameRule,
-    persons: Vec<Person>,
+    /// The persons by their family names, each once.
+    persons: IndexMap<String, Vec<Person>>,
 }
 
 impl GivenNames {
     /// No persons.
     pub fn new(alloc: Global, rule: GivenNameRule) -> GivenNames {
         GivenNames {
+            alloc,
             rule,
-            persons: Vec::new(alloc),
+            persons: IndexMap::new(alloc),
         }
     }
 
@@ -29,11 +33,32 @@ impl GivenNames {
     /// Where memory is refused.
     pub fn add(&mut self, persons: &[Person]) -> Result<(), AllocError> {
         for person in persons.iter().take(self.most()) {
-            if !self.persons.contains(person) {
-                self.persons.push(person.clone()?)?;
-            }
+            self.add_person(person)?;
         }
         Ok(())
+    }
+
+    fn add_person(&mut self, person: &Person) -> Result<(), AllocError> {
+        let name = person.name.as_str();
+        if let Some(known) = self.persons.get_mut(name) {
+            if !known.contains(person) {
+                known.push(person.clone()?)?;
+            }
+            return Ok(());
+        }
+        let name = String::from_str(self.alloc, name)?;
+        let mut persons = Vec::new(self.alloc);
+        persons.push(person.clone()?)?;
+        self.persons.insert(name, persons)?;
+        Ok(())
+    }
+
+    /// The persons of a family name.
+    fn of_name(&self, name: &str) -> &[Person] {
+        match self.persons.get(name) {
+            Some(persons) => persons.as_slice(),
+            None => &[],
+        }
     }
 
     /// The least form of each of some persons: `Count` where the rule asks for nothing.
@@ -65,8 +90,8 @@ impl GivenNames {
     fn form(&self, person: &Person) -> DisambiguatedNameForm {
         let mut is_shared = false;
         let mut has_own_initials = true;
-        for other in &self.persons {
-            if other.name == person.name && other != person {
+        for other in self.of_name(person.name.as_str()) {
+            if other != person {
                 is_shared = true;
                 has_own_initials = has_own_initials && !has_same_initials(other, person);
             }

@@ -94,7 +94,7 @@ fn labels(alloc: Global, locales: &LocaleChain<'_>, text: &str) -> Result<Vec<Fo
     let mut is_at_start = true;
     let mut is_marked = false;
     for (start, c) in text.char_indices() {
-        if is_at_start && !is_between(c) {
+        if is_at_start && can_begin_label(c) {
             if let Some(label) = label_at(locales, text, start) {
                 found.push(label)?;
             }
@@ -103,6 +103,11 @@ fn labels(alloc: Global, locales: &LocaleChain<'_>, text: &str) -> Result<Vec<Fo
         is_at_start = is_marked;
     }
     Ok(found)
+}
+
+/// Whether a label may begin with a character: neither what stands between parts nor a digit.
+fn can_begin_label(c: char) -> bool {
+    !is_between(c) && !c.is_ascii_digit()
 }
 
 /// The longest label at this place.

@@ -91,6 +91,10 @@ impl Pieces {
     /// Where memory is refused; the stream stays as it is.
     pub fn push_pieces(&mut self, other: Pieces) -> Result<(), AllocError> {
         let mut pieces = other.pieces;
+        if self.pieces.is_empty() {
+            self.pieces = pieces;
+            return Ok(());
+        }
         self.pieces.append(&mut pieces)
     }
 

@@ -93,7 +93,12 @@ impl Joints {
         if rest.is_empty() {
             return Ok(());
         }
-        let next = String::from_str(self.alloc, rest)?;
+        let is_whole = rest.len() == text.len();
+        let next = if is_whole {
+            text
+        } else {
+            String::from_str(self.alloc, rest)?
+        };
         self.write_last()?;
         self.last = next;
         Ok(())
@@ -156,7 +161,9 @@ impl Joints {
 
     fn trim_last(&mut self, c: char) -> Result<(), AllocError> {
         let kept = self.last.as_str().trim_end_matches(c);
-        self.last = String::from_str(self.alloc, kept)?;
+        if kept.len() < self.last.len() {
+            self.last = String::from_str(self.alloc, kept)?;
+        }
         Ok(())
     }
 

@@ -1,7 +1,7 @@
 //! Texts with markup, as the fields of an entry have it, and the quotes in them.
 use crate::piece::Wrap;
 use crate::pieces::Pieces;
-use csl_references::rich_text::{RichText, RunStyle};
+use csl_references::rich_text::{RichText, Run, RunStyle};
 use std::alloc::{AllocError, Global};
 use std::mem::replace;
 
@@ -14,6 +14,9 @@ use std::mem::replace;
 ///
 /// Where memory is refused.
 pub(crate) fn rich_pieces(alloc: Global, text: &RichText) -> Result<Pieces, AllocError> {
+    if !text.runs.iter().any(has_marks) {
+        return pieces_of_runs(alloc, text);
+    }
     let letters = letters(alloc, text)?;
     let roles = roles(alloc, &letters)?;
     let mut writer = Writer {
@@ -28,6 +31,27 @@ pub(crate) fn rich_pieces(alloc: Global, text: &RichText) -> Result<Pieces, Allo
     }
     writer.flush()?;
     Ok(writer.out)
+}
+
+/// Whether a run has something that may be a quotation mark or an apostrophe.
+fn has_marks(run: &Run) -> bool {
+    run.text
+        .as_str()
+        .contains(|c: char| matches!(c, '"' | '\'' | '“' | '”' | '‘' | '’'))
+}
+
+/// The pieces of a text without quotes.
+fn pieces_of_runs(alloc: Global, text: &RichText) -> Result<Pieces, AllocError> {
+    let mut out = Pieces::new(alloc);
+    for run in &text.runs {
+        let inside = Pieces::of_str(alloc, run.text.as_str())?;
+        if run.style == RunStyle::PLAIN {
+            out.push_pieces(inside)?;
+        } else {
+            out.push_wrapped(Wrap::Markup(run.style), inside)?;
+        }
+    }
+    Ok(out)
 }
 
 /// A character and the markup around it.

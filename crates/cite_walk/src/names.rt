@@ -71,9 +71,31 @@ impl<'s, 'c> Walk<'s, 'c> {
                 names: persons,
                 term: variable.term(),
             };
-            push_block(&mut blocks, block, self.has_common_term())?;
+            self.push_block(&mut blocks, block)?;
         }
         Ok(blocks)
+    }
+
+    /// Adds a block. Where there is a common term for editors who are translators too, and these
+    /// are the persons of the last block, that gets the term.
+    fn push_block(
+        &self,
+        blocks: &mut Vec<Block<'c>>,
+        block: Block<'c>,
+    ) -> Result<(), AllocError> {
+        let last = blocks.last().copied();
+        let block = match last {
+            Some(last) if are_same_persons(last, block) && self.has_common_term() => {
+                blocks.pop();
+                Block {
+                    term: PlainTerm::EditorTranslator,
+                    ..last
+                }
+            }
+            _ => block,
+        };
+        blocks.push(block)?;
+        Ok(())
     }
 
     /// Whether the locale has a term for editors who are translators too.
@@ -353,28 +375,6 @@ impl<'s, 'c> Walk<'s, 'c> {
         self.names.push(named)?;
         Ok(Mark::Names(place))
     }
-}
-
-/// Adds a block. Where there is a common term for editors who are translators too, and these are
-/// the persons of the last block, that gets the term.
-fn push_block<'c>(
-    blocks: &mut Vec<Block<'c>>,
-    block: Block<'c>,
-    has_common_term: bool,
-) -> Result<(), AllocError> {
-    let last = blocks.last().copied();
-    let block = match last {
-        Some(last) if has_common_term && are_same_persons(last, block) => {
-            blocks.pop();
-            Block {
-                term: PlainTerm::EditorTranslator,
-                ..last
-            }
-        }
-        _ => block,
-    };
-    blocks.push(block)?;
-    Ok(())
 }
 
 /// Whether these are the same persons as editors and as translators.

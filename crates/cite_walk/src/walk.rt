@@ -101,11 +101,13 @@ impl<'s, 'c> Walk<'s, 'c> {
 
     /// Takes the steps of a program, but for those that are left out.
     fn take_all(&mut self, program: &Program<'s>) -> Result<(), AllocError> {
-        for (place, step) in program.steps.iter().enumerate() {
-            if place >= self.next {
-                self.here = place;
-                self.take(*step)?;
-            }
+        for _ in 0..program.steps.len() {
+            let Some(step) = program.steps.get(self.next).copied() else {
+                return Ok(());
+            };
+            self.here = self.next;
+            self.next = self.next.saturating_add(1);
+            self.take(step)?;
         }
         Ok(())
     }
