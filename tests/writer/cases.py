@@ -66,6 +66,7 @@ YEAR = '<date variable="issued"><date-part name="year"/></date>'
 TEXT = '<text variable="title"/>'
 LOCATED = '<group delimiter=" "><label variable="locator" form="short"/><text variable="locator"/></group>'
 AUTHOR_YEAR = '<group delimiter=" ">' + names('form="short" and="text"') + YEAR + '</group>'
+COLLATED = ['role', 'Role', 'rôle', 'roles', 'Smith Zed', 'Smithson Al']
 FOUR = [several('one', 2000, 'Ape', 'Bee', 'Cat', 'Dog')]
 
 CASES = [
@@ -125,6 +126,10 @@ CASES = [
     cite('editor and translator', 'Names: where both variables have the same names, these are written once, with the term for both',
          '<names variable="editor translator" delimiter="; "><name form="short"/><label form="short" prefix=", "/></names>',
          [{**PAGE, 'editor': [{'family': 'Moe'}], 'translator': [{'family': 'Moe'}]}], ['Moe, ed. & tran.']),
+    cite('names of other scripts', 'Name: names in Asian scripts have the family name first, in either order',
+         '<group delimiter=" / ">' + names('delimiter="; "') + names('delimiter="; " name-as-sort-order="all"') + '</group>',
+         [{**PAGE, 'author': [{'family': '毛', 'given': '泽东'}, {'family': 'Roe', 'given': 'Jane'}]}],
+         ['毛泽东; Jane Roe / 毛泽东; Roe, Jane']),
     cite('how many names', 'Name: `form="count"` gives the number', names('form="count"'), FOUR, ['4']),
     # Numbers, labels, terms
     cite('an ordinal', 'Number: `form="ordinal"`', '<number variable="edition" form="ordinal"/>', [BOOK], ['2nd']),
@@ -155,6 +160,9 @@ CASES = [
          options='page-range-format="minimal-two"'),
     cite('pages chicago', 'Appendix, Page Range Formats: chicago, 107–8', '<text variable="page"/>', [{**PAPER, 'page': '107-108'}],
          ['107–8'], options='page-range-format="chicago"'),
+    cite('an own delimiter of pages', 'Global Options: `page-range-format` has the term `page-range-delimiter` between pages',
+         '<text variable="page"/>', [PAPER], ['321-8'], options='page-range-format="minimal"',
+         locale='<locale><terms><term name="page-range-delimiter">-</term></terms></locale>'),
     # Dates
     cite('a date in words', 'Date: `form="text"` of the locale', '<date variable="issued" form="text"/>', [BOOK], ['March 9, 2001']),
     cite('a date in numbers', 'Date: `form="numeric"` of the locale', '<date variable="issued" form="numeric"/>', [BOOK],
@@ -205,6 +213,9 @@ CASES = [
     cite('no punctuation in quotes', 'Locale: `punctuation-in-quote="false"` of the style',
          '<group delimiter=", "><text variable="title" quotes="true"/><text variable="URL"/></group>', [PAGE],
          ['“Nobody”, https://example.org/nobody'], locale='<locale><style-options punctuation-in-quote="false"/></locale>'),
+    cite('a title and a year', 'Text-case, Quotes: cases go through markup and quotes; Locale: a comma behind a quote stands inside',
+         '<group delimiter=", " suffix="."><text variable="title" quotes="true" text-case="title"/>' + YEAR + '</group>',
+         [{**BOOK, 'title': 'the "<i>whole</i>" of it\'s parts'}], ['“The ‘Whole’ of It’s Parts,” 2001.']),
     cite('strip-periods', 'Strip-periods', '<text term="page" form="short" strip-periods="true"/>', [PAGE], ['p']),
     cite('italics', 'Formatting: `font-style` in HTML', '<text variable="title" font-style="italic"/>', [PAGE], ['<i>Nobody</i>'], to='html'),
     cite('markup of HTML', 'Output: characters of HTML are escaped', '<text variable="title"/>', [{**PAGE, 'title': 'A & B < C'}],
@@ -218,6 +229,9 @@ CASES = [
     item('without a value', 'Sorting: items without a value stand behind the others', TEXT,
          [{**PAGE, 'title': 'Z'}, person('a', 'A', 'A', 1990, title='Y')], ['Y', 'Z'],
          bibliography_sort='<sort><key variable="issued"/></sort>'),
+    item('letters, accents, case', 'Unicode’s root collation: letters, then accents, then case; a space before letters', TEXT,
+         [{**PAGE, 'id': it, 'title': it} for it in reversed(COLLATED)], COLLATED,
+         bibliography_sort='<sort><key variable="title"/></sort>'),
     cite('sorted cites', 'Sorting: the cites of a citation have keys of their own', AUTHOR_YEAR,
          [person('b', 'Bee', 'B', 2001), person('a', 'Ape', 'A', 2005)], ['Ape 2005; Bee 2001'],
          sort='<sort><key variable="author"/></sort>', affixes='delimiter="; "'),

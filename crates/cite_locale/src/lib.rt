@@ -7,5 +7,3 @@ mod find;
 mod indexed;
 pub mod ordinals;
 pub mod terms;
-#[cfg(test)]
-mod tests;

@@ -8,5 +8,3 @@ pub mod parts;
 pub mod person;
 pub mod rules;
 pub mod scripts;
-#[cfg(test)]
-mod tests;

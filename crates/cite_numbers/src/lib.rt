@@ -5,5 +5,3 @@
 pub mod forms;
 pub mod locators;
 pub mod plurals;
-#[cfg(test)]
-mod tests;

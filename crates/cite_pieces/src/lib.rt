@@ -16,5 +16,3 @@ pub mod punctuation;
 mod rich;
 mod superscripts;
 mod tags;
-#[cfg(test)]
-mod tests;

@@ -4,5 +4,3 @@
 pub mod collation;
 pub mod keys;
 pub mod order;
-#[cfg(test)]
-mod tests;

@@ -6,6 +6,4 @@ pub mod initials;
 pub mod numbers;
 pub mod pages;
 pub mod quotes;
-#[cfg(test)]
-mod tests;
 mod words;

@@ -33,8 +33,7 @@ editor|verb||||edited by
 open-quote|||||“
 close-quote|||||”
 open-inner-quote|||||‘
-close-inner-quote|||||’
-page-range-delimiter|||||–";
+close-inner-quote|||||’";
 
 /// Some French terms.
 const FRENCH: &str = "ordinal|||||ᵉ
