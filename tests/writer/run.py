@@ -10,19 +10,20 @@ there, and a program that brings no memory of its own, as that of `rt try` does)
 import argparse
 import json
 import os
-import shutil
-import subprocess
 import sys
 import tempfile
 from concurrent.futures import ThreadPoolExecutor
 
+HERE = os.path.dirname(os.path.abspath(__file__))
+sys.path.append(os.path.dirname(HERE))
+
 import pandoc
+import runs
 from cases import CASES
 from faults import CITATIONS, FAULTS, REFERENCES, STYLE
 from mutations import is_told, mutated_files
+from runs import Failed, compiled, count
 
-HERE = os.path.dirname(os.path.abspath(__file__))
-ROOT = os.path.dirname(os.path.dirname(HERE))
 SECONDS = 120
 MOST_GROWTHS = 20000
 LEAST_GROWTHS = 100
@@ -30,18 +31,10 @@ LEAST_GROWTHS = 100
 STRETCH = 400
 
 
-class Failed(Exception):
-    pass
-
-
 def ended(program, *words, given=None, **how):
-    """Status, standard output and standard error of a run."""
-    try:
-        done = subprocess.run([program, *words], input=(given or '').encode(), stdout=subprocess.PIPE, stderr=subprocess.PIPE,
-                              timeout=SECONDS, **how)
-    except subprocess.TimeoutExpired:
-        raise Failed('it had not ended after %d seconds' % SECONDS)
-    return done.returncode, done.stdout.decode(), done.stderr.decode()
+    """Status, standard output and standard error of a run, as texts."""
+    status, out, error = runs.ended([program, *words], (given or '').encode(), SECONDS, **how)
+    return status, out.decode(), error.decode()
 
 
 def written(folder, files):
@@ -148,16 +141,6 @@ def try_document(program, document, style, wanted):
 # Memory
 
 
-def compiled(folder):
-    """What refuses the nth growth of a process, preloaded."""
-    compiler = shutil.which('cc') or shutil.which('gcc') or shutil.which('clang')
-    if not compiler:
-        raise Failed('no C compiler is here, so that no growth of memory can be refused')
-    made = folder + '/refuse.so'
-    subprocess.run([compiler, '-shared', '-fPIC', '-O1', '-o', made, HERE + '/../documents/refuse.c', '-ldl'], check=True)
-    return made
-
-
 def refused_in_turn(program, verb, style):
     """Each run with a growth refused ends with status 5 and a line that says so, with status 1 while a file is read, or with the
     answer; and at last none is refused."""
@@ -245,18 +228,8 @@ def main():
     if options.record:
         pandoc.record()
     program = os.path.abspath(options.program)
-    passed = failed = 0
-    for name, test, *rest in tests_of(options):
-        if options.only not in name:
-            continue
-        try:
-            test(program, *rest)
-            passed += 1
-        except Failed as error:
-            failed += 1
-            print('FAILED: %s: %s' % (name, error))
-    print('%d passed, %d failed' % (passed, failed))
-    sys.exit(1 if failed else 0)
+    tests = [it for it in tests_of(options) if options.only in it[0]]
+    sys.exit(count(tests, program))
 
 
 if __name__ == '__main__':
