@@ -1,11 +1,10 @@
 //! Files are checked: styles, locale files, references and documents.
+use crate::documents::document_fault;
 use crate::error::CommandError;
 use crate::files::bytes_of;
-use crate::one_line::OneLine;
 use crate::references::references_in;
 use crate::reports::{refused, refused_at, show_style_warnings, show_warning, style_refused};
-use cite_document::faults::print_fault_bytes;
-use serde_json::Value;
+use cite_command::one_line::OneLine;
 use std::alloc::{AllocError, Global};
 use std::io;
 use std::process::ExitCode;
@@ -166,31 +165,8 @@ fn check_document(
     path: &str,
     bytes: &[u8],
 ) -> Result<(), CommandError> {
-    let Ok(fault) = print_fault_bytes(rt.alloc(), bytes) else {
-        return Err(CommandError::OutOfMemory);
-    };
-    if fault.is_empty() {
-        return Ok(println!(rt; "{}: document", OneLine(path))?);
-    }
-    let why = fault_in_words(rt.alloc(), fault.as_str())?;
-    Err(refused(rt.alloc(), path, &why)?)
-}
-
-/// A fault of a document, told as JSON, in the words of faults of references.
-fn fault_in_words(alloc: Global, fault: &str) -> Result<String, CommandError> {
-    let Ok(fault) = Value::from_str(alloc, fault) else {
-        return Err(CommandError::OutOfMemory);
-    };
-    let pointer = text_at(&fault, "pointer");
-    let found = text_at(&fault, "found");
-    let wanted = text_at(&fault, "wanted");
-    Ok(format!(in alloc; "{pointer}: found {found}, wanted {wanted}")?)
-}
-
-/// The text at a key; empty where there is none.
-fn text_at<'v>(object: &'v Value, key: &str) -> &'v str {
-    match object.get(key) {
-        Some(Value::String(text)) => text.as_str(),
-        _ => "",
+    match document_fault(rt.alloc(), bytes)? {
+        None => Ok(println!(rt; "{}: document", OneLine(path))?),
+        Some(why) => Err(refused(rt.alloc(), path, &why)?),
     }
 }

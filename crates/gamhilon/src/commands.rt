@@ -1,5 +1,4 @@
 //! Citations and bibliographies.
-use crate::arguments::{Options, OutputFormat};
 use crate::error::CommandError;
 use crate::files::bytes_of;
 use crate::locales::locales_of;
@@ -7,6 +6,7 @@ use crate::printing::{print_bibliography, print_citations, print_json};
 use crate::references::references_of;
 use crate::reports::{refused, show_warning};
 use crate::styles::{FoundStyle, style_of};
+use cite_command::arguments::{Options, OutputFormat};
 use cite_host::answer::{Answer, Document};
 use cite_host::cites::Citation;
 use cite_host::error::AnswerError;

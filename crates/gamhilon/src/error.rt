@@ -1,7 +1,9 @@
 //! Why a command has no answer.
-use crate::one_line::OneLine;
-use crate::usage::UsageError;
+use crate::document_error::DocumentError;
+use cite_command::error::{CommandLineError, UsageError};
+use cite_command::one_line::OneLine;
 use cite_host::error::AnswerError;
+use packaged_styles::styles::NAMES;
 use std::alloc::{AllocError, AllocFailed};
 use std::{fmt, io};
 use xml_reader::error::Place;
@@ -11,6 +13,8 @@ use xml_reader::error::Place;
 pub(crate) enum CommandError {
     /// The command line is wrong.
     Usage(UsageError),
+    /// No style that is built in has this name.
+    UnknownStyle(String),
     /// A file can't be read.
     Unreadable {
         path: String,
@@ -23,6 +27,11 @@ pub(crate) enum CommandError {
         why: String,
     },
     Answer(AnswerError),
+    /// The document in a file has no answer, though it is of its form.
+    Document {
+        path: String,
+        why: DocumentError,
+    },
     /// What is written can't be handed over.
     Output,
     OutOfMemory,
@@ -35,8 +44,9 @@ impl CommandError {
             CommandError::Unreadable { .. } | CommandError::Output => 1,
             CommandError::Refused { .. } => 2,
             CommandError::Answer(error) => answer_status(error),
+            CommandError::Document { why, .. } => why.status(),
             CommandError::OutOfMemory => 5,
-            CommandError::Usage(_) => 64,
+            CommandError::Usage(_) | CommandError::UnknownStyle(_) => 64,
         }
     }
 }
@@ -47,6 +57,15 @@ fn answer_status(error: &AnswerError) -> u8 {
         AnswerError::TooManyItems => 4,
         AnswerError::OutOfMemory => 5,
         AnswerError::Unsettled => 9,
+    }
+}
+
+impl From<CommandLineError> for CommandError {
+    fn from(error: CommandLineError) -> CommandError {
+        match error {
+            CommandLineError::Usage(error) => CommandError::Usage(error),
+            CommandLineError::OutOfMemory => CommandError::OutOfMemory,
+        }
     }
 }
 
@@ -74,6 +93,11 @@ impl fmt::Display for CommandError {
             CommandError::Usage(error) => {
                 write!(f, "gamhilon: {error}; gamhilon --help tells more")
             }
+            CommandError::UnknownStyle(name) => {
+                let name = OneLine(name.as_str());
+                write!(f, "gamhilon: there is no style `{name}`: the styles are ")?;
+                write_names(f)
+            }
             CommandError::Unreadable { path, why } => {
                 let path = OneLine(path.as_str());
                 let why = OneLine(why.as_str());
@@ -89,8 +113,22 @@ impl fmt::Display for CommandError {
                 write!(f, " error: {why}")
             }
             CommandError::Answer(error) => write!(f, "gamhilon: {error}"),
+            CommandError::Document { path, why } => {
+                let path = OneLine(path.as_str());
+                write!(f, "{path}: error: {why}")
+            }
             CommandError::Output => f.write_str("gamhilon: the answer can't be written"),
             CommandError::OutOfMemory => f.write_str("gamhilon: out of memory"),
         }
     }
+}
+
+/// Writes the names of the styles that are built in.
+fn write_names<W: fmt::Write>(f: &mut fmt::Formatter<W>) -> fmt::Result {
+    let mut before = "";
+    for name in NAMES {
+        write!(f, "{before}{name}")?;
+        before = ", ";
+    }
+    Ok(())
 }

@@ -1,9 +1,9 @@
 //! The locale files of a command.
-use crate::arguments::Options;
 use crate::error::CommandError;
 use crate::files::text_of;
-use crate::one_line::OneLine;
 use crate::reports::{show_style_warnings, style_refused};
+use cite_command::arguments::Options;
+use cite_command::one_line::OneLine;
 use english_locale::words::ENGLISH;
 use std::alloc::Global;
 use std::rt::Files;

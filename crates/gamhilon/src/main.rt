@@ -1,31 +1,29 @@
-//! `gamhilon` writes citations and bibliographies in styles of CSL 1.0.2.
+//! `gamhilon` writes citations and bibliographies in styles of CSL 1.0.2, and answers documents.
 //!
 //! Where there is no answer, standard error gets one line that says why, and the exit status tells
 //! it too (`CommandError::status`). What is odd in a file that is read gets a line there as well.
 #![tactic(auto)]
 
-mod arguments;
 mod checking;
-mod command_line;
 mod commands;
+mod document_error;
+mod documents;
 mod error;
 mod files;
 mod locales;
-mod one_line;
-mod parsing;
+mod packaged;
 mod printing;
 mod references;
 mod reports;
 mod styles;
-mod usage;
 
-use arguments::Command;
+use cite_command::arguments::Command;
+use cite_command::error::UsageError;
+use cite_command::parsing::command_of;
 use error::CommandError;
-use parsing::command_of;
 use std::process::ExitCode;
 use std::rt::{Env, Files};
 use std::{env, io};
-use usage::UsageError;
 
 fn main(rt: HostRuntime) -> ExitCode {
     match run(&rt) {
@@ -46,6 +44,8 @@ fn run(
         Command::Check(paths) => return checking::check_all(rt, &paths),
         Command::Cite(options) => commands::cite(rt, &options)?,
         Command::Bibliography(options) => commands::bibliography(rt, &options)?,
+        Command::Render(options) => documents::render(rt, &options)?,
+        Command::Styles(name) => packaged::show(rt, name.as_deref())?,
     }
     Ok(ExitCode::SUCCESS)
 }
@@ -55,7 +55,7 @@ fn command(rt: &(impl Env + AllocGlobal)) -> Result<Command, CommandError> {
     match env::args(rt) {
         Ok(words) => {
             let words: Vec<String> = words.collect(rt.alloc())?;
-            command_of(rt.alloc(), &words)
+            Ok(command_of(rt.alloc(), &words)?)
         }
         Err(error) if error.kind() == io::ErrorKind::OutOfMemory => Err(CommandError::OutOfMemory),
         Err(_) => Err(CommandError::Usage(UsageError::NoUtf8)),

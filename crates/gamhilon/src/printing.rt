@@ -1,7 +1,7 @@
 //! Answers are printed.
-use crate::arguments::{Options, OutputFormat};
 use crate::error::CommandError;
 use cite_answer::printing::print_answer;
+use cite_command::arguments::{Options, OutputFormat};
 use cite_host::answer::{Answer, ListedItem};
 use cite_host::cites::Citation;
 use cite_pieces::html::html;

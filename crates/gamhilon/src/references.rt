@@ -1,8 +1,8 @@
 //! The references of a command.
-use crate::arguments::Options;
 use crate::error::CommandError;
 use crate::files::bytes_of;
 use crate::reports::{refused, show_warning};
+use cite_command::arguments::Options;
 use csl_json::fault::ReferencesError;
 use csl_json::reading::{ReadReferences, read_references};
 use csl_references::reference::References;

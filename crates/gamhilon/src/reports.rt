@@ -1,6 +1,7 @@
 //! Lines on standard error.
+use crate::document_error::DocumentError;
 use crate::error::CommandError;
-use crate::one_line::OneLine;
+use cite_command::one_line::OneLine;
 use std::alloc::{AllocError, Global};
 use std::fmt;
 use style_faults::error::StyleError;
@@ -31,6 +32,18 @@ pub(crate) fn refused_at<W: fmt::Display>(
         path: String::from_str(alloc, path)?,
         place: Some(place),
         why: format!(in alloc; "{why}")?,
+    })
+}
+
+/// Why the document in a file has no answer.
+pub(crate) fn document_refused(
+    alloc: Global,
+    path: &str,
+    why: DocumentError,
+) -> Result<CommandError, AllocError> {
+    Ok(CommandError::Document {
+        path: String::from_str(alloc, path)?,
+        why,
     })
 }
 

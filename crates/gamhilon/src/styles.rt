@@ -1,10 +1,11 @@
 //! The style of a command.
-use crate::arguments::Options;
 use crate::error::CommandError;
 use crate::files::text_of;
 use crate::reports::{refused, show_style_warnings, style_refused};
-use std::fs;
+use cite_command::arguments::Options;
+use packaged_styles::styles::style_named;
 use std::rt::Files;
+use std::{fs, io};
 use style_file::style::{CslStyle, DependentStyle, StyleFile};
 use style_reader::file::read_style;
 
@@ -38,7 +39,8 @@ impl FoundStyle {
 }
 
 /// The style of a command, with that on which it depends in its place. What is odd in it is
-/// printed.
+/// printed. A style that is built in goes before one of its name in the folder where that isn't
+/// told, and behind it where it is.
 ///
 /// # Errors
 ///
@@ -48,14 +50,46 @@ pub(crate) fn style_of(
     rt: &(impl Files + Input + Eprint + AllocGlobal),
     options: &Options,
 ) -> Result<FoundStyle, CommandError> {
+    let name = options.style.as_str();
     let folder = options.styles.as_deref().unwrap_or(STYLES);
-    let path = style_path(rt, folder, options.style.as_str())?;
+    let path = style_path(rt, folder, name)?;
+    if let Some(text) = style_named(name) {
+        if options.styles.is_none() || is_absent(rt, path.as_str()) {
+            return packaged(rt, name, text);
+        }
+    }
     match style_at(rt, path.as_str())? {
         StyleFile::Independent(style) => Ok(FoundStyle {
             style,
             language: None,
         }),
         StyleFile::Dependent(dependent) => parent_of(rt, folder, path.as_str(), dependent),
+    }
+}
+
+/// The style of this name that is built in, of which this is the file.
+fn packaged(
+    rt: &(impl Eprint + AllocGlobal),
+    name: &str,
+    text: &str,
+) -> Result<FoundStyle, CommandError> {
+    match style_in(rt, name, text)? {
+        StyleFile::Independent(style) => Ok(FoundStyle {
+            style,
+            language: None,
+        }),
+        StyleFile::Dependent(_) => {
+            let why = "it depends on another style";
+            Err(refused(rt.alloc(), name, &why)?)
+        }
+    }
+}
+
+/// Whether there is no file of this path.
+fn is_absent(rt: &(impl Files + AllocGlobal), path: &str) -> bool {
+    match fs::read(rt, path) {
+        Ok(_) => false,
+        Err(error) => error.kind() == io::ErrorKind::NotFound,
     }
 }
 
@@ -86,7 +120,16 @@ fn style_at(
     path: &str,
 ) -> Result<StyleFile, CommandError> {
     let text = text_of(rt, path)?;
-    match read_style(rt.alloc(), text.as_str()) {
+    style_in(rt, path, text.as_str())
+}
+
+/// The style in the text of a file. What is odd in it is printed.
+fn style_in(
+    rt: &(impl Eprint + AllocGlobal),
+    path: &str,
+    text: &str,
+) -> Result<StyleFile, CommandError> {
+    match read_style(rt.alloc(), text) {
         Ok((style, warnings)) => {
             show_style_warnings(rt, path, &warnings);
             Ok(style)

@@ -2,40 +2,74 @@
 
 /// What a command line asks for.
 #[derive(Drop)]
-pub(crate) enum Command {
+pub enum Command {
     /// This text is printed: the help, or the version.
     Show(String),
     /// These files are checked.
     Check(Vec<String>),
+    /// Citations are printed.
     Cite(Options),
+    /// A bibliography is printed.
     Bibliography(Options),
+    /// A document of `cite_run` is answered.
+    Render(DocumentOptions),
+    /// The names of the styles that are built in are printed, or the file of that of this name.
+    Styles(Option<String>),
 }
 
 /// The form of what is written.
 #[derive(Clone, Copy, PartialEq, Eq)]
-pub(crate) enum OutputFormat {
+pub enum OutputFormat {
+    /// Lines of text.
     Text,
+    /// HTML.
     Html,
+    /// The JSON of docs/ANSWER.md.
     Json,
 }
 
 /// The options of a command that writes, and its files.
 #[derive(Drop)]
-pub(crate) struct Options {
+pub struct Options {
+    /// The style: a name, or the path of a file.
     pub style: String,
+    /// The language, where it isn't that of the style.
     pub locale: Option<String>,
     /// The folder of styles.
     pub styles: Option<String>,
     /// The folder of locale files.
     pub locales: Option<String>,
     pub format: OutputFormat,
+    /// Whether what is written is a whole page of HTML.
     pub is_standalone: bool,
     /// Whether references that aren't cited are listed.
     pub lists_uncited: bool,
     /// The files of references: the one that is named as a file first, then those of
     /// `--references`.
     pub references: Vec<String>,
+    /// The file of citations.
     pub citations: Option<String>,
+}
+
+/// The form of the answer to a document.
+#[derive(Clone, Copy, PartialEq, Eq)]
+pub enum DocumentFormat {
+    /// What `cite_run` writes.
+    Text,
+    /// The JSON of docs/ANSWER.md.
+    Json,
+}
+
+/// The options of a command that answers a document, and its file.
+#[derive(Drop)]
+pub struct DocumentOptions {
+    /// The file of the document.
+    pub document: String,
+    pub format: DocumentFormat,
+    /// How deep the elements of a layout may nest.
+    pub depth: usize,
+    /// How many elements a layout may have.
+    pub elements: usize,
 }
 
 impl Options {

@@ -1,18 +1,23 @@
 //! What the words of a command line say.
-use crate::arguments::{Command, Options, OutputFormat};
+use crate::arguments::{Command, DocumentFormat, DocumentOptions, Options, OutputFormat};
 use crate::command_line::program;
-use crate::error::CommandError;
-use crate::usage::UsageError;
+use crate::error::{CommandLineError, UsageError};
 use clap::ArgMatches;
 use clap::error::ErrorKind;
 use std::alloc::{AllocError, Global};
+
+/// How deep the elements of a layout of a document may nest where nothing tells it.
+const DEPTH: usize = 100;
+
+/// How many elements a layout of a document may have where nothing tells it.
+const ELEMENTS: usize = 100_000;
 
 /// The command that these words say, of which the first is the program.
 ///
 /// # Errors
 ///
 /// `Usage` where they say none; `OutOfMemory`.
-pub(crate) fn command_of(alloc: Global, words: &[String]) -> Result<Command, CommandError> {
+pub fn command_of(alloc: Global, words: &[String]) -> Result<Command, CommandLineError> {
     match program(alloc)?.try_get_matches_from(words) {
         Ok(matches) => command_in(alloc, &matches),
         Err(error) => unmatched(alloc, &error),
@@ -20,14 +25,14 @@ pub(crate) fn command_of(alloc: Global, words: &[String]) -> Result<Command, Com
 }
 
 /// What comes of words of which `clap` makes no command: a text that they ask for, or an error.
-fn unmatched(alloc: Global, error: &clap::Error) -> Result<Command, CommandError> {
+fn unmatched(alloc: Global, error: &clap::Error) -> Result<Command, CommandLineError> {
     let text = format!(in alloc; "{error}")?;
     match error.kind() {
         ErrorKind::DisplayHelp | ErrorKind::DisplayVersion => Ok(Command::Show(text)),
-        ErrorKind::OutOfMemory => Err(CommandError::OutOfMemory),
+        ErrorKind::OutOfMemory => Err(CommandLineError::OutOfMemory),
         _ => {
             let why = in_one_line(alloc, text.as_str())?;
-            Err(CommandError::Usage(UsageError::Words(why)))
+            Err(CommandLineError::Usage(UsageError::Words(why)))
         }
     }
 }
@@ -57,29 +62,31 @@ fn push_part(line: &mut String, part: &str) -> Result<(), AllocError> {
     line.push_str(part)
 }
 
-fn command_in(alloc: Global, matches: &ArgMatches<'_>) -> Result<Command, CommandError> {
+fn command_in(alloc: Global, matches: &ArgMatches<'_>) -> Result<Command, CommandLineError> {
     let Some((name, words)) = matches.subcommand() else {
-        return Err(CommandError::Usage(UsageError::NoCommand));
+        return Err(CommandLineError::Usage(UsageError::NoCommand));
     };
     match name {
         "check" => Ok(Command::Check(checked_files(alloc, words)?)),
         "cite" => Ok(Command::Cite(options_in(alloc, words)?)),
+        "render" => Ok(Command::Render(document_in(alloc, words)?)),
+        "styles" => Ok(Command::Styles(text_at(alloc, words, "NAME")?)),
         _ => Ok(Command::Bibliography(options_in(alloc, words)?)),
     }
 }
 
 /// The files of `check`.
-fn checked_files(alloc: Global, words: &ArgMatches<'_>) -> Result<Vec<String>, CommandError> {
+fn checked_files(alloc: Global, words: &ArgMatches<'_>) -> Result<Vec<String>, CommandLineError> {
     let mut files = Vec::new(alloc);
     push_texts(alloc, words, "FILE", &mut files)?;
     if inputs_in(&files) > 1 {
-        return Err(CommandError::Usage(UsageError::TwoInputs));
+        return Err(CommandLineError::Usage(UsageError::TwoInputs));
     }
     Ok(files)
 }
 
 /// The options of a command that writes.
-fn options_in(alloc: Global, words: &ArgMatches<'_>) -> Result<Options, CommandError> {
+fn options_in(alloc: Global, words: &ArgMatches<'_>) -> Result<Options, CommandLineError> {
     checked(Options {
         style: text_at(alloc, words, "style")?.unwrap_or(String::new(alloc)),
         locale: text_at(alloc, words, "locale")?,
@@ -91,6 +98,24 @@ fn options_in(alloc: Global, words: &ArgMatches<'_>) -> Result<Options, CommandE
         references: references_in(alloc, words)?,
         citations: text_at(alloc, words, "CITATIONS")?,
     })
+}
+
+/// The document of `render`, and its options.
+fn document_in(alloc: Global, words: &ArgMatches<'_>) -> Result<DocumentOptions, AllocError> {
+    Ok(DocumentOptions {
+        document: text_at(alloc, words, "DOCUMENT")?.unwrap_or(String::new(alloc)),
+        format: document_format(words),
+        depth: words.get_one::<usize>("depth").unwrap_or(DEPTH),
+        elements: words.get_one::<usize>("elements").unwrap_or(ELEMENTS),
+    })
+}
+
+/// The form of the answer to a document.
+fn document_format(words: &ArgMatches<'_>) -> DocumentFormat {
+    match words.get_str("to") {
+        Some("json") => DocumentFormat::Json,
+        _ => DocumentFormat::Text,
+    }
 }
 
 /// The text at an option or a file.
@@ -136,12 +161,12 @@ fn push_texts(
 }
 
 /// Options of which one file at most is the standard input, and a whole page is HTML.
-fn checked(options: Options) -> Result<Options, CommandError> {
+fn checked(options: Options) -> Result<Options, CommandLineError> {
     if inputs(&options) > 1 {
-        return Err(CommandError::Usage(UsageError::TwoInputs));
+        return Err(CommandLineError::Usage(UsageError::TwoInputs));
     }
     if options.is_standalone && options.format != OutputFormat::Html {
-        return Err(CommandError::Usage(UsageError::NoPage));
+        return Err(CommandLineError::Usage(UsageError::NoPage));
     }
     Ok(options)
 }

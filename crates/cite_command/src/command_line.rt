@@ -1,0 +1,188 @@
+//! The command line, as the crate `clap` is told of it.
+use crate::usage::{ABOUT, DOCUMENT_NOTES, PROGRAM_NOTES, STYLES_NOTES, VERSION, WRITING_NOTES};
+use clap::builder::ValueParser;
+use clap::{Arg, ArgAction, Command};
+use std::alloc::{AllocError, Global};
+
+/// The program with its commands.
+///
+/// # Errors
+///
+/// Where memory is refused.
+pub(crate) fn program<'a>(alloc: Global) -> Result<Command<'a>, AllocError> {
+    named(alloc)?.subcommands(commands(alloc)?)
+}
+
+/// The program without its commands.
+fn named<'a>(alloc: Global) -> Result<Command<'a>, AllocError> {
+    Command::new(alloc, "gamhilon")
+        .version(VERSION)
+        .about(ABOUT)
+        .after_help(PROGRAM_NOTES)
+        .subcommand_required(true)
+        .bin_name("gamhilon")
+}
+
+/// The commands, in the order in which help has them.
+fn commands<'a>(alloc: Global) -> Result<Vec<Command<'a>>, AllocError> {
+    let mut commands = Vec::new(alloc);
+    commands.push(cite(alloc)?)?;
+    commands.push(bibliography(alloc)?)?;
+    commands.push(render(alloc)?)?;
+    commands.push(check(alloc)?)?;
+    commands.push(styles(alloc)?)?;
+    Ok(commands)
+}
+
+// ---- commands that write in a style
+
+fn cite<'a>(alloc: Global) -> Result<Command<'a>, AllocError> {
+    let command = Command::new(alloc, "cite").about("Prints each citation");
+    with_words(alloc, command, citations(alloc).required(true))
+}
+
+fn bibliography<'a>(alloc: Global) -> Result<Command<'a>, AllocError> {
+    let command = Command::new(alloc, "bibliography").about(
+        "Prints the items that are cited, or of all references without citations",
+    );
+    with_words(alloc, command, citations(alloc))
+}
+
+/// A command that writes, with its options and files.
+fn with_words<'a>(
+    alloc: Global,
+    command: Command<'a>,
+    citations: Arg<'a>,
+) -> Result<Command<'a>, AllocError> {
+    command
+        .after_help(WRITING_NOTES)
+        .args(Vec::from_array(alloc, sources(alloc))?)?
+        .args(Vec::from_array(alloc, forms(alloc))?)?
+        .args(Vec::from_array(alloc, files(alloc, citations))?)
+}
+
+/// The options that tell the style and its words.
+fn sources<'a>(alloc: Global) -> [Arg<'a>; 4] {
+    [
+        style(alloc),
+        valued(
+            alloc,
+            "locale",
+            "TAG",
+            "The language, in place of the style's",
+        ),
+        valued(alloc, "styles", "FOLDER", "Where styles are"),
+        valued(alloc, "locales", "FOLDER", "Where locale files are"),
+    ]
+}
+
+fn style<'a>(alloc: Global) -> Arg<'a> {
+    let help = "The style: a file, a name of `gamhilon styles`, or one in the folder of styles";
+    valued(alloc, "style", "STYLE", help).required(true)
+}
+
+/// The options of what is written.
+fn forms<'a>(alloc: Global) -> [Arg<'a>; 3] {
+    let formats: &'a [&'a str] = &["text", "html", "json"];
+    [
+        format(alloc, formats),
+        flag(alloc, "standalone", "A whole page of HTML"),
+        flag(
+            alloc,
+            "nocite",
+            "References that aren't cited are listed, too",
+        ),
+    ]
+}
+
+fn files<'a>(alloc: Global, citations: Arg<'a>) -> [Arg<'a>; 3] {
+    let more = Arg::new(alloc, "more")
+        .long("references")
+        .value_name("FILE")
+        .action(ArgAction::Append)
+        .help("More references; it may stand several times");
+    let first = Arg::new(alloc, "REFERENCES")
+        .required(true)
+        .help("References, in CSL-JSON");
+    [more, first, citations]
+}
+
+fn citations<'a>(alloc: Global) -> Arg<'a> {
+    Arg::new(alloc, "CITATIONS").help("Citations, in JSON")
+}
+
+// ---- other commands
+
+fn render<'a>(alloc: Global) -> Result<Command<'a>, AllocError> {
+    Command::new(alloc, "render")
+        .about("Prints the citations and the bibliography of a document of cite_run")
+        .after_help(DOCUMENT_NOTES)
+        .args(Vec::from_array(alloc, document(alloc))?)
+}
+
+/// The options of a document, and its file.
+fn document<'a>(alloc: Global) -> [Arg<'a>; 4] {
+    let formats: &'a [&'a str] = &["text", "json"];
+    let file = Arg::new(alloc, "DOCUMENT")
+        .required(true)
+        .help("A document of cite_run, in JSON");
+    [
+        format(alloc, formats),
+        limit(
+            alloc,
+            "depth",
+            "How deep the elements of a layout may nest (100)",
+        ),
+        limit(
+            alloc,
+            "elements",
+            "How many elements a layout may have (100000)",
+        ),
+        file,
+    ]
+}
+
+fn check<'a>(alloc: Global) -> Result<Command<'a>, AllocError> {
+    let files = Arg::new(alloc, "FILE")
+        .required(true)
+        .num_args(1..)
+        .action(ArgAction::Append)
+        .help("A style, a locale file, references or a document of cite_run");
+    Command::new(alloc, "check")
+        .about("Says what files are, or where they are wrong")
+        .arg(files)
+}
+
+fn styles<'a>(alloc: Global) -> Result<Command<'a>, AllocError> {
+    Command::new(alloc, "styles")
+        .about("Prints the names of the styles that are built in, or the file of one")
+        .after_help(STYLES_NOTES)
+        .arg(Arg::new(alloc, "NAME").help("The name of a style"))
+}
+
+// ---- options
+
+/// The option of the form of what is written, of which these are the names.
+fn format<'a>(alloc: Global, formats: &'a [&'a str]) -> Arg<'a> {
+    valued(alloc, "to", "FORMAT", "The form of what is written (text)").value_parser(
+        ValueParser::Names(formats),
+    )
+}
+
+/// An option that sets a limit.
+fn limit<'a>(alloc: Global, id: &'a str, help: &'a str) -> Arg<'a> {
+    valued(alloc, id, "N", help).value_parser(ValueParser::Unsigned(0, u64::MAX))
+}
+
+/// An option that has a value.
+fn valued<'a>(alloc: Global, id: &'a str, name: &'a str, help: &'a str) -> Arg<'a> {
+    Arg::new(alloc, id).long(id).value_name(name).help(help)
+}
+
+/// An option that has none.
+fn flag<'a>(alloc: Global, id: &'a str, help: &'a str) -> Arg<'a> {
+    Arg::new(alloc, id)
+        .long(id)
+        .action(ArgAction::SetTrue)
+        .help(help)
+}

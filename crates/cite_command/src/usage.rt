@@ -1,0 +1,47 @@
+//! What help says.
+
+/// The version of the program.
+pub(crate) const VERSION: &str = "0.2.0";
+
+/// What the program does.
+pub(crate) const ABOUT: &str = "Citations and bibliographies in styles of CSL 1.0.2";
+
+/// What the help of the program ends with.
+pub(crate) const PROGRAM_NOTES: &str = "\
+The exit status is 0 where there is an answer, 1 where a file can't be read or the answer can't be
+written, 2 where a file is wrong, 3 where macros of a document call each other in a ring, 4 where
+there are too many items, 5 where memory is refused, 7 where a layout of a document nests deeper
+than --depth, 8 where it has more elements than --elements, 9 where cites can't be told apart, and
+64 where the command line is wrong.
+
+Example: with the references of books.json, in a style that is built in,
+
+  gamhilon bibliography --style author-date --to html --standalone books.json > books.html";
+
+/// What the help of a command that writes ends with.
+pub(crate) const WRITING_NOTES: &str = "\
+CITATIONS is a JSON list of citations, which are lists of cites: objects with id, and maybe locator,
+label, prefix, suffix, suppress-author, author-only, hidden and note. The name - stands for the
+standard input.
+
+Example: with the references of books.json, in Debian's style apa,
+
+  echo '[[{\"id\": \"smith2020\", \"locator\": \"12-14\"}]]' > cites.json
+  gamhilon cite --style apa books.json cites.json
+  gamhilon bibliography --style apa books.json cites.json";
+
+/// What the help of the command that answers documents ends with.
+pub(crate) const DOCUMENT_NOTES: &str = "\
+The children of a macro count at each of its calls, both for --depth and for --elements. The name -
+stands for the standard input.
+
+Example:
+
+  gamhilon render document.json";
+
+/// What the help of the command of styles ends with.
+pub(crate) const STYLES_NOTES: &str = "\
+Example: a style of one's own begins as a copy,
+
+  gamhilon styles author-date > mine.csl
+  gamhilon bibliography --style mine.csl books.json";
