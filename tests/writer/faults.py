@@ -11,6 +11,10 @@ CITATIONS = '[[{"id": "a"}]]'
 HELP = '; gamhilon --help tells more'
 DOCUMENT = ('{"styles": {"s": {"citation": {"elements": []}}}, "entries": [{"key": "a"}], "requests": [], '
             '"bibliography": {"style": "s"}}')
+# A document whose citation and bibliography have the title of its one entry.
+TITLES = ('{"styles": {"s": {"citation": {"elements": [{"kind": "text", "variable": "title"}]}, "bibliography": {"elements": '
+          '[{"kind": "text", "variable": "title"}]}}}, "entries": [{"key": "a", "title": "A"}], "requests": [{"style": "s", "items": '
+          '[{"entry": "a"}]}], "bibliography": {"style": "s"}%s}')
 LOCALE = ('<locale xmlns="http://purl.org/net/xbiblio/csl" version="1.0" xml:lang="de-DE"><terms><term name="and">und</term></terms>'
           '</locale>')
 DEPENDENT = ('<style xmlns="http://purl.org/net/xbiblio/csl" version="1.0"><info><title>D</title><id>D</id>'
@@ -41,6 +45,15 @@ def many_names(count):
     return '[{"id": "a", "type": "book", "title": "A", "author": [%s]}]' % names
 
 
+def calling(count, calls):
+    """A document with this many macros, of which each calls the next one so many times, and the last one writes."""
+    call = ', '.join(['{"kind": "text", "macro": "m%d"}'] * calls)
+    macros = ['{"name": "m%d", "children": [%s]}' % (n, call % ((n + 1,) * calls)) for n in range(count - 1)]
+    macros.append('{"name": "m%d", "children": [{"kind": "text", "value": "x"}]}' % (count - 1))
+    return ('{"styles": {"s": {"citation": {"elements": [{"kind": "text", "macro": "m0"}]}, "macros": [%s]}}, "entries": [{"key": "a"}], '
+            '"requests": [{"style": "s", "items": [{"entry": "a"}]}], "bibliography": {"style": "s"}}' % ', '.join(macros))
+
+
 class Fault:
     """What is called, with these files beside the usual ones, and what comes of it."""
 
@@ -59,12 +72,17 @@ def usage(name, why, *words):
     return Fault(name, list(words), 64, ['gamhilon: ' + why + HELP])
 
 
+def rendered(name, status, lines, document, out='', words=()):
+    """A call of `render` on a document in a file."""
+    return Fault(name, ['render', *words, 'FILE/d.json'], status, lines, {'d.json': document}, None, out)
+
+
 TWO = {'s.csl': style_of('<text variable="title"/>'), 'c.json': '[[{"id": "b"}]]',
        'r.json': '[{"id": "a", "type": "book", "title": "A"}, {"id": "b", "type": "book", "title": "B"}]'}
 
 FAULTS = [
     # Command lines
-    usage('no word', "'gamhilon' requires a subcommand but one was not provided [subcommands: cite, bibliography, check, help]"),
+    usage('no word', "'gamhilon' requires a subcommand but one was not provided [subcommands: cite, bibliography, render, check, styles, help]"),
     usage('an unknown command', "unrecognized subcommand 'print'", 'print'),
     usage('a command that is nearly one', "unrecognized subcommand 'cited'; tip: a similar subcommand exists: 'cite'", 'cited'),
     usage('no style', 'the following required arguments were not provided: --style <STYLE>', 'cite', 'FILE/r.json', 'FILE/c.json'),
@@ -82,6 +100,14 @@ FAULTS = [
           'r.json'),
     usage('nothing to check', 'the following required arguments were not provided: <FILE>...', 'check'),
     usage('an option of check', "unexpected argument '--all' found; tip: to pass '--all' as a value, use '-- --all'", 'check', '--all'),
+    usage('no document', 'the following required arguments were not provided: <DOCUMENT>', 'render'),
+    usage('two documents', "unexpected argument 'b' found", 'render', 'a', 'b'),
+    usage('a document as HTML', "invalid value 'html' for '--to <FORMAT>' [possible values: text, json]", 'render', '--to', 'html', 'a'),
+    usage('a limit that is no number', "invalid value 'x' for '--depth <N>': invalid digit found in string", 'render', '--depth', 'x', 'a'),
+    usage('a limit above all', "invalid value '18446744073709551616' for '--elements <N>': number too large to fit in target type", 'render',
+          '--elements', '18446744073709551616', 'a'),
+    usage('no limit', "a value is required for '--depth <N>' but none was supplied", 'render', 'a', '--depth'),
+    usage('two names of styles', "unexpected argument 'b' found", 'styles', 'a', 'b'),
     usage('two standard inputs', '`-` stands for several files', 'cite', '--style', 'FILE/s.csl', '-', '-'),
     usage('two standard inputs to check', '`-` stands for several files', 'check', '-', '-'),
     usage('a word of several lines', "unrecognized subcommand 'a b'", 'a\nb'),
@@ -170,6 +196,53 @@ FAULTS = [
     Fault('citations beside what is not cited', ['cite', '--nocite', '--style', 'FILE/s.csl', 'FILE/r.json', 'FILE/c.json'], 0, [], TWO,
           out='B\n'),
     Fault('all references', ['bibliography', '--style', 'FILE/s.csl', 'FILE/r.json'], 0, [], TWO, out='A\nB\n'),
+    # Styles that are built in
+    Fault('no style of this name is built in', ['styles', 'apa'], 64,
+          ['gamhilon: there is no style `apa`: the styles are author-date, labels, notes, numeric']),
+    Fault('a style of the folder before one that is built in', ['cite', '--styles', 'FILE', '--style', 'notes', 'FILE/r.json', 'FILE/c.json'],
+          0, [], {'notes.csl': STYLE}, out='A\n'),
+    Fault('a style that depends on another before one that is built in', ['cite', '--styles', 'FILE', '--style', 'notes', 'FILE/r.json',
+                                                                          'FILE/c.json'], 0, [], {'dependent/notes.csl': DEPENDENT}, out='A\n'),
+    Fault('a style that is built in where the folder has none', ['cite', '--styles', 'FILE', '--style', 'numeric', 'FILE/r.json',
+                                                                 'FILE/c.json'], 0, [], out='[1]\n'),
+    Fault('a style that is built in where no folder is', ['cite', '--styles', 'FILE/none', '--style', 'numeric', 'FILE/r.json', 'FILE/c.json'],
+          0, [], out='[1]\n'),
+    Fault('a file of the name of a style that is built in', ['cite', '--style', 'FILE/numeric.csl', 'FILE/r.json', 'FILE/c.json'], 0, [],
+          {'numeric.csl': STYLE}, out='A\n'),
+    # The command render
+    rendered('a document', 0, [], TITLES % '', out='A\n\na\tA\n'),
+    Fault('a document of the standard input', ['render', '--to=text', '-'], 0, [], given=TITLES % '', out='A\n\na\tA\n'),
+    rendered('a document without requests', 0, [], DOCUMENT),
+    Fault('no such document', ['render', 'FILE/none'], 1, ['FILE/none: …']),
+    rendered('a document that is no JSON', 2, ['FILE/d.json: error: : found no JSON from line 1, column …'], '{]'),
+    rendered('a document that is no UTF-8', 2, ['FILE/d.json: error: : found no UTF-8 from byte 0, wanted UTF-8'], b'\xff'),
+    rendered('references for a document', 2, ['FILE/d.json: error: : found a list, wanted an object'], REFERENCES),
+    rendered('a document without its style', 2,
+             ['FILE/d.json: error: /bibliography/style: found a text, wanted the name of a style that is there'],
+             DOCUMENT.replace('"style": "s"', '"style": "t"')),
+    rendered('a wrong style of a document', 2, ['FILE/d.json: error: /styles/s/citation/elements: found a number, wanted a list'],
+             DOCUMENT.replace('[]}}}', '7}}}')),
+    rendered('a ring of macros in a document', 3,
+             ['FILE/d.json: error: the macros of the style of request 0 call each other in a ring, macro 0 the first'],
+             calling(1, 1).replace('"value": "x"', '"macro": "m0"')),
+    rendered('a ring of macros for a bibliography', 3,
+             ['FILE/d.json: error: the macros of the style of the bibliography call each other in a ring, macro 0 the first'],
+             DOCUMENT.replace('[]}}}', '[]}, "macros": [{"name": "m", "children": [{"kind": "text", "macro": "m"}]}]}}')),
+    rendered('numbers that do not fit', 4, ["FILE/d.json: error: the citation numbers don't fit 64 bits"],
+             TITLES % ', "offset": 18446744073709551615'),
+    # A call and what it calls nest one deeper each.
+    rendered('macros that call each other as deep as may be', 0, [], calling(99, 1), out='x\n'),
+    rendered('macros that call each other too deep', 7,
+             ['FILE/d.json: error: the elements of a layout nest deeper than 100 (--depth raises the limit)'], calling(100, 1)),
+    rendered('a greater depth', 0, [], calling(100, 1), out='x\n', words=['--depth', '101']),
+    rendered('a smaller depth', 7, ['FILE/d.json: error: the elements of a layout nest deeper than 2 (--depth raises the limit)'],
+             calling(2, 1), words=['--depth=2']),
+    # 1 call, and 2, 4, 8 .. 65,536 of the macros below it: 131,071 calls, and as many texts as the last macros have calls.
+    rendered('too many elements', 8, ['FILE/d.json: error: a layout has more elements than 100000 (--elements raises the limit)'],
+             calling(17, 2)),
+    rendered('as many elements as may be', 0, [], calling(3, 2), out='xxxx\n', words=['--elements', '11']),
+    rendered('an element too many', 8, ['FILE/d.json: error: a layout has more elements than 10 (--elements raises the limit)'],
+             calling(3, 2), words=['--elements', '10']),
     # The command check
     Fault('check', ['check', 'FILE/s.csl'], 0, [], out='FILE/s.csl: independent style T (T)\n'),
     Fault('check of two', ['check', 'FILE/r.json', 'FILE/s.csl'], 0, [], TWO, out='FILE/r.json: 2 references\n'

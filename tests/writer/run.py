@@ -2,12 +2,15 @@
 """run.py GAMHILON [--record] [--mutate N] [--seed S]: tries the built program, crates/gamhilon.
 
 The cases of cases.py, small styles of which the rules of CSL 1.0.2 tell the texts; the command lines and files of faults.py, with
-their exit statuses and lines on standard error; the styles of examples/styles, which `gamhilon check` finds nothing in, and whose
-citations and bibliographies of documents/ read as pandoc 2.17 writes them (pandoc.json; --record writes that file anew, by the pandoc
-that is installed); N triples of files (300, if not said), of which one is changed by changes drawn by the seed (mutations.py): each is
-answered, or refused with a line; and runs in three styles of which each growth of memory is refused in turn (tests/documents/refuse.c, for which a C compiler must be
-there, and a program that brings no memory of its own, as that of `rt try` does). The last line is 'N passed, M failed', and the exit status is 1 where a test failed."""
+their exit statuses and lines on standard error; the styles of examples/styles, which `gamhilon check` finds nothing in, which are
+built in byte for byte, and whose citations and bibliographies of documents/ read as pandoc 2.17 writes them (pandoc.json; --record
+writes that file anew, by the pandoc that is installed); documents of examples and tests/documents, which `gamhilon render` answers
+as cite_run does; N triples of files (300, if not said), of which one is changed by changes drawn by the seed (mutations.py): each is
+answered, or refused with a line; and runs in three styles, and of `render`, of which each growth of memory is refused in turn
+(tests/documents/refuse.c, for which a C compiler must be there, and a program that brings no memory of its own, as that of `rt try`
+does). The last line is 'N passed, M failed', and the exit status is 1 where a test failed."""
 import argparse
+import glob
 import json
 import os
 import sys
@@ -15,6 +18,7 @@ import tempfile
 from concurrent.futures import ThreadPoolExecutor
 
 HERE = os.path.dirname(os.path.abspath(__file__))
+ROOT = os.path.dirname(os.path.dirname(HERE))
 sys.path.append(os.path.dirname(HERE))
 
 import pandoc
@@ -35,6 +39,16 @@ def ended(program, *words, given=None, **how):
     """Status, standard output and standard error of a run, as texts."""
     status, out, error = runs.ended([program, *words], (given or '').encode(), SECONDS, **how)
     return status, out.decode(), error.decode()
+
+
+def name_of(path):
+    """The name of a style, by the path of its file."""
+    return os.path.basename(path)[:-len('.csl')]
+
+
+def bases_of(*folders):
+    """The documents of folders, without the endings of their files."""
+    return [path[:-len('.json')] for folder in folders for path in sorted(glob.glob('%s/%s/*.json' % (ROOT, folder)))]
 
 
 def written(folder, files):
@@ -81,7 +95,7 @@ def try_fault(program, fault):
 
 def try_help(program):
     """Help and version are on standard output, and help has an example."""
-    for words in (['--help'], ['help'], ['cite', '-h'], ['bibliography', '--help']):
+    for words in (['--help'], ['help'], ['cite', '-h'], ['bibliography', '--help'], ['render', '-h'], ['styles', '-h']):
         status, out, error = ended(program, *words)
         if status or error or '\nUsage: gamhilon' not in out or '\nExample: ' not in out:
             raise Failed('%s: status %d, %r, %r' % (' '.join(words), status, out[:80], error))
@@ -125,6 +139,21 @@ def try_check(program, path):
         raise Failed('status %d, %r, %r' % (status, out, error))
 
 
+def try_names(program):
+    """The names of the styles that are built in are those of the files."""
+    names = [name_of(path) for path in pandoc.STYLES]
+    status, out, error = ended(program, 'styles')
+    if status or error or out.splitlines() != names:
+        raise Failed('status %d, %r, %r' % (status, out, error))
+
+
+def try_built_in(program, path):
+    """The style that is built in is the file, byte for byte."""
+    got = runs.ended([program, 'styles', name_of(path)], b'', SECONDS)
+    if got != (0, runs.read(path), b''):
+        raise Failed('status %d, %r, %r' % (got[0], got[1][:80], got[2]))
+
+
 def try_document(program, document, style, wanted):
     """The citations and the bibliography of a document read as pandoc writes them."""
     with tempfile.TemporaryDirectory(prefix='writer-') as folder:
@@ -138,16 +167,35 @@ def try_document(program, document, style, wanted):
                     raise Failed('%s\n    wanted %s\n    came   %s' % (verb, text, came))
 
 
+# Documents of cite_run
+
+
+def try_rendered(program, base):
+    """A document of tests/documents has the text or the status that cite_run gives it. Where it is refused, a line names it."""
+    is_refused = os.path.isfile(base + '.status')
+    wanted = (int(runs.read(base + '.status')), b'') if is_refused else (0, runs.read(base + '.txt'))
+    status, out, error = runs.ended([program, 'render', base + '.json'], b'', SECONDS)
+    is_told = error.startswith(base.encode() + b'.json: error: ') and error.count(b'\n') == 1 if is_refused else not error
+    if (status, out) != wanted or not is_told:
+        raise Failed('wanted %r\n    came   %r, %r' % (wanted, (status, out), error))
+
+
+def try_rendered_json(program):
+    """The JSON of an answer, on a line, is that which was worked out by hand."""
+    status, out, error = ended(program, 'render', '--to', 'json', ROOT + '/embed/tests/every_kind.json')
+    if status or error or out.count('\n') != 1 or json.loads(out) != json.loads(runs.read(ROOT + '/embed/tests/every_kind.answer.json')):
+        raise Failed('status %d, %r, %r' % (status, out, error))
+
+
 # Memory
 
 
-def refused_in_turn(program, verb, style):
+def refused_in_turn(program, words):
     """Each run with a growth refused ends with status 5 and a line that says so, with status 1 while a file is read, or with the
     answer; and at last none is refused."""
     with tempfile.TemporaryDirectory(prefix='writer-') as folder:
         shim = compiled(folder)
         written(folder, {'r.json': REFERENCES, 'c.json': CITATIONS})
-        words = [verb, '--style', style, 'r.json', 'c.json']
         answer = ended(program, *words, cwd=folder)[1]
         if not answer:
             raise Failed('there is no answer')
@@ -172,7 +220,7 @@ def refused_in_turn(program, verb, style):
                     break
     if refused <= LEAST_GROWTHS or refused != begin - 1 + sum(these):
         raise Failed('%d growths were refused' % refused)
-    print('%s in %s: %d growths refused in turn' % (verb, os.path.basename(style), refused))
+    print('%s: %d growths refused in turn' % (words[0], refused))
 
 
 # Changed files
@@ -211,8 +259,16 @@ def tests_of(options):
         for path in pandoc.STYLES:
             style = os.path.basename(path)
             tests.append(('%s in %s' % (name, style), try_document, document, path, recorded[name][style]))
+        built_in = name_of(pandoc.STYLES[0])
+        tests.append(('%s in %s, which is built in' % (name, built_in), try_document, document, built_in,
+                      recorded[name][built_in + '.csl']))
+    tests += [('names of styles', try_names), *[('built in: ' + name_of(path), try_built_in, path) for path in pandoc.STYLES]]
+    tests += [('rendered: ' + os.path.relpath(base, ROOT), try_rendered, base) for base in bases_of('examples', 'tests/documents/rows')]
+    tests.append(('rendered as JSON', try_rendered_json))
     for verb, path in zip(('cite', 'bibliography', 'cite'), pandoc.STYLES):
-        tests.append(('growths of memory: %s in %s' % (verb, os.path.basename(path)), refused_in_turn, verb, path))
+        tests.append(('growths of memory: %s in %s' % (verb, os.path.basename(path)), refused_in_turn,
+                      [verb, '--style', path, 'r.json', 'c.json']))
+    tests.append(('growths of memory: render', refused_in_turn, ['render', ROOT + '/examples/author_date.json']))
     tests.append(('changed files', try_mutations, options.mutate, options.seed))
     return tests
 

@@ -85,7 +85,7 @@ fn style<'a>(alloc: Global) -> Arg<'a> {
 fn forms<'a>(alloc: Global) -> [Arg<'a>; 3] {
     let formats: &'a [&'a str] = &["text", "html", "json"];
     [
-        format(alloc, formats),
+        form(alloc, formats),
         flag(alloc, "standalone", "A whole page of HTML"),
         flag(
             alloc,
@@ -127,7 +127,7 @@ fn document<'a>(alloc: Global) -> [Arg<'a>; 4] {
         .required(true)
         .help("A document of cite_run, in JSON");
     [
-        format(alloc, formats),
+        form(alloc, formats),
         limit(
             alloc,
             "depth",
@@ -163,7 +163,7 @@ fn styles<'a>(alloc: Global) -> Result<Command<'a>, AllocError> {
 // ---- options
 
 /// The option of the form of what is written, of which these are the names.
-fn format<'a>(alloc: Global, formats: &'a [&'a str]) -> Arg<'a> {
+fn form<'a>(alloc: Global, formats: &'a [&'a str]) -> Arg<'a> {
     valued(alloc, "to", "FORMAT", "The form of what is written (text)").value_parser(
         ValueParser::Names(formats),
     )

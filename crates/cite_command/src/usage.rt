@@ -35,9 +35,9 @@ pub(crate) const DOCUMENT_NOTES: &str = "\
 The children of a macro count at each of its calls, both for --depth and for --elements. The name -
 stands for the standard input.
 
-Example:
+Example: the answer to document.json as JSON,
 
-  gamhilon render document.json";
+  gamhilon render --to json document.json";
 
 /// What the help of the command of styles ends with.
 pub(crate) const STYLES_NOTES: &str = "\
