@@ -4,7 +4,7 @@
 //! is where the condition `disambiguate` tells the others from it. CSL gives them in the order of
 //! the bibliography, and has the condition hold for all of them. It is for the host to do so.
 use csl_lookup::state::DisambiguateState;
-use indexmap::IndexMap;
+use indexmap::{IndexMap, IndexSet};
 use std::alloc::{AllocError, Global};
 
 /// What disambiguates each work where it is shown. Works are named by their places in the
@@ -70,8 +70,7 @@ impl ShownStates {
     /// Settles the states of works, by what is to be shown of all of them.
     pub fn settle(&mut self, works: &[ToShow]) -> Result<(), AllocError> {
         self.settle_suffixes(works)?;
-        self.settle_choices(works);
-        Ok(())
+        self.settle_choices(works)
     }
 
     /// Works with suffixes that read alike, directly or by others, have them in the order of the
@@ -114,36 +113,51 @@ impl ShownStates {
     }
 
     /// The condition `disambiguate` holds for a work that read as one did for which it holds.
-    fn settle_choices(&mut self, works: &[ToShow]) {
+    fn settle_choices(&mut self, works: &[ToShow]) -> Result<(), AllocError> {
+        let count = self.chosen.len();
+        let texts = texts_of_chosen(self.alloc, &self.read, works, count)?;
+        let mut states: Vec<Option<&DisambiguateState>> = vec![in self.alloc; None; count]?;
         for work in works {
-            if self.is_spared(works, work) {
-                if let Some(chosen) = self.chosen.get_mut(work.place) {
+            if work.state.may_disambiguate_with_choose() {
+                if let Some(state) = states.get_mut(work.place) {
+                    *state = Some(&work.state);
+                }
+            }
+        }
+        for read in &self.read {
+            let state = states.get(read.place).copied().flatten();
+            if state == Some(&read.state) && texts.contains(&read.text.as_str()) {
+                if let Some(chosen) = self.chosen.get_mut(read.place) {
                     *chosen = true;
                 }
             }
         }
-    }
-
-    fn is_spared(&self, works: &[ToShow], work: &ToShow) -> bool {
-        if !work.state.may_disambiguate_with_choose() {
-            return false;
-        }
-        for own in &self.read {
-            if own.place != work.place || own.state != work.state {
-                continue;
-            }
-            for other in &self.read {
-                if other.text == own.text && is_chosen_in(works, other.place) {
-                    return true;
-                }
-            }
-        }
-        false
+        Ok(())
     }
 }
 
-fn is_chosen_in(works: &[ToShow], place: usize) -> bool {
-    works.iter().any(|work| work.place == place && work.state == DisambiguateState::Choose)
+/// How the works read, of so many, for which the condition `disambiguate` is to hold.
+fn texts_of_chosen<'r>(
+    alloc: Global,
+    read: &'r [ReadCite],
+    works: &[ToShow],
+    count: usize,
+) -> Result<IndexSet<&'r str>, AllocError> {
+    let mut are_chosen = vec![in alloc; false; count]?;
+    for work in works {
+        if work.state == DisambiguateState::Choose {
+            if let Some(chosen) = are_chosen.get_mut(work.place) {
+                *chosen = true;
+            }
+        }
+    }
+    let mut texts = IndexSet::new(alloc);
+    for read in read {
+        if are_chosen.get(read.place) == Some(&true) {
+            texts.insert(read.text.as_str())?;
+        }
+    }
+    Ok(texts)
 }
 
 /// Works in groups.
