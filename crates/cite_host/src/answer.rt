@@ -29,7 +29,7 @@ use host_table::table::Table;
 use indexmap::{IndexMap, IndexSet};
 use std::alloc::{AllocError, Global};
 use style_file::sections::Collapse;
-use style_file::style::CslStyle;
+use style_file::style::{CslStyle, StyleClass};
 
 /// A document.
 #[derive(Clone, Copy)]
@@ -38,6 +38,8 @@ pub struct Document<'d> {
     pub locale: &'d LocaleChain<'d>,
     pub references: &'d References,
     pub citations: &'d [Citation],
+    /// Whether the bibliography is wanted.
+    pub lists_items: bool,
 }
 
 /// What comes of a document.
@@ -46,7 +48,7 @@ pub struct Answer {
     /// A citation for each of the document, in its order; empty where nothing of it shows. Each
     /// cite is marked as an entry, by its place in the citation of the document.
     pub citations: Vec<Pieces>,
-    /// The bibliography; absent where the style has none.
+    /// The bibliography; absent where the style has none, or it isn't wanted.
     pub bibliography: Option<Vec<ListedItem>>,
 }
 
@@ -106,19 +108,22 @@ impl<'d> Document<'d> {
         items: &Items<'d>,
         citations: &[SortedCitation<'d>],
     ) -> Result<Written, AnswerError> {
-        let has_notes = self.has_notes();
+        let has_notes = self.has_notes(setting);
         let usual = driven_style(alloc, self.style, Shrinking::AsTheStyle, has_notes)?;
         let apart = driven_style(alloc, self.style, Shrinking::Never, has_notes)?;
         let mut writer = task_writer(alloc, setting, items, citations)?;
+        writer.lists_items = self.lists_items;
         let rendered = rendered_in(alloc, &usual, &apart, items, &mut writer)?;
         let TaskWriter { suffixes, .. } = writer;
         Ok(Written { rendered, suffixes })
     }
 
-    fn has_notes(&self) -> bool {
-        self.citations
-            .iter()
-            .any(|citation| citation.note.is_some())
+    /// Whether the numbers of notes are told to the driver: the style asks for them, and it is one
+    /// of notes, or citations tell theirs.
+    fn has_notes(&self, setting: Setting<'_>) -> bool {
+        setting.programs.asked_place.notes
+            && (self.style.class == StyleClass::Note
+                || self.citations.iter().any(|citation| citation.note.is_some()))
     }
 
     /// The answer as streams, with their punctuation in order.
@@ -140,8 +145,8 @@ impl<'d> Document<'d> {
             }
         }
         let bibliography = match &rendered.bibliography {
-            Some(bibliography) => Some(self.listed(alloc, bibliography)?),
-            None => None,
+            Some(bibliography) if self.lists_items => Some(self.listed(alloc, bibliography)?),
+            _ => None,
         };
         Ok(Answer {
             citations,
@@ -265,6 +270,8 @@ fn task_writer<'s, 'i, 'd>(
         given_names: given_names_of(alloc, setting.style, items.references.as_slice())?,
         states: ShownStates::new(alloc, items.entries.len())?,
         suffixes,
+        written: IndexMap::new(alloc),
+        lists_items: true,
     })
 }
 

@@ -12,7 +12,7 @@ use style_file::sections::{
     Bibliography, Citation, CitationOptions, Collapse, GivenNameRule, Layout, SecondFieldAlign,
     SubstituteRule,
 };
-use style_file::style::{CslStyle, StyleClass};
+use style_file::style::CslStyle;
 
 /// How the driver collapses cites.
 #[derive(Clone, Copy, PartialEq, Eq)]
@@ -22,7 +22,7 @@ pub(crate) enum Shrinking {
     Never,
 }
 
-/// What the driver has to know of a style, whose citations have numbers of notes if `has_notes`.
+/// What the driver has to know of a style, to which numbers of notes matter if `has_notes`.
 /// The name of the style is not looked at.
 pub(crate) fn driven_style(
     alloc: Global,
@@ -39,9 +39,10 @@ pub(crate) fn driven_style(
             category: Vec::new(alloc),
         },
         settings: driven::StyleSettings {
-            class: match style.class {
-                StyleClass::InText if !has_notes => driven::StyleClass::InText,
-                StyleClass::InText | StyleClass::Note => driven::StyleClass::Note,
+            class: if has_notes {
+                driven::StyleClass::Note
+            } else {
+                driven::StyleClass::InText
             },
             options: NO_OPTIONS,
         },

@@ -3,12 +3,14 @@
 #![tactic(auto)]
 
 pub mod answer;
+mod asking;
 pub mod cites;
 mod driven;
 mod entries;
 pub mod error;
 mod facts;
 mod joining;
+mod plain_cites;
 mod programs;
 mod requests;
 mod setting;

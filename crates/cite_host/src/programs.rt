@@ -1,4 +1,5 @@
 //! The programs of a style.
+use crate::asking::AskedPlace;
 use cite_program::build::program_of;
 use cite_program::program::{Program, ProgramError, Step};
 use cite_sorting::keys::Key;
@@ -18,6 +19,8 @@ pub(crate) struct Programs<'s> {
     /// Whether a year suffix stands behind the first date: no layout has a place for it (CSL 1.0.2,
     /// "Disambiguation").
     pub adds_year_suffix: bool,
+    /// What of the place of a cite its text depends on.
+    pub asked_place: AskedPlace,
 }
 
 /// The program of a bibliography.
@@ -48,6 +51,7 @@ impl<'s> Programs<'s> {
         let citation = program_of(alloc, macros, &style.citation.layout.elements)?;
         let adds_year_suffix = !writes_suffix(&citation) && !lists_suffix(&bibliography);
         Ok(Programs {
+            asked_place: AskedPlace::of_style(style, &citation),
             citation,
             citation_keys: keys_of(alloc, style, &style.citation.sort)?,
             bibliography,

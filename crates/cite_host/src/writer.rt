@@ -1,6 +1,7 @@
 //! What the driver asks for is written.
 use crate::entries::Items;
 use crate::joining::ShownSuffix;
+use crate::plain_cites::{KnownCite, PlainCite, copied};
 use crate::setting::Setting;
 use crate::sorting::SortedCitation;
 use crate::states::{ShownStates, ToShow};
@@ -20,7 +21,7 @@ use csl_lookup::purpose::CitePurpose;
 use csl_lookup::state::{CollapseVerdict, IdentifierUsage};
 use csl_writers::cite as driver;
 use host_table::key::{Standing, TaskKey, TaskPart};
-use indexmap::IndexSet;
+use indexmap::{IndexMap, IndexSet};
 use std::alloc::{AllocError, Global};
 use style_file::sections::Layout;
 use style_file::style::StyleClass;
@@ -36,6 +37,10 @@ pub(crate) struct TaskWriter<'s, 'i, 'd> {
     pub states: ShownStates,
     /// The suffixes that the cites show, by their places.
     pub suffixes: Vec<Vec<Option<ShownSuffix>>>,
+    /// What was written of cites that have neither locators nor words around them.
+    pub written: IndexMap<PlainCite, KnownCite>,
+    /// Whether items of the bibliography are written.
+    pub lists_items: bool,
 }
 
 /// A cite that is asked for.
@@ -106,11 +111,28 @@ impl<'s, 'i, 'd> TaskWriter<'s, 'i, 'd> {
         }
     }
 
+    /// Writes a cite; one of which the same was written isn't written again.
     fn write_cite(&mut self, asked: Asked<'_>) -> Result<driver::Cite, AllocError> {
+        self.note_suffix(asked);
+        let Some(plain) = self.plain_cite(asked)? else {
+            return self.write_anew(asked);
+        };
+        if let Some(cite) = self.known(asked, &plain)? {
+            return Ok(cite);
+        }
+        let cite = self.write_anew(asked)?;
+        let known = KnownCite {
+            cite: copied(&cite)?,
+            is_noted: asked.shown.is_none(),
+        };
+        self.written.insert(plain, known)?;
+        Ok(cite)
+    }
+
+    fn write_anew(&mut self, asked: Asked<'_>) -> Result<driver::Cite, AllocError> {
         let Some(cite) = self.cite_by_layout(asked)? else {
             return Ok(nothing(self.alloc));
         };
-        self.note_suffix(asked);
         let WrittenCite {
             pieces,
             names,
@@ -207,6 +229,9 @@ impl<'s, 'i, 'd> TaskWriter<'s, 'i, 'd> {
         let Some(bibliography) = self.setting.bibliography() else {
             return Ok(nothing(self.alloc));
         };
+        if !self.lists_items {
+            return Ok(nothing(self.alloc));
+        }
         let scene = self.setting.item_scene(bibliography);
         let WrittenCite {
             pieces,

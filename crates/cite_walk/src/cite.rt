@@ -35,7 +35,7 @@ pub enum SceneKind {
 }
 
 /// How a cite repeats the one before it.
-#[derive(Clone, Copy, PartialEq, Eq)]
+#[derive(Clone, Copy, PartialEq, Eq, Hash)]
 pub enum Repetition {
     Ibid,
     IbidWithLocator,

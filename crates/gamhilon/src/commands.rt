@@ -128,7 +128,15 @@ fn print_document(
     let language = found.language(options);
     let files = locales_of(rt, options, language)?;
     let locale = LocaleChain::new(rt.alloc(), language, &found.style.locales, &files)?;
-    let answer = answer_of(rt.alloc(), options, found, references, cited, &locale)?;
+    let lists_items = options.format == OutputFormat::Json || printed == Printed::Bibliography;
+    let document = Document {
+        style: &found.style,
+        locale: &locale,
+        references,
+        citations: &cited.citations,
+        lists_items,
+    };
+    let answer = answer_of(rt.alloc(), options, document, cited.count)?;
     let marks = locale.quote_marks();
     if options.format == OutputFormat::Json {
         return print_json(rt, &found.style, &cited.citations, &answer, marks);
@@ -143,20 +151,12 @@ fn print_document(
 fn answer_of(
     alloc: Global,
     options: &Options,
-    found: &FoundStyle,
-    references: &References,
-    cited: &Cited,
-    locale: &LocaleChain<'_>,
+    document: Document<'_>,
+    count: usize,
 ) -> Result<Answer, CommandError> {
-    let document = Document {
-        style: &found.style,
-        locale,
-        references,
-        citations: &cited.citations,
-    };
     match document.answer(alloc) {
         Ok(mut answer) => {
-            answer.citations.truncate(cited.count);
+            answer.citations.truncate(count);
             Ok(answer)
         }
         Err(error) => Err(placed(alloc, options, error)?),
