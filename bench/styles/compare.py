@@ -2,13 +2,14 @@
 """compare.py [--program FILE] [--texts | --each N] [STYLE..]: published styles by Gamhilon and by
 pandoc.
 
-Writes the citations of citations.json, of the works of references.json, in each style (those of
-styles.json where none is named), by the program gamhilon and by `pandoc --citeproc`, and prints
-which of them read alike, in the table of docs/STYLES.md; with --texts each text that doesn't, too.
-styles.json has by hand why citations differ, by the names of causes.json. The exit status is 1
-where a citation differs and no cause is told, where one is told and nothing differs, and, where no
-style is named, where docs/STYLES.md doesn't have the citations, the table and the causes as they
-are here.
+Writes the citations of citations.json, of the works of references.json, and their bibliography in
+each style (those of styles.json where none is named), by the program gamhilon and by `pandoc
+--citeproc`, and prints which of the citations and items read alike, in the tables of
+docs/STYLES.md; with --texts each text that doesn't, too. styles.json has by hand why citations
+differ, and items.json why items do, by the names of causes.json. The exit status is 1 where
+something differs and no cause is told, where one is told and nothing differs, and, where no style
+is named, where docs/STYLES.md doesn't have the citations, the tables and the causes as they are
+here.
 With --each N nothing is compared: each N-th of the published styles writes the citations and the
 bibliography, and those are told in which that ends with another status than 0.
 It needs the program (crates/gamhilon/out/gamhilon, or --program), Debian's
@@ -78,6 +79,26 @@ def by_pandoc(path, citations):
     return [normal(shown(block['c'])) for block in blocks[:len(citations)]]
 
 
+def items_in(blocks):
+    """The texts of the items of a bibliography in pandoc's document."""
+    items = []
+    for block in blocks:
+        if block['t'] == 'Div':
+            (_, classes, _), inside = block['c']
+            is_item = 'csl-entry' in classes
+            items += [normal(' '.join(map(shown, inside)))] if is_item else items_in(inside)
+    return items
+
+
+def items_by_pandoc(path, citations):
+    """The texts of the items of a bibliography in a style, by pandoc."""
+    text = '\n\n'.join(map(markdown, citations))
+    words = ['pandoc', '-f', 'markdown', '-t', 'json', '--citeproc', '--csl', path,
+             '--bibliography', f'{HERE}/references.json']
+    done = subprocess.run(words, input=text, capture_output=True, text=True, check=True)
+    return items_in(json.loads(done.stdout)['blocks'])
+
+
 # Gamhilon
 
 def ran(program, verb, path, citations):
@@ -95,6 +116,14 @@ def by_gamhilon(program, path, citations):
     if done.returncode:
         sys.exit(f'compare.py: {path}: status {done.returncode}: {done.stderr}')
     return [normal(line) for line in done.stdout.split('\n')[:len(citations)]]
+
+
+def items_by_gamhilon(program, path, citations):
+    """The texts of the items of a bibliography in a style, by the program."""
+    done = ran(program, 'bibliography', path, citations)
+    if done.returncode:
+        sys.exit(f'compare.py: {path}: status {done.returncode}: {done.stderr}')
+    return [normal(line) for line in done.stdout.split('\n') if line.strip()]
 
 
 def try_each(program, step, citations):
@@ -130,10 +159,10 @@ def path_of(name):
     return name if name.endswith('.csl') else f'{STYLES}/{name}.csl'
 
 
-def compare(program, name, citations, tells_texts):
-    """The numbers of the citations that read as pandoc's."""
-    path = path_of(name)
-    wanted, written = by_pandoc(path, citations), by_gamhilon(program, path, citations)
+def alike(name, wanted, written, tells_texts):
+    """The numbers of the texts that read as pandoc's."""
+    if len(wanted) != len(written):
+        sys.exit(f'compare.py: {name}: pandoc has {len(wanted)} texts, Gamhilon {len(written)}')
     for place, (one, other) in enumerate(zip(wanted, written)):
         if tells_texts and one != other:
             print(f'{name} {place + 1}\n    pandoc    {one}\n    Gamhilon  {other}')
@@ -151,9 +180,23 @@ def unexplained(told, count, equal):
     return sorted(explained ^ (set(range(1, count + 1)) - set(equal)))
 
 
-def table(results, all_styles, count):
-    """The lines of the table."""
-    lines = ['| Style | Equal | Why others differ |', '|---|---|---|']
+def compare(program, name, citations, tells_texts):
+    """The numbers of the citations that read as pandoc's."""
+    path = path_of(name)
+    return alike(name, by_pandoc(path, citations), by_gamhilon(program, path, citations),
+                 tells_texts)
+
+
+def compare_items(program, name, citations, tells_texts):
+    """The numbers of the items that read as pandoc's, in the order of the bibliography."""
+    path = path_of(name)
+    return alike(name, items_by_pandoc(path, citations),
+                 items_by_gamhilon(program, path, citations), tells_texts)
+
+
+def table(what, results, all_styles, count):
+    """The lines of the table of what is compared."""
+    lines = [f'| Style | {what} | Why others differ |', '|---|---|---|']
     for name, equal in results.items():
         cells = [name, f'{len(equal)}: {runs(equal)}', causes_of(all_styles.get(name, {}))]
         lines.append(f'| {" | ".join(cells)} |')
@@ -193,16 +236,21 @@ def main(words):
         return try_each(program, int(step), citations)
     tells_texts = '--texts' in words
     named = [word for word in words if word != '--texts']
-    results = {name: compare(program, name, citations, tells_texts)
-               for name in named or all_styles}
-    lines = table(results, all_styles, len(citations))
-    print(*lines, sep='\n')
-    wrong = {name: unexplained(all_styles.get(name, {}), len(citations), equal)
-             for name, equal in results.items()}
-    told = [f'{name}: not as styles.json says: {runs(numbers)}'
-            for name, numbers in wrong.items() if numbers]
+    names, works = named or list(all_styles), len(read('references.json'))
+    kinds = [('Citations', compare, all_styles, len(citations), 'styles.json'),
+             ('Items', compare_items, read('items.json'), works, 'items.json')]
+    told, printed = [], []
+    for what, compared, causes, count, file in kinds:
+        results = {name: compared(program, name, citations, tells_texts) for name in names}
+        lines = table(what, results, causes, count)
+        print(*lines, '', sep='\n')
+        printed += lines
+        wrong = {name: unexplained(causes.get(name, {}), count, equal)
+                 for name, equal in results.items()}
+        told += [f'{name}: not as {file} says: {runs(numbers)}'
+                 for name, numbers in wrong.items() if numbers]
     if not named:
-        told += [f'docs/STYLES.md lacks: {line}' for line in undocumented(lines, all_citations)]
+        told += [f'docs/STYLES.md lacks: {line}' for line in undocumented(printed, all_citations)]
     print(*told, sep='\n', end='\n' if told else '', file=sys.stderr)
     return 1 if told else 0
 
