@@ -375,8 +375,9 @@ def test_cite_takes_references_of_several_files_and_forms(cites, files, pybtex):
 def test_what_is_odd_is_told_and_costs_nothing(cites, files):
     words = ['cite', '--style', 'author-date', str(files / 'works.json')]
     assert run(*words, str(files / 'odd.json')) == (
-        0, '(Doe 1999)\n', 'gamhilon: warning: citation 0, cite 0, locater: cites have no such key, '
-        "left out: is 'locator' meant?\n")
+        0, '(Doe 1999)\n',
+        'gamhilon: warning: citation 0, cite 0, locater: cites have no such key, left out: '
+        "is 'locator' meant?\n")
     own = files / 'own.csl'
     own.write_text(gamhilon.styles.text('author-date').split('<bibliography')[0] + '</style>')
     status, out, error = run('bibliography', '--style', str(own), str(files / 'works.json'))

@@ -1,5 +1,5 @@
-"""python -m gamhilon: citations and reference lists in styles, documents answered, files checked, and
-references read."""
+"""python -m gamhilon: citations and reference lists in styles, documents answered, files checked,
+and references read."""
 from __future__ import annotations
 
 import argparse

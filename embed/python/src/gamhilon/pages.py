@@ -1,5 +1,5 @@
-"""Whole answers in each form that `python -m gamhilon` gives: those of `render`, and those of `cite`
-and `bibliography`."""
+"""Whole answers in each form that `python -m gamhilon` gives: those of `render`, and those of
+`cite` and `bibliography`."""
 from __future__ import annotations
 
 import json
