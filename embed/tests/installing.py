@@ -151,7 +151,7 @@ def try_filter(folder, wheels, how):
     hold_page('CSL-JSON', how)
     readers = installed(f'{folder}/venv_with_readers', wheels, '--system-site-packages')
     for form, module in (('BibLaTeX', 'pybtex'), ('YAML', 'yaml')):
-        if ran('python', '-c', f'import {module}', **readers).returncode:
+        if readers is None or ran('python', '-c', f'import {module}', **readers).returncode:
             left_out.append(f'the page of 25 citations of {form}: this Python has no {module}')
         else:
             hold_page(form, readers)
