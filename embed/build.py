@@ -12,8 +12,10 @@ a C compiler (CC, or cc) with its binutils.
     --wheel         build the Python package's wheel too, in out/
     --wheel-only    build the wheel of what is in out/, and nothing else
     --release       build the wheel and the archive of a release (release.py), in out/; with
-                    --after-ci of the program that `rt ci` built, else of one that `rt run` proves
-                    and builds first
+                    --after-ci of the programs that `rt ci` built, else of those that `rt run`
+                    proves and builds first
+    --install FOLDER  put what is in out/ and the programs that are built below a folder, such as
+                    /usr/local, as the archive of a release has it, and nothing else
 It tells each step, and during a proof how far that is.
 """
 import json
@@ -56,10 +58,10 @@ def ran(*words, where=HERE):
     check_status(words[0], subprocess.run(words, cwd=where).returncode)
 
 
-def run_and_tell(*words):
-    """Runs a command that proves, and tells now and then how far it is."""
-    began, below = time.monotonic(), libraries_below('gamhilon_c')
-    process = subprocess.Popen(words, cwd=CRATE)
+def run_and_tell(crate, *words, **how):
+    """Runs a command that proves a crate, in its folder, and tells now and then how far it is."""
+    began, below = time.monotonic(), libraries_below(crate)
+    process = subprocess.Popen(words, cwd=f'{ROOT}/crates/{crate}', **how)
     while True:
         try:
             return check_status(words[0], process.wait(PAUSE))
@@ -144,7 +146,7 @@ def compile_after_ci(kit_folder):
               '--backend', 'llvm']
     os.makedirs(os.path.dirname(ARCHIVE), exist_ok=True)
     tell('proving and compiling crates/gamhilon_c, over the libraries that rt ci left')
-    run_and_tell(f'{kit_folder}/bin/rattle', 'build', *words, '-o', ARCHIVE)
+    run_and_tell('gamhilon_c', f'{kit_folder}/bin/rattle', 'build', *words, '-o', ARCHIVE)
 
 
 def version():
@@ -180,35 +182,40 @@ def defines(archive, name):
     return any(line.split()[-1:] == [name] for line in done.stdout.splitlines())
 
 
-def link(compiler, archive, kit_folder, folder, note):
+def link(archive, kit_folder, folder, note):
     """One object that shows the exports alone, as an archive and as a shared object, in a
     folder."""
     about = '; '.join(f'{name} {said}' for name, said in note.items() if said)
+    words = compiler()
     whole = ['-Wl,--whole-archive', archive, '-Wl,--no-whole-archive']
     libraries = [f'{kit_folder}/c/liblibc_c.a'] if kit_folder else []
     if not defines(archive, 'gamhilon_version'):
-        ran(*compiler, '-O2', '-fPIC', f'-I{HERE}', f'-DGAMHILON_ABOUT="{about}"', '-c', '-o',
-            f'{folder}/about.o',
-            f'{HERE}/c/about.c')
+        ran(*words, '-O2', '-fPIC', f'-I{HERE}', f'-DGAMHILON_ABOUT="{about}"', '-c', '-o',
+            f'{folder}/about.o', f'{HERE}/c/about.c')
         whole.append(f'{folder}/about.o')
-    ran(*compiler, '-r', '-nostdlib', '-o', f'{folder}/gamhilon.o', *whole, *libraries)
+    ran(*words, '-r', '-nostdlib', '-o', f'{folder}/gamhilon.o', *whole, *libraries)
     ran('objcopy', *[f'--keep-global-symbol={name}' for name in EXPORTS], f'{folder}/gamhilon.o')
     ran('ar', 'rcs', f'{folder}/libgamhilon.a', 'gamhilon.o', where=folder)
     soname = f'libgamhilon.so.{version().split(".")[0]}'
     own = [f'-Wl,-soname,{soname}', '-Wl,--gc-sections', '-Wl,-z,defs', '-Wl,-z,relro,-z,now']
-    ran(*compiler, '-shared', '-o', f'{folder}/{soname}', f'{folder}/gamhilon.o', *own)
+    ran(*words, '-shared', '-o', f'{folder}/{soname}', f'{folder}/gamhilon.o', *own)
     os.symlink(soname, f'{folder}/libgamhilon.so')
+
+
+def compiler():
+    """The C compiler, and the options that CC has."""
+    words = os.environ.get('CC', '').split() or ['cc']
+    if not shutil.which(words[0]):
+        sys.exit(f'build.py: there is no C compiler {words[0]}: set CC')
+    return words
 
 
 def build(archive, kit_folder):
     """Links the archive, and puts all that was built into out/ once it is there."""
-    compiler = os.environ.get('CC', 'cc').split()
-    if not shutil.which(compiler[0]):
-        sys.exit(f'build.py: there is no C compiler {compiler[0]}: set CC')
     tell(f'linking {os.path.relpath(archive)}')
     with tempfile.TemporaryDirectory(dir=HERE, prefix='.out-') as folder:
         note = note_of(archive)
-        link(compiler, archive, kit_folder, folder, note)
+        link(archive, kit_folder, folder, note)
         for name in ('gamhilon.o', 'about.o'):
             if os.path.exists(f'{folder}/{name}'):
                 os.remove(f'{folder}/{name}')
@@ -235,36 +242,54 @@ def build_wheel():
     tell(f'built {os.path.relpath(OUT)}/{name}')
 
 
-def build_program():
-    """Has `rt run` prove and build the program, whose example it answers."""
-    tell('rt run proves and builds crates/cite_run')
-    with open(f'{ROOT}/crates/cite_run/stdin', 'rb') as example:
-        done = subprocess.run(['rt', 'run'], cwd=f'{ROOT}/crates/cite_run', stdin=example,
-                              stdout=subprocess.DEVNULL)
-    check_status('rt', done.returncode)
+def build_programs():
+    """Has `rt run` prove and build the programs: of a document, and by styles."""
+    for name, words in (('cite_run', []), ('gamhilon', ['--', '--version'])):
+        tell(f'rt run proves and builds crates/{name}')
+        with open(f'{ROOT}/crates/cite_run/stdin', 'rb') as example:
+            run_and_tell(name, 'rt', 'run', *words, stdin=example, stdout=subprocess.DEVNULL)
+
+
+def releasing():
+    """release.py, which stands beside this file."""
+    sys.path.insert(0, HERE)
+    import release
+    return release
 
 
 def build_release():
-    """The archive of a release, in out/, of the library that is there and the built program."""
-    sys.path.insert(0, HERE)
-    import release
+    """The archive of a release, in out/, of the library that is there and the built programs."""
     with open(f'{OUT}/{NOTE}', encoding='utf-8') as file:
         note = json.load(file)
     try:
-        name = release.make(version(), os.environ.get('CC', 'cc').split(), note)
+        name = releasing().make(version(), compiler(), note)
     except OSError as error:
         sys.exit(f'build.py: no release: {error}')
     tell(f'built {os.path.relpath(OUT)}/{name}')
 
 
+def install(folder):
+    """Puts what is built below a folder."""
+    release = releasing()
+    for name in release.missing_programs():
+        tell(f'left out: the program {name}, which is not built (--release builds it)')
+    try:
+        paths = release.install(version(), compiler(), os.path.abspath(folder))
+    except OSError as error:
+        sys.exit(f'build.py: not installed: {error}')
+    tell(f'installed {len(paths)} files below {folder}')
+
+
 def main(words):
     if words == ['--wheel-only']:
         return build_wheel()
+    if words[:1] == ['--install'] and len(words) == 2:
+        return install(words[1])
     with_release = '--release' in words
     with_wheel = with_release or '--wheel' in words
     words = [word for word in words if word not in ('--wheel', '--release')]
     if with_release and words[:1] == ['--archive']:
-        sys.exit('build.py: no release of an archive: the toolchain builds the program beside it')
+        sys.exit('build.py: no release of an archive: the toolchain builds the programs beside it')
     kit_folder, archive = kit(), ARCHIVE
     if words[:1] == ['--archive'] and len(words) == 2:
         archive = os.path.abspath(words[1])
@@ -281,9 +306,9 @@ def main(words):
         count = len(libraries_below('gamhilon_c'))
         tell(f'rt lib proves and compiles crates/gamhilon_c, over {count} libraries, and keeps '
              'what it proved; from nothing that takes half an hour to an hour')
-        run_and_tell('rt', 'lib')
+        run_and_tell('gamhilon_c', 'rt', 'lib')
     if with_release and not words:
-        build_program()
+        build_programs()
     build(archive, kit_folder)
     if with_wheel:
         build_wheel()

@@ -1,11 +1,13 @@
 """release.py: the archive of a release, of what build.py has built: the programs, the library, the
-header, the files for pkg-config and CMake, the licences, and a list of checksums, which tells the
-commit and the toolchain that proved it."""
+header, the files for pkg-config and CMake, styles, a locale file, the licences, and a list of
+checksums, which tells the commit and the toolchain that proved it. The same files can be installed
+below a folder."""
 import gzip
 import hashlib
 import io
 import os
 import platform
+import re
 import subprocess
 import sys
 import tarfile
@@ -13,7 +15,10 @@ import tarfile
 HERE = os.path.dirname(os.path.abspath(__file__))
 ROOT = os.path.dirname(HERE)
 OUT = f'{HERE}/out'
-PROGRAM = f'{ROOT}/crates/cite_run/out/cite_run'
+PROGRAMS = ('cite_run', 'gamhilon')
+CALLERS = {'gamhilon-print': 'print.c', 'gamhilon-cite': 'cite.c'}
+STYLES = f'{ROOT}/examples/styles'
+WORDS = f'{ROOT}/crates/english_locale/src/words.rt'
 LICENSES = ('LICENSE', 'LICENSE-MIT', 'LICENSE-APACHE')
 SUMS = 'SHA256SUMS'
 TIME = 1767225600  # the first of January 2026, so that what is built once makes one archive
@@ -23,6 +28,16 @@ LIBRARY, PROGRAM_MODE, FILE_MODE = 'libgamhilon', 0o755, 0o644
 def read(path):
     with open(path, 'rb') as file:
         return file.read()
+
+
+def program(name):
+    """Where the program of a crate is built."""
+    return f'{ROOT}/crates/{name}/out/{name}'
+
+
+def missing_programs():
+    """The programs that aren't built."""
+    return [name for name in PROGRAMS if not os.path.exists(program(name))]
 
 
 def filled(name, version):
@@ -39,35 +54,60 @@ def pkg_config(version):
     return text.encode()
 
 
-def compiled_caller(compiler):
-    """The program of c/print.c, linked with the library."""
-    path = f'{OUT}/gamhilon-print'
-    done = subprocess.run([*compiler, '-O2', f'-I{HERE}', '-o', path, f'{HERE}/c/print.c',
+def compiled_caller(compiler, source):
+    """A program of c/, linked with the library."""
+    path = f'{OUT}/{source}.part'
+    done = subprocess.run([*compiler, '-O2', f'-I{HERE}', '-o', path, f'{HERE}/c/{source}',
                            f'{OUT}/{LIBRARY}.a'])
     if done.returncode:
         sys.exit(f'release.py: {compiler[0]} ended with status {done.returncode}')
-    program = read(path)
+    made = read(path)
     os.remove(path)
-    return program
+    return made
 
 
-def files(version, compiler):
-    """The files of the archive, by their paths in it, but for the links and the checksums."""
-    found = {'bin/cite_run': read(PROGRAM), 'bin/gamhilon-print': compiled_caller(compiler),
-             'include/gamhilon.h': read(f'{OUT}/gamhilon.h'),
-             'lib/pkgconfig/gamhilon.pc': pkg_config(version)}
+def english_locale():
+    """The locale file of American English, whose words the library has built in."""
+    return re.search(rb'r#"(.*?)"#', read(WORDS), re.DOTALL).group(1)
+
+
+def shared_files():
+    """Styles and the locale file, by their paths."""
+    found = {'share/gamhilon/locales/locales-en-US.xml': english_locale()}
+    for name in sorted(os.listdir(STYLES)):
+        if name.endswith('.csl'):
+            found[f'share/gamhilon/styles/{name}'] = read(f'{STYLES}/{name}')
+    return found
+
+
+def files(version, compiler, programs):
+    """The files of the archive, by their paths in it, but for the links and the checksums. Raises
+    OSError where a program isn't built."""
+    found = {f'bin/{name}': read(program(name)) for name in programs}
+    found.update({f'bin/{name}': compiled_caller(compiler, source)
+                  for name, source in CALLERS.items()})
+    found.update({'include/gamhilon.h': read(f'{OUT}/gamhilon.h'),
+                  'lib/pkgconfig/gamhilon.pc': pkg_config(version), **shared_files()})
     for name in (f'{LIBRARY}.a', soname(version)):
         found[f'lib/{name}'] = read(f'{OUT}/{name}')
     for name in ('gamhilon-config.cmake', 'gamhilon-config-version.cmake'):
         found[f'lib/cmake/gamhilon/{name}'] = filled(name, version)
-    for name in LICENSES:
-        found[name] = read(f'{ROOT}/{name}')
     return found
+
+
+def links(version):
+    """The links of the archive, with what they lead to."""
+    return {f'lib/{LIBRARY}.so': soname(version)}
 
 
 def soname(version):
     """The name of the shared object, which stays as long as the calls do."""
     return f'{LIBRARY}.so.{version.split(".")[0]}'
+
+
+def mode(path):
+    """Who may do what with a file."""
+    return PROGRAM_MODE if path.startswith('bin/') else FILE_MODE
 
 
 def checksums(found, version, note):
@@ -79,23 +119,22 @@ def checksums(found, version, note):
     return ''.join(lines).encode()
 
 
-def entry_of(path, mode=FILE_MODE):
+def entry_of(path, rights=FILE_MODE):
     """What an archive says of a file, of nobody and at a fixed time."""
     entry = tarfile.TarInfo(path)
-    entry.mode, entry.mtime = mode, TIME
+    entry.mode, entry.mtime = rights, TIME
     return entry
 
 
-def packed(stem, found, links):
+def packed(stem, found, linked):
     """The archive of these files and links, in one folder."""
     tar = io.BytesIO()
     with tarfile.open(fileobj=tar, mode='w', format=tarfile.GNU_FORMAT) as archive:
         for path, data in sorted(found.items()):
-            entry = entry_of(f'{stem}/{path}',
-                             PROGRAM_MODE if path.startswith('bin/') else FILE_MODE)
+            entry = entry_of(f'{stem}/{path}', mode(path))
             entry.size = len(data)
             archive.addfile(entry, io.BytesIO(data))
-        for path, target in links.items():
+        for path, target in linked.items():
             entry = entry_of(f'{stem}/{path}', 0o777)
             entry.type, entry.linkname = tarfile.SYMTYPE, target
             archive.addfile(entry)
@@ -104,15 +143,41 @@ def packed(stem, found, links):
 
 def make(version, compiler, note):
     """Writes the archive into out/, and the checksum of each archive and wheel there. Gives its
-    name."""
+    name. Raises OSError where a program isn't built."""
     stem = f'gamhilon-{version}-linux-{platform.machine()}'
-    found = files(version, compiler)
+    found = files(version, compiler, PROGRAMS)
+    found.update({name: read(f'{ROOT}/{name}') for name in LICENSES})
     found[SUMS] = checksums(found, version, note)
     name = f'{stem}.tar.gz'
     with open(f'{OUT}/{name}', 'wb') as file:
-        file.write(packed(stem, found, {f'lib/{LIBRARY}.so': soname(version)}))
+        file.write(packed(stem, found, links(version)))
     wheels = [wheel for wheel in os.listdir(OUT) if wheel.endswith('.whl')]
     with open(f'{OUT}/{SUMS}', 'wb') as file:
         file.write(checksums({path: read(f'{OUT}/{path}') for path in [name, *wheels]}, version,
                              note))
     return name
+
+
+def install(version, compiler, prefix):
+    """Puts what is built below a folder, as the archive has it, and the licences into its
+    share/doc. Gives the paths. A program that isn't built is left out. Raises OSError where a file
+    can't be written."""
+    missing = missing_programs()
+    found = files(version, compiler, [name for name in PROGRAMS if name not in missing])
+    found.update({f'share/doc/gamhilon/{name}': read(f'{ROOT}/{name}') for name in LICENSES})
+    for path, data in found.items():
+        put(f'{prefix}/{path}', data, mode(path))
+    for path, target in links(version).items():
+        if os.path.lexists(f'{prefix}/{path}'):
+            os.remove(f'{prefix}/{path}')
+        os.symlink(target, f'{prefix}/{path}')
+    return sorted([*found, *links(version)])
+
+
+def put(path, data, rights):
+    """Writes a file, whole or not at all: what runs of an older one stays as it is."""
+    os.makedirs(os.path.dirname(path), exist_ok=True)
+    with open(f'{path}.part', 'wb') as file:
+        file.write(data)
+    os.chmod(f'{path}.part', rights)
+    os.replace(f'{path}.part', path)

@@ -14,18 +14,20 @@ import glob
 import json
 import os
 import resource
-import shutil
 import subprocess
 import sys
-import tarfile
 import tempfile
 import time
 import xml.etree.ElementTree
 from concurrent.futures import ThreadPoolExecutor
 
 HERE = os.path.dirname(os.path.abspath(__file__))
-OUT = f'{HERE}/out'
-ROOT = os.path.dirname(HERE)
+sys.path[:0] = [HERE, f'{HERE}/tests']
+
+import installing  # noqa: E402
+from checks import OUT, ROOT, failures, has_tool, hold, left_out  # noqa: E402
+from checks import passed, plain, printed, ran, read  # noqa: E402
+
 FORMS = ('text', 'json')
 STACK_TOLD = 256 * 1024
 STACK_OF_TEXTS = 2 * 1024 * 1024
@@ -34,26 +36,6 @@ TEN = ['rows/*.json', 'layouts/*.json', 'disambiguation/*.json', 'grouping/*.jso
        'collapsing/*.json', 'bibliography/*.json', 'parts/*.json', 'purposes/*.json',
        'hostile/*.json', 'refused/*.json']
 FEW_CALLS = 300
-passed, failures, left_out = 0, [], []
-
-
-def hold(holds, what):
-    """Counts a test."""
-    global passed
-    if holds:
-        passed += 1
-    else:
-        failures.append(what)
-        print(f'FAILED: {what}')
-
-
-def ran(*words, timeout=170, **how):
-    return subprocess.run(words, capture_output=True, timeout=timeout, **how)
-
-
-def read(path):
-    with open(path, 'rb') as file:
-        return file.read()
 
 
 class Case:
@@ -64,32 +46,6 @@ class Case:
         self.path, self.name, self.bytes = path, os.path.relpath(path, ROOT), read(path)
         self.status = int(read(f'{stem}.status')) if os.path.exists(f'{stem}.status') else 0
         self.text = read(f'{stem}.txt') if os.path.exists(f'{stem}.txt') else b''
-
-
-def plain(node):
-    if isinstance(node, list):
-        return ''.join(map(plain, node))
-    if 'children' in node:
-        return plain(node['children'])
-    return node.get('text', node.get('markup', ''))
-
-
-def printed(answer):
-    """What docs/ANSWER.md says that an answer is printed as."""
-    lines = [plain(citation['content']) for citation in answer['citations']]
-    if 'bibliography' in answer:
-        items = answer['bibliography']['items']
-        lines += ['',
-                  *[item['key'] + '\t' + plain(item.get('first_field', [])) + plain(item['content'])
-                    for item in items]]
-    return ''.join(line + '\n' for line in lines)
-
-
-def has_tool(name, what):
-    if shutil.which(name):
-        return True
-    left_out.append(f'{what}: there is no {name}')
-    return False
 
 
 def compile_all(folder):
@@ -241,7 +197,6 @@ def try_limits(folder, cases):
     """gamhilon_check_limits: of layouts of a known size and of those of each document, in the stack
     that the header tells; and that it doesn't take long. What is within the limits is answered in
     that stack, and refused memory is told beyond them too."""
-    sys.path.insert(0, f'{HERE}/tests')
     import layouts
     known = [(put(folder, what, document), *size) for what, document, *size in layouts.KNOWN]
     allowed = [(put(folder, what, document), *size) for what, document, *size, _ in layouts.ALLOWED]
@@ -354,7 +309,6 @@ def answers_of_texts(folder, length, places):
 def try_texts(folder):
     """Citations of texts: the answers, the warnings and the faults of tests/texts.py, in a buffer
     that fits and in one of a byte."""
-    sys.path.insert(0, f'{HERE}/tests')
     import texts
     schema = validator('answer')
     answered = [put_texts(folder, f'answered {number}', case[1])
@@ -525,138 +479,6 @@ def try_driving():
          f'the driven call and its model: {told[-1200:]}')
 
 
-def try_package(folder):
-    """`pip install embed/python`, and then a document in a process that knows nothing of this
-    folder."""
-    if ran(sys.executable, '-m', 'pip', '--version').returncode:
-        left_out.append('installing the Python package: there is no pip')
-        return
-    made = ran(sys.executable, '-m', 'pip', 'install', '-q', '--no-index', '--target',
-               f'{folder}/site', f'{HERE}/python')
-    hold(made.returncode == 0, f'pip install: {made.stderr.decode()[-600:]}')
-    words = ('import gamhilon, sys; sys.stdout.write(gamhilon.print_document(sys.stdin.read())); '
-             'print(gamhilon.__file__)')
-    how = {'cwd': folder, 'env': {'PYTHONPATH': f'{folder}/site', 'PATH': os.environ['PATH']}}
-    done = ran(sys.executable, '-c', words, input=read(f'{ROOT}/examples/first.json'), **how)
-    wanted = read(f'{ROOT}/examples/first.txt') + f'{folder}/site/gamhilon/__init__.py\n'.encode()
-    hold(done.stdout == wanted, 'the installed package')
-
-
-def try_wheel(folder):
-    """The wheel in a fresh virtual environment, used as its user would."""
-    if ran(sys.executable, '-m', 'venv', f'{folder}/venv').returncode:
-        left_out.append(
-            'the wheel in a fresh virtual environment: venv makes none (Debian: python3-venv)')
-        return
-    made = ran(sys.executable, f'{HERE}/build.py', '--archive', f'{OUT}/libgamhilon.a', '--wheel',
-               env={**os.environ, 'PATH': without_rt(folder)})
-    hold(made.returncode == 0,
-         f'build.py --archive --wheel, with no toolchain: {made.stderr.decode()[-600:]}')
-    wheels = glob.glob(f'{OUT}/*.whl')
-    hold(len(wheels) == 1, f'one wheel: {wheels}')
-    bin_folder = f'{folder}/venv/bin'
-    how = {'cwd': folder, 'env': {'PATH': f'{bin_folder}:{os.environ["PATH"]}'}}
-    made = ran(f'{bin_folder}/pip', 'install', '-q', '--no-index', '--disable-pip-version-check',
-               *wheels, **how)
-    hold(made.returncode == 0, f'pip install of the wheel: {made.stderr.decode()[-600:]}')
-    first, text = f'{ROOT}/examples/first.json', read(f'{ROOT}/examples/first.txt')
-    hold(ran('gamhilon', 'render', first, **how).stdout == text, 'gamhilon render, from the wheel')
-    told = ran('python', '-m', 'gamhilon', '--version', **how).stdout.decode()
-    note = json.loads(read(f'{OUT}/gamhilon_build.json'))
-    hold(all(str(value or 'unknown') in told for value in note.values()),
-         f'the version of the wheel: {told}')
-    if has_tool('pandoc', 'the filter from the wheel'):
-        with open(f'{folder}/refs.json', 'w', encoding='utf-8') as file:
-            file.write('[{"id": "doe99", "title": "On Order", "author": [{"family": "Doe"}], '
-                       '"issued": {"date-parts": [[1999]]}}]')
-        words = ['pandoc', '--filter', 'gamhilon-pandoc', '-M', 'bibliography=refs.json', '-t',
-                 'plain']
-        hold(ran(*words, input=b'[@doe99, p. 4]', **how).stdout.startswith(b'(Doe 1999, p. 4)\n'),
-             'gamhilon-pandoc, from the wheel')
-
-
-def try_release(folder):
-    """The archive of a release, used as its user would."""
-    sys.path.insert(0, HERE)
-    import build
-    import release
-    if not os.path.exists(release.PROGRAM):
-        left_out.append('the archive of a release: there is no built cite_run')
-        return
-    note = json.loads(read(f'{OUT}/gamhilon_build.json'))
-    name = release.make(build.version(), os.environ.get('CC', 'cc').split(), note)
-    with tarfile.open(f'{OUT}/{name}') as archive:
-        archive.extractall(folder)
-    place = f'{folder}/{name[:-len(".tar.gz")]}'
-    done = ran('sha256sum', '--check', '--strict', '--quiet', 'SHA256SUMS', cwd=place)
-    hold(done.returncode == 0, f'the checksums of a release: {done.stderr.decode()}')
-    about = read(f'{place}/SHA256SUMS').decode().splitlines()[0]
-    hold(all(str(value or 'unknown') in about for value in note.values()),
-         f'what proved a release: {about}')
-    first, text = read(f'{ROOT}/examples/first.json'), read(f'{ROOT}/examples/first.txt')
-    for program in ('cite_run', 'gamhilon-print'):
-        hold(ran(f'{place}/bin/{program}', input=first).stdout == text, f'{program} of a release')
-
-
-def without_rt(folder):
-    """A PATH in which there is all but the toolchain."""
-    os.makedirs(f'{folder}/bin', exist_ok=True)
-    for entry in reversed(os.environ['PATH'].split(':')):
-        for name in os.listdir(entry) if os.path.isdir(entry) else []:
-            at = f'{folder}/bin/{name}'
-            if name not in ('rt', 'rattle'):
-                if os.path.lexists(at):
-                    os.remove(at)
-                os.symlink(f'{entry}/{name}', at)
-    return f'{folder}/bin'
-
-
-def try_building():
-    """What build.py makes, and that it leaves that alone where it can't build."""
-    before = sorted(os.listdir(OUT))
-    done = ran(sys.executable, f'{HERE}/build.py', '--archive', 'nofile.a')
-    hold(done.returncode == 1 and b'nofile.a' in done.stderr,
-         'an archive that is not there is told')
-    hold(sorted(os.listdir(OUT)) == before, 'out/ stays where there is no archive')
-    sys.path.insert(0, HERE)
-    import build
-    shown = ran('nm', '-D', '--defined-only', f'{OUT}/libgamhilon.so').stdout.decode().split()[2::3]
-    hold(sorted(shown) == sorted(build.EXPORTS),
-         f'the shared object shows its exports alone: {shown}')
-    soname = f'libgamhilon.so.{build.version().split(".")[0]}'
-    hold(soname in ran('objdump', '-p', f'{OUT}/libgamhilon.so').stdout.decode(),
-         f'the name of the shared object is {soname}')
-
-
-def try_about(folder):
-    """The version and the texts of the statuses."""
-    sys.path.insert(0, HERE)
-    import build
-    lines = ran(f'{folder}/about').stdout.decode().splitlines()
-    hold(lines[0] == f'{build.version()} {build.version()}', 'the version of the header')
-    note = json.loads(read(f'{OUT}/gamhilon_build.json'))
-    hold(lines[1].startswith(build.version())
-         and all(value in lines[1] for value in note.values() if value),
-         'the version of the library')
-    hold(len(lines) == 13 and len(set(lines[2:])) == 10 and lines[3] == lines[12],
-         'each status has a text of its own, and others one')
-
-
-def try_cmake(folder):
-    """pkg-config, and the CMake example."""
-    if not (has_tool('pkg-config', 'gamhilon.pc') and has_tool('cmake', 'the CMake example')):
-        return
-    environment = {**os.environ, 'PKG_CONFIG_PATH': OUT}
-    told = ran('pkg-config', '--cflags', '--libs', 'gamhilon',
-               env=environment).stdout.decode().split()
-    hold(told == [f'-I{OUT}', f'-L{OUT}', '-lgamhilon'], f'gamhilon.pc: {told}')
-    for words in (['-S', f'{HERE}/c', '-B', f'{folder}/cmake'], ['--build', f'{folder}/cmake']):
-        made = ran('cmake', *words, env=environment)
-        hold(made.returncode == 0, f'cmake {words[0]}: {made.stderr.decode()[-600:]}')
-    text = ran(f'{folder}/cmake/print', input=read(f'{ROOT}/examples/first.json')).stdout
-    hold(text == read(f'{ROOT}/examples/first.txt'), 'the program that CMake built')
-
-
 def python_with_pytest():
     """This Python, or Debian's: the one that has more of what the package's tests use; None where
     neither has pytest."""
@@ -675,7 +497,6 @@ def try_tests_of_the_package(folder):
         left_out.append(
             'the tests of the Python package: there is no pytest (Debian: python3-pytest)')
         return
-    global passed
     report = f'{folder}/pytest.xml'
     environment = {name: value for name, value in os.environ.items() if name != 'GAMHILON_LIBRARY'}
     words = ['-m', 'pytest', '-q', '-p', 'no:cacheprovider', f'--junitxml={report}', 'tests']
@@ -691,50 +512,6 @@ def try_tests_of_the_package(folder):
             hold(case.find('failure') is None and case.find('error') is None, name)
     left_out.extend(f'{count} tests of the Python package: {reason}'
                     for reason, count in reasons.items())
-
-
-def compile_crate(folder):
-    """The crate of Rust, with no network, and its tests. Gives its program, or none where there is
-    no cargo."""
-    if not has_tool('cargo', 'the crate in Rust'):
-        return None
-    environment = {**os.environ, 'CARGO_TARGET_DIR': f'{folder}/target'}
-    for words in (['build', '--release'], ['test']):
-        made = ran('cargo', *words, '--offline', '--quiet', cwd=f'{HERE}/rust', env=environment,
-                   timeout=600)
-        hold(made.returncode == 0,
-             f'cargo {words[0]}: {(made.stdout + made.stderr).decode()[-1200:]}')
-    missing = ran('cargo', 'build', '--offline', '--quiet', cwd=f'{HERE}/rust',
-                  env={**environment, 'GAMHILON_LIB_DIR': folder})
-    hold(missing.returncode != 0 and b'embed/build.py' in missing.stderr,
-         'the crate tells where the library is missing')
-    return f'{folder}/target/release/gamhilon-print'
-
-
-def try_callers(folder):
-    """The callers in C and in Rust, as programs."""
-    programs = {'c/print.c': f'{folder}/print', 'rust': compile_crate(folder)}
-    first, text = read(f'{ROOT}/examples/first.json'), read(f'{ROOT}/examples/first.txt')
-    for name, program in programs.items():
-        if not program:
-            continue
-        hold(ran(program, input=first).stdout == text, f'{name}: examples/first.json')
-        answer = ran(program, 'json', input=first).stdout
-        hold(answer[:1] == b'{' and printed(json.loads(answer)).encode() == text,
-             f'{name}: JSON of examples/first.json')
-        done = ran(program, input=b'{')
-        hold(done.returncode == 2 and b'not of the form of a document' in done.stderr,
-             f'{name}: what is no document')
-        with open('/dev/full', 'wb') as full:
-            done = subprocess.run([program], input=first, stdout=full, stderr=subprocess.PIPE,
-                                  timeout=60)
-        hold(done.returncode == 1 and done.stderr.count(b'\n') == 1,
-             f'{name}: output that is full is status 1')
-        folder = os.open(HERE, os.O_RDONLY)
-        done = ran(program, stdin=folder)
-        os.close(folder)
-        hold(done.returncode == 1 and done.stderr.count(b'\n') == 1,
-             f'{name}: a folder for input is status 1')
 
 
 def ten(cases):
@@ -803,19 +580,14 @@ def main(words):
                 try_driven(folder)
                 try_texts(folder)
                 try_driving()
-                try_building()
-                try_about(folder)
-                try_package(folder)
-                try_callers(folder)
-                try_cmake(folder)
+                installing.try_building(folder)
                 try_hard(folder, cases, calls)
                 try_tests_of_the_package(folder)
-                try_wheel(folder)
-                try_release(folder)
+                installing.try_packages(folder)
         print(f'{len(cases)} documents, {time.time() - began:.0f} s')
     for message in left_out:
         print(f'left out: {message}')
-    print(f'{passed} passed, {len(failures)} failed')
+    print(f'{len(passed)} passed, {len(failures)} failed')
     return 1 if failures else 0
 
 

@@ -1,4 +1,5 @@
-/* What the library says of itself. build.py compiles it, and gives GAMHILON_ABOUT: the commit and the toolchain. */
+/* What the library says of itself. build.py compiles it, and gives GAMHILON_ABOUT: the commit and
+ * the toolchain. */
 #include "gamhilon.h"
 
 #ifndef GAMHILON_ABOUT
@@ -12,7 +13,8 @@ const char *gamhilon_version(void) {
 const char *gamhilon_status_text(uint32_t status) {
     switch (status) {
     case GAMHILON_OK: return "answered";
-    case GAMHILON_DOCUMENT_REFUSED: return "not of the form of a document, or a text not of its form";
+    case GAMHILON_DOCUMENT_REFUSED:
+        return "not of the form of a document, or a text not of its form";
     case GAMHILON_MACRO_RING: return "the macros of a style call each other in a ring";
     case GAMHILON_NUMBER_OVERFLOW: return "the citation numbers don't fit 64 bits";
     case GAMHILON_OUT_OF_MEMORY: return "memory was refused";

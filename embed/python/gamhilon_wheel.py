@@ -1,5 +1,5 @@
-"""Builds the wheel of the package: its files, the shared library, the styles of examples/styles, and
-what tells its licence and of what it was built.
+"""Builds the wheel of the package: its files, the shared library, the styles of examples/styles,
+and what tells its licence and of what it was built.
 
 It is the build backend of pyproject.toml (PEP 517), which has all that it says of the package but
 the version, and on Python 3.11 or later it needs nothing from a package registry. The library and

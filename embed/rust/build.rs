@@ -1,10 +1,12 @@
-//! Finds libgamhilon.a: in the folder that GAMHILON_LIB_DIR names, or in embed/out, where embed/build.py builds it.
+//! Finds libgamhilon.a: in the folder that GAMHILON_LIB_DIR names, or in embed/out, where
+//! embed/build.py builds it.
 use std::path::PathBuf;
 
 fn main() {
     println!("cargo:rerun-if-env-changed=GAMHILON_LIB_DIR");
-    let here = PathBuf::from(std::env::var("CARGO_MANIFEST_DIR").expect("cargo sets CARGO_MANIFEST_DIR"));
-    let folder = std::env::var("GAMHILON_LIB_DIR").map_or_else(|_| here.join("../out"), PathBuf::from);
+    let here = std::env::var("CARGO_MANIFEST_DIR").expect("cargo sets CARGO_MANIFEST_DIR");
+    let folder = std::env::var("GAMHILON_LIB_DIR")
+        .map_or_else(|_| PathBuf::from(here).join("../out"), PathBuf::from);
     let archive = folder.join("libgamhilon.a");
     println!("cargo:rerun-if-changed={}", archive.display());
     if !archive.is_file() {

@@ -8,6 +8,7 @@ import sys
 import tarfile
 import time
 import zipfile
+from xml.etree import ElementTree
 
 import pytest
 from conftest import PROJECT, ROOT, heed_interrupts
@@ -15,11 +16,11 @@ from conftest import PROJECT, ROOT, heed_interrupts
 pytestmark = pytest.mark.skipif(not all(map(shutil.which, ('cc', 'objcopy', 'ar', 'nm'))),
                                 reason='there is no C compiler')
 
-CALLS = ('check_limits', 'drive', 'find_driven_fault', 'find_fault', 'find_ring', 'render_json',
-         'render_text')
+CALLS = ('check_limits', 'cite', 'drive', 'find_cite_fault', 'find_driven_fault', 'find_fault',
+         'find_ring', 'render_json', 'render_text')
 RT = '''#!/bin/sh
 if [ "$1" = version ]; then echo kit-1; exit; fi
-if [ "$1" = run ]; then mkdir -p out; cp /bin/cat out/cite_run; exit; fi
+if [ "$1" = run ]; then mkdir -p out; cp /bin/cat "out/$(basename "$PWD")"; exit; fi
 mkdir -p ../one/out/rlib/one.rlib out
 sleep {}
 touch ../one/out/rlib/one.rlib/format
@@ -49,7 +50,7 @@ def tree(tmp_path, monkeypatch):
     with a status."""
     root, kit = tmp_path / 'repository', tmp_path / 'kit'
     for name in ('build.py', 'release.py', 'gamhilon.h', 'c/about.c', 'c/print.c',
-                 'c/gamhilon.pc.in', 'c/gamhilon-config.cmake.in',
+                 'c/cite.c', 'c/gamhilon.pc.in', 'c/gamhilon-config.cmake.in',
                  'c/gamhilon-config-version.cmake.in'):
         (root / 'embed' / name).parent.mkdir(parents=True, exist_ok=True)
         shutil.copy(f'{PROJECT}/../{name}', root / 'embed' / name)
@@ -58,10 +59,13 @@ def tree(tmp_path, monkeypatch):
     for name in ('LICENSE', 'LICENSE-MIT', 'LICENSE-APACHE'):
         shutil.copy(f'{ROOT}/{name}', root)
     shutil.copytree(f'{ROOT}/examples/styles', root / 'examples' / 'styles')
-    (root / 'crates' / 'gamhilon_c').mkdir(parents=True)
-    (root / 'crates' / 'cite_run').mkdir()
+    for name in ('gamhilon_c', 'cite_run', 'gamhilon', 'english_locale/src'):
+        (root / 'crates' / name).mkdir(parents=True)
+    shutil.copy(f'{ROOT}/crates/english_locale/src/words.rt',
+                root / 'crates' / 'english_locale' / 'src')
     (root / 'crates' / 'cite_run' / 'stdin').write_text('{}')
-    crates = 'one: json\ntwo: one\ngamhilon_c staticlib: two  # the library\n'
+    crates = ('one: json\ntwo: one\ngamhilon_c staticlib: two  # the library\n'
+              'cite_run: two\ngamhilon: two\n')
     (root / 'crates.txt').write_text(crates)
     (tmp_path / 'a.c').write_text(''.join(f'int gamhilon_{call}(void) {{ return 0; }}\n'
                                           for call in CALLS))
@@ -148,7 +152,7 @@ def release(tree, monkeypatch, tmp_path):
 
 def test_a_release_has_checksums_that_tell_what_proved_it(release):
     folder, out = release
-    for place, count in ((folder, 11), (out, 2)):
+    for place, count in ((folder, 18), (out, 2)):
         about, *sums = (place / 'SHA256SUMS').read_text().splitlines()
         assert re.fullmatch('# gamhilon 0.2.0; commit .*; toolchain kit-1', about)
         assert len(sums) == count
@@ -158,8 +162,11 @@ def test_a_release_has_checksums_that_tell_what_proved_it(release):
 
 def test_a_release_has_programs_and_a_library_that_callers_find(release, tmp_path):
     folder, _ = release
-    done = subprocess.run([folder / 'bin' / 'cite_run'], input=b'{}', capture_output=True)
-    assert done.stdout == b'{}' and os.access(folder / 'bin' / 'gamhilon-print', os.X_OK)
+    for name in ('cite_run', 'gamhilon'):
+        done = subprocess.run([folder / 'bin' / name], input=b'{}', capture_output=True)
+        assert done.stdout == b'{}'
+    for name in ('gamhilon-print', 'gamhilon-cite'):
+        assert os.access(folder / 'bin' / name, os.X_OK)
     assert os.readlink(folder / 'lib' / 'libgamhilon.so') == 'libgamhilon.so.0'
     environment = {**os.environ, 'PKG_CONFIG_PATH': str(folder / 'lib' / 'pkgconfig')}
     if shutil.which('pkg-config'):
@@ -173,6 +180,50 @@ def test_a_release_has_programs_and_a_library_that_callers_find(release, tmp_pat
                       ['--build', 'made']):
             subprocess.run(['cmake', *words], cwd=tmp_path, check=True, capture_output=True)
         assert (tmp_path / 'made' / 'shared').exists() and (tmp_path / 'made' / 'static').exists()
+
+
+def test_a_release_has_styles_and_a_locale(release):
+    folder, _ = release
+    shared = folder / 'share' / 'gamhilon'
+    for name in ('author-date', 'labels', 'notes', 'numeric'):
+        with open(f'{ROOT}/examples/styles/{name}.csl', 'rb') as file:
+            assert (shared / 'styles' / f'{name}.csl').read_bytes() == file.read()
+    locale = ElementTree.parse(shared / 'locales' / 'locales-en-US.xml').getroot()
+    assert locale.tag == '{http://purl.org/net/xbiblio/csl}locale'
+    assert locale.get('{http://www.w3.org/XML/1998/namespace}lang') == 'en-US'
+
+
+def files_below(folder):
+    return {str(path.relative_to(folder)) for path in folder.rglob('*') if not path.is_dir()}
+
+
+def test_what_is_built_is_installed_as_a_release_has_it(release, tmp_path, capfd):
+    folder, out = release
+    words = [sys.executable, 'build.py', '--install', str(tmp_path / 'usr')]
+    # (what is there already is replaced)
+    for _ in range(2):
+        subprocess.run(words, cwd=out.parent, check=True)
+    told = capfd.readouterr().out.splitlines()[-1]
+    assert told == f'build.py: installed 19 files below {tmp_path / "usr"}'
+    texts = {'SHA256SUMS', 'LICENSE', 'LICENSE-MIT', 'LICENSE-APACHE'}
+    installed = files_below(tmp_path / 'usr')
+    assert installed == files_below(folder) - texts | {
+        f'share/doc/gamhilon/{name}' for name in texts - {'SHA256SUMS'}}
+    for name in installed & files_below(folder):
+        one, other = tmp_path / 'usr' / name, folder / name
+        assert one.read_bytes() == other.read_bytes() and one.stat().st_mode == other.stat().st_mode
+
+
+def test_a_program_that_is_not_built_is_left_out_where_one_installs(release, tmp_path, capfd):
+    _, out = release
+    shutil.rmtree(out.parents[1] / 'crates' / 'gamhilon' / 'out')
+    words = [sys.executable, 'build.py', '--install', str(tmp_path / 'usr')]
+    subprocess.run(words, cwd=out.parent, check=True)
+    assert 'left out: the program gamhilon, which is not built' in capfd.readouterr().out
+    assert sorted(os.listdir(tmp_path / 'usr' / 'bin')) == ['cite_run', 'gamhilon-cite',
+                                                            'gamhilon-print']
+    done = subprocess.run([*words[:-1], '/dev/null'], cwd=out.parent, capture_output=True)
+    assert done.returncode == 1 and done.stderr.startswith(b'build.py: not installed: ')
 
 
 def test_one_build_makes_one_release(release):

@@ -35,7 +35,9 @@ def test_no_words_is_not_a_command_line():
     ['check', 'a', '--elements', '18446744073709551616'], ['entries', 'a', '--depth', '1'],
     ['entries'], ['entries', 'a', '--from', 'ris'], ['cite', 'a', 'b'],
     ['cite', '--style', 'notes', 'a'], ['bibliography', '--style', 'notes'],
-    ['cite', '--style', 'notes', 'a', 'b', '--standalone'],
+    ['cite', '--style', 'notes', 'a', 'b', '--standalone', '--to', 'text'],
+    ['cite', '--style', '-', '-', 'b'], ['bibliography', '--style', 'notes', '-', '-'],
+    ['check', '-', '-'], ['entries', '-', 'a', '-'],
 ])
 def test_wrong_words_are_not_a_command_line(words):
     status, out, error = run(*words)
@@ -140,13 +142,12 @@ def test_check_tells_what_a_document_holds_and_what_it_can_hardly_mean(built):
                 'requests': [{'style': 'a/b', 'items': [{'entry': 'k'}]}],
                 'bibliography': {'style': 'a/b'}}
     status, out, error = run('check', '-', given=json.dumps(document).encode())
-    assert (status, error) == (0, '')
-    lines = out.splitlines()
-    assert lines[:3] == ['style a/b: in-text, without a bibliography',
-                         'entries: 2, of which 1 are cited',
-                         'requests: 1, of 1 cites']
-    pointers = [line.split(' ')[1].rstrip(':') for line in lines[3:]]
-    assert pointers == [
+    assert (status, out.splitlines()) == (0, [
+        'standard input: document', '  style a/b: in-text, without a bibliography',
+        '  entries: 2, of which 1 are cited', '  requests: 1, of 1 cites'])
+    told = [re.fullmatch('gamhilon: standard input: warning: ([^ ]*): .*', line)
+            for line in error.splitlines()]
+    assert [match.group(1) for match in told] == [
         '/styles/a~1b/macros/0/children/0/branches/0/children/0/macro',
         '/styles/a~1b/macros/0/children/0/else/0/macro',
         '/styles/a~1b/citation/elements/0/children/0/macro', '/entries/0/title', '/entries/1']
@@ -311,10 +312,24 @@ def test_several_files_are_checked_and_named(monkeypatch, tmp_path, capfd):
     assert command_line.main(['check', *paths]) == 1
     out, error = capfd.readouterr()
     assert out.splitlines() == [
-        f'{paths[0]}: entries: 0, of which 0 are cited', f'{paths[0]}: requests: 0, of 0 cites',
-        f'{paths[1]}: references: 2, of which 2 book',
-        f'{paths[1]}: remark: item 2: id: an item without an id, left out ({{}})']
-    assert error == f'gamhilon: {paths[2]}: No such file or directory\n'
+        f'{paths[0]}: document', '  entries: 0, of which 0 are cited',
+        '  requests: 0, of 0 cites', f'{paths[1]}: 2 references', '  book: 2']
+    assert error.splitlines() == [
+        f'gamhilon: {paths[1]}: warning: item 2: id: an item without an id, left out ({{}})',
+        f'gamhilon: {paths[2]}: No such file or directory']
+
+
+def test_the_status_of_check_is_that_of_the_file_that_is_worst_off(monkeypatch, tmp_path, capfd):
+    library = MadeUpLibrary(status=3)
+    monkeypatch.setattr(_library, '_library', _library.Library(library))
+    for name, text in (('ring.json', '{"styles": {}}'), ('w.json', '[')):
+        (tmp_path / name).write_text(text)
+    names = ['ring.json', 'w.json', 'none.json']
+    for count, status in ((1, 3), (2, 3), (3, 1)):
+        words = [str(tmp_path / name) for name in names[:count]]
+        assert command_line.main(['check', *words]) == status
+        assert capfd.readouterr().err.count('\n') == count
+    assert command_line.main(['check', str(tmp_path / 'w.json')]) == 2
 
 
 def test_references_are_checked(tmp_path, pybtex, capfd):
@@ -323,10 +338,24 @@ def test_references_are_checked(tmp_path, pybtex, capfd):
                     '@misc{b, title = {B')
     assert command_line.main(['check', str(path)]) == 2
     out, error = capfd.readouterr()
-    assert out.splitlines() == [
-        'references: 2, of which 1 book, 1 document',
-        'remark: a: editorc: CSL has no place for more names of the kind founder ("X")']
-    assert error == f'gamhilon: {path}: syntax error in line 2: premature end of file\n'
+    assert out.splitlines() == [f'{path}: 2 references', '  book: 1', '  document: 1']
+    assert error.splitlines() == [
+        f'gamhilon: {path}: warning: a: editorc: CSL has no place for more names of the kind '
+        'founder ("X")',
+        f'gamhilon: {path}: syntax error in line 2: premature end of file']
+
+
+def test_unknown_fields_of_references_are_told_and_wrong_ones_refused(cites, tmp_path, capfd):
+    path = tmp_path / 'a.json'
+    path.write_text('[{"id": "a", "type": "book", "titel": "A"}]')
+    assert command_line.main(['check', str(path)]) == 0
+    out, error = capfd.readouterr()
+    assert out == f'{path}: 1 reference\n  book: 1\n'
+    assert error.startswith(f'gamhilon: {path}: warning: entry a, titel: ') and 'title' in error
+    path.write_text('[{"id": "a", "type": "book", "title": {}}]')
+    assert command_line.main(['check', str(path)]) == 2
+    out, error = capfd.readouterr()
+    assert out == '' and error.startswith(f'gamhilon: {path}: entry a, title: ')
 
 
 WORKS = [{'id': 'one', 'type': 'book', 'title': 'On order', 'issued': {'date-parts': [[1999]]},
@@ -355,11 +384,41 @@ def test_cite_and_bibliography(cites, files):
     for form, mark in (('html', '<i>On order</i>'), ('markdown', '*On order*'),
                        ('latex', r'\textit{On order}')):
         assert mark in run(*words, '--to', form)[1]
-    told = json.loads(run('cite', '--style', 'author-date', works, cited, '--to', 'json')[1])
-    assert [gamhilon.plain(citation['content']) for citation in told] == ['(Doe 1999, p. 4)',
-                                                                          '(Doe 1999)']
-    page = run(*words, '--to', 'html', '--standalone')[1]
+    for command in ('cite', 'bibliography'):
+        told = json.loads(run(command, '--style', 'author-date', works, cited, '--to', 'json')[1])
+        assert [gamhilon.plain(citation['content']) for citation in told['citations']] == [
+            '(Doe 1999, p. 4)', '(Doe 1999)']
+        assert [item['key'] for item in told['bibliography']['items']] == ['one']
+    page = run(*words, '--standalone')[1]
+    assert page == run(*words, '--to', 'html', '--standalone')[1]
     assert page.startswith('<!DOCTYPE html>') and gamhilon.style_sheet() in page
+
+
+def test_a_style_may_be_standard_input_or_of_a_folder(cites, files):
+    (files / 'dependent').mkdir()
+    text = gamhilon.styles.text('labels')
+    (files / 'house.csl').write_text(text)
+    (files / 'dependent' / 'child.csl').write_text(
+        '<style xmlns="http://purl.org/net/xbiblio/csl" version="1.0"><info><title>C</title>'
+        '<id>c</id><link href="https://example.org/house" rel="independent-parent"/>'
+        '<updated>2026-11-27T00:00:00+00:00</updated></info></style>')
+    words = [str(files / 'works.json'), str(files / 'cites.json')]
+    wanted = (0, '[Doe99, p. 4]\n[Doe99]\n', '')
+    assert run('cite', '--style', '-', *words, given=text.encode()) == wanted
+    for name in ('house', 'child'):
+        assert run('cite', '--style', name, '--styles', str(files), *words) == wanted
+    status, out, error = run('cite', '--style', 'labels', '--styles', str(files), *words)
+    assert (status, out) == (1, '') and f'looked for {files}/labels.csl' in error
+
+
+def test_of_references_of_one_id_the_last_counts(cites, files):
+    """As the program of that name has it."""
+    (files / 'more.json').write_text(json.dumps([{**WORKS[0], 'title': 'On more'}]))
+    words = ['bibliography', '--style', 'author-date', str(files / 'works.json'), '--references',
+             str(files / 'more.json')]
+    assert run(*words) == (
+        0, 'Doe, J. 1999. On more.\nRoe, A. 2001. On time.\n',
+        f'gamhilon: {files}/more.json: warning: `one` replaces the item of a file before\n')
 
 
 def test_cite_takes_references_of_several_files_and_forms(cites, files, pybtex):
@@ -375,25 +434,34 @@ def test_cite_takes_references_of_several_files_and_forms(cites, files, pybtex):
 def test_what_is_odd_is_told_and_costs_nothing(cites, files):
     words = ['cite', '--style', 'author-date', str(files / 'works.json')]
     assert run(*words, str(files / 'odd.json')) == (
-        0, '(Doe 1999)\n', 'gamhilon: warning: citation 0, cite 0, locater: cites have no such key, '
-        "left out: is 'locator' meant?\n")
+        0, '(Doe 1999)\n',
+        f'gamhilon: {files}/odd.json: warning: citation 0, cite 0, locater: cites have no such '
+        "key, left out: is 'locator' meant?\n")
     own = files / 'own.csl'
-    own.write_text(gamhilon.styles.text('author-date').split('<bibliography')[0] + '</style>')
-    status, out, error = run('bibliography', '--style', str(own), str(files / 'works.json'))
-    assert (status, out) == (0, '') and error == (f'gamhilon: {own}: warning: the style has no '
-                                                  'bibliography\n')
+    text = gamhilon.styles.text('author-date').split('<bibliography')[0] + '</style>'
+    own.write_text(text.replace('<citation ', '<citation colour="red" '))
+    (files / 'titel.json').write_text(json.dumps([{**WORKS[0], 'titel': 'x'}]))
+    status, out, error = run('bibliography', '--style', str(own), str(files / 'titel.json'))
+    assert (status, out) == (0, '')
+    assert [line.split(': warning: ')[0] for line in error.splitlines()] == [
+        error.split(': warning: ')[0], f'gamhilon: {files}/titel.json', f'gamhilon: {own}']
+    assert re.match(f'gamhilon: {own}:[0-9]+:[0-9]+: warning: .*colour', error)
 
 
 @pytest.mark.parametrize('style, cited, status, said', [
     ('no-such-style', 'cites.json', 1, "gamhilon: there is no style 'no-such-style': looked for "),
     ('own.csl', 'cites.json', 2, 'own.csl:1:1: '), ('notes', 'none.json', 1, 'none.json: No such'),
-    ('notes', 'own.csl', 2, 'own.csl: Expecting value'),
+    ('notes', 'own.csl', 2, 'own.csl: no JSON: Expecting value'),
+    ('notes', 'deep.json', 2, 'deep.json: nested deeper than 127 levels\n'),
+    ('notes', 'bytes.json', 2, 'bytes.json: no UTF-8 from byte 2\n'),
     ('notes', 'works.json', 2, 'works.json: citation 0: no citation, which is a list of cites'),
     ('notes', 'else.json', 2, "else.json: citation 0, cite 0, id: there is no entry 'else'"),
 ])
 def test_what_can_not_be_cited_is_told_with_its_place(cites, files, style, cited, status, said):
     (files / 'own.csl').write_text('x')
     (files / 'else.json').write_text('[[{"id": "else"}]]')
+    (files / 'deep.json').write_text('[' * 200000)
+    (files / 'bytes.json').write_bytes(b'[["\xff"]]'[1:])
     told = run('cite', '--style', style, 'works.json', cited, cwd=files)
     assert told[:2] == (status, '') and said in told[2] and told[2].count('\n') == 1
 
@@ -407,11 +475,20 @@ def test_styles_and_locales_are_checked(cites, tmp_path, capfd):
     locale = tmp_path / 'locale.xml'
     locale.write_text('<locale xmlns="http://purl.org/net/xbiblio/csl" version="1.0" '
                       'xml:lang="de-DE"><terms/></locale>')
-    assert command_line.main(['check', str(good)]) == 0
-    assert capfd.readouterr() == ('style Gamhilon notes: note, with a bibliography\n', '')
-    assert command_line.main(['check', str(odd), str(locale)]) == 0
+    child = tmp_path / 'child.csl'
+    child.write_text('<style xmlns="http://purl.org/net/xbiblio/csl" version="1.0"><info>'
+                     '<title>C</title><id>c</id><updated>2026-11-27T00:00:00+00:00</updated>'
+                     '<link href="https://example.org/none" rel="independent-parent"/></info>'
+                     '</style>')
+    assert command_line.main(['check', str(good), str(locale), str(child)]) == 0
     out, error = capfd.readouterr()
-    assert error == '' and f'{odd}: remark: {odd}:' in out and 'colour' in out and f'{locale}: locale\n' in out
+    key = re.search('<id>(.*?)</id>', text).group(1)
+    assert (out.splitlines(), error) == ([
+        f'{good}: independent style Gamhilon notes ({key})', f'{locale}: locale de-DE',
+        f'{child}: dependent style of https://example.org/none'], '')
+    assert command_line.main(['check', str(odd)]) == 0
+    out, error = capfd.readouterr()
+    assert re.fullmatch(f'gamhilon: {odd}:[0-9]+:[0-9]+: warning: .*colour.*\n', error)
     assert command_line.main(['check', str(wrong)]) == 2
     out, error = capfd.readouterr()
     assert out == '' and error.startswith(f'gamhilon: {wrong}:') and 'four' in error

@@ -605,12 +605,12 @@ def test_cites_may_be_values(render):
 
 # Entries that are odd
 
-def test_of_entries_of_one_id_the_first_counts(render):
+def test_of_entries_of_one_id_the_last_counts(render):
     entries = [entry('one', 'Doe'), entry('two', 'Roe'), entry('one', 'Poe')]
     told = render(NAMES, entries, ['one'], ['two'], ['one'])
-    assert told.citations == ['(Doe)', '(Roe)', '(Doe)']
+    assert told.citations == ['(Poe)', '(Roe)', '(Poe)']
     assert [str(warned) for warned in told.warnings] == [
-        "entry 2: a second item of the id 'one', left out"]
+        "entry 2: a second item of the id 'one', in place of the first"]
 
 
 def test_entries_without_an_id_are_told(render):

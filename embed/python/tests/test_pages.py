@@ -133,8 +133,10 @@ def test_the_commands_write_the_style_sheet(monkeypatch, tmp_path, capfd, docume
     page = capfd.readouterr().out
     assert page.startswith('<!DOCTYPE html>\n<html lang="en">\n') and gamhilon.style_sheet() in page
     assert '<p class="citation">(<a href="#ref-doe">Doe 1999</a>)</p>\n<div id="refs"' in page
+    assert command_line.main(['render', '--standalone', str(path)]) == 0
+    assert capfd.readouterr().out == page
     with pytest.raises(SystemExit) as ended:
-        command_line.main(['render', '--standalone', str(path)])
+        command_line.main(['render', '--standalone', '--to', 'text', str(path)])
     assert ended.value.code == 64
 
 

@@ -97,14 +97,24 @@ def test_the_command_line_of_pandoc(tmp_path, monkeypatch, words, folders):
     assert _pandoc_command.folders() == []
 
 
-def test_what_is_not_kept_of_files_is_told(of_file, tmp_path, pybtex):
-    entries = ['@book{a, title={A}, editorc={X}, editorctype={founder}, usera={x}}',
+def test_what_is_not_kept_of_files_is_told_where_the_style_would_have_shown_it(of_file, tmp_path,
+                                                                               pybtex):
+    """Of what is cited or listed. What CSL has no place for no style would have shown."""
+    entries = ['@book{a, title={A}, editorc={X}, editorctype={founder}, usera={x}, '
+               'date={1999-13-01}, origdate={around then}}',
                '@book{b, title={B}, year={1999}}', '@book{c, title={C']
     (tmp_path / 'a.bib').write_text('\n'.join(entries))
+    (tmp_path / 'own.csl').write_text(TITLES)
+    broken = 'a.bib: syntax error in line 3: premature end of file'
+
+    def not_kept(fields):
+        return f'a.bib: not kept: {fields} (gamhilon check a.bib tells more)'
+
     out, said, status = of_file('bibliography: a.bib', '[@b]')
-    assert status == 0 and out.startswith('(B 1999)')
-    assert told(said) == ['a.bib: syntax error in line 3: premature end of file',
-                          'a.bib: not kept: editorc, usera (gamhilon check a.bib tells more)']
+    assert status == 0 and out.startswith('(B 1999)') and told(said) == [broken]
+    for text in ('[@a]', '---\nnocite: "@a"\n---\n'):
+        assert told(of_file('bibliography: a.bib', text)[1]) == [broken, not_kept('date')]
+    assert told(of_file('bibliography: a.bib\ncsl: own.csl', '[@a; @b]')[1]) == [broken]
 
 
 def test_the_language_of_the_page_is_that_of_its_entries(of_file, tmp_path, pybtex):

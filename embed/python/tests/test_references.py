@@ -11,6 +11,7 @@ import sys
 import time
 from random import Random
 
+import changes
 import pytest
 from conftest import SOURCE
 
@@ -35,10 +36,10 @@ def test_csl_json_stays_as_it_is(tmp_path):
 def test_items_of_one_id_or_without_one_are_told():
     text = json.dumps([{'id': 1, 'title': 'a'}, {'id': '1'}, {'title': 'c'}, 3, {'id': ''}])
     read = references.loads(text)
-    assert read.items == [{'id': 1, 'title': 'a'}] and read.problems == ['item 3 is not an object']
-    assert [loss.reason
-            for loss in read.losses] == ['a second item of this id, left out',
-                                         *['an item without an id, left out'] * 2]
+    assert read.items == [{'id': '1'}] and read.problems == ['item 3 is not an object']
+    assert [loss.reason for loss in read.losses] == [
+        'a second item of this id, in place of the first',
+        *['an item without an id, left out'] * 2]
 
 
 @pytest.mark.parametrize('name, text, form', [
@@ -62,7 +63,7 @@ def test_the_name_of_a_file_or_the_file_tells_its_form(tmp_path, monkeypatch, na
 @pytest.mark.parametrize('name, data, message', [
     ('a.json', b'[{"id"', 'a.json: no JSON: '),
     ('a.json', b'{}', 'a.json: CSL-JSON is a list of items'),
-    ('a.json', b'[' * 100000, 'a.json: JSON that nests too deep'),
+    ('a.json', b'[' * 100000, 'a.json: nested deeper than 127 levels'),
     ('a.bib', b'@book{a,\n title={\xe4}}', 'a.bib: no UTF-8 from byte 17, in line 2'),
     ('a.json', b'3', 'a.json: CSL-JSON is a list'),
 ])
@@ -118,18 +119,6 @@ def test_a_file_that_is_not_there_is_an_error(tmp_path):
 
 # Whatever stands in a file
 
-def mutated(random, text):
-    """The text with a few changes that are likely to break it."""
-    for _ in range(random.choice([1, 2, 5, 20])):
-        at, end = sorted(random.choices(range(len(text) + 1), k=2))
-        piece = random.choice(['', '{', '}', '\\', '$', '"', ',', '=', '@', '~', '#', '\n', ':',
-                               '- ', '&a ', '*a', '|', '\ud800',
-                               text[at:min(end, at + 50)], '\\"', '{' * 300, '\x00', 'é', '  ', '[',
-                               ']', '<i>'])
-        text = text[:at] + piece + text[min(end, at + random.choice([0, 1, 5])):]
-    return text
-
-
 @pytest.mark.parametrize('path, form',
                          [(WORKS, 'biblatex'), (WORKS, 'bibtex'), (LIBRARY, 'hayagriva')])
 def test_whatever_stands_in_a_file_ends_in_items_or_in_an_error_of_ours(pybtex, yaml, path, form):
@@ -138,7 +127,7 @@ def test_whatever_stands_in_a_file_ends_in_items_or_in_an_error_of_ours(pybtex, 
     random = Random(3)
     for _ in range(300):
         begin = random.randrange(len(whole))
-        text = mutated(random, whole[begin:begin + 2500])
+        text = changes.of_text(random, whole[begin:begin + 2500])
         began = time.process_time()
         try:
             read = references.loads(text, form=form)
@@ -298,13 +287,13 @@ def test_entries_of_several_files(tmp_path, pybtex):
     text = '@book{doe, title = {A Title}, editorc = {X, Y}, editorctype = {founder}}'
     (tmp_path / 'a.bib').write_text(text)
     (tmp_path / 'b.json').write_text('[{"id": "doe"}, {"id": "roe", "title": "Ä"}]')
-    status, out, error = run(str(tmp_path / 'a.bib'), str(tmp_path / 'b.json'))
+    status, out, error = run(str(tmp_path / 'b.json'), str(tmp_path / 'a.bib'))
     assert status == 0 and json.loads(out) == [{'id': 'doe', 'type': 'book', 'title': 'A title'},
                                                {'id': 'roe', 'title': 'Ä'}]
     assert error.splitlines() == [
+        f'gamhilon: {tmp_path}/a.bib: `doe` replaces the item of a file before',
         f'gamhilon: {tmp_path}/a.bib: doe: editorc: CSL has no place for more names of the kind '
-        'founder ("X, Y")',
-        f'gamhilon: {tmp_path}/b.json: doe: id: an earlier file has an item of this id, left out']
+        'founder ("X, Y")']
 
 
 def test_entries_of_standard_input(pybtex, yaml):
@@ -335,3 +324,30 @@ def test_a_file_in_which_something_is_no_entry_has_a_status(tmp_path, pybtex):
 def test_the_language_of_entries(tmp_path, pybtex):
     (tmp_path / 'a.bib').write_text('@book{a, title = {Die Welt}}')
     assert json.loads(run('--lang', 'de', str(tmp_path / 'a.bib'))[1])[0]['title'] == 'Die Welt'
+
+
+# What a style would have shown
+
+@pytest.mark.parametrize('field, reason, variables, is_shown', [
+    ('date', 'no date', {'issued'}, True), ('date', 'no date', {'title'}, False),
+    ('month', 'no month', {'title', 'issued'}, True), ('urldate', 'no date', {'accessed'}, True),
+    ('booksubtitle', 'the command', {'container-title'}, True),
+    ('parent.title', 'not a text', {'collection-title'}, True),
+    ('bookauthor', 'an empty name', {'author'}, False), ('illustrator', 'x', {'illustrator'}, True),
+    ('serial-number.doi', 'not a text', {'DOI'}, True),
+    ('usera', 'CSL has no place for it', {'a'}, False),
+    ('editorc', 'CSL has no place for more names of the kind founder', {'editor'}, False),
+    ('type', 'no such type, read as a document', set(), True), ('crossref', 'a ring', set(), True),
+])
+def test_whether_a_style_would_have_shown_what_is_not_kept(field, reason, variables, is_shown):
+    loss = csl_json.Loss('k', field, 'x', reason)
+    assert references.is_shown(loss, variables) == is_shown
+
+
+def test_each_field_that_is_known_is_that_of_a_variable(pybtex):
+    """Of those that become a variable of their own: what isn't kept of them is told where a style
+    writes that."""
+    with open(WORKS, encoding='utf-8') as file:
+        read = references.loads(file.read())
+    assert {loss.field for loss in read.losses
+            if references.is_shown(loss, frozenset())} <= {'entrysubtype', 'crossref', 'type'}

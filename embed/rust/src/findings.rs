@@ -1,4 +1,5 @@
-//! The JSON of findings, read.
+//! The JSON of faults and of findings, read.
+use crate::refusal::Fault;
 use crate::texts::{Findings, TextFault, TextPlace, TextRemark};
 
 /// What of JSON findings have.
@@ -12,7 +13,9 @@ enum Value {
 impl Value {
     fn member(&self, key: &str) -> Option<&Value> {
         match self {
-            Value::Object(members) => members.iter().find(|member| member.0 == key).map(|member| &member.1),
+            Value::Object(members) => {
+                members.iter().find(|member| member.0 == key).map(|member| &member.1)
+            }
             _ => None,
         }
     }
@@ -32,15 +35,25 @@ impl Value {
     }
 }
 
-/// What this JSON says.
-pub(crate) fn findings_of(json: &str) -> Option<Findings> {
+/// The value of this JSON.
+fn value_of(json: &str) -> Option<Value> {
     let mut reader = Reader { rest: json };
     let value = reader.value()?;
-    if !reader.rest.is_empty() {
-        return None;
-    }
+    reader.rest.is_empty().then_some(value)
+}
+
+/// The fault of a document that this JSON says.
+pub(crate) fn fault_of(json: &str) -> Option<Fault> {
+    let value = value_of(json)?;
+    let [pointer, found, wanted] = ["pointer", "found", "wanted"].map(|key| value.text(key));
+    Some(Fault { pointer: pointer?, found: found?, wanted: wanted? })
+}
+
+/// The findings that this JSON says.
+pub(crate) fn findings_of(json: &str) -> Option<Findings> {
+    let value = value_of(json)?;
     let fault = match value.member("fault") {
-        Some(fault) => Some(fault_of(fault)?),
+        Some(fault) => Some(text_fault_of(fault)?),
         None => None,
     };
     let warnings = match value.member("warnings")? {
@@ -50,7 +63,7 @@ pub(crate) fn findings_of(json: &str) -> Option<Findings> {
     Some(Findings { fault, warnings })
 }
 
-fn fault_of(value: &Value) -> Option<TextFault> {
+fn text_fault_of(value: &Value) -> Option<TextFault> {
     Some(TextFault {
         remark: remark_of(value)?,
         parent: value.text("parent"),
@@ -94,7 +107,12 @@ impl Reader<'_> {
     }
 
     /// What stands between brackets, with commas between.
-    fn items<T>(&mut self, open: char, close: char, item: fn(&mut Self) -> Option<T>) -> Option<Vec<T>> {
+    fn items<T>(
+        &mut self,
+        open: char,
+        close: char,
+        item: fn(&mut Self) -> Option<T>,
+    ) -> Option<Vec<T>> {
         let mut items = Vec::new();
         if !self.takes(open) {
             return None;
@@ -179,22 +197,36 @@ mod tests {
 
     #[test]
     fn what_the_library_writes_is_read() {
-        let json = r#"{"fault":{"file":"style","message":"it stands \"for\"\u0001\n","parent":"p","parent_locale":"de"},
-            "warnings":[{"column":2,"file":"locales/0","line":1,"message":"ä"},{"file":"items","message":"","pointer":"/0/a"}]}"#;
-        let json = json.replace("\n            ", "");
-        let findings = findings_of(&json).expect("findings");
+        let json = concat!(
+            r#"{"fault":{"file":"style","message":"it stands \"for\"\u0001\n","#,
+            r#""parent":"p","parent_locale":"de"},"#,
+            r#""warnings":[{"column":2,"file":"locales/0","line":1,"message":"ä"},"#,
+            r#"{"file":"items","message":"","pointer":"/0/a"}]}"#
+        );
+        let findings = findings_of(json).expect("findings");
         let fault = findings.fault.expect("a fault");
         assert_eq!(fault.remark, remark("style", TextPlace::Whole, "it stands \"for\"\u{1}\n"));
-        assert_eq!((fault.parent.as_deref(), fault.parent_locale.as_deref()), (Some("p"), Some("de")));
-        let places = [TextPlace::Line { line: 1, column: 2 }, TextPlace::Pointer("/0/a".to_string())];
-        let [first, second] = places;
-        assert_eq!(findings.warnings, [remark("locales/0", first, "ä"), remark("items", second, "")]);
+        assert_eq!(fault.parent.as_deref(), Some("p"));
+        assert_eq!(fault.parent_locale.as_deref(), Some("de"));
+        let first = remark("locales/0", TextPlace::Line { line: 1, column: 2 }, "ä");
+        let second = remark("items", TextPlace::Pointer("/0/a".to_string()), "");
+        assert_eq!(findings.warnings, [first, second]);
+    }
+
+    #[test]
+    fn a_fault_of_a_document_is_read() {
+        let fault = fault_of(r#"{"found":"a number","pointer":"/a~1b","wanted":"a \"text\""}"#);
+        let [pointer, found, wanted] = ["/a~1b", "a number", "a \"text\""].map(str::to_string);
+        assert_eq!(fault, Some(Fault { pointer, found, wanted }));
+        assert_eq!(fault_of(r#"{"found":"a number","pointer":"/a"}"#), None);
     }
 
     #[test]
     fn what_is_no_such_json_has_no_findings() {
-        for json in ["", "{", "{}", "[]", "{\"warnings\":[}", "{\"warnings\":[]}x", "{\"warnings\":[{\"file\":1}]}"] {
+        let wrong = r#"{"warnings":[{"file":1}]}"#;
+        for json in ["", "{", "{}", "[]", "{\"warnings\":[}", "{\"warnings\":[]}x", wrong] {
             assert_eq!(findings_of(json), None, "{json}");
+            assert_eq!(fault_of(json), None, "{json}");
         }
     }
 }

@@ -1,6 +1,7 @@
 //! Citations and a bibliography by a style file.
+use crate::buffer_of;
 use crate::findings::findings_of;
-use crate::{buffer_of, Refusal};
+use crate::refusal::{status, Refusal};
 use std::fmt;
 
 type TextCall = unsafe extern "C" fn(
@@ -63,7 +64,8 @@ pub struct Texts<'t> {
     pub items: &'t [u8],
     /// A JSON list of citations, which are lists of cites (docs/WRITER.md).
     pub citations: &'t [u8],
-    /// A JSON object: `locale`, a language tag, and `nocite`, whether items that aren't cited are listed.
+    /// A JSON object: `locale`, a language tag, and `nocite`, whether items that aren't cited are
+    /// listed.
     pub options: &'t [u8],
 }
 
@@ -81,7 +83,8 @@ pub enum TextPlace {
 /// Something that is wrong or odd in a text.
 #[derive(Debug, Clone, PartialEq, Eq)]
 pub struct TextRemark {
-    /// The text: `style`, `locales`, `locales/0` for the first locale file, `items`, `citations` or `options`.
+    /// The text: `style`, `locales`, `locales/0` for the first locale file, `items`, `citations` or
+    /// `options`.
     pub file: String,
     pub place: TextPlace,
     /// What it is, for people.
@@ -119,7 +122,7 @@ impl CiteError {
     /// The status of gamhilon.h.
     pub fn status(&self) -> u32 {
         match self {
-            CiteError::Text(_) => Refusal::Document.status(),
+            CiteError::Text(_) => status::DOCUMENT_REFUSED,
             CiteError::Refused(refusal) => refusal.status(),
         }
     }
@@ -159,7 +162,7 @@ impl std::error::Error for CiteError {}
 /// let style = std::fs::read("examples/styles/author-date.csl").unwrap();
 /// let texts = gamhilon::Texts {
 ///     style: &style,
-///     items: br#"[{"id": "doe99", "type": "book", "title": "On Order", "issued": {"date-parts": [[1999]]}}]"#,
+///     items: br#"[{"id": "doe99", "type": "book", "title": "On Order"}]"#,
 ///     citations: br#"[[{"id": "doe99", "locator": "4"}]]"#,
 ///     ..gamhilon::Texts::default()
 /// };
@@ -171,36 +174,42 @@ impl std::error::Error for CiteError {}
 ///
 /// What is odd in the texts is told by `find_cite_fault`.
 pub fn cite(texts: &Texts<'_>) -> Result<String, CiteError> {
-    let needed = texts.items.len().saturating_add(texts.citations.len()).saturating_mul(8).saturating_add(1 << 16);
-    match text_by(gamhilon_cite, texts, needed) {
-        Err(Refusal::Document) => Err(fault_of(texts)),
-        Err(refusal) => Err(CiteError::Refused(refusal)),
+    let length = texts.items.len().saturating_add(texts.citations.len());
+    let needed = length.saturating_mul(8).saturating_add(1 << 16);
+    match filled(gamhilon_cite, texts, needed) {
         Ok(json) => Ok(json),
+        Err(status::DOCUMENT_REFUSED) => Err(fault_of(texts)),
+        Err(ended) => Err(CiteError::Refused(Refusal::of(ended))),
     }
 }
 
 /// What is wrong and odd in texts. Writes no citation.
 pub fn find_cite_fault(texts: &Texts<'_>) -> Result<Findings, Refusal> {
-    let json = text_by(gamhilon_find_cite_fault, texts, 1 << 12)?;
-    findings_of(&json).ok_or(Refusal::Unknown(0))
+    let json = filled(gamhilon_find_cite_fault, texts, 1 << 12).map_err(Refusal::of)?;
+    findings_of(&json).ok_or(Refusal::Unknown(status::OK))
 }
 
 /// The error of texts that are refused.
 fn fault_of(texts: &Texts<'_>) -> CiteError {
     match find_cite_fault(texts) {
         Ok(Findings { fault: Some(fault), .. }) => CiteError::Text(Box::new(fault)),
-        Ok(Findings { fault: None, .. }) => CiteError::Refused(Refusal::Unknown(2)),
+        Ok(Findings { fault: None, .. }) => {
+            CiteError::Refused(Refusal::Unknown(status::DOCUMENT_REFUSED))
+        }
         Err(refusal) => CiteError::Refused(refusal),
     }
 }
 
-/// What a call puts into its buffer, which has `needed` bytes at first, and as many as are needed then.
-fn text_by(call: TextCall, texts: &Texts<'_>, mut needed: usize) -> Result<String, Refusal> {
+/// What a call puts into its buffer, which has `needed` bytes at first, and as many as are needed
+/// then; or the status that it ends with.
+fn filled(call: TextCall, texts: &Texts<'_>, mut needed: usize) -> Result<String, u32> {
     let Texts { style, locales, items, citations, options } = *texts;
     loop {
-        let mut buffer = buffer_of(needed)?;
-        // SAFETY: slices are valid for their lengths, and the buffer and the length don't overlap with them.
-        let status = unsafe {
+        let Some(mut buffer) = buffer_of(needed) else {
+            return Err(status::OUT_OF_MEMORY);
+        };
+        // SAFETY: slices are valid for their lengths, and three borrows don't overlap.
+        let ended = unsafe {
             call(
                 style.as_ptr(),
                 style.len(),
@@ -217,13 +226,13 @@ fn text_by(call: TextCall, texts: &Texts<'_>, mut needed: usize) -> Result<Strin
                 &mut needed,
             )
         };
-        match status {
-            0 => {
+        match ended {
+            status::OK => {
                 buffer.truncate(needed);
                 return Ok(String::from_utf8(buffer).expect("an answer is UTF-8"));
             }
-            6 => continue,
-            status => return Err(Refusal::of_texts(status)),
+            status::BUFFER_TOO_SMALL => continue,
+            ended => return Err(ended),
         }
     }
 }

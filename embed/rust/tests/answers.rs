@@ -12,15 +12,24 @@ fn the_first_example_is_printed() -> Result<(), Box<dyn Error>> {
 
 #[test]
 fn what_is_no_document_is_refused() {
-    let refusal = gamhilon::render_text(b"{").unwrap_err();
-    assert_eq!(refusal, gamhilon::Refusal::Document);
-    assert_eq!(refusal.to_string(), "not of the form of a document");
+    let refusal = gamhilon::render_text(br#"{"styles": {"s": 5}}"#).unwrap_err();
+    assert_eq!(refusal, gamhilon::Refusal::Document(Box::new(fault("/styles/s", "an object"))));
+    assert_eq!(refusal.to_string(), "/styles/s: a number; wanted is an object");
+    assert_eq!(refusal.status(), 2);
+    let refusal = gamhilon::render_json(b"{").unwrap_err();
+    assert!(refusal.to_string().starts_with("no JSON"), "{refusal}");
+}
+
+/// A number that stands where something else is wanted.
+fn fault(pointer: &str, wanted: &str) -> gamhilon::Fault {
+    let [pointer, found, wanted] = [pointer, "a number", wanted].map(str::to_string);
+    gamhilon::Fault { pointer, found, wanted }
 }
 
 #[test]
 fn a_fault_has_its_place() -> Result<(), Box<dyn Error>> {
     let told = gamhilon::find_fault(br#"{"styles": {"s": 5}}"#)?;
-    assert_eq!(told.as_deref(), Some(r#"{"found":"a number","pointer":"/styles/s","wanted":"an object"}"#));
+    assert_eq!(told, Some(fault("/styles/s", "an object")));
     assert_eq!(gamhilon::find_fault(FIRST)?, None);
     Ok(())
 }
@@ -39,16 +48,18 @@ fn a_driven_document_tells_what_is_missing() -> Result<(), Box<dyn Error>> {
 #[test]
 fn a_driven_document_that_is_wrong_has_a_fault() -> Result<(), Box<dyn Error>> {
     let wrong = DRIVEN.replace("\"key\":\"a\"", "\"key\":5");
-    assert_eq!(gamhilon::drive(wrong.as_bytes()), Err(gamhilon::Refusal::Document));
-    let told = gamhilon::find_driven_fault(wrong.as_bytes())?;
-    assert_eq!(told.as_deref(), Some(r#"{"found":"a number","pointer":"/entries/0/key","wanted":"a text"}"#));
+    let wanted = fault("/entries/0/key", "a text");
+    assert_eq!(gamhilon::find_driven_fault(wrong.as_bytes())?, Some(wanted.clone()));
+    let refusal = gamhilon::Refusal::Document(Box::new(wanted));
+    assert_eq!(gamhilon::drive(wrong.as_bytes()), Err(refusal));
     Ok(())
 }
 
 #[test]
 fn a_ring_has_its_place() {
     let document = br#"{"styles": {"s": {"citation": {"elements": []}, "macros": [
-        {"name": "a", "children": []}, {"name": "b", "children": [{"kind": "text", "macro": "b"}]}]}},
+        {"name": "a", "children": []},
+        {"name": "b", "children": [{"kind": "text", "macro": "b"}]}]}},
         "entries": [], "requests": [], "bibliography": {"style": "s"}}"#;
     let ring = gamhilon::Ring { of_bibliography: 1, request: 0, macro_index: 1 };
     assert_eq!(gamhilon::render_text(document), Err(gamhilon::Refusal::MacroRing(ring)));
@@ -56,17 +67,20 @@ fn a_ring_has_its_place() {
 
 #[test]
 fn limits_are_held_to() {
-    let document = br#"{"styles": {"s": {"citation": {"elements": [{"kind": "text", "macro": "m"}, {"kind": "text", "macro": "m"}]},
+    let document = br#"{"styles": {"s": {"citation": {"elements": [
+        {"kind": "text", "macro": "m"}, {"kind": "text", "macro": "m"}]},
         "macros": [{"name": "m", "children": [{"kind": "text", "value": "x"}]}]}},
         "entries": [], "requests": [], "bibliography": {"style": "s"}}"#;
-    let checked = |depth, elements| gamhilon::check_limits(document, gamhilon::Limits { depth, elements });
+    let checked =
+        |depth, elements| gamhilon::check_limits(document, gamhilon::Limits { depth, elements });
     assert_eq!(checked(2, 4), Ok(()));
     assert_eq!(checked(usize::MAX, usize::MAX), Ok(()));
     assert_eq!(checked(1, 4), Err(gamhilon::Refusal::TooDeep));
     assert_eq!(checked(2, 3), Err(gamhilon::Refusal::TooManyElements));
     let limits = gamhilon::Limits { depth: 100, elements: 100_000 };
     assert_eq!(gamhilon::check_limits(FIRST, limits), Ok(()));
-    assert_eq!(gamhilon::check_limits(b"{", limits), Err(gamhilon::Refusal::Document));
+    let refusal = gamhilon::check_limits(br#"{"styles": {"s": 5}}"#, limits).unwrap_err();
+    assert_eq!(refusal, gamhilon::Refusal::Document(Box::new(fault("/styles/s", "an object"))));
 }
 
 #[test]
@@ -77,8 +91,8 @@ fn the_version_is_that_of_the_header() {
 }
 
 const STYLE: &[u8] = include_bytes!("../../../examples/styles/author-date.csl");
-const ITEMS: &[u8] = br#"[{"id": "doe99", "type": "book", "title": "On Order", "author": [{"family": "Doe"}],
-    "issued": {"date-parts": [[1999]]}}]"#;
+const ITEMS: &[u8] = br#"[{"id": "doe99", "type": "book", "title": "On Order",
+    "author": [{"family": "Doe"}], "issued": {"date-parts": [[1999]]}}]"#;
 
 fn texts(citations: &'static [u8]) -> gamhilon::Texts<'static> {
     gamhilon::Texts { style: STYLE, items: ITEMS, citations, ..gamhilon::Texts::default() }
@@ -104,7 +118,8 @@ fn a_text_that_is_wrong_has_its_place() {
     match gamhilon::cite(&style) {
         Err(gamhilon::CiteError::Text(fault)) => {
             assert_eq!(fault.remark.file, "style");
-            assert!(matches!(fault.remark.place, gamhilon::TextPlace::Line { line: 1, .. }), "{fault:?}");
+            let is_placed = matches!(fault.remark.place, gamhilon::TextPlace::Line { line: 1, .. });
+            assert!(is_placed, "{fault:?}");
         }
         other => panic!("{other:?}"),
     }

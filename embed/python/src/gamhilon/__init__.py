@@ -24,8 +24,8 @@ Citations are written by a published style from its text:
 A host that writes cites itself, such as a CSL processor, has the driver tell it what to write:
 `gamhilon.render_with(document, write)`, as docs/DRIVEN.md tells it.
 
-`python -m gamhilon` does the same from the command line. Calls may be made from any number of threads
-and processes at once.
+`python -m gamhilon` does the same from the command line. Calls may be made from any number of
+threads and processes at once.
 """
 from __future__ import annotations
 

@@ -1,19 +1,19 @@
-"""python -m gamhilon: citations and reference lists in styles, documents answered, files checked, and
-references read."""
+"""python -m gamhilon: citations and reference lists in styles, documents answered, files checked,
+and references read."""
 from __future__ import annotations
 
 import argparse
-import json
 import os
 import sys
 from functools import partial
-from typing import Any, Dict, List, NoReturn, Optional, Sequence, Tuple
+from typing import Any, Dict, List, NoReturn, Optional, Sequence
 
-from . import (Limits, _console, _faults, _remarks, check, csl, csl_json, pages, references,
-               style_sheet, styles, version)
+from . import (Limits, _console, _faults, csl, csl_json, pages, references, style_sheet, styles,
+               version)
+from ._check_command import check_command, refusal
 from ._cite_command import Asked, bibliography_command, cite_command
 from ._console import (INPUT_OR_OUTPUT_FAILED, NOT_OF_ITS_FORM, json_text, name_of, progress, read,
-                       reason_and_status, say, write)
+                       say, write)
 from ._limits import DEFAULT_DEPTH, DEFAULT_ELEMENTS, UNLIMITED
 from ._render_folder import Job, page_of, render_folder
 from .errors import LibraryMissing, Refused
@@ -69,17 +69,25 @@ def _add_cite(commands: Any) -> None:
                           help='a JSON list of citations, which are lists of cites; - for standard '
                                'input')
         made.add_argument('--style', required=True,
-                          help='a style: its name (gamhilon styles --all), or a file')
+                          help='a style: its name (gamhilon styles --all), or a file; - for '
+                               'standard input')
         made.add_argument('--references', dest='more', action='append', default=[], metavar='FILE',
                           help='more references; it may stand several times')
+        made.add_argument('--styles', metavar='FOLDER', help='where styles are, in place of those '
+                                                             "of this package and Debian's")
         made.add_argument('--locale', metavar='TAG', help="the language, in place of the style's")
         made.add_argument('--locales', metavar='FOLDER', help='where locale files are')
         made.add_argument('--nocite', action='store_true',
                           help='references are listed that no cite is of')
-        made.add_argument('--to', choices=pages.FORMS, default='text',
-                          help='the form of what is written (text)')
-        made.add_argument('--standalone', action='store_true',
-                          help='a whole page, with the style sheet (of the form html alone)')
+        _add_forms(made)
+
+
+def _add_forms(command: argparse.ArgumentParser) -> None:
+    """The form of what is written."""
+    command.add_argument('--to', choices=pages.FORMS,
+                         help='the form of what is written (text)')
+    command.add_argument('--standalone', action='store_true',
+                         help='a whole page, with the style sheet (of the form html alone)')
 
 
 def _add_render(commands: Any) -> None:
@@ -87,10 +95,7 @@ def _add_render(commands: Any) -> None:
     render.add_argument('document', metavar='FILE',
                         help='a document (docs/DOCUMENT.md), - for standard input, or a folder of '
                              'documents')
-    render.add_argument('--to', choices=pages.FORMS, default='text',
-                        help='the form of what is written (text)')
-    render.add_argument('--standalone', action='store_true',
-                        help='a whole page, with the style sheet (of the form html alone)')
+    _add_forms(render)
     render.add_argument('--jobs', type=_count, metavar='N', default=1,
                         help='how many processes answer the documents of a folder (1)')
     render.add_argument('--output', metavar='FOLDER',
@@ -141,9 +146,26 @@ def main(arguments: Optional[List[str]] = None) -> int:
     if not words.version and not words.command:
         made.print_help(sys.stderr)
         return BAD_COMMAND_LINE
-    if getattr(words, 'standalone', False) and words.to != 'html':
-        made.error('--standalone makes a page of the form html: add --to html')
+    if getattr(words, 'standalone', False) and words.to not in ('html', None):
+        made.error('--standalone makes a page of the form html')
+    if 'standalone' in words:
+        words.to = words.to or ('html' if words.standalone else 'text')
+    if _inputs(words) > 1:
+        made.error('- stands for several files, and standard input is read once')
     return _console.interruptible(partial(run, words))
+
+
+def _inputs(words: argparse.Namespace) -> int:
+    """How many of the files of a command line are standard input."""
+    if words.command in ('cite', 'bibliography'):
+        return _asked(words).inputs()
+    return list(getattr(words, 'files', [])).count('-')
+
+
+def _asked(words: argparse.Namespace) -> Asked:
+    """What a command line of `cite` or `bibliography` asks for."""
+    return Asked(words.style, words.styles, words.locale, words.locales, words.to,
+                 words.standalone, [words.references, *words.more], words.citations, words.nocite)
 
 
 def run(words: argparse.Namespace) -> int:
@@ -152,9 +174,8 @@ def run(words: argparse.Namespace) -> int:
         if words.version:
             write(f'{version()}\n')
         elif words.command in ('cite', 'bibliography'):
-            asked = Asked(words.style, words.locale, words.locales, words.to, words.standalone,
-                          [words.references, *words.more], words.citations, words.nocite)
-            return (cite_command if words.command == 'cite' else bibliography_command)(asked)
+            command = cite_command if words.command == 'cite' else bibliography_command
+            return command(_asked(words))
         elif words.command == 'render':
             job = Job(words.to, words.standalone, Limits(words.depth, words.elements))
             return render_command(words.document, words.output, job, words.jobs)
@@ -176,14 +197,6 @@ def run(words: argparse.Namespace) -> int:
         return NO_LIBRARY
 
 
-def refusal(path: str, error: Exception) -> int:
-    """Tells why nothing comes of a file, with its name, and gives the exit status."""
-    message, status = reason_and_status(error)
-    # (the place of a fault in a style begins with its file)
-    say(message if isinstance(error, csl.StyleRefused) else f'{name_of(path)}: {message}')
-    return status
-
-
 def render_command(path: str, output: Optional[str], job: Job, processes: int) -> int:
     """Writes the answer to a document, or those to the documents of a folder."""
     try:
@@ -203,53 +216,6 @@ def render_command(path: str, output: Optional[str], job: Job, processes: int) -
     return 0
 
 
-def check_command(paths: Sequence[str], limits: Limits) -> int:
-    """Writes what files hold, and what in them can hardly be meant. The status is that of the first
-    that is refused, or in which something is no entry."""
-    statuses = []
-    for path in paths:
-        name = f'{name_of(path)}: ' if len(paths) > 1 else ''
-        try:
-            data = read(path)
-            with progress(f'checking {name_of(path)}'):
-                lines, problems = _check_one(path, data, limits)
-        except LibraryMissing:
-            raise
-        except (Refused, OSError, ValueError) as error:
-            statuses.append(refusal(path, error))
-            continue
-        write(''.join(f'{name}{_faults.in_one_line(line)}\n' for line in lines))
-        for problem in problems:
-            say(f'{name_of(path)}: {problem}')
-        statuses += [NOT_OF_ITS_FORM] if problems else []
-    return next(iter(statuses), 0)
-
-
-def _check_one(path: str, data: bytes, limits: Limits) -> Tuple[List[str], List[str]]:
-    """What a style, a locale, a document or a file of references holds, and remarks on it; and what
-    in it is no entry."""
-    if data.lstrip(b'\xef\xbb\xbf \t\r\n')[:1] == b'<' and not references.is_named(path):
-        return _check_xml(name_of(path), data.decode('utf-8-sig', 'surrogateescape')), []
-    if references.is_named(path) or data.lstrip(b'\xef\xbb\xbf \t\r\n')[:1] == b'[':
-        told = references.read(path, data)
-        return _remarks.of_references(told), told.problems
-    check(data, limits=limits)
-    said: Dict[str, Any] = json.loads(data)
-    return [*_remarks.holds(said), *[f'remark: {remark}' for remark in _remarks.remarks(said)]], []
-
-
-def _check_xml(file: str, text: str) -> List[str]:
-    """What a style or a locale is, and remarks on it. Raises StyleRefused where it is neither."""
-    if csl.is_locale(text):
-        return ['locale', *[f'remark: {warned}' for warned in csl.check_locale(text, file)]]
-    warnings = csl.check_style(text, file)
-    about = csl.about(text)
-    kind = 'note' if about.is_note else 'in-text'
-    has_list = 'with a bibliography' if about.has_bibliography else 'without a bibliography'
-    return [f'style {about.title}: {kind}, {has_list}',
-            *[f'remark: {warned}' for warned in warnings]]
-
-
 def entries_command(paths: Sequence[str], form: Optional[str], lang: str, to: str) -> int:
     """Writes references, and on standard error what isn't kept of their entries, by entry and
     field. The status is that of the first file that is refused, or in which something is no
@@ -265,9 +231,9 @@ def entries_command(paths: Sequence[str], form: Optional[str], lang: str, to: st
             statuses.append(refusal(path, error))
             continue
         for item in told.items:
-            if found.setdefault(str(item['id']), item) is not item:
-                reason = 'an earlier file has an item of this id, left out'
-                say(f'{name_of(path)}: {item["id"]}: id: {reason}')
+            if str(item['id']) in found:
+                say(f'{name_of(path)}: `{item["id"]}` replaces the item of a file before')
+            found[str(item['id'])] = item
         _say_what_is_lost(path, told)
         statuses += [NOT_OF_ITS_FORM] if told.problems else []
     items = list(found.values())

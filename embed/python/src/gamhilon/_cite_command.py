@@ -2,10 +2,11 @@
 from __future__ import annotations
 
 import json
-from dataclasses import dataclass
+import os
+from dataclasses import dataclass, field
 from typing import Any, Callable, Dict, List, Optional, Sequence, Tuple
 
-from . import _console, csl, pages, references
+from . import _console, _faults, csl, pages, references
 from ._console import INPUT_OR_OUTPUT_FAILED, NOT_OF_ITS_FORM, name_of, say
 from .answer import Answer
 from .errors import Refused
@@ -18,6 +19,7 @@ class Asked:
     """What a command line asks for."""
 
     style: str
+    styles: Optional[str]
     locale: Optional[str]
     locales: Optional[str]
     form: str
@@ -25,6 +27,18 @@ class Asked:
     references: Sequence[str]
     citations: Optional[str]
     lists_all: bool
+
+    def inputs(self) -> int:
+        """How many of the files are standard input."""
+        return [self.style, *self.references, self.citations].count('-')
+
+
+@dataclass
+class Works:
+    """References by their ids, and the file of each."""
+
+    items: Dict[str, Item] = field(default_factory=dict)
+    files: Dict[str, str] = field(default_factory=dict)
 
 
 class _Failed(Exception):
@@ -37,7 +51,7 @@ class _Failed(Exception):
 
 def cite_command(asked: Asked) -> int:
     """Writes each citation."""
-    return _written(asked, lambda rendered: pages.citations_in(asked.form, rendered.answer))
+    return _written(asked, lambda answer: pages.citations_in(asked.form, answer))
 
 
 def bibliography_command(asked: Asked) -> int:
@@ -45,74 +59,111 @@ def bibliography_command(asked: Asked) -> int:
     return _written(asked, _bibliography_in(asked))
 
 
-def _bibliography_in(asked: Asked) -> Callable[[csl.Rendered], str]:
-    def written(rendered: csl.Rendered) -> str:
-        if rendered.answer.bibliography is None:
-            say(f'{asked.style}: warning: the style has no bibliography')
-        return pages.bibliography_in(asked.form, rendered.answer)
+def _bibliography_in(asked: Asked) -> Callable[[Answer], str]:
+    def written(answer: Answer) -> str:
+        if answer.bibliography is None and asked.form != 'json':
+            say(f'{name_of(asked.style)}: warning: the style has no bibliography')
+        return pages.bibliography_in(asked.form, answer)
     return written
 
 
-def _written(asked: Asked, written: Callable[[csl.Rendered], str]) -> int:
+def _written(asked: Asked, written: Callable[[Answer], str]) -> int:
     """Writes what comes of a document, and tells on standard error what is odd in it."""
     try:
-        rendered, shown = _rendered(asked)
+        works = _works(asked.references)
+        rendered, shown = _rendered(asked, works)
     except _Failed as failure:
         say(str(failure))
         return failure.status
     for warned in rendered.warnings:
-        say(f'warning: {warned}')
-    answer = Answer(rendered.answer.citations[:shown], rendered.answer.bibliography)
-    text = written(csl.Rendered(answer, rendered.warnings))
+        say(_warning(asked, works, warned))
+    text = written(Answer(rendered.answer.citations[:shown], rendered.answer.bibliography))
     _console.write(pages.standalone(text) if asked.is_standalone else text)
     return 0
 
 
-def _rendered(asked: Asked) -> Tuple[csl.Rendered, int]:
+def _warning(asked: Asked, works: Works, warned: csl.Warned) -> str:
+    """What is said of something odd, with the name of its file. (Places in a style begin with
+    it.)"""
+    if warned.citation is not None and asked.citations is not None:
+        return f'{name_of(asked.citations)}: warning: {warned}'
+    if warned.entry is not None and warned.entry in works.files:
+        return f'{name_of(works.files[warned.entry])}: warning: {warned}'
+    return f'{warned.place}: warning: {warned.message}'
+
+
+def _rendered(asked: Asked, works: Works) -> Tuple[csl.Rendered, int]:
     """What comes of a document, and how many citations of it are shown. Raises _Failed."""
-    items = _items(asked.references)
     citations = [] if asked.citations is None else _citations(asked.citations)
     shown = len(citations)
     if asked.lists_all or asked.citations is None:
-        citations.append([{'id': item['id'], 'hidden': True} for item in items])
+        citations.append([{'id': key, 'hidden': True} for key in works.items])
     try:
+        style = _style(asked)
         with _console.progress(f'citing in {asked.style}'):
-            rendered = csl.render(asked.style, items, citations, locale=asked.locale,
-                                  locales=asked.locales)
+            rendered = csl.render(style, list(works.items.values()), citations,
+                                  locale=asked.locale, locales=asked.locales)
     except csl.CitationRefused as error:
         raise _Failed(f'{name_of(str(asked.citations))}: {error}', NOT_OF_ITS_FORM) from error
     except Refused as error:
         raise _Failed(str(error), error.status) from error
-    except csl.StyleMissing as error:
+    except (csl.StyleMissing, OSError) as error:
         raise _Failed(str(error), INPUT_OR_OUTPUT_FAILED) from error
     except ValueError as error:
         raise _Failed(str(error), NOT_OF_ITS_FORM) from error
     return rendered, shown
 
 
-def _items(paths: Sequence[str]) -> List[Item]:
-    """The references of files, of which the first of an id counts. Tells what isn't kept of
+def _style(asked: Asked) -> str:
+    """The style: its text where it is standard input, its path where there is a folder of styles,
+    or else as it is told. Raises StyleMissing and OSError."""
+    if asked.style == '-':
+        return _console.read('-').decode('utf-8-sig', 'surrogateescape')
+    is_path = asked.style.endswith('.csl') or os.sep in asked.style
+    if asked.styles is None or is_path:
+        return asked.style
+    places = [os.path.join(asked.styles, folder, f'{asked.style}.csl')
+              for folder in ('', 'dependent')]
+    found = next((place for place in places if os.path.isfile(place)), None)
+    if found is None:
+        raise csl.StyleMissing(f'there is no style {asked.style!r}: looked for '
+                               f'{", ".join(places)}')
+    return found
+
+
+def _works(paths: Sequence[str]) -> Works:
+    """The references of files, of which the last of an id counts. Tells what isn't kept of
     them."""
-    found: Dict[str, Item] = {}
+    works = Works()
     for path in paths:
         try:
-            told = references.read(path, _console.read(path))
+            data = _console.read(path)
+            with _console.progress(f'reading {name_of(path)}'):
+                told = references.read(path, data)
         except (OSError, ValueError) as error:
             raise _failure(path, error) from error
         for item in told.items:
-            if found.setdefault(str(item['id']), item) is not item:
-                say(f'{name_of(path)}: warning: {item["id"]}: a file before has an item of this '
-                    'id, left out')
+            key = str(item['id'])
+            if key in works.items:
+                say(f'{name_of(path)}: warning: `{key}` replaces the item of a file before')
+            works.items[key], works.files[key] = item, path
         for remark in [*told.losses, *told.problems]:
             say(f'{name_of(path)}: warning: {remark}')
-    return list(found.values())
+    return works
 
 
 def _citations(path: str) -> List[Any]:
     """The citations of a file."""
     try:
         said = json.loads(_console.read(path).decode('utf-8-sig'))
-    except (OSError, ValueError, RecursionError) as error:
+    except RecursionError as error:
+        raise _Failed(f'{name_of(path)}: {_faults.TOO_DEEP}', NOT_OF_ITS_FORM) from error
+    except UnicodeDecodeError as error:
+        raise _Failed(f'{name_of(path)}: no UTF-8 from byte {error.start}',
+                      NOT_OF_ITS_FORM) from error
+    except ValueError as error:
+        raise _Failed(f'{name_of(path)}: no JSON: {error}', NOT_OF_ITS_FORM) from error
+    except OSError as error:
         raise _failure(path, error) from error
     if not isinstance(said, list):
         raise _Failed(f'{name_of(path)}: the citations are no list of citations', NOT_OF_ITS_FORM)

@@ -6,6 +6,7 @@ import re
 from typing import Any
 
 SHOWN = 60
+TOO_DEEP = 'nested deeper than 127 levels'
 
 _BYTE_ORDER_MARK = b'\xef\xbb\xbf'
 _DEEPEST = 127
@@ -34,7 +35,10 @@ def in_one_line(text: str) -> str:
 
 def shown(value: Any) -> str:
     """A value as JSON, cut where it is long."""
-    text = json.dumps(value, ensure_ascii=False)
+    try:
+        text = json.dumps(value, ensure_ascii=False)
+    except RecursionError:
+        return '..'
     return text if len(text) <= SHOWN else f'{text[:SHOWN]} ..'
 
 
@@ -43,7 +47,7 @@ def _no_json(document: bytes, found: str) -> str:
     if document.startswith(_BYTE_ORDER_MARK):
         return 'begins with a byte order mark'
     if _nests_too_deep(document.decode('utf-8', 'replace')):
-        return found.replace('no JSON', f'nested deeper than {_DEEPEST} levels', 1)
+        return found.replace('no JSON', TOO_DEEP, 1)
     return found
 
 

@@ -3,10 +3,12 @@ from __future__ import annotations
 
 import os
 import re
+from dataclasses import dataclass
 from typing import Any, Callable, Dict, Iterator, List, Optional, Sequence
 
 from . import _pandoc_command, references
 from ._pandoc_inlines import rich_text_of, text_of
+from .csl_json import Loss
 from .references.dates import csl_date
 
 Warn = Callable[[str], None]
@@ -22,11 +24,16 @@ class FilterError(ValueError):
     """Why a page can't be worked on."""
 
 
+@dataclass(frozen=True)
 class Source:
-    """References of one place: a file or the page, by the name of its list, if it has one."""
+    """References of one place: a file, with its path, or the page; the name of its list, if it has
+    one; and what isn't kept of its entries."""
 
-    def __init__(self, name: str, items: List[Item], list_name: str = '') -> None:
-        self.name, self.items, self.list_name = name, items, list_name
+    name: str
+    items: List[Item]
+    list_name: str = ''
+    path: str = ''
+    losses: Sequence[Loss] = ()
 
 
 class Metadata:
@@ -71,10 +78,10 @@ class Metadata:
         said = self.said('bibliography')
         for list_name, paths in said.items() if isinstance(said, dict) else [('', said)]:
             for path in paths if isinstance(paths, list) else [paths] if paths else []:
-                found.append(Source(str(path), self._load(str(path)), list_name))
+                found.append(self._load(str(path), list_name))
         return found
 
-    def _load(self, path: str) -> List[Item]:
+    def _load(self, path: str, list_name: str) -> Source:
         place = self.find(path)
         if place is None:
             looked = ', '.join(folder or '.' for folder in self.folders)
@@ -85,10 +92,7 @@ class Metadata:
             raise FilterError(f'bibliography: {error}') from error
         for problem in read.problems:
             self.warn(f'{path}: {problem}')
-        if read.losses:
-            fields = ', '.join(sorted({loss.field for loss in read.losses}))
-            self.warn(f'{path}: not kept: {fields} (gamhilon check {place} tells more)')
-        return read.items
+        return Source(path, read.items, list_name, place, read.losses)
 
 
 def plain_value(value: Any) -> Any:

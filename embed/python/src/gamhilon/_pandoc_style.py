@@ -43,6 +43,7 @@ class Style:
         self.locale = metadata.text('lang')
         try:
             self.is_note = csl.about(self.name).is_note
+            self.variables = csl.variables_of(self.name)
         except (csl.StyleMissing, csl.StyleRefused) as error:
             raise FilterError(f'csl: {error}') from error
         self.items: Dict[str, Item] = {}

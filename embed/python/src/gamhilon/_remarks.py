@@ -21,11 +21,9 @@ def holds(document: Dict[str, Any]) -> List[str]:
 
 
 def of_references(read: References) -> List[str]:
-    """What a file of references holds, a line each, and remarks on it."""
+    """What a file of references holds, a line each."""
     kinds = Counter(str(item.get('type', 'no type')) for item in read.items)
-    told = ', '.join(f'{count} {kind}' for kind, count in sorted(kinds.items()))
-    lines = [f'references: {len(read.items)}' + (f', of which {told}' if told else '')]
-    return lines + [f'remark: {loss}' for loss in read.losses]
+    return [f'{kind}: {count}' for kind, count in sorted(kinds.items())]
 
 
 def remarks(document: Dict[str, Any]) -> List[str]:

@@ -1,5 +1,5 @@
-"""Whole answers in each form that `python -m gamhilon` gives: those of `render`, and those of `cite`
-and `bibliography`."""
+"""Whole answers in each form that `python -m gamhilon` gives: those of `render`, and those of
+`cite` and `bibliography`."""
 from __future__ import annotations
 
 import json
@@ -41,19 +41,19 @@ def written(form: str, document: bytes, print_document: Callable[[bytes], str],
 
 
 def citations_in(form: str, answer: Answer) -> str:
-    """The citations of an answer in a form, each on a line."""
+    """The citations of an answer in a form, each on a line; as JSON the whole answer."""
     if form == 'json':
-        return json.dumps(data_of(Answer(answer.citations))['citations'], ensure_ascii=False) + '\n'
+        return _json(answer)
     writers: Dict[str, Callable[..., str]] = {
         'text': plain, 'html': to_html, 'markdown': to_markdown, 'latex': to_latex}
     return ''.join(f'{writers[form](citation)}\n' for citation in answer.citations)
 
 
 def bibliography_in(form: str, answer: Answer) -> str:
-    """The bibliography of an answer in a form; nothing where there is none."""
+    """The bibliography of an answer in a form; nothing where there is none. As JSON the whole
+    answer."""
     if form == 'json':
-        said = data_of(answer).get('bibliography')
-        return json.dumps(said, ensure_ascii=False) + '\n'
+        return _json(answer)
     if form == 'text':
         items = answer.bibliography.items if answer.bibliography else []
         return ''.join(f'{_line(item)}\n' for item in items)
@@ -61,6 +61,10 @@ def bibliography_in(form: str, answer: Answer) -> str:
         'html': bibliography_to_html, 'markdown': bibliography_to_markdown,
         'latex': bibliography_to_latex}
     return writers[form](answer.bibliography)
+
+
+def _json(answer: Answer) -> str:
+    return json.dumps(data_of(answer), ensure_ascii=False) + '\n'
 
 
 def _line(item: Item) -> str:

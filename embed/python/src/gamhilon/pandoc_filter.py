@@ -25,7 +25,7 @@ from __future__ import annotations
 import json
 import re
 import sys
-from typing import Any, Dict, Iterator, List, Optional, Sequence, Tuple, Union
+from typing import Any, Dict, Iterator, List, Optional, Sequence, Set, Tuple, Union
 
 from . import _addresses, _console, csl
 from ._nearest import meant
@@ -38,6 +38,7 @@ from ._writing import anchor, pieces
 from .answer import Bibliography, Item, Node, Tree
 from .errors import LibraryMissing, Refused
 from .html_writer import layout_classes, spacing
+from .references import is_shown
 
 LIST_PREFIX = 'refs-'
 _KEY = re.compile(r'@([\w*](?:[\w:.#$%&+?<>~/-]*\w)?)')
@@ -52,7 +53,7 @@ def main() -> int:
 
 def _run() -> int:
     try:
-        made = filtered(json.load(sys.stdin.buffer), _warn)
+        made = filtered(_document(), _warn)
         sys.stdout.write(json.dumps(made))
         return 0
     except Refused as refusal:
@@ -61,6 +62,17 @@ def _run() -> int:
     except (FilterError, LibraryMissing, OSError) as error:
         _warn(str(error))
         return 1
+
+
+def _document() -> Dict[str, Any]:
+    """The document that pandoc hands in. Raises FilterError where standard input has none."""
+    try:
+        said = json.load(sys.stdin.buffer)
+    except (ValueError, RecursionError) as error:
+        raise FilterError(f'standard input: no document of pandoc: {error}') from error
+    if not isinstance(said, dict) or 'blocks' not in said:
+        raise FilterError('standard input: no document of pandoc')
+    return said
 
 
 def _warn(message: str) -> None:
@@ -173,6 +185,8 @@ class _Filter:
             links = self.links and answer.bibliography is not None and not citation.is_in_link
             self.written[place] = written(citation, tree, whole, links)
         self.tell([citation for _, citation in asked], answer.warnings)
+        self.tell_losses({cited.key for _, citation in asked for cited in citation.cited}
+                         | set(nocite))
         for place, citation in asked:
             for lost in self.written[place].lost:
                 self.warn(f'{citation.place}: {lost}')
@@ -186,6 +200,15 @@ class _Filter:
                 self.warn(str(warned))
             elif all(cited.mode == NORMAL for cited in citations[warned.citation].cited):
                 self.warn(f'{citations[warned.citation].place}: {warned.message}')
+
+    def tell_losses(self, keys: Set[str]) -> None:
+        """Tells what isn't kept of these entries, where the style would have shown it."""
+        for source in self.sources:
+            fields = sorted({loss.field for loss in source.losses if loss.key in keys
+                             and is_shown(loss, self.style.variables)})
+            if fields:
+                self.warn(f'{source.name}: not kept: {", ".join(fields)} '
+                          f'(gamhilon check {source.path} tells more)')
 
     # What is put in
 

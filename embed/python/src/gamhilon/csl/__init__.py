@@ -17,12 +17,13 @@ from __future__ import annotations
 from .cites import LABELS, Cite, CiteLike
 from .errors import CitationRefused, EntriesRefused, StyleMissing, StyleRefused
 from .locales import Locales
-from .rendering import Rendered, about, check_locale, check_style, render
-from .style import About, find, is_locale, names
+from .rendering import (Rendered, about, check_entries, check_file, check_locale, check_style,
+                        render)
+from .style import About, find, is_locale, names, variables_of
 from .warned import Warned
 
 __all__ = [
     'About', 'CitationRefused', 'Cite', 'CiteLike', 'EntriesRefused', 'LABELS', 'Locales',
-    'Rendered', 'StyleMissing', 'StyleRefused', 'Warned', 'about', 'check_locale', 'check_style',
-    'find', 'is_locale', 'names', 'render',
+    'Rendered', 'StyleMissing', 'StyleRefused', 'Warned', 'about', 'check_entries', 'check_file',
+    'check_locale', 'check_style', 'find', 'is_locale', 'names', 'render', 'variables_of',
 ]

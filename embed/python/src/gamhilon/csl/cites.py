@@ -1,6 +1,7 @@
 """Cites and citations, as a document has them."""
 from __future__ import annotations
 
+import reprlib
 from dataclasses import dataclass
 from typing import Any, Dict, List, Mapping, Optional, Sequence, Union
 
@@ -115,8 +116,10 @@ def _value(number: int, index: int, key: str, member: Any) -> Any:
     is_number = isinstance(member, (int, float)) and not isinstance(member, bool)
     if key in _TEXTS and (is_number or isinstance(member, str)):
         return str(member)
-    if key == 'note' and is_number and member == int(member) and 0 <= member < 2 ** 64:
+    is_whole = is_number and (isinstance(member, int) or member.is_integer())
+    if key == 'note' and is_whole and 0 <= member < 2 ** 64:
         return int(member)
     wanted = ('true or false' if key in _FLAGS else 'a text or a number' if key in _TEXTS
               else 'a whole number, the number of a note')
-    raise CitationRefused(number, index, key, f'{member!r} is not {wanted}')
+    # (of what is long or deep a part is shown)
+    raise CitationRefused(number, index, key, f'{reprlib.repr(member)} is not {wanted}')

@@ -20,7 +20,7 @@ class EntryReader:
         self.warnings: List[Warned] = []
 
     def entries(self, values: Any) -> Dict[str, Entry]:
-        """The first entry of each id, by these. Raises EntriesRefused where they are no list of
+        """The last entry of each id, by these. Raises EntriesRefused where they are no list of
         entries."""
         if isinstance(values, (str, bytes, Mapping)) or not isinstance(values, Iterable):
             raise EntriesRefused('the entries are no list of items of CSL-JSON')
@@ -29,11 +29,11 @@ class EntryReader:
             key = value.get('id') if isinstance(value, Mapping) else None
             if not isinstance(key, (str, int, float)) or isinstance(key, bool) or key == '':
                 self.warnings.append(Warned(f'entry {number}', 'no item with an id, left out'))
-            elif str(key) in found:
-                self.warnings.append(Warned(f'entry {number}', 'a second item of the id '
-                                            f'{str(key)!r}, left out', entry=str(key)))
-            else:
-                found[str(key)] = self._entry(str(key), value)
+                continue
+            if str(key) in found:
+                reason = f'a second item of the id {str(key)!r}, in place of the first'
+                self.warnings.append(Warned(f'entry {number}', reason, entry=str(key)))
+            found[str(key)] = self._entry(str(key), value)
         return found
 
     def _entry(self, key: str, value: Mapping[str, Any]) -> Entry:

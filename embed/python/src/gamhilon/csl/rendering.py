@@ -2,7 +2,7 @@
 from __future__ import annotations
 
 from dataclasses import dataclass, replace
-from typing import Any, Dict, List, Mapping, Optional, Sequence
+from typing import Any, Dict, List, Mapping, Optional, Sequence, Tuple
 
 from .._nearest import meant
 from ..answer import Answer, Item, Node, Tree, plain
@@ -12,10 +12,12 @@ from .cites import Cite, CiteLike, CitationReader
 from .entries import Entry, EntryReader, stand_in, warned_of_stand_in
 from .errors import CitationRefused, StyleRefused
 from .locales import LocaleFile, Locales, files_for, with_dialect
-from .style import About, Style, load
+from .style import About, Style, is_locale, language_of, load, name_of
 from .warned import Warned
 
-__all__ = ['Rendered', 'about', 'check_locale', 'check_style', 'render']
+__all__ = [
+    'Rendered', 'about', 'check_entries', 'check_file', 'check_locale', 'check_style', 'render',
+]
 
 NOTHING = 'the style writes nothing of it'
 LANGUAGE = 'en-US'
@@ -86,6 +88,33 @@ def check_locale(text: str, file: str = 'the locale') -> List[Warned]:
     """What is odd in the text of a locale file, which places name `file`. Raises StyleRefused where
     it isn't one."""
     return _refuse(replace(_of_style(load('author-date')), locales=[LocaleFile(file, text)]))
+
+
+def check_entries(entries: Sequence[Mapping[str, Any]]) -> List[Warned]:
+    """What is odd in entries. Raises EntriesRefused where they are no list, or where one isn't of
+    its form."""
+    reader = EntryReader()
+    known = list(reader.entries(entries).values())
+    found = _refuse(replace(_of_style(load('author-date')), entries=known))
+    return [*reader.warnings, *found]
+
+
+def check_file(text: str, file: str) -> Tuple[str, List[Warned]]:
+    """What the text of a style or of a locale file is, in a line, and what is odd in it. Of a style
+    that depends on another this says on which, and that isn't looked for. Raises StyleRefused where
+    it is neither."""
+    if is_locale(text):
+        return f'locale {language_of(text)}', check_locale(text, file)
+    document = _of_style(Style(file, text, None, None))
+    try:
+        answer = document.answer()
+    except TextRefused as refusal:
+        if refusal.fault.parent is None:
+            raise document.error(refusal) from refusal
+        warnings = [document.warned(warning) for warning in refusal.warnings]
+        return f'dependent style of {refusal.fault.parent}', warnings
+    warnings = [document.warned(warning) for warning in answer.warnings]
+    return f'independent style {name_of(text)}', warnings
 
 
 def _of_style(style: Style) -> Document:

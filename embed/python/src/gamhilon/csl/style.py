@@ -4,7 +4,7 @@ from __future__ import annotations
 
 import os
 from dataclasses import dataclass
-from typing import List, Optional
+from typing import FrozenSet, List, Optional
 from xml.etree import ElementTree
 
 from .. import styles
@@ -12,7 +12,10 @@ from .._nearest import meant
 from .errors import StyleMissing
 from .files import is_text, text_of
 
-__all__ = ['FOLDER', 'About', 'Style', 'find', 'is_locale', 'load', 'names']
+__all__ = [
+    'FOLDER', 'About', 'Style', 'find', 'is_locale', 'language_of', 'load', 'name_of', 'names',
+    'variables_of',
+]
 
 FOLDER = '/usr/share/citation-style-language/styles'
 """Where Debian's package citation-style-language-styles has styles."""
@@ -21,6 +24,8 @@ THE_TEXT = 'the style'
 """How messages name a style whose text was handed in."""
 
 _CSL = '{http://purl.org/net/xbiblio/csl}'
+_XML = '{http://www.w3.org/XML/1998/namespace}'
+_WRITE_VARIABLES = ('text', 'number', 'date', 'names', 'label')
 _SUFFIX = '.csl'
 
 
@@ -80,6 +85,31 @@ def is_locale(text: str) -> bool:
     """Whether a text of XML is a locale file, by its root."""
     root = _root_of(text)
     return root is not None and root.tag == f'{_CSL}locale'
+
+
+def language_of(text: str) -> str:
+    """The language of the text of a locale file; empty where it tells none."""
+    root = _root_of(text)
+    return '' if root is None else root.get(f'{_XML}lang', '')
+
+
+def name_of(text: str) -> str:
+    """The title and the id of the text of a style."""
+    root = _root_of(text)
+    title, key = ('' if root is None else (root.findtext(f'{_CSL}info/{_CSL}{name}') or '').strip()
+                  for name in ('title', 'id'))
+    return f'{title} ({key})'
+
+
+def variables_of(style: str) -> FrozenSet[str]:
+    """The variables of CSL that a style writes, by its name, its path or its text: those of its
+    texts, numbers, dates, names and labels. Raises StyleMissing, as `load` does."""
+    root = _root_of(load(style).text)
+    if root is None:
+        return frozenset()
+    told = [element.get('variable', '') for name in _WRITE_VARIABLES
+            for element in root.iter(f'{_CSL}{name}')]
+    return frozenset(variable for variables in told for variable in variables.split())
 
 
 def _read(path: str) -> str:

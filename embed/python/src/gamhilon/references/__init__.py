@@ -20,14 +20,15 @@ import re
 from dataclasses import dataclass
 from typing import Any, Dict, List, Optional, Tuple
 
-from .. import _console
+from .. import _console, _faults
 from ..csl_json import Loss
 from . import biblatex, hayagriva
 from .errors import ReaderMissing, ReferencesError
+from .shown import is_shown
 
 __all__ = [
     'FORMS', 'Item', 'ReaderMissing', 'References', 'ReferencesError', 'form_of', 'is_named',
-    'load', 'loads', 'read',
+    'is_shown', 'load', 'loads', 'read',
 ]
 
 Item = Dict[str, Any]
@@ -46,7 +47,8 @@ _BYTE_ORDER_MARK = '\ufeff'
 @dataclass(frozen=True)
 class References:
     """The items of a file as CSL-JSON, each of another id; what isn't kept of its entries, by entry
-    and field; and what in the file is no entry that can be read."""
+    and field; and what in the file is no entry that can be read. Of entries of one key the first
+    counts, and of items of CSL-JSON the last, in the place of the first."""
 
     items: List[Item]
     losses: List[Loss]
@@ -90,7 +92,7 @@ def loads(text: str, *, form: Optional[str] = None, lang: str = 'en-US') -> Refe
         items, losses, problems = hayagriva.items(text)
     else:
         items, losses, problems = biblatex.items(text, form == 'biblatex', lang)
-    return _each_once(items, losses, problems)
+    return _each_once(items, losses, problems, form == 'csl-json')
 
 
 def form_of(text: str) -> str:
@@ -117,7 +119,7 @@ def _csl_json(text: str) -> Tuple[List[Item], List[Loss], List[str]]:
     try:
         value = json.loads(text)
     except RecursionError as error:
-        raise ReferencesError('JSON that nests too deep') from error
+        raise ReferencesError(_faults.TOO_DEEP) from error
     except ValueError as error:
         raise ReferencesError(f'no JSON: {error}') from error
     if isinstance(value, dict) and isinstance(value.get('items'), list):
@@ -129,8 +131,10 @@ def _csl_json(text: str) -> Tuple[List[Item], List[Loss], List[str]]:
     return items, [], [f'item {place} is not an object' for place in wrong]
 
 
-def _each_once(items: List[Item], losses: List[Loss], problems: List[str]) -> References:
-    """The first item of each id. An item without an id can't be cited."""
+def _each_once(items: List[Item], losses: List[Loss], problems: List[str],
+               last_counts: bool) -> References:
+    """The first item of each id, or the last, in the place of the first. An item without an id
+    can't be cited."""
     found: Dict[str, Item] = {}
     left_out: List[Loss] = []
     for place, item in enumerate(items):
@@ -138,6 +142,10 @@ def _each_once(items: List[Item], losses: List[Loss], problems: List[str]) -> Re
         if not isinstance(key, (str, int, float)) or isinstance(key, bool) or key == '':
             reason = 'an item without an id, left out'
             left_out.append(Loss(f'item {place}', 'id', item, reason))
+        elif str(key) in found and last_counts:
+            reason = 'a second item of this id, in place of the first'
+            left_out.append(Loss(str(key), 'id', found[str(key)], reason))
+            found[str(key)] = item
         elif str(key) in found:
             left_out.append(Loss(str(key), 'id', item, 'a second item of this id, left out'))
         else:
