@@ -123,7 +123,10 @@ impl<'d> Document<'d> {
     fn has_notes(&self, setting: Setting<'_>) -> bool {
         setting.programs.asked_place.notes
             && (self.style.class == StyleClass::Note
-                || self.citations.iter().any(|citation| citation.note.is_some()))
+                || self
+                    .citations
+                    .iter()
+                    .any(|citation| citation.note.is_some()))
     }
 
     /// The answer as streams, with their punctuation in order.

@@ -20,7 +20,8 @@ impl AskedPlace {
     pub fn of_style(style: &CslStyle, program: &Program<'_>) -> AskedPlace {
         let notes = program.steps.iter().any(asks_for_notes);
         AskedPlace {
-            cites: notes || has_later_names(style, program)
+            cites: notes
+                || has_later_names(style, program)
                 || program.steps.iter().any(asks_for_position),
             notes,
         }
@@ -30,7 +31,10 @@ impl AskedPlace {
 fn asks_for_position(step: &Step<'_>) -> bool {
     match step {
         Step::Test { branch, .. } => {
-            branch.tests.iter().any(|test| matches!(test, Test::Position(_)))
+            branch
+                .tests
+                .iter()
+                .any(|test| matches!(test, Test::Position(_)))
         }
         _ => false,
     }

@@ -78,11 +78,7 @@ impl<'s, 'c> Walk<'s, 'c> {
 
     /// Adds a block. Where there is a common term for editors who are translators too, and these
     /// are the persons of the last block, that gets the term.
-    fn push_block(
-        &self,
-        blocks: &mut Vec<Block<'c>>,
-        block: Block<'c>,
-    ) -> Result<(), AllocError> {
+    fn push_block(&self, blocks: &mut Vec<Block<'c>>, block: Block<'c>) -> Result<(), AllocError> {
         let last = blocks.last().copied();
         let block = match last {
             Some(last) if are_same_persons(last, block) && self.has_common_term() => {
