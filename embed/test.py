@@ -354,12 +354,12 @@ def try_hard_texts(folder, texts, answered):
          'style files that nest as deep as is read are answered')
     hold_stack(folder, ['--texts', *answered, *deep], STACK_OF_TEXTS)
     place = answered[0]
-    done = ran(f'{folder}/cite', *[f'{place}/{file}' for file in ('style.csl', 'items.json',
-                                                                   'citations.json')])
+    done = ran(f'{folder}/cite', f'{place}/style.csl', f'{place}/items.json',
+               f'{place}/citations.json')
     hold(done.returncode == 0 and b'Jane Doe' in done.stdout and not done.stderr,
          f'c/cite.c: {done.returncode}, {done.stderr.decode()}')
-    done = ran(f'{folder}/cite', *[f'{place}/{file}' for file in ('items.json', 'items.json',
-                                                                   'citations.json')])
+    done = ran(f'{folder}/cite', f'{place}/items.json', f'{place}/items.json',
+               f'{place}/citations.json')
     hold(done.returncode == 2 and b'"file":"style"' in done.stderr, 'c/cite.c: what is no style')
 
 

@@ -41,9 +41,7 @@ fn print(path: &str, as_json: bool) -> ExitCode {
         if as_json { gamhilon::render_json(&document) } else { gamhilon::render_text(&document) };
     match answer {
         Ok(text) => shown(&text),
-        Err(refusal) => {
-            failed(name, &refusal, u8::try_from(refusal.status()).unwrap_or(u8::MAX))
-        }
+        Err(refusal) => failed(name, &refusal, u8::try_from(refusal.status()).unwrap_or(u8::MAX)),
     }
 }
 
