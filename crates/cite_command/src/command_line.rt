@@ -23,46 +23,72 @@ fn named<'a>(alloc: Global) -> Result<Command<'a>, AllocError> {
         .bin_name("gamhilon")
 }
 
+/// A command of the program.
+#[derive(Clone, Copy)]
+enum Verb {
+    Cite,
+    Bibliography,
+    Render,
+    Check,
+    Styles,
+}
+
 /// The commands, in the order in which help has them.
+const VERBS: &[Verb] = &[
+    Verb::Cite,
+    Verb::Bibliography,
+    Verb::Render,
+    Verb::Check,
+    Verb::Styles,
+];
+
 fn commands<'a>(alloc: Global) -> Result<Vec<Command<'a>>, AllocError> {
     let mut commands = Vec::new(alloc);
-    commands.push(cite(alloc)?)?;
-    commands.push(bibliography(alloc)?)?;
-    commands.push(render(alloc)?)?;
-    commands.push(check(alloc)?)?;
-    commands.push(styles(alloc)?)?;
+    for verb in VERBS {
+        commands.push(command(alloc, *verb)?)?;
+    }
     Ok(commands)
+}
+
+fn command<'a>(alloc: Global, verb: Verb) -> Result<Command<'a>, AllocError> {
+    match verb {
+        Verb::Cite => cite(alloc),
+        Verb::Bibliography => bibliography(alloc),
+        Verb::Render => render(alloc),
+        Verb::Check => check(alloc),
+        Verb::Styles => styles(alloc),
+    }
 }
 
 // ---- commands that write in a style
 
 fn cite<'a>(alloc: Global) -> Result<Command<'a>, AllocError> {
-    let command = Command::new(alloc, "cite").about("Prints each citation");
-    with_words(alloc, command, citations(alloc).required(true))
+    let citations = citations(alloc).required(true);
+    writing(alloc, "cite", "Prints each citation", citations)
 }
 
 fn bibliography<'a>(alloc: Global) -> Result<Command<'a>, AllocError> {
-    let command = Command::new(alloc, "bibliography").about(
-        "Prints the items that are cited, or of all references without citations",
-    );
-    with_words(alloc, command, citations(alloc))
+    let about = "Prints the items that are cited, or of all references without citations";
+    writing(alloc, "bibliography", about, citations(alloc))
 }
 
 /// A command that writes, with its options and files.
-fn with_words<'a>(
+fn writing<'a>(
     alloc: Global,
-    command: Command<'a>,
+    name: &'a str,
+    about: &'a str,
     citations: Arg<'a>,
 ) -> Result<Command<'a>, AllocError> {
-    command
+    let words = Vec::from_array(alloc, words(alloc, citations))?;
+    Command::new(alloc, name)
+        .about(about)
         .after_help(WRITING_NOTES)
-        .args(Vec::from_array(alloc, sources(alloc))?)?
-        .args(Vec::from_array(alloc, forms(alloc))?)?
-        .args(Vec::from_array(alloc, files(alloc, citations))?)
+        .args(words)
 }
 
-/// The options that tell the style and its words.
-fn sources<'a>(alloc: Global) -> [Arg<'a>; 4] {
+/// The options of a command that writes, and its files.
+fn words<'a>(alloc: Global, citations: Arg<'a>) -> [Arg<'a>; 10] {
+    let formats: &'a [&'a str] = &["text", "html", "json"];
     [
         style(alloc),
         valued(
@@ -73,6 +99,16 @@ fn sources<'a>(alloc: Global) -> [Arg<'a>; 4] {
         ),
         valued(alloc, "styles", "FOLDER", "Where styles are"),
         valued(alloc, "locales", "FOLDER", "Where locale files are"),
+        form(alloc, formats),
+        flag(alloc, "standalone", "A whole page of HTML"),
+        flag(
+            alloc,
+            "nocite",
+            "References that aren't cited are listed, too",
+        ),
+        more(alloc),
+        references(alloc),
+        citations,
     ]
 }
 
@@ -81,30 +117,18 @@ fn style<'a>(alloc: Global) -> Arg<'a> {
     valued(alloc, "style", "STYLE", help).required(true)
 }
 
-/// The options of what is written.
-fn forms<'a>(alloc: Global) -> [Arg<'a>; 3] {
-    let formats: &'a [&'a str] = &["text", "html", "json"];
-    [
-        form(alloc, formats),
-        flag(alloc, "standalone", "A whole page of HTML"),
-        flag(
-            alloc,
-            "nocite",
-            "References that aren't cited are listed, too",
-        ),
-    ]
-}
-
-fn files<'a>(alloc: Global, citations: Arg<'a>) -> [Arg<'a>; 3] {
-    let more = Arg::new(alloc, "more")
+fn more<'a>(alloc: Global) -> Arg<'a> {
+    Arg::new(alloc, "more")
         .long("references")
         .value_name("FILE")
         .action(ArgAction::Append)
-        .help("More references; it may stand several times");
-    let first = Arg::new(alloc, "REFERENCES")
+        .help("More references; it may stand several times")
+}
+
+fn references<'a>(alloc: Global) -> Arg<'a> {
+    Arg::new(alloc, "REFERENCES")
         .required(true)
-        .help("References, in CSL-JSON");
-    [more, first, citations]
+        .help("References, in CSL-JSON")
 }
 
 fn citations<'a>(alloc: Global) -> Arg<'a> {
@@ -114,10 +138,11 @@ fn citations<'a>(alloc: Global) -> Arg<'a> {
 // ---- other commands
 
 fn render<'a>(alloc: Global) -> Result<Command<'a>, AllocError> {
+    let words = Vec::from_array(alloc, document(alloc))?;
     Command::new(alloc, "render")
         .about("Prints the citations and the bibliography of a document of cite_run")
         .after_help(DOCUMENT_NOTES)
-        .args(Vec::from_array(alloc, document(alloc))?)
+        .args(words)
 }
 
 /// The options of a document, and its file.

@@ -67,22 +67,27 @@ fn command_in(alloc: Global, matches: &ArgMatches<'_>) -> Result<Command, Comman
         return Err(CommandLineError::Usage(UsageError::NoCommand));
     };
     match name {
-        "check" => Ok(Command::Check(checked_files(alloc, words)?)),
+        "check" => check_in(alloc, words),
+        "render" => render_in(alloc, words),
+        "styles" => styles_in(alloc, words),
         "cite" => Ok(Command::Cite(options_in(alloc, words)?)),
-        "render" => Ok(Command::Render(document_in(alloc, words)?)),
-        "styles" => Ok(Command::Styles(text_at(alloc, words, "NAME")?)),
         _ => Ok(Command::Bibliography(options_in(alloc, words)?)),
     }
 }
 
-/// The files of `check`.
-fn checked_files(alloc: Global, words: &ArgMatches<'_>) -> Result<Vec<String>, CommandLineError> {
+/// The command `check`, with its files.
+fn check_in(alloc: Global, words: &ArgMatches<'_>) -> Result<Command, CommandLineError> {
     let mut files = Vec::new(alloc);
     push_texts(alloc, words, "FILE", &mut files)?;
     if inputs_in(&files) > 1 {
         return Err(CommandLineError::Usage(UsageError::TwoInputs));
     }
-    Ok(files)
+    Ok(Command::Check(files))
+}
+
+/// The command `styles`, with the name.
+fn styles_in(alloc: Global, words: &ArgMatches<'_>) -> Result<Command, CommandLineError> {
+    Ok(Command::Styles(text_at(alloc, words, "NAME")?))
 }
 
 /// The options of a command that writes.
@@ -100,14 +105,14 @@ fn options_in(alloc: Global, words: &ArgMatches<'_>) -> Result<Options, CommandL
     })
 }
 
-/// The document of `render`, and its options.
-fn document_in(alloc: Global, words: &ArgMatches<'_>) -> Result<DocumentOptions, AllocError> {
-    Ok(DocumentOptions {
+/// The command `render`, with its document and options.
+fn render_in(alloc: Global, words: &ArgMatches<'_>) -> Result<Command, CommandLineError> {
+    Ok(Command::Render(DocumentOptions {
         document: text_at(alloc, words, "DOCUMENT")?.unwrap_or(String::new(alloc)),
         format: document_format(words),
         depth: words.get_one::<usize>("depth").unwrap_or(DEPTH),
         elements: words.get_one::<usize>("elements").unwrap_or(ELEMENTS),
-    })
+    }))
 }
 
 /// The form of the answer to a document.
