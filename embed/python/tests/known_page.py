@@ -94,7 +94,7 @@ def page_by(style, file, *way, **how):
     """The parts of the page that pandoc writes by a way."""
     words = ['pandoc', '-f', 'markdown', '-t', 'html', '--wrap=none', '--metadata',
              f'bibliography={FOLDER}/{file}', '--metadata', 'lang=en-US', *way, f'{FOLDER}/page.md']
-    done = subprocess.run(words, capture_output=True, text=True, timeout=120, **how)
+    done = subprocess.run(words, capture_output=True, text=True, timeout=600, **how)
     if done.returncode:
         raise RuntimeError(f'{style}, {file}: status {done.returncode}: {done.stderr}')
     return Parts(done.stdout).parts

@@ -407,8 +407,9 @@ def test_a_style_may_be_standard_input_or_of_a_folder(cites, files):
     assert run('cite', '--style', '-', *words, given=text.encode()) == wanted
     for name in ('house', 'child'):
         assert run('cite', '--style', name, '--styles', str(files), *words) == wanted
-    status, out, error = run('cite', '--style', 'labels', '--styles', str(files), *words)
-    assert (status, out) == (1, '') and f'looked for {files}/labels.csl' in error
+    assert run('cite', '--style', 'labels', '--styles', str(files), *words) == wanted
+    status, out, error = run('cite', '--style', 'apa', '--styles', str(files), *words)
+    assert (status, out) == (1, '') and f'looked for {files}/apa.csl' in error
 
 
 def test_of_references_of_one_id_the_last_counts(cites, files):

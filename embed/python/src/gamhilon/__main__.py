@@ -73,8 +73,9 @@ def _add_cite(commands: Any) -> None:
                                'standard input')
         made.add_argument('--references', dest='more', action='append', default=[], metavar='FILE',
                           help='more references; it may stand several times')
-        made.add_argument('--styles', metavar='FOLDER', help='where styles are, in place of those '
-                                                             "of this package and Debian's")
+        made.add_argument('--styles', metavar='FOLDER',
+                          help="where styles are, in place of Debian's; they go before those of "
+                               'this package')
         made.add_argument('--locale', metavar='TAG', help="the language, in place of the style's")
         made.add_argument('--locales', metavar='FOLDER', help='where locale files are')
         made.add_argument('--nocite', action='store_true',

@@ -6,7 +6,7 @@ import os
 from dataclasses import dataclass, field
 from typing import Any, Callable, Dict, List, Optional, Sequence, Tuple
 
-from . import _console, _faults, csl, pages, references
+from . import _console, _faults, csl, pages, references, styles
 from ._console import INPUT_OR_OUTPUT_FAILED, NOT_OF_ITS_FORM, name_of, say
 from .answer import Answer
 from .errors import Refused
@@ -115,7 +115,7 @@ def _rendered(asked: Asked, works: Works) -> Tuple[csl.Rendered, int]:
 
 
 def _style(asked: Asked) -> str:
-    """The style: its text where it is standard input, its path where there is a folder of styles,
+    """The style: its text where it is standard input, its path where the folder of styles has it,
     or else as it is told. Raises StyleMissing and OSError."""
     if asked.style == '-':
         return _console.read('-').decode('utf-8-sig', 'surrogateescape')
@@ -125,10 +125,10 @@ def _style(asked: Asked) -> str:
     places = [os.path.join(asked.styles, folder, f'{asked.style}.csl')
               for folder in ('', 'dependent')]
     found = next((place for place in places if os.path.isfile(place)), None)
-    if found is None:
+    if found is None and asked.style not in styles.names():
         raise csl.StyleMissing(f'there is no style {asked.style!r}: looked for '
                                f'{", ".join(places)}')
-    return found
+    return found or asked.style
 
 
 def _works(paths: Sequence[str]) -> Works:
