@@ -25,11 +25,11 @@ PAGE = '''<!DOCTYPE html>
 body {{ margin: 0; background: #fff; font: 15px sans-serif; display: grid;
         grid-template-columns: 1fr 1fr; }}
 h2 {{ margin: 0; padding: 8px 16px; font-size: 15px; background: #ddd; }}
-iframe {{ border: 0; width: 100%; height: {height}px; }}
+iframe {{ border: 0; width: 100%; height: {height}px; zoom: {zoom}; }}
 section {{ border-right: 1px solid #999; border-bottom: 1px solid #999; }}
 </style>
 {parts}'''
-WIDTH, HEIGHT = 1400, 760
+WIDTH, HEIGHT, ZOOM = 1200, 1180, 0.7
 
 
 def by_filter(folder, style):
@@ -68,8 +68,8 @@ def main(picture):
                              f'<iframe srcdoc="{shown}"></iframe></section>')
         path = f'{folder}/both.html'
         with open(path, 'w', encoding='utf-8') as file:
-            file.write(PAGE.format(height=HEIGHT, parts='\n'.join(parts)))
-        size = f'{WIDTH},{len(STYLES) * (HEIGHT + 36)}'
+            file.write(PAGE.format(height=HEIGHT, zoom=ZOOM, parts='\n'.join(parts)))
+        size = f'{WIDTH},{len(STYLES) * (round(HEIGHT * ZOOM) + 34)}'
         subprocess.run(['chromium', '--headless', '--no-sandbox', '--disable-gpu',
                         '--hide-scrollbars', f'--window-size={size}', f'--screenshot={picture}',
                         f'file://{path}'], check=True, capture_output=True, timeout=120)

@@ -4,7 +4,8 @@ pandoc's own --citeproc: which of its parts read otherwise, and why.
     python known_page.py gamhilon-pandoc        # each part that differs, with both texts
 
 page/differences.json has the causes by hand: by style and form of the references, how many parts
-there are, and the cause of each that differs, by the names of page/causes.json.
+there are, and the causes of each that differs, by the names of page/causes.json, with ` and `
+between them.
 """
 import html.parser
 import json

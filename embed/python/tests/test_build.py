@@ -22,9 +22,9 @@ RT = '''#!/bin/sh
 if [ "$1" = version ]; then echo kit-1; exit; fi
 if [ "$1" = run ]; then mkdir -p out; cp /bin/cat "out/$(basename "$PWD")"; exit; fi
 mkdir -p ../one/out/rlib/one.rlib out
-sleep {}
+sleep {} > /dev/null 2>&1
 touch ../one/out/rlib/one.rlib/format
-sleep {}
+sleep {} > /dev/null 2>&1
 cp {} out/libgamhilon_c.a
 exit {}
 '''

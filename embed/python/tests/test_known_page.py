@@ -77,7 +77,7 @@ def test_the_documentation_tells_what_differs():
         documented = file.read().splitlines()
     assert [line for line in known_page.lines() if line not in documented] == []
     causes = {cause for style in known_page.STYLES for form in known_page.FORMS
-              for cause in known_page.told(style, form)[1].values()}
+              for told in known_page.told(style, form)[1].values() for cause in told.split(' and ')}
     assert causes == set(known_page.read('causes.json'))
 
 

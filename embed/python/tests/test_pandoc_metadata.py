@@ -227,6 +227,19 @@ def test_published_styles_of_notes(pandoc, published):
     assert (said, status) == ('', 0)
 
 
+@pytest.mark.parametrize('text', [
+    'A [@doe99, and more].', 'A [@doe99. And more].', 'A [@doe99, *and* more; @roe00, p. 3, x].',
+    'A [@doe99]. B [@doe99, in part].', 'A^[See @doe99, p. 3, and more.]', 'A^[As @doe99 says.]',
+    'A [see @doe99 (and more)].',
+])
+def test_punctuation_of_the_page_and_quotation_marks_of_a_style(pandoc, published, known, text):
+    wanted = pandoc(text, own=False, csl=f'{FOLDER}/chicago-fullnote-bibliography.csl',
+                    suppress_bibliography='true')[0]
+    out, said, status = pandoc(text, csl='chicago-fullnote-bibliography',
+                               suppress_bibliography='true')
+    assert (out, said, status) == (wanted, '', 0)
+
+
 def test_published_styles_link_to_their_lists_and_list_what_is_not_cited(pandoc, published,
                                                                          tmp_path):
     (tmp_path / 'more.json').write_text(json.dumps([BOOK]))

@@ -1,15 +1,17 @@
 """Pandoc's citations as citations of a style, and what is written of these as inlines."""
 from __future__ import annotations
 
+import re
 from dataclasses import dataclass, field
-from typing import Any, List, Optional, Set
+from typing import Any, List, Optional, Set, Tuple
 
 from . import _locators, csl
 from ._locators import Locator
-from ._pandoc_inlines import (SPACE, Inlines, inlines_of_pieces, joined, leading_text, linked,
-                              strong, text_of, words)
+from ._pandoc_inlines import (CLOSING_QUOTES, SPACE, Inlines, inlines_of_pieces, joined,
+                              leading_text, linked, strong, text_of, words)
 from ._pandoc_marks import Part, closing, opening, parts_of, text_of_pieces
 from ._pandoc_names import names_in
+from ._writing import Piece
 from .answer import Tree
 
 NORMAL, AUTHOR_IN_TEXT, SUPPRESS_AUTHOR = 'NormalCitation', 'AuthorInText', 'SuppressAuthor'
@@ -56,9 +58,10 @@ class Citation:
         is_marked = bool(cited.prefix or cited.suffix) or is_named
         leaves_out = cited.mode == SUPPRESS_AUTHOR or is_named and not keeps_authors
         kind, text = cited.locator or ('page', None)
-        return csl.Cite(cited.key, text, kind, opening(place) if is_marked else '',
-                        closing(place) if cited.suffix else '', suppress_author=leaves_out,
-                        note=self.note)
+        # (the style moves punctuation into quotation marks before it)
+        suffix = _punctuation(cited.suffix) + closing(place) if cited.suffix else ''
+        return csl.Cite(cited.key, text, kind, opening(place) if is_marked else '', suffix,
+                        suppress_author=leaves_out, note=self.note)
 
 
 def citation_of(cite: Any, number: int, known: Set[str]) -> Citation:
@@ -169,11 +172,39 @@ def _cite(citation: Citation, part: Part, links: bool) -> Inlines:
     """A cite, with the words of the page around it."""
     place = part.place or 0
     cited = citation.cited[place]
-    content = inlines_of_pieces(part.pieces)
+    pieces, suffix = _settled(part.pieces, cited.suffix)
+    content = inlines_of_pieces(pieces)
     if links:
         content = linked(content, cited.key)
     needs_comma = place == 0 and citation.names_author and not cited.locator
-    return [*_before(cited.prefix), *content, *_behind(cited.suffix, needs_comma)]
+    return [*_before(cited.prefix), *content, *_behind(suffix, needs_comma)]
+
+
+def _punctuation(suffix: Inlines) -> str:
+    """The comma or the full stop with which a suffix begins."""
+    first = text_of(suffix[:1])[:1]
+    return first if suffix and suffix[0]['t'] == 'Str' and first in (',', '.') else ''
+
+
+def _settled(pieces: List[Piece], suffix: Inlines) -> Tuple[List[Piece], Inlines]:
+    """A cite that the style wrote with the punctuation of the suffix, and the suffix: it stands in
+    the cite where the style moved it into quotation marks, and else in the suffix."""
+    mark, text = _punctuation(suffix), text_of_pieces(pieces)
+    if mark and text.endswith(mark):
+        return _without_last(pieces), suffix
+    if mark and re.search(f'{re.escape(mark)}[{CLOSING_QUOTES}]+$', text):
+        rest = suffix[0]['c'][1:]
+        return pieces, [*([{'t': 'Str', 'c': rest}] if rest else []), *suffix[1:]]
+    return pieces, suffix
+
+
+def _without_last(pieces: List[Piece]) -> List[Piece]:
+    """Parts of a tree without the last letter of the last text."""
+    at = max(place for place, piece in enumerate(pieces)
+             if piece.kind in ('text', 'markup') and piece.node[piece.kind])
+    last = pieces[at]
+    cut = last._replace(node={**last.node, last.kind: last.node[last.kind][:-1]})
+    return [*pieces[:at], cut, *pieces[at + 1:]]
 
 
 def _before(prefix: Inlines) -> Inlines:

@@ -12,6 +12,7 @@ Inline = Dict[str, Any]
 Inlines = List[Inline]
 
 SPACE: Inline = {'t': 'Space'}
+CLOSING_QUOTES = '\u201d\u2019\u00bb\u203a"\''
 _KINDS = {
     'bold': 'Strong', 'italic': 'Emph', 'small-caps': 'SmallCaps', 'underline': 'Underline',
     'sup': 'Superscript', 'sub': 'Subscript',
@@ -173,6 +174,22 @@ def capitalized(inlines: Inlines) -> Inlines:
             break
         return [*inlines[:place], {'t': kind, 'c': made}, *inlines[place + 1:]]
     return inlines
+
+
+def without_quoted_stop(inlines: Inlines) -> Inlines:
+    """The inlines without a full stop before quotation marks that end them."""
+    if not inlines:
+        return inlines
+    last = inlines[-1]
+    kind: str = last['t']
+    content: Any = last.get('c')
+    if kind == 'Str':
+        made: Any = re.sub(f'[.](?=[{CLOSING_QUOTES}]+$)', '', content)
+    elif kind in ('Link', 'Span'):
+        made = [content[0], without_quoted_stop(content[1]), *content[2:]]
+    else:
+        return inlines
+    return [*inlines[:-1], {'t': kind, 'c': made}]
 
 
 def _has_link(inlines: Inlines) -> bool:

@@ -31,7 +31,7 @@ from . import _addresses, _console, csl
 from ._nearest import meant
 from ._pandoc_cites import NORMAL, Citation, Written, citation_of, written
 from ._pandoc_inlines import (SPACE, Inlines, capitalized, div, inlines_of_pieces, joined, span,
-                              strong, text_of, words)
+                              strong, text_of, without_quoted_stop, words)
 from ._pandoc_metadata import FilterError, Metadata, Source, Warn, plain_value
 from ._pandoc_style import Style
 from ._writing import anchor, pieces
@@ -346,9 +346,11 @@ def _missing(citation: Citation) -> Inlines:
 
 
 def _without_full_stop(inlines: Inlines) -> Inlines:
+    """The inlines without the full stop of a style of notes, which may have moved into quotation
+    marks that end there."""
     if inlines and inlines[-1]['t'] == 'Str' and inlines[-1]['c'].endswith('.'):
         return [*inlines[:-1], {'t': 'Str', 'c': inlines[-1]['c'][:-1]}]
-    return inlines
+    return without_quoted_stop(inlines)
 
 
 def _filled(blocks: List[Any], references: Dict[str, Any],
