@@ -129,14 +129,15 @@ fn print_document(
     let files = locales_of(rt, options, language)?;
     let locale = LocaleChain::new(rt.alloc(), language, &found.style.locales, &files)?;
     let lists_items = options.format == OutputFormat::Json || printed == Printed::Bibliography;
-    let document = Document {
-        style: &found.style,
-        locale: &locale,
-        references,
-        citations: &cited.citations,
+    let answer = answer_of(
+        rt.alloc(),
+        options,
         lists_items,
-    };
-    let answer = answer_of(rt.alloc(), options, document, cited.count)?;
+        found,
+        references,
+        cited,
+        &locale,
+    )?;
     let marks = locale.quote_marks();
     if options.format == OutputFormat::Json {
         return print_json(rt, &found.style, &cited.citations, &answer, marks);
@@ -151,12 +152,22 @@ fn print_document(
 fn answer_of(
     alloc: Global,
     options: &Options,
-    document: Document<'_>,
-    count: usize,
+    lists_items: bool,
+    found: &FoundStyle,
+    references: &References,
+    cited: &Cited,
+    locale: &LocaleChain<'_>,
 ) -> Result<Answer, CommandError> {
+    let document = Document {
+        style: &found.style,
+        locale,
+        references,
+        citations: &cited.citations,
+        lists_items,
+    };
     match document.answer(alloc) {
         Ok(mut answer) => {
-            answer.citations.truncate(count);
+            answer.citations.truncate(cited.count);
             Ok(answer)
         }
         Err(error) => Err(placed(alloc, options, error)?),
