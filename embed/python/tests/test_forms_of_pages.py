@@ -44,8 +44,9 @@ def test_html(written):
 
 
 def test_markdown(written):
-    out = written('markdown')
-    assert '^1^' in out or '[^1^]' in out
+    """(Of Markdown with citations of its own pandoc leaves out all reference lists.)"""
+    out = written('markdown-citations')
+    assert '^1^' in out
     assert '[Doe]{.smallcaps}' in out and '[On Order]{.underline}' in out and '~2~' in out
     assert '***H' in out
 
