@@ -395,6 +395,12 @@ def test_what_no_list_by_name_has_stands_in_the_other(lists):
                                                                        'refs': ['c']}
 
 
+def test_the_heading_of_the_list_may_cite(of_file):
+    out, said, status = of_file('bibliography: refs.json\nreference-section-title: '
+                                '"Works, after [@doe99]"', 'A [@roe00].')
+    assert '\nWorks, after (Doe 1999)\n' in out and (said, status) == ('', 0)
+
+
 def test_addresses_in_the_list_are_links(pandoc, tmp_path):
     (tmp_path / 'own.csl').write_text(TITLES.replace(
         '</style>', '<bibliography><layout><text variable="title"/><text variable="note" '

@@ -287,7 +287,7 @@ class _Filter:
                 left = [item for item in left if names.get(item.key) != name]
         title = self.fields.get('reference-section-title')
         references = self.list_of(left, bibliography, 'refs')
-        heading = [_heading(title)] if title else []
+        heading = [_heading(self.replaced(title))] if title else []
         found, is_put = _filled(blocks, references, heading)
         if is_put or not left and bibliography.items:
             return found
