@@ -8,12 +8,11 @@ NAME.account, by `finish_counted` or `finish_full` once more, of which the accou
 there is a NAME.alone, each request by `standalone_citation`; where there is a NAME.passes, by the passes themselves, on cites
 that are written without a driver; where there is a NAME.equality, it is told which requests are equal to the first, and whether that
 for the bibliography is one for its style alone. A copy of each answer has to be equal to it. It tells where each document that is
-refused is wrong, which faults.txt has for most of them, and nothing of the others. crates/test_tables, which is looked for
-likewise, answers each document that has an answer once more from a table of what its styles write; with any one thing taken out
-exactly that has to be missing, and a table that is empty at first has to be filled in at most three calls more than rounds mark.
-Where there is a NAME.context, crates/test_contexts prints what calls of a writing context give in the document's first style, and
-where there is a NAME.cites, what calls that render its entries give. It
-refuses each growth of memory in turn (refuse.c, for which a C compiler must be there), in all four programs; each such sweep is for
+refused is wrong, which faults.txt has for most of them, and nothing of the others. It answers each document that has an answer once
+more from a table of what its styles write; with any one thing taken out exactly that has to be missing, and a table that is empty
+at first has to be filled in at most three calls more than rounds mark. Where there is a NAME.context, it prints what calls of a
+writing context give in the document's first style, and where there is a NAME.cites, what calls that render its entries give.
+Each growth of memory is refused in turn (refuse.c, for which a C compiler must be there), in both programs; each such sweep is for
 some calls, and fails where one of them met no refusal. Without the library jsonschema the documents aren't held to the schema: a line
 says so, and where the environment has CI set, it fails.
 run.py PROGRAM FOLDER..: runs it on the documents of these folders, and does nothing else.
@@ -189,7 +188,7 @@ def is_full(base):
 
 
 def by_calls(calls, way, base, status, text):
-    """A program of calls ends with the status and prints the text."""
+    """The program of calls ends with the status and prints the text."""
     got = ended(calls, way.encode() + b'\n' + read(base + '.json'))
     if got[0] != status:
         raise Failed('status %d, and not %d' % (got[0], status))
@@ -219,17 +218,17 @@ def tests_of_calls(calls, bases):
     return [*made, ('standalone: ' + name_of(ring), by_calls, calls, 'standalone_citation', ring, 3, b'')]
 
 
-def tests_of_tables(tables, bases):
-    """What crates/test_tables is to do with the documents that have an answer."""
+def tests_of_tables(calls, bases):
+    """What crates/test_calls is to do, over tables, with the documents that have an answer."""
     # (what is written is kept under the name of a style, and those of equality/ have equal styles of several names)
     named = [it for it in bases if wanted(it)[0] == 0 and os.path.dirname(it) != HERE + '/equality']
-    return [('table: ' + name_of(it), by_calls, tables, 'table', it, 0, wanted(it)[1]) for it in named]
+    return [('table: ' + name_of(it), by_calls, calls, 'table', it, 0, wanted(it)[1]) for it in named]
 
 
-def tests_of_contexts(contexts, bases):
-    """What crates/test_contexts is to do with the documents that tell what calls of a writing context give, or calls that render."""
+def tests_of_contexts(calls, bases):
+    """What crates/test_calls is to do with the documents that tell what calls of a writing context give, or calls that render."""
     asked = [(way, it) for way in ('context', 'cites') for it in bases if os.path.isfile(it + '.' + way)]
-    return [('%s: %s' % (way, name_of(it)), by_calls, contexts, way, it, 0, read(it + '.' + way)) for way, it in asked]
+    return [('%s: %s' % (way, name_of(it)), by_calls, calls, way, it, 0, read(it + '.' + way)) for way, it in asked]
 
 
 def faults_wanted():
@@ -604,7 +603,7 @@ HEIGHTS += ['push_format', 'pop_format', 'push_elem', 'commit_elem', 'discard_el
 HEIGHTS += ['apply_prefix', 'has_content_since', 'apply_suffix', 'flush']
 # Those that render an entry without a driver, and copy an element.
 RENDERING = ['StyleContext::citation', 'date_replacement', 'Elem::clone']
-# Calls of the three programs of calls, which name them before they make them; the status is 5 where one is refused, but for `citation`.
+# Calls of crates/test_calls, which names them before it makes them; the status is 5 where one is refused, but for `citation`.
 CALLS = ['read', 'prepare', 'citation', 'finish', 'finish_counted', 'finish_full', 'standalone_citation', 'run', 'clone', 'context', 'finish_with', 'drive', 'answer_by']
 CALLS += [*PASSES, *HEIGHTS, *RENDERING]
 # Those that print before others are called.
@@ -672,7 +671,7 @@ def sweep_of_program(shim, program, name):
 
 
 def held_call(called, status, out, text, status_wanted):
-    """What a run of a program of calls must end in: the refusal of the call whose growth was refused, or the answer."""
+    """What a run of the program of calls must end in: the refusal of the call whose growth was refused, or the answer."""
     at = called[called.index('!') - 1] if '!' in called else None
     if at == 'citation' and status_wanted == 0:
         # the request that came back was handed in again
@@ -733,7 +732,7 @@ def sweep_of_free(shim, program, given):
 
 
 def sweeps_of_contexts(shim, program):
-    """Those of crates/test_contexts."""
+    """Those of a writing context, and of calls that render."""
     context, cites = HERE + '/words/calls_of_a_context', HERE + '/purposes/calls_of_a_style'
     asked = [('context', ['context'], context, read(context + '.context')), ('heights', HEIGHTS, context, b''), ('cites', RENDERING, cites, read(cites + '.cites'))]
     return [('growths of ' + way, sweep_of_calls, shim, program, way, swept, read(base + '.json'), 0, printed) for way, swept, base, printed in asked]
@@ -755,7 +754,7 @@ def sweeps_of_answers(shim, program):
 
 def sweeps_of_calls(shim, program):
     """Those of crates/test_calls."""
-    made = sweeps_of_answers(shim, program)
+    made = sweeps_of_answers(shim, program) + sweeps_of_tables(shim, program) + sweeps_of_contexts(shim, program)
     for name, swept in SWEPT_PASSES.items():
         given, text = read(HERE + '/' + name + '.json'), read(HERE + '/' + name + '.passes')
         made.append(('growths of passes: ' + name, sweep_of_calls, shim, program, 'passes', swept, given, 0, text))
@@ -770,20 +769,18 @@ def sweeps_of_calls(shim, program):
 
 
 def sweeps_of_tables(shim, program):
-    """Those of crates/test_tables."""
+    """Those of answers from tables."""
     given = {it: read(HERE + '/' + it + '.json') for it in SWEPT_TABLES}
     ways = [('drive 1', ['finish_with', 'drive']), ('fill 1', ['finish_with', 'answer_by'])]
     return [('growths of %s: %s' % (way, it), sweep_of_calls, shim, program, way, swept, given[it], 0, b'')
             for way, swept in ways for it in SWEPT_TABLES]
 
 
-def sweeps(program, calls, tables, contexts):
+def sweeps(program, calls):
     """The sweeps of the programs that are built, each with its name."""
     shim = compiled(tempfile.mkdtemp())
     made = [('growths of %s' % it, sweep_of_program, shim, program, it) for it in SWEPT]
-    made += sweeps_of_calls(shim, calls) if calls else []
-    made += sweeps_of_tables(shim, tables) if tables else []
-    return made + (sweeps_of_contexts(shim, contexts) if contexts else [])
+    return made + (sweeps_of_calls(shim, calls) if calls else [])
 
 
 def model(program):
@@ -861,25 +858,17 @@ def main():
     bases = documents()
     tests = [('model: %d random documents' % RANDOM_DOCUMENTS, model, program)]
     tests += [('process: ' + it.__name__.replace('_', ' '), it, program) for it in reversed(PROCESSES)]
-    calls, tables, contexts = (beside(program, it) for it in ('test_calls', 'test_tables', 'test_contexts'))
+    calls = beside(program, 'test_calls')
     try:
-        tests += sweeps(program, calls, tables, contexts)
+        tests += sweeps(program, calls)
     except Failed as error:
         tests.append(('growths of memory', cannot, str(error)))
     if calls:
-        tests += tests_of_calls(calls, bases)
+        tests += tests_of_calls(calls, bases) + tests_of_tables(calls, bases) + tests_of_contexts(calls, bases)
         tests += faults(calls, bases)
         tests += [('process: ' + it.__name__.replace('_', ' '), it, calls) for it in (failing_writer, slow_reader, most_reads)]
     else:
         tests.append(('program of calls', cannot, 'crates/test_calls is not built'))
-    if tables:
-        tests += tests_of_tables(tables, bases)
-    else:
-        tests.append(('program of tables', cannot, 'crates/test_tables is not built'))
-    if contexts:
-        tests += tests_of_contexts(contexts, bases)
-    else:
-        tests.append(('program of contexts', cannot, 'crates/test_contexts is not built'))
     tests += [(name_of(it), document, program, it) for it in bases]
     tests += [('model: ' + name_of(it), worked, it) for it in [*folders_of(HERE), ROOT + '/examples']]
     tests.append(('files of the folders', strays))

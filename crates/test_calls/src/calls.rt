@@ -1,16 +1,18 @@
 //! A document's requests, handed to the driver one by one.
 
 use crate::account::{print_account, print_refusal};
+use crate::by_table::Asking;
 use crate::equality::{print_copies, print_requests, print_wanted, properties_differ, word};
 use crate::free::calls_without_memory;
+use crate::naming::named;
 use crate::passes::by_passes;
 use crate::streams::{Failing, Slow};
+use crate::ways::{How, Seen};
 use cite_document::error::RunError;
 use cite_document::faults::print_fault_bytes;
 use cite_document::input::read_input;
 use cite_document::running::run;
 use csl_base::entry::PlainEntry;
-use csl_base::locale::Locale;
 use csl_driver::account::Account;
 use csl_driver::driver::BibliographyDriver;
 use csl_driver::error::{CitationRefused, DriverError};
@@ -19,51 +21,13 @@ use csl_driver::request::{BibliographyRequest, CitationRequest, Order};
 use csl_driver::standalone::standalone_citation;
 use csl_driver::terms::TermTables;
 use csl_round_laws::mode::RoundMode;
-use json_document::document::{Job, job_in, top_of, utf8_text, value_of};
-use json_document::entries::entries_of;
-use json_document::finders::found_styles;
+use json_document::document::{Job, utf8_text};
 use json_document::requests::{AskedCite, AskedRequest, copied_code, driver_request};
-use json_styles::locales::locales_at;
-use json_styles::styles::{NamedStyle, styles_of};
-use serde_json::Value;
 use std::alloc::{AllocError, Global};
 use std::convert::Infallible;
 
 /// How many bytes the text of a document takes at most that is written into memory.
 const ROOM: usize = 65_536;
-
-/// By which calls a document is answered.
-#[derive(Clone, Copy)]
-pub enum How {
-    Finish,
-    /// By `finish`, of requests whose styles aren't prepared.
-    FinishUnprepared,
-    FinishCounted,
-    FinishFull,
-    /// By `finish_full` or `finish_counted`, as the document says; what is printed is the account.
-    Account,
-    /// Each request by `standalone_citation`.
-    Alone,
-    /// By none: the passes are called by themselves.
-    Passes,
-    /// By none: what is asked is compared.
-    Equality,
-    /// By `finish`; what is printed is whether a copy of the answer is equal to it.
-    Copies,
-    /// By none: calls that take no memory are made.
-    Free,
-}
-
-/// What was seen of the calls.
-#[derive(Clone, Copy)]
-pub enum Seen {
-    /// Each was answered.
-    Answer,
-    /// Each was answered, after a refused request was handed in again.
-    AnswerAtLast,
-    /// Something that may never be.
-    Amiss(&'static str),
-}
 
 type Driver<'e> = BibliographyDriver<'e, PlainEntry, Infallible>;
 
@@ -124,9 +88,9 @@ fn take_all<'e, 'f: 'e>(
 ) -> Result<bool, RunError> {
     let mut came_back = false;
     for request in &job.requests {
-        let _ = eprintln!(rt; "prepare");
+        named(rt, "prepare");
         let made = request_of(rt.alloc(), request, files, is_prepared)?;
-        let _ = eprintln!(rt; "citation");
+        named(rt, "citation");
         came_back |= take(driver, made)?;
     }
     Ok(came_back)
@@ -185,11 +149,11 @@ fn counted<'e>(
 ) -> Result<(Rendered, Account<'e, PlainEntry>), DriverError> {
     match rounds {
         RoundMode::Three => {
-            let _ = eprintln!(rt; "finish_counted");
+            named(rt, "finish_counted");
             driver.finish_counted(request)
         }
         RoundMode::Full => {
-            let _ = eprintln!(rt; "finish_full");
+            named(rt, "finish_full");
             driver.finish_full(request)
         }
     }
@@ -201,7 +165,7 @@ fn print_finished<'e>(
     driver: Driver<'e>,
     request: BibliographyRequest<'_, 'e, PlainEntry>,
 ) -> Result<(), DriverError> {
-    let _ = eprintln!(rt; "finish");
+    named(rt, "finish");
     print_answer(rt, &driver.finish(request)?);
     Ok(())
 }
@@ -224,9 +188,9 @@ fn print_copied<'e>(
     driver: Driver<'e>,
     request: BibliographyRequest<'_, 'e, PlainEntry>,
 ) -> Result<(), DriverError> {
-    let _ = eprintln!(rt; "finish");
+    named(rt, "finish");
     let rendered = driver.finish(request)?;
-    let _ = eprintln!(rt; "clone");
+    named(rt, "clone");
     let copy = rendered.clone()?;
     let _ = println!(rt; "copy: {}", word(copy == rendered));
     Ok(())
@@ -279,7 +243,7 @@ fn answer_all<'e, 'f: 'e>(
     let mut driver = Driver::new(alloc).with_citation_number_offset(job.offset);
     let is_prepared = !matches!(how, How::FinishUnprepared);
     let came_back = take_all(rt, &mut driver, job, files, is_prepared)?;
-    let _ = eprintln!(rt; "prepare");
+    named(rt, "prepare");
     let request = bibliography_request(alloc, job, files, is_prepared)?;
     print_asked(rt, driver, request, job.rounds, how)?;
     if came_back {
@@ -296,9 +260,9 @@ fn answer_alone<'e, 'f: 'e>(
     files: &'e TermTables<'f>,
 ) -> Result<Seen, RunError> {
     for request in &job.requests {
-        let _ = eprintln!(rt; "prepare");
+        named(rt, "prepare");
         let made = driver_request(rt.alloc(), request, files)?;
-        let _ = eprintln!(rt; "standalone_citation");
+        named(rt, "standalone_citation");
         let tree = standalone_citation(rt.alloc(), made)?;
         let _ = println!(rt; "{tree}");
     }
@@ -377,58 +341,19 @@ fn call_passes<'e, 'f: 'e>(
     by_passes(rt, &requests)
 }
 
-/// Does it with what the document asks for, and the tables of its locales.
-fn answered_over<'e, 'f: 'e>(
+/// Does it by these calls, with what the document asks for and the tables of its locales.
+pub fn by_calls<'e, 'f: 'e>(
     rt: &(impl Print + Eprint + AllocGlobal),
-    job: &'e Job<'f>,
-    files: &'e TermTables<'f>,
+    asking: &Asking<'e, 'f>,
     how: How,
 ) -> Result<Seen, RunError> {
     match how {
-        How::Alone => answer_alone(rt, job, files),
-        How::Passes => call_passes(rt, job, files),
-        How::Equality => compare(rt, job, files),
-        How::Free => call_free(rt, job, files),
-        _ => answer_all(rt, job, files, how),
+        How::Alone => answer_alone(rt, asking.job, asking.files),
+        How::Passes => call_passes(rt, asking.job, asking.files),
+        How::Equality => compare(rt, asking.job, asking.files),
+        How::Free => call_free(rt, asking.job, asking.files),
+        _ => answer_all(rt, asking.job, asking.files, how),
     }
-}
-
-/// Does it with what the value asks for, of these styles, entries and locales.
-fn answered_of(
-    rt: &(impl Print + Eprint + AllocGlobal),
-    object: &Value,
-    styles: &[NamedStyle],
-    entries: &[PlainEntry],
-    locales: &[Locale],
-    how: How,
-) -> Result<Seen, RunError> {
-    let found = found_styles(rt.alloc(), styles, object)?;
-    let job = job_in(rt.alloc(), &found, entries, locales, object)?;
-    let files = TermTables::new(rt.alloc(), job.locales)?;
-    answered_over(rt, &job, &files, how)
-}
-
-/// Does it with the value of a document.
-fn answered_in(
-    rt: &(impl Print + Eprint + AllocGlobal),
-    object: &Value,
-    how: How,
-) -> Result<Seen, RunError> {
-    let styles = styles_of(rt.alloc(), object)?;
-    let locales = locales_at(rt.alloc(), object, "locales")?;
-    let entries = entries_of(rt.alloc(), object)?;
-    answered_of(rt, object, &styles, &entries, &locales, how)
-}
-
-/// Does what is asked with the document.
-pub fn answered(
-    rt: &(impl Print + Eprint + AllocGlobal),
-    document: &str,
-    how: How,
-) -> Result<Seen, RunError> {
-    let _ = eprintln!(rt; "prepare");
-    let value = value_of(rt.alloc(), document)?;
-    answered_in(rt, top_of(rt.alloc(), &value)?, how)
 }
 
 /// Answers the document by `run`, into memory that is there.
@@ -437,9 +362,9 @@ pub fn written_out(
     document: &str,
 ) -> Result<Seen, RunError> {
     let alloc = rt.alloc();
-    let _ = eprintln!(rt; "prepare");
+    named(rt, "prepare");
     let mut out: Vec<u8> = Vec::with_capacity(alloc, ROOM)?;
-    let _ = eprintln!(rt; "run");
+    named(rt, "run");
     let result = run(alloc, document.as_bytes(), &mut out);
     if result.is_err() && !out.is_empty() {
         return Ok(Seen::Amiss("something was written"));

@@ -5,6 +5,8 @@ ghost use Rattle.std.specs.Prelude.{◌≡◌, length};
 ghost use Rattle.csl_context.specs.WritingState.{state};
 
 use crate::calls::Request;
+use crate::contexts::found_language;
+use crate::naming::named;
 use crate::passes::{Cite, Cites, Item, all_written};
 use cite_document::error::RunError;
 use csl_base::elem::{BufWriteFormat, Elem, ElemChild, ElemChildren, ElemMeta};
@@ -36,11 +38,6 @@ use csl_driver::year::write_year;
 use std::alloc::{AllocError, Global};
 use std::convert::Infallible;
 use std::hash::{FoldHasher, Hash, Hasher};
-
-/// Names a call before it is made.
-fn named(rt: &impl Eprint, call: &str) {
-    let _ = eprintln!(rt; "{call}");
-}
 
 // ---- cites and requests
 
@@ -210,13 +207,6 @@ fn states(rt: &impl Eprint) -> bool {
 
 // ---- locales
 
-fn language<'l>(locale: &'l Locale) -> Option<&'l str> {
-    match &locale.lang {
-        Some(code) => Some(code.0.as_str()),
-        None => None,
-    }
-}
-
 /// What a context finds of an entry of no variables: the `et-al` of its file.
 fn terms<'a>(
     rt: &(impl Eprint + AllocGlobal),
@@ -241,7 +231,7 @@ fn locales<'a>(
     named(rt, "StyleContext::new");
     let context = StyleContext::new(style, None, files);
     named(rt, "lookup_locale");
-    let found = context.lookup_locale(|locale| language(locale)) == Some("en-US");
+    let found = found_language(&context) == Some("en-US");
     named(rt, "locale");
     let code = context.locale() == "en-US";
     let term = terms(rt, context, entry, &style.settings.options)?;

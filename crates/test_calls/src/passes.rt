@@ -1,16 +1,18 @@
 //! The passes by themselves, on the cites of a document as they are written without a driver.
-ghost use Rattle.std.specs.Prelude.{All, IfOk};
+ghost use Rattle.std.specs.Prelude.{All};
 ghost use Rattle.csl_style_values.specs.Ring.{HasNoRing};
 ghost use Rattle.csl_passes.specs.Places.{AreDistinct, IsPlace};
 ghost use Rattle.csl_passes.specs.RendersView.{renders_view};
 ghost use Rattle.csl_writing.specs.ContextSource.{context_source};
 
 use crate::account::print_state;
-use crate::calls::Seen;
+use crate::cites::ringless;
+use crate::naming::named;
+use crate::ways::Seen;
 use cite_document::error::RunError;
 use csl_base::elem::ElemChildren;
 use csl_base::entry::{EntryLike, PlainEntry};
-use csl_base::style::{Bibliography, IndependentStyle};
+use csl_base::style::Bibliography;
 use csl_driver::counter::Renders;
 use csl_driver::item::CitationItem;
 use csl_driver::lookup::StyleContext;
@@ -31,16 +33,6 @@ type Request<'e> = CitationRequest<'e, PlainEntry, Infallible>;
 pub(crate) type Cite<'e> = SpeculativeItemRender<'e, PlainEntry, Infallible>;
 
 pub(crate) type Cites<'r, 'e> = SpeculativeCiteRender<'r, 'e, PlainEntry, Infallible>;
-
-/// The style without locales.
-fn ringless<'a>(alloc: Global, style: &'a IndependentStyle) -> Result<StyleContext<'a>, RunError>
-    ensures { IfOk result (λ context. HasNoRing (context_source context).style.macros) }
-{
-    match style.ring(alloc)? {
-        Some(_) => Err(RunError::Document),
-        None => Ok(StyleContext::new(style, None, &[])),
-    }
-}
 
 /// A cite of the item's entry.
 fn written<'e>(
@@ -79,7 +71,7 @@ fn written<'e>(
 
 /// The cites of a request.
 fn written_of<'r, 'e>(alloc: Global, request: &'r Request<'e>) -> Result<Cites<'r, 'e>, RunError> {
-    let context = ringless(alloc, request.style())?;
+    let context = ringless(alloc, request.style(), &[])?;
     let mut items = Vec::new(alloc);
     for item in &request.items {
         items.push(written(alloc, &context, item)?)?;
@@ -126,15 +118,15 @@ fn mark_group(
     requires distinct { AreDistinct group.now.items }
 {
     print_places(rt, group);
-    let _ = eprintln!(rt; "disambiguate_names");
+    named(rt, "disambiguate_names");
     print_marks(rt, "names", &disambiguate_names(rt.alloc(), cites, group)?);
-    let _ = eprintln!(rt; "disambiguate_with_choose");
+    named(rt, "disambiguate_with_choose");
     print_marks(
         rt,
         "choose",
         &disambiguate_with_choose(rt.alloc(), cites, group)?,
     );
-    let _ = eprintln!(rt; "disambiguate_year_suffix");
+    named(rt, "disambiguate_year_suffix");
     print_marks(
         rt,
         "suffixes",
@@ -148,7 +140,7 @@ fn mark_all(
     rt: &(impl Print + Eprint + AllocGlobal),
     cites: &[Cites<'_, '_>],
 ) -> Result<(), AllocError> {
-    let _ = eprintln!(rt; "find_ambiguous_sets");
+    named(rt, "find_ambiguous_sets");
     let groups = find_ambiguous_sets(rt.alloc(), cites)?;
     for group in &groups {
         mark_group(rt, cites, group)?;
@@ -211,7 +203,7 @@ fn group_one(
     cites: &mut Cites<'_, '_>,
     alike: &Cites<'_, '_>,
 ) -> Result<bool, RunError> {
-    let _ = eprintln!(rt; "group_cites");
+    named(rt, "group_cites");
     if group_cites(rt.alloc(), cites).is_err() {
         if are_same(&cites.items, &alike.items) {
             return Err(RunError::OutOfMemory);
@@ -244,7 +236,7 @@ fn item_of(
 
 /// The items of a bibliography.
 fn items_of(alloc: Global, request: &Request<'_>) -> Result<Vec<(ElemChildren, String)>, RunError> {
-    let context = ringless(alloc, request.style())?;
+    let context = ringless(alloc, request.style(), &[])?;
     let mut counter = Renders::new();
     let mut items = Vec::new(alloc);
     for item in &request.items {
@@ -261,9 +253,9 @@ fn substitute(
     request: &Request<'_>,
     bibliography: &Bibliography,
 ) -> Result<(), RunError> {
-    let _ = eprintln!(rt; "prepare");
+    named(rt, "prepare");
     let mut items = items_of(rt.alloc(), request)?;
-    let _ = eprintln!(rt; "substitute_subsequent_authors");
+    named(rt, "substitute_subsequent_authors");
     substitute_subsequent_authors(
         rt.alloc(),
         bibliography.subsequent_author_substitute.as_deref(),

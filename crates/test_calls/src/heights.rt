@@ -5,7 +5,9 @@ ghost use Rattle.std.specs.Prelude.{◌≡◌, ◌+◌, IfOk, length};
 ghost use Rattle.csl_context.specs.WritingState.{state};
 
 use crate::contexts::{Writing, affixes, begin, formula, italic};
-use crate::ended::Ended;
+use crate::naming::named;
+use crate::ways::Seen;
+use cite_document::error::RunError;
 use csl_base::element::Affixes;
 use csl_base::entry::ChunkedString;
 use csl_base::formatting::Display;
@@ -17,6 +19,21 @@ use std::fmt::Write;
 
 /// A text of 64 bytes, for which there is room in a new context, and for no byte more.
 const FULL: &str = "0123456789012345678901234567890123456789012345678901234567890123";
+
+/// Why the calls ended before their end.
+#[derive(Clone, Copy)]
+enum Ended {
+    /// A call was refused, and the stacks are as high as before it; or what it needs was refused.
+    Refused,
+    /// The stacks aren't.
+    OtherHeights,
+}
+
+impl From<AllocError> for Ended {
+    fn from(_error: AllocError) -> Ended {
+        Ended::Refused
+    }
+}
 
 /// What is written in a context of its own: the style, the affixes, a formula.
 #[derive(Clone, Copy)]
@@ -75,11 +92,6 @@ const CALLS: [Call; 17] = [
     Call::HasContentSince,
     Call::ApplySuffix,
 ];
-
-/// Names a call before it is made.
-pub(crate) fn named(rt: &impl Eprint, call: &str) {
-    let _ = eprintln!(rt; "{call}");
-}
 
 /// A context whose text fills its room.
 fn filled<'a>(rt: &impl Eprint, asked: Asked<'a>) -> Result<Writing<'a>, AllocError>
@@ -292,12 +304,20 @@ fn all(rt: &impl Eprint, asked: Asked<'_>) -> Result<(), Ended> {
     flush(rt, asked)
 }
 
-/// Makes the calls of a context that take memory, in this style, and tells why they ended before
-/// their end.
+/// What is seen of calls that ended so.
+fn seen(outcome: Result<(), Ended>) -> Result<Seen, RunError> {
+    match outcome {
+        Ok(()) => Ok(Seen::Answer),
+        Err(Ended::Refused) => Err(RunError::OutOfMemory),
+        Err(Ended::OtherHeights) => Ok(Seen::Amiss("a call left other heights")),
+    }
+}
+
+/// Makes the calls of a context that take memory, in this style.
 pub fn keep_heights(
     rt: &(impl Eprint + AllocGlobal),
     style: &IndependentStyle,
-) -> Result<(), Ended> {
+) -> Result<Seen, RunError> {
     named(rt, "prepare");
     let affixes = affixes(rt.alloc(), "(", ")")?;
     let formula = formula(rt.alloc(), "x")?;
@@ -307,5 +327,5 @@ pub fn keep_heights(
         affixes: &affixes,
         formula: &formula,
     };
-    all(rt, asked)
+    seen(all(rt, asked))
 }

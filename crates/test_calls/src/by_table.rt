@@ -3,16 +3,17 @@
 //! each thing is taken out of the table, one at a time, and exactly that has to be missing; and a
 //! source that has what is in the table is asked for what an empty one lacks.
 
+use crate::calls::print_answer;
 use crate::filling::fill_from;
 use crate::hosting::host_styles;
-use crate::printing::print_answer;
+use crate::naming::named;
+use crate::reading::Parts;
 use crate::recording::Recorder;
-use crate::seen::Seen;
 use crate::taking::take_each_out;
+use crate::ways::{Seen, TableWay};
 use cite_document::error::RunError;
 use cite_document::filling::{bibliography_request, filled_driver};
 use csl_base::entry::PlainEntry;
-use csl_base::locale::Locale;
 use csl_driver::account::Account;
 use csl_driver::error::DriverError;
 use csl_driver::rendered::Rendered;
@@ -20,26 +21,9 @@ use csl_driver::terms::TermTables;
 use csl_writing::layout_writer::LayoutWriter;
 use host_driver::drive::{Driven, drive};
 use host_table::table::Table;
-use json_document::document::{Job, job_in, top_of, value_of};
-use json_document::entries::entries_of;
+use json_document::document::{Job, job_in};
 use json_document::finders::found_styles;
-use json_styles::locales::locales_at;
-use json_styles::styles::{NamedStyle, styles_of};
-use serde_json::Value;
 use std::alloc::Global;
-
-/// What is done with the document.
-#[derive(Clone, Copy)]
-pub enum TableWay {
-    /// It is answered by layouts and from the table, and then each thing is taken out of the table.
-    Compared,
-    /// It is answered so many times by layouts.
-    Finished(usize),
-    /// It is answered so many times from the table.
-    Driven(usize),
-    /// It is answered so many times by a source that has what is in the table.
-    Filled(usize),
-}
 
 /// What a document asks for, with the tables of its locales.
 #[derive(Clone, Copy)]
@@ -49,86 +33,19 @@ pub struct Asking<'a, 'e> {
     pub files: &'a TermTables<'e>,
 }
 
-/// What is read of a document once.
-#[derive(Clone, Copy)]
-struct Parts<'d> {
-    object: &'d Value,
-    /// As the document has them.
-    styles: &'d [NamedStyle],
-    /// With names in place of layouts.
-    hosts: &'d [NamedStyle],
-    entries: &'d [PlainEntry],
-    locales: &'d [Locale],
-}
-
 /// An answer and its account.
 pub type Answer<'a> = (Rendered, Account<'a, PlainEntry>);
 
-/// Does it with the document.
+/// Does it with what the document asks for in the styles as they are.
 pub fn by_table(
     rt: &(impl Print + Eprint + AllocGlobal),
-    document: &str,
-    way: TableWay,
-) -> Result<Seen, RunError> {
-    let _ = eprintln!(rt; "prepare");
-    let value = value_of(rt.alloc(), document)?;
-    answered_in(rt, top_of(rt.alloc(), &value)?, way)
-}
-
-fn answered_in(
-    rt: &(impl Print + Eprint + AllocGlobal),
-    object: &Value,
-    way: TableWay,
-) -> Result<Seen, RunError> {
-    let styles = styles_of(rt.alloc(), object)?;
-    let entries = entries_of(rt.alloc(), object)?;
-    let locales = locales_at(rt.alloc(), object, "locales")?;
-    with_hosts(rt, object, &styles, &entries, &locales, way)
-}
-
-/// Does it with the styles of a host too.
-fn with_hosts(
-    rt: &(impl Print + Eprint + AllocGlobal),
-    object: &Value,
-    styles: &[NamedStyle],
-    entries: &[PlainEntry],
-    locales: &[Locale],
-    way: TableWay,
-) -> Result<Seen, RunError> {
-    let hosts = host_styles(rt.alloc(), object)?;
-    let parts = Parts {
-        object,
-        styles,
-        hosts: &hosts,
-        entries,
-        locales,
-    };
-    by_layouts(rt, &parts, way)
-}
-
-/// Answers it in the styles as they are.
-fn by_layouts(
-    rt: &(impl Print + Eprint + AllocGlobal),
     parts: &Parts<'_>,
+    asking: &Asking<'_, '_>,
     way: TableWay,
 ) -> Result<Seen, RunError> {
-    let found = found_styles(rt.alloc(), parts.styles, parts.object)?;
-    let job = job_in(
-        rt.alloc(),
-        &found,
-        parts.entries,
-        parts.locales,
-        parts.object,
-    )?;
-    let files = TermTables::new(rt.alloc(), job.locales)?;
-    let asking = Asking {
-        alloc: rt.alloc(),
-        job: &job,
-        files: &files,
-    };
     match way {
-        TableWay::Finished(times) => finish_often(&asking, times),
-        _ => recorded(rt, parts, &asking, way),
+        TableWay::Finished(times) => finish_often(asking, times),
+        _ => recorded(rt, parts, asking, way),
     }
 }
 
@@ -172,13 +89,13 @@ fn recorded(
     asking: &Asking<'_, '_>,
     way: TableWay,
 ) -> Result<Seen, RunError> {
-    let _ = eprintln!(rt; "finish_with");
+    named(rt, "finish_with");
     let mut recorder = Recorder::new(rt.alloc(), parts.styles);
     let answer = recorded_by(asking, &mut recorder)?;
-    by_hosts(rt, parts, &answer, &mut recorder.table, way)
+    with_hosts(rt, parts, &answer, &mut recorder.table, way)
 }
 
-/// Answers it from the table, in the styles of a host.
+/// Answers it from the table, in these styles of a host.
 fn by_hosts(
     rt: &(impl Print + Eprint + AllocGlobal),
     parts: &Parts<'_>,
@@ -186,8 +103,7 @@ fn by_hosts(
     table: &mut Table,
     way: TableWay,
 ) -> Result<Seen, RunError> {
-    let _ = eprintln!(rt; "prepare");
-    let found = found_styles(rt.alloc(), parts.hosts, parts.object)?;
+    let found = found_styles(rt.alloc(), parts.styles, parts.object)?;
     let job = job_in(
         rt.alloc(),
         &found,
@@ -204,6 +120,25 @@ fn by_hosts(
     from_table(rt, &asking, answer, table, way)
 }
 
+/// Answers it from the table, in the styles of a host.
+fn with_hosts(
+    rt: &(impl Print + Eprint + AllocGlobal),
+    parts: &Parts<'_>,
+    answer: &Answer<'_>,
+    table: &mut Table,
+    way: TableWay,
+) -> Result<Seen, RunError> {
+    named(rt, "prepare");
+    let hosts = host_styles(rt.alloc(), parts.object)?;
+    let parts = Parts {
+        object: parts.object,
+        styles: &hosts,
+        entries: parts.entries,
+        locales: parts.locales,
+    };
+    by_hosts(rt, &parts, answer, table, way)
+}
+
 fn from_table(
     rt: &(impl Print + Eprint),
     asking: &Asking<'_, '_>,
@@ -212,10 +147,10 @@ fn from_table(
     way: TableWay,
 ) -> Result<Seen, RunError> {
     if let TableWay::Filled(times) = way {
-        let _ = eprintln!(rt; "answer_by");
+        named(rt, "answer_by");
         return fill_often(asking, table, answer, times);
     }
-    let _ = eprintln!(rt; "drive");
+    named(rt, "drive");
     match way {
         TableWay::Driven(times) => drive_often(asking, table, times),
         _ if !agrees(rt, asking, table, answer)? => Ok(Seen::Amiss("another answer, or none")),

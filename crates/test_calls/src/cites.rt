@@ -4,8 +4,8 @@ ghost use Rattle.std.specs.Prelude.{IfOk};
 ghost use Rattle.csl_style_values.specs.Ring.{HasNoRing};
 ghost use Rattle.csl_writing.specs.ContextSource.{context_source};
 
-use crate::ended::Ended;
-use crate::heights::named;
+use crate::naming::named;
+use cite_document::error::RunError;
 use csl_base::elem::ElemChildren;
 use csl_base::entry::PlainEntry;
 use csl_base::locale::Locale;
@@ -18,16 +18,16 @@ use std::alloc::{AllocError, Global};
 use std::convert::Infallible;
 
 /// The style with these locale files.
-fn ringless<'a>(
+pub(crate) fn ringless<'a>(
     alloc: Global,
     style: &'a IndependentStyle,
     files: &'a [Locale],
-) -> Result<StyleContext<'a>, Ended>
+) -> Result<StyleContext<'a>, RunError>
     ensures { IfOk result (λ context. HasNoRing (context_source context).style.macros) }
 {
     let source = StyleLocales::new(style, None, files);
     match source.ring(alloc)? {
-        Some(_) => Err(Ended::Document),
+        Some(_) => Err(RunError::Document),
         None => Ok(StyleContext::of_locales(source)),
     }
 }
@@ -101,7 +101,7 @@ pub fn print_cites(
     style: &IndependentStyle,
     files: &[Locale],
     entries: &[PlainEntry],
-) -> Result<(), Ended> {
+) -> Result<(), RunError> {
     let context = ringless(rt.alloc(), style, files)?;
     for entry in entries {
         print_entry(rt, &context, entry)?;

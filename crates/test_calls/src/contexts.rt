@@ -2,6 +2,7 @@
 ghost use Rattle.std.specs.Prelude.{◌≡◌, IfOk, OnOk, length};
 ghost use Rattle.csl_context.specs.WritingState.{state};
 
+use crate::naming::named;
 use csl_base::elem::ElemChildren;
 use csl_base::element::{Affixes, InheritableNameOptions};
 use csl_base::entry::{Chunk, ChunkKind, ChunkedString};
@@ -227,6 +228,11 @@ fn language<'l>(locale: &'l Locale) -> Option<&'l str> {
     }
 }
 
+/// The first language that a context finds.
+pub(crate) fn found_language<'a>(context: &StyleContext<'a>) -> Option<&'a str> {
+    context.lookup_locale(|locale| language(locale))
+}
+
 /// The first language that is found in the files for a locale.
 fn print_language(
     rt: &(impl Print + AllocGlobal),
@@ -235,7 +241,7 @@ fn print_language(
 ) -> Result<(), AllocError> {
     let asked = LocaleCode(String::from_str(rt.alloc(), "de-AT")?);
     let context = StyleContext::new(style, Some(&asked), files);
-    if let Some(found) = context.lookup_locale(|locale| language(locale)) {
+    if let Some(found) = found_language(&context) {
         let _ = println!(rt; "language of {}: {found}", context.locale());
     }
     Ok(())
@@ -293,7 +299,7 @@ pub fn print_contexts(
     style: &IndependentStyle,
     files: &[Locale],
 ) -> Result<(), AllocError> {
-    let _ = eprintln!(rt; "context");
+    named(rt, "context");
     print_children(rt, style)?;
     print_affixes(rt, style)?;
     print_trees(rt, style)?;

@@ -1,7 +1,7 @@
 //! An answer by a source that has what the layouts wrote.
 
 use crate::by_table::{Answer, Asking, calls_at_most, is_same};
-use crate::seen::Seen;
+use crate::ways::Seen;
 use cite_document::error::RunError;
 use cite_document::filling::{bibliography_request, filled_driver};
 use csl_base::elem::ElemChildren;

@@ -1,7 +1,7 @@
 //! A table from which each thing is taken out in turn.
 
 use crate::by_table::{Asking, driven};
-use crate::seen::Seen;
+use crate::ways::Seen;
 use cite_document::error::RunError;
 use csl_writers::cite::Cite;
 use host_driver::drive::Driven;
