@@ -1,0 +1,83 @@
+//! Mentions that are written again, where a table changed their states.
+ghost use Rattle.std.specs.Prelude.{◌≡◌, ◌≤◌, OnOk, flat_map, length};
+ghost use Rattle.std.specs.List.{zip};
+ghost use Rattle.csl_tables.specs.Asked.{asked_for};
+ghost use Rattle.csl_tables.specs.Steps.{all_changed, is_changed, rewritten, tasks_of};
+
+use crate::subject::Subject;
+use crate::writer::MentionWriter;
+use csl_mentions::mention::Mention;
+use csl_mentions::state::MentionState;
+use std::alloc::Global;
+
+/// Which states a table changed.
+#[derive(Clone, Copy)]
+pub(crate) enum Changed {
+    /// Those that have names.
+    Names,
+    /// Those that are chosen.
+    Choice,
+}
+
+/// Writes the mentions again whose states are changed.
+pub(crate) fn write_changed<M, W: MentionWriter<M>>(
+    alloc: Global,
+    changed: Changed,
+    subjects: &[Subject<M>],
+    states: &[MentionState],
+    mentions: &mut [Mention],
+    writer: &mut W,
+) -> Result<(), W::Error>
+    requires states { length subjects.now ≡ length states.now }
+    requires mentions { length subjects.now ≡ length mentions.old }
+    ensures again { OnOk result (mentions.new
+        ≡ all_changed (rewritten (W.writing writer.old).write changed) (zip subjects.now states.now)
+        mentions.old) }
+    ensures asked { OnOk result (W.writing writer.new
+        ≡ asked_for (flat_map (tasks_of changed) (zip subjects.now states.now))
+        (W.writing writer.old)) }
+{
+    for k in 0..subjects.len() {
+        write_if_changed(
+            alloc,
+            changed,
+            &subjects[k],
+            &states[k],
+            &mut mentions[k],
+            writer,
+        )?;
+    }
+    Ok(())
+}
+
+/// Writes a mention again, if its state is changed.
+fn write_if_changed<M, W: MentionWriter<M>>(
+    alloc: Global,
+    changed: Changed,
+    subject: &Subject<M>,
+    state: &MentionState,
+    mention: &mut Mention,
+    writer: &mut W,
+) -> Result<(), W::Error>
+    ensures again { OnOk result (mention.new
+        ≡ rewritten (W.writing writer.old).write changed (subject.now, state.now) mention.old) }
+    ensures asked { OnOk result (W.writing writer.new
+        ≡ asked_for (tasks_of changed (subject.now, state.now)) (W.writing writer.old)) }
+{
+    if !is_changed(changed, state) {
+        return Ok(());
+    }
+    let written = writer.write_mention(alloc, &subject.mention, state)?;
+    mention.text = written.text;
+    Ok(())
+}
+
+/// Whether a state is changed by names, or by the choice.
+fn is_changed(changed: Changed, state: &MentionState) -> bool
+    ensures { result ≡ is_changed changed state.now }
+{
+    match changed {
+        Changed::Names => state.names.is_some(),
+        Changed::Choice => state.chosen,
+    }
+}
