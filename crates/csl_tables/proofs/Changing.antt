@@ -1,5 +1,5 @@
 -- Lists changed from their beginnings on, one more member.
-use Rattle.std.proofs.Common.{◌≡◌, ℕ, zero, suc, ◌+◌, ◌<◌, ◌≤◌, Bool, ◌&&◌, Option, List, [], ◌∷◌, ◌++◌, length, take, get_or, refl, ap, sym, subst, ◌∙◌, arith, add-one}
+use Rattle.std.proofs.Common.{◌≡◌, ℕ, zero, suc, ◌+◌, ◌<◌, ◌≤◌, Bool, ◌&&◌, Option, List, [], ◌∷◌, ◌++◌, length, map, take, get_or, refl, ap, sym, subst, ◌∙◌, arith, add-one}
 use Rattle.std.specs.Prelude.{is_some}
 use Rattle.std.specs.List.{zip}
 use Rattle.std.proofs.Math.ListN.{set}
@@ -62,6 +62,12 @@ module _ {A B : Type 0} where
   zip-length [] ys h = refl
   zip-length (x ∷ xs) [] h = sym h
   zip-length (x ∷ xs) (y ∷ ys) h = let e : length xs ≡ length ys = omega arith in ap suc (zip-length xs ys e)
+
+-- a member of a list that was made of another
+pub map-at : {X Y : Type 0} (f : X → Y) (k : ℕ) (xs : List X) (x : X) (y : Y) → k < length xs → x ≡ get_or xs k x → y ≡ get_or (map f xs) k y → y ≡ f x
+map-at f k [] x y w h q = absurd (omega arith)
+map-at f zero (a ∷ xs) x y w h q = q ∙ ap f (sym h)
+map-at f (suc k) (a ∷ xs) x y w h q = map-at f k xs x y (omega arith) h q
 
 pub take-next : {X : Type 0} (k : ℕ) (xs : List X) (x : X) → k < length xs → x ≡ get_or xs k x → take (k + 1) xs ≡ take k xs ++ x ∷ []
 take-next k xs x w h = take_more xs k x w ∙ ap (λ y. take k xs ++ y ∷ []) (sym h)

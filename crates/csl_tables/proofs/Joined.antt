@@ -9,8 +9,9 @@ use Rattle.csl_mentions.specs.Groups.{group_of, is_ambiguous}
 use Rattle.csl_mentions.specs.declared.mention.Mention.{Mention}
 use Rattle.csl_mentions.specs.declared.state.MentionState.{MentionState}
 use Rattle.csl_mentions.specs.declared.written.Written.{Written}
-use Rattle.csl_tables.specs.Steps.{all_changed, chosen_by, in_group, is_changed, rewritten, state_of, tasks_of}
-use Rattle.csl_tables.specs.Tables.{first_table, mention_in, mentions_in, named, named_in, second_table, third_table, untold, with_choice, with_names}
+use Rattle.csl_tables.specs.Asked.{untold}
+use Rattle.csl_tables.specs.Steps.{all_changed, chosen_by, in_group, is_changed, rekept, rewritten, state_of, tasks_of}
+use Rattle.csl_tables.specs.Tables.{first_table, kept_again, kept_in, mention_in, mentions_in, named, named_in, second_table, third_table, with_choice, with_names}
 use Rattle.csl_tables.specs.declared.changed.Changed.{Changed}
 use Rattle.csl_tables.specs.declared.subject.Subject.{Subject}
 use Rattle.std.proofs.Math.ListN.{length-map}
@@ -26,6 +27,28 @@ tasks-are {M = M} by (p ∷ ps) = step (is_changed by p.1) (tasks-are by ps)
         → cond b ((p.0.mention, p.1) ∷ []) [] ++ flat_map (tasks_of by) ps ≡ map (λ p. (p.0.mention, p.1)) (cond b (p ∷ filter (λ p. is_changed by p.1) ps) (filter (λ p. is_changed by p.1) ps))
     step true h = ap (λ ts. (p.0.mention, p.1) ∷ ts) h
     step false h = h
+
+module _ {M K : Type 0} (keep : M → MentionState → K) (names : Subject M → Option NameDisambiguationProperties) where
+  -- kept of those that are written again with their names
+  renamed-kept : (s : Subject M) (o : Option NameDisambiguationProperties) → rekept keep Changed.Names (s, state_of o) None ≡ kept_in keep s (state_of o)
+  renamed-kept s None = refl
+  renamed-kept s (Some n) = refl
+
+  pub renamed-are-kept : (ss : List (Subject M))
+      → all_changed (rekept keep Changed.Names) (zip ss (map (λ s. state_of (names s)) ss)) (map (λ s. None) ss) ≡ kept_again keep ss (map (λ s. state_of (names s)) ss)
+  renamed-are-kept [] = refl
+  renamed-are-kept (s ∷ ss) = λ i. renamed-kept s (names s) i ∷ renamed-are-kept ss i
+
+  -- and of those that are chosen
+  rechosen-kept : (s : Subject M) (b : Bool) → rekept keep Changed.Choice (s, record (state_of (names s)) { chosen = b }) (kept_in keep s (state_of (names s))) ≡ kept_in keep s (record (state_of (names s)) { chosen = b })
+  rechosen-kept s true = refl
+  rechosen-kept s false = refl
+
+  pub rechosen-are-kept : (choice : Subject M → MentionState → Bool) (ss : List (Subject M))
+      → let third = map (λ p. record p.1 { chosen = choice p.0 p.1 }) (zip ss (map (λ s. state_of (names s)) ss)) in
+      all_changed (rekept keep Changed.Choice) (zip ss third) (kept_again keep ss (map (λ s. state_of (names s)) ss)) ≡ kept_again keep ss third
+  rechosen-are-kept choice [] = refl
+  rechosen-are-kept choice (s ∷ ss) = λ i. rechosen-kept s (choice s (state_of (names s))) i ∷ rechosen-are-kept choice ss i
 
 module _ {M : Type 0} (write : M → MentionState → Written) where
   -- the mentions of the first table
@@ -94,6 +117,17 @@ module _ {M : Type 0} (write : M → MentionState → Written) where
   pub third-mentions : (ss : List (Subject M)) → all_changed (rewritten write Changed.Choice) (zip ss (third_table write ss)) (mentions_in write ss (second_table write ss)) ≡ mentions_in write ss (third_table write ss)
   third-mentions ss =
       rechosen-are (λ s. told_by_names (map (named write ss) ss) (named write ss s)) (λ s state. (write s.mention untold).tested && is_ambiguous (mentions_in write ss (second_table write ss)) (mention_in write s state)) ss
+
+  module _ {K : Type 0} (keep : M → MentionState → K) where
+    pub second-kept : (ss : List (Subject M)) → all_changed (rekept keep Changed.Names) (zip ss (second_table write ss)) (map (λ s. None) ss) ≡ kept_again keep ss (second_table write ss)
+    second-kept ss = renamed-are-kept keep (λ s. told_by_names (map (named write ss) ss) (named write ss s)) ss
+
+    pub third-kept : (ss : List (Subject M)) → all_changed (rekept keep Changed.Choice) (zip ss (third_table write ss)) (kept_again keep ss (second_table write ss)) ≡ kept_again keep ss (third_table write ss)
+    third-kept ss =
+        rechosen-are-kept keep (λ s. told_by_names (map (named write ss) ss) (named write ss s)) (λ s state. (write s.mention untold).tested && is_ambiguous (mentions_in write ss (second_table write ss)) (mention_in write s state)) ss
+
+    pub kept-length : (ss : List (Subject M)) (table : List MentionState) → length ss ≡ length table → length ss ≡ length (kept_again keep ss table)
+    kept-length ss table h = sym (length-map (zip ss table) (λ p. kept_in keep p.0 p.1) ∙ zip-length ss table h)
 
   -- as long as the mentions
   pub second-length : (ss : List (Subject M)) → length ss ≡ length (second_table write ss)

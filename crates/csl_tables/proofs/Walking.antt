@@ -15,7 +15,7 @@ module _ {X : Type 0} (xs : List X) (k : ℕ) (x : X) (within : k < length xs) (
   pub pushed-next : {Y : Type 0} (f : X → Y) (found now : List Y) (y : Y) → found ≡ map f (take k xs) → now ≡ found ++ y ∷ [] → y ≡ f x → now ≡ map f (take (k + 1) xs)
   pushed-next f found now y so_far pushed is = pushed ∙ (λ i. so_far i ++ is i ∷ []) ∙ sym (map-next f)
 
-  module _ {M N : Type 0} (before now after : MentionsWriter M N) where
+  module _ {M K N : Type 0} (before now after : MentionsWriter M K N) where
     -- it is asked for one thing of each
     pub asked-next : (f : X → M × MentionState) → now ≡ asked_for (map f (take k xs)) before → after ≡ asked_for (f x ∷ []) now → after ≡ asked_for (map f (take (k + 1) xs)) before
     asked-next f so_far asked = asked-more before now after (map f (take k xs)) (f x ∷ []) so_far asked ∙ ap (λ ts. asked_for ts before) (sym (map-next f))

@@ -1,11 +1,12 @@
 -- For the code: lists changed from their beginnings on, and what is known on the way.
-use Rattle.std.specs.Prelude.{◌≡◌, ℕ, Bool, false, List, [], ◌∷◌, ◌&&◌, Option, None, if◌then◌else◌, is_some, map}
+use Rattle.std.specs.Prelude.{◌≡◌, ℕ, Bool, false, List, [], ◌∷◌, ◌&&◌, Option, Some, None, if◌then◌else◌, is_some, map}
 use Rattle.csl_values.specs.declared.names.NameDisambiguationProperties.{NameDisambiguationProperties}
 use Rattle.csl_telling.specs.declared.mention.NamedMention.{NamedMention}
 use Rattle.csl_mentions.specs.declared.mention.Mention.{Mention}
 use Rattle.csl_mentions.specs.declared.state.MentionState.{MentionState}
 use Rattle.csl_mentions.specs.declared.written.Written.{Written}
-use Rattle.csl_tables.specs.Tables.{mention_in, named_in, untold}
+use Rattle.csl_tables.specs.Asked.{MentionsWriter, keeping, reading, untold}
+use Rattle.csl_tables.specs.Tables.{kept_at_first, mention_in, named_in}
 use Rattle.csl_tables.specs.declared.changed.Changed.{Changed}
 use Rattle.csl_tables.specs.declared.firsts.Firsts.{Firsts}
 use Rattle.csl_tables.specs.declared.subject.Subject.{Subject}
@@ -37,14 +38,22 @@ module _ {M : Type 0} (by : Changed) where
   abbrev pub tasks_of : Subject M × MentionState → List (M × MentionState)
   tasks_of p = if is_changed by p.1 then (p.0.mention, p.1) ∷ [] else []
 
+module _ {M K : Type 0} (keep : M → MentionState → K) where
+  -- what is kept of a mention, if it is written again
+  abbrev pub rekept : Changed → Subject M × MentionState → Option K → Option K
+  rekept by p kept = if is_changed by p.1 then Some (keep p.0.mention p.1) else kept
+
 module _ {M : Type 0} (write : M → MentionState → Written) where
   -- a mention written again, if its state is changed
   abbrev pub rewritten : Changed → Subject M × MentionState → Mention → Mention
   rewritten by p m =
       if is_changed by p.1 then record m { text = (write p.0.mention p.1).text } else m
 
-  -- what was read of these
-  pub record AreFirsts (subjects : List (Subject M)) (f : Firsts) : Type 0 where
-    pub mentions : f.mentions.items ≡ map (λ s. mention_in write s untold) subjects
-    pub named : f.named.items ≡ map (named_in write None) subjects
-    pub tested : f.tested.items ≡ map (λ s. (write s.mention untold).tested) subjects
+-- what was read and kept of these
+pub record AreFirsts {M K N : Type 0} (w : MentionsWriter M K N) (subjects : List (Subject M))
+    (f : Firsts K) : Type 0 where
+  pub mentions : f.mentions.items ≡ map (λ s. mention_in (reading w) s untold) subjects
+  pub named : f.named.items ≡ map (named_in (reading w) None) subjects
+  pub tested : f.tested.items ≡ map (λ s. (reading w s.mention untold).tested) subjects
+  pub kept : f.kept.items ≡ kept_at_first (keeping w) subjects
+  pub again : f.again.items ≡ map (λ s. None) subjects

@@ -1,6 +1,6 @@
 -- What tells the mentions of all entries apart: by names, then by the condition, then by year
 -- suffixes, each once.
-use Rattle.std.specs.Prelude.{ℕ, Bool, false, not, List, ◌++◌, None, Option, filter, is_some, map}
+use Rattle.std.specs.Prelude.{ℕ, Bool, false, not, ◌||◌, List, ◌++◌, None, Option, Some, filter, is_some, map, if◌then◌else◌}
 use Rattle.std.specs.List.{zip}
 use Rattle.csl_telling.specs.Told.{told_by_names}
 use Rattle.csl_telling.specs.declared.mention.MentionedName.{MentionedName}
@@ -10,11 +10,12 @@ use Rattle.csl_mentions.specs.Suffixes.{suffixes}
 use Rattle.csl_mentions.specs.declared.mention.Mention.{Mention}
 use Rattle.csl_mentions.specs.declared.state.MentionState.{MentionState}
 use Rattle.csl_mentions.specs.declared.written.Written.{Written}
+use Rattle.csl_tables.specs.Asked.{untold}
 use Rattle.csl_tables.specs.declared.subject.Subject.{Subject}
 
--- nothing tells it apart yet
-abbrev pub untold : MentionState
-untold = record { names = None; chosen = false }
+-- something tells it apart
+abbrev pub is_told : MentionState → Bool
+is_told state = state.chosen || is_some state.names
 
 module _ {M : Type 0} where
   -- a mention that reads so
@@ -47,6 +48,18 @@ module _ {M : Type 0} (write : M → MentionState → Written) where
   -- a mention with its names, in a group
   abbrev pub named_in : Option ℕ → Subject M → NamedMention
   named_in group s = named_with group s (write s.mention untold).names
+
+module _ {M K : Type 0} (keep : M → MentionState → K) where
+  -- what is kept of each where nothing tells it apart
+  abbrev pub kept_at_first : List (Subject M) → List K
+  kept_at_first = map (λ s. keep s.mention untold)
+
+  -- and in its state, if that tells it apart, so that it is written again
+  abbrev pub kept_in : Subject M → MentionState → Option K
+  kept_in s state = if is_told state then Some (keep s.mention state) else None
+
+  abbrev pub kept_again : List (Subject M) → List MentionState → List (Option K)
+  kept_again subjects table = map (λ p. kept_in p.0 p.1) (zip subjects table)
 
 module _ {M : Type 0} (subjects : List (Subject M)) where
   -- the first table is empty

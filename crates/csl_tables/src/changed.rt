@@ -1,11 +1,12 @@
 //! Mentions that are written again, where a table changed their states.
 ghost use Rattle.std.specs.Prelude.{◌≡◌, ◌≤◌, OnOk, flat_map, length};
 ghost use Rattle.std.specs.List.{zip};
-ghost use Rattle.csl_tables.specs.Asked.{asked_for};
-ghost use Rattle.csl_tables.specs.Steps.{all_changed, is_changed, rewritten, tasks_of};
+ghost use Rattle.csl_tables.specs.Asked.{asked_for, first_kept, keeping, reading};
+ghost use Rattle.csl_tables.specs.Steps.{all_changed, is_changed, rekept, rewritten, tasks_of};
+ghost use Rattle.csl_tables.specs.Tables.{kept_at_first};
 
 use crate::subject::Subject;
-use crate::writer::MentionWriter;
+use crate::writer::{MentionWriter, WrittenMention};
 use csl_mentions::mention::Mention;
 use csl_mentions::state::MentionState;
 use std::alloc::Global;
@@ -25,14 +26,22 @@ pub(crate) fn write_changed<M, W: MentionWriter<M>>(
     changed: Changed,
     subjects: &[Subject<M>],
     states: &[MentionState],
+    firsts: &[W::Kept],
     mentions: &mut [Mention],
+    again: &mut [Option<W::Kept>],
     writer: &mut W,
 ) -> Result<(), W::Error>
     requires states { length subjects.now ≡ length states.now }
+    requires firsts { length subjects.now ≡ length firsts.now }
     requires mentions { length subjects.now ≡ length mentions.old }
+    requires again { length subjects.now ≡ length again.old }
+    requires kept { firsts.now ≡ kept_at_first (keeping (W.writing writer.old)) subjects.now }
     ensures again { OnOk result (mentions.new
-        ≡ all_changed (rewritten (W.writing writer.old).write changed) (zip subjects.now states.now)
-        mentions.old) }
+        ≡ all_changed (rewritten (reading (W.writing writer.old)) changed)
+        (zip subjects.now states.now) mentions.old) }
+    ensures kept { OnOk result (again.new
+        ≡ all_changed (rekept (keeping (W.writing writer.old)) changed)
+        (zip subjects.now states.now) again.old) }
     ensures asked { OnOk result (W.writing writer.new
         ≡ asked_for (flat_map (tasks_of changed) (zip subjects.now states.now))
         (W.writing writer.old)) }
@@ -43,7 +52,9 @@ pub(crate) fn write_changed<M, W: MentionWriter<M>>(
             changed,
             &subjects[k],
             &states[k],
+            &firsts[k],
             &mut mentions[k],
+            &mut again[k],
             writer,
         )?;
     }
@@ -56,19 +67,27 @@ fn write_if_changed<M, W: MentionWriter<M>>(
     changed: Changed,
     subject: &Subject<M>,
     state: &MentionState,
+    first: &W::Kept,
     mention: &mut Mention,
+    again: &mut Option<W::Kept>,
     writer: &mut W,
 ) -> Result<(), W::Error>
+    requires { first.now ≡ first_kept (W.writing writer.old) subject.now.mention }
     ensures again { OnOk result (mention.new
-        ≡ rewritten (W.writing writer.old).write changed (subject.now, state.now) mention.old) }
+        ≡ rewritten (reading (W.writing writer.old)) changed (subject.now, state.now)
+        mention.old) }
+    ensures kept { OnOk result (again.new
+        ≡ rekept (keeping (W.writing writer.old)) changed (subject.now, state.now) again.old) }
     ensures asked { OnOk result (W.writing writer.new
         ≡ asked_for (tasks_of changed (subject.now, state.now)) (W.writing writer.old)) }
 {
     if !is_changed(changed, state) {
         return Ok(());
     }
-    let written = writer.write_mention(alloc, &subject.mention, state)?;
-    mention.text = written.text;
+    let written = writer.write_again(alloc, &subject.mention, state, first)?;
+    let WrittenMention { read, kept } = written;
+    mention.text = read.text;
+    *again = Some(kept);
     Ok(())
 }
 

@@ -2,35 +2,28 @@
 ghost use Rattle.std.specs.Prelude.{◌≡◌, ◌∷◌, [], ◌++◌, IfOk, None, OnOk};
 ghost use Rattle.csl_tables.specs.Asked.{asked_for};
 ghost use Rattle.csl_tables.specs.Steps.{AreFirsts};
-ghost use Rattle.csl_tables.specs.Tables.{first_tasks, mention_with, named_with, untold};
+ghost use Rattle.csl_tables.specs.Tables.{first_tasks, mention_with, named_with};
 
 use crate::subject::Subject;
-use crate::writer::MentionWriter;
+use crate::writer::{MentionWriter, WrittenMention};
 use csl_mentions::mention::Mention;
-use csl_mentions::state::MentionState;
 use csl_mentions::written::Written;
 use csl_telling::mention::NamedMention;
 use std::alloc::{AllocError, Global};
 
-/// What was read of mentions.
+/// What was read and kept of mentions.
 #[derive(Drop)]
-pub(crate) struct Firsts {
+pub(crate) struct Firsts<K> {
     /// As they are compared.
     pub(crate) mentions: Vec<Mention>,
     /// With their names, in no groups.
     pub(crate) named: Vec<NamedMention>,
     /// Whether each tested a condition `disambiguate`.
     pub(crate) tested: Vec<bool>,
-}
-
-/// Nothing tells a mention apart yet.
-fn untold() -> MentionState
-    ensures { result ≡ untold }
-{
-    MentionState {
-        names: None,
-        chosen: false,
-    }
+    /// What their writer kept.
+    pub(crate) kept: Vec<K>,
+    /// What it keeps of those that are written again; of none yet.
+    pub(crate) again: Vec<Option<K>>,
 }
 
 /// Writes each mention once.
@@ -38,42 +31,47 @@ pub(crate) fn write_firsts<M, W: MentionWriter<M>>(
     alloc: Global,
     subjects: &[Subject<M>],
     writer: &mut W,
-) -> Result<Firsts, W::Error>
-    ensures firsts { IfOk result (AreFirsts (W.writing writer.old).write subjects.now) }
+) -> Result<Firsts<W::Kept>, W::Error>
+    ensures firsts { IfOk result (AreFirsts (W.writing writer.old) subjects.now) }
     ensures asked { OnOk result (W.writing writer.new
         ≡ asked_for (first_tasks subjects.now) (W.writing writer.old)) }
 {
-    let untold = untold();
     let mut firsts = Firsts {
         mentions: Vec::new(alloc),
         named: Vec::new(alloc),
         tested: Vec::new(alloc),
+        kept: Vec::new(alloc),
+        again: Vec::new(alloc),
     };
     for subject in subjects {
-        let written = writer.write_mention(alloc, &subject.mention, &untold)?;
+        let written = writer.write_first(alloc, &subject.mention)?;
         add_first(&mut firsts, subject, written)?;
     }
     Ok(firsts)
 }
 
-/// Adds what was read of one more mention.
-fn add_first<M>(
-    firsts: &mut Firsts,
+/// Adds what was read and kept of one more mention.
+fn add_first<M, K: Drop>(
+    firsts: &mut Firsts<K>,
     subject: &Subject<M>,
-    written: Written,
+    written: WrittenMention<K>,
 ) -> Result<(), AllocError>
     ensures mentions { OnOk result (firsts.new.mentions.items
-        ≡ firsts.old.mentions.items ++ mention_with subject.now written.text ∷ []) }
+        ≡ firsts.old.mentions.items ++ mention_with subject.now written.read.text ∷ []) }
     ensures named { OnOk result (firsts.new.named.items
-        ≡ firsts.old.named.items ++ named_with None subject.now written.names ∷ []) }
-    ensures tested { OnOk result (firsts.new.tested.items ≡ firsts.old.tested.items
-        ++ written.tested ∷ []) }
+        ≡ firsts.old.named.items ++ named_with None subject.now written.read.names ∷ []) }
+    ensures tested { OnOk result (firsts.new.tested.items
+        ≡ firsts.old.tested.items ++ written.read.tested ∷ []) }
+    ensures kept { OnOk result (firsts.new.kept.items
+        ≡ firsts.old.kept.items ++ written.kept ∷ []) }
+    ensures again { OnOk result (firsts.new.again.items ≡ firsts.old.again.items ++ None ∷ []) }
 {
+    let WrittenMention { read, kept } = written;
     let Written {
         text,
         names,
         tested,
-    } = written;
+    } = read;
     firsts.mentions.push(Mention {
         entry: subject.entry,
         is_first: subject.is_first,
@@ -87,5 +85,7 @@ fn add_first<M>(
         group: None,
     })?;
     firsts.tested.push(tested)?;
+    firsts.kept.push(kept)?;
+    firsts.again.push(None)?;
     Ok(())
 }

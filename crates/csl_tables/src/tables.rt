@@ -1,8 +1,18 @@
 //! The tables of all mentions, one after another (CSL 1.0.2, disambiguation).
 ghost use Rattle.std.specs.Prelude.{◌≡◌, ◌++◌, IfOk, OnOk, filter, is_some, map, not};
-ghost use Rattle.csl_tables.specs.Asked.{asked_for};
+ghost use Rattle.csl_tables.specs.Asked.{asked_for, keeping, reading, untold};
 ghost use Rattle.csl_mentions.specs.Suffixes.{suffixes};
-ghost use Rattle.csl_tables.specs.Tables.{all_tasks, first_tasks, mentions_in, second_table, tasks_where, third_table, untold, year_suffixes};
+ghost use Rattle.csl_tables.specs.Tables.{
+  all_tasks,
+  first_tasks,
+  kept_again,
+  kept_at_first,
+  mentions_in,
+  second_table,
+  tasks_where,
+  third_table,
+  year_suffixes,
+};
 
 use crate::changed::{Changed, write_changed};
 use crate::chosen::{choose, laters};
@@ -17,11 +27,15 @@ use std::alloc::{AllocError, Global};
 
 /// What tells mentions apart.
 #[derive(Drop)]
-pub struct Told {
+pub struct Told<K> {
     /// The state of each mention.
     pub states: Vec<MentionState>,
     /// The year suffix of each entry that has a later mention, in their order.
     pub suffixes: Vec<Option<usize>>,
+    /// What the writer kept of each mention where nothing told it apart.
+    pub firsts: Vec<K>,
+    /// What it kept of those that something tells apart, as it wrote them last.
+    pub again: Vec<Option<K>>,
 }
 
 /// What tells the mentions of all entries apart. They stand in the order of the bibliography, the
@@ -40,13 +54,18 @@ pub fn tell_apart<M, W: MentionWriter<M>>(
     alloc: Global,
     subjects: &[Subject<M>],
     writer: &mut W,
-) -> Result<Told, W::Error>
+) -> Result<Told<W::Kept>, W::Error>
     ensures states { IfOk result (λ t. t.states.items
-        ≡ third_table (W.writing writer.old).write subjects.now) }
+        ≡ third_table (reading (W.writing writer.old)) subjects.now) }
     ensures suffixes { IfOk result (λ t. t.suffixes.items
-        ≡ year_suffixes (W.writing writer.old).write subjects.now) }
+        ≡ year_suffixes (reading (W.writing writer.old)) subjects.now) }
+    ensures firsts { IfOk result (λ t. t.firsts.items
+        ≡ kept_at_first (keeping (W.writing writer.old)) subjects.now) }
+    ensures again { IfOk result (λ t. t.again.items
+        ≡ kept_again (keeping (W.writing writer.old)) subjects.now
+        (third_table (reading (W.writing writer.old)) subjects.now)) }
     ensures asked { OnOk result (W.writing writer.new
-        ≡ asked_for (all_tasks (W.writing writer.old).write subjects.now) (W.writing writer.old)) }
+        ≡ asked_for (all_tasks (reading (W.writing writer.old)) subjects.now) (W.writing writer.old)) }
 {
     let mut named = tell_by_names(alloc, subjects, writer)?;
     choose(alloc, &named.mentions, &named.tested, &mut named.states)?;
@@ -55,7 +74,9 @@ pub fn tell_apart<M, W: MentionWriter<M>>(
         Changed::Choice,
         subjects,
         &named.states,
+        &named.firsts,
         &mut named.mentions,
+        &mut named.again,
         writer,
     )?;
     Ok(with_suffixes(alloc, named)?)
@@ -63,12 +84,14 @@ pub fn tell_apart<M, W: MentionWriter<M>>(
 
 /// Mentions once names tell them apart.
 #[derive(Drop)]
-struct Named {
+struct Named<K> {
     /// As they read then.
     mentions: Vec<Mention>,
     /// Whether each tested a condition `disambiguate` at first.
     tested: Vec<bool>,
     states: Vec<MentionState>,
+    firsts: Vec<K>,
+    again: Vec<Option<K>>,
 }
 
 /// Writes each mention, and those that get other names again.
@@ -76,23 +99,30 @@ fn tell_by_names<M, W: MentionWriter<M>>(
     alloc: Global,
     subjects: &[Subject<M>],
     writer: &mut W,
-) -> Result<Named, W::Error>
+) -> Result<Named<W::Kept>, W::Error>
     ensures mentions { IfOk result (λ n. n.mentions.items
-        ≡ mentions_in (W.writing writer.old).write subjects.now
-        (second_table (W.writing writer.old).write subjects.now)) }
+        ≡ mentions_in (reading (W.writing writer.old)) subjects.now
+        (second_table (reading (W.writing writer.old)) subjects.now)) }
     ensures tested { IfOk result (λ n. n.tested.items
-        ≡ map (λ s. ((W.writing writer.old).write s.mention untold).tested) subjects.now) }
+        ≡ map (λ s. (reading (W.writing writer.old) s.mention untold).tested) subjects.now) }
     ensures states { IfOk result (λ n. n.states.items
-        ≡ second_table (W.writing writer.old).write subjects.now) }
+        ≡ second_table (reading (W.writing writer.old)) subjects.now) }
+    ensures firsts { IfOk result (λ n. n.firsts.items
+        ≡ kept_at_first (keeping (W.writing writer.old)) subjects.now) }
+    ensures again { IfOk result (λ n. n.again.items
+        ≡ kept_again (keeping (W.writing writer.old)) subjects.now
+        (second_table (reading (W.writing writer.old)) subjects.now)) }
     ensures asked { OnOk result (W.writing writer.new
         ≡ asked_for (first_tasks subjects.now ++ tasks_where subjects.now (λ s. is_some s.names)
-        (second_table (W.writing writer.old).write subjects.now)) (W.writing writer.old)) }
+        (second_table (reading (W.writing writer.old)) subjects.now)) (W.writing writer.old)) }
 {
     let firsts = write_firsts(alloc, subjects, writer)?;
     let Firsts {
         mut mentions,
         mut named,
         tested,
+        kept,
+        mut again,
     } = firsts;
     let states = told_by_names(alloc, &mentions, &mut named)?;
     write_changed(
@@ -100,28 +130,41 @@ fn tell_by_names<M, W: MentionWriter<M>>(
         Changed::Names,
         subjects,
         &states,
+        &kept,
         &mut mentions,
+        &mut again,
         writer,
     )?;
     Ok(Named {
         mentions,
         tested,
         states,
+        firsts: kept,
+        again,
     })
 }
 
 /// The states of mentions, and the year suffixes by the later ones.
-fn with_suffixes(alloc: Global, named: Named) -> Result<Told, AllocError>
+fn with_suffixes<K: Drop>(alloc: Global, named: Named<K>) -> Result<Told<K>, AllocError>
     ensures states { IfOk result (λ t. t.states.items ≡ named.states.items) }
     ensures suffixes { IfOk result (λ t. t.suffixes.items
         ≡ suffixes (filter (λ m. not m.is_first) named.mentions.items)) }
+    ensures firsts { IfOk result (λ t. t.firsts ≡ named.firsts) }
+    ensures again { IfOk result (λ t. t.again ≡ named.again) }
 {
     let Named {
         mentions,
         tested: _tested,
         states,
+        firsts,
+        again,
     } = named;
     let laters = laters(alloc, mentions)?;
     let suffixes = suffixes_of(alloc, &laters)?;
-    Ok(Told { states, suffixes })
+    Ok(Told {
+        states,
+        suffixes,
+        firsts,
+        again,
+    })
 }

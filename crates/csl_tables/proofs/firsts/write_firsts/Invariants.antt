@@ -1,11 +1,10 @@
 use Rattle.std.proofs.Common.{◌≡◌, map, take}
-use Rattle.csl_tables.specs.Asked.{asked_for}
+use Rattle.csl_tables.specs.Asked.{asked_for, untold}
 use Rattle.csl_tables.specs.Steps.{AreFirsts}
-use Rattle.csl_tables.specs.Tables.{untold}
 use Rattle.csl_tables.proofs.firsts.write_firsts.Given as goal
 
 abbrev pub invariant-loop-subject : goal.invariant-loop-subject
 invariant-loop-subject g l = record {
-  firsts : AreFirsts (g.W.MentionWriter.writing l.fn.writer).write (take l.subject-index l.subjects) l.firsts;
+  firsts : AreFirsts (g.W.MentionWriter.writing l.fn.writer) (take l.subject-index l.subjects) l.firsts;
   asked : g.W.MentionWriter.writing l.writer ≡ asked_for (map (λ s. (s.mention, untold)) (take l.subject-index l.subjects)) (g.W.MentionWriter.writing l.fn.writer);
 }
