@@ -74,8 +74,8 @@ pub fn suffixes_differ()
     ensures { SuffixesDiffer }
 {}
 
-/// A law: a copy of a state, of means, of a locator and its payload, and of the properties of a cite
-/// is equal to it.
+/// A law: a copy of a state, of means, of a locator and its payload, and of the properties of a
+/// cite is equal to it.
 pub fn copies_are_equal<P: Drop>()
     ensures state { (a b : DisambiguateState)
         → ⟦<DisambiguateState as Clone>⟧.is_clone a b → b ≡ a }

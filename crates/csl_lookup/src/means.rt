@@ -120,9 +120,9 @@ fn forms_in(
     Ok(Some(Seq::new(all)))
 }
 
-/// What a cite in this state and with these means is told of its names, where the rules of its style
-/// give these forms: each is at least the one that the means have at its place; without names among
-/// the means the first ones are those of the state. None where neither has names.
+/// What a cite in this state and with these means is told of its names, where the rules of its
+/// style give these forms: each is at least the one that the means have at its place; without names
+/// among the means the first ones are those of the state. None where neither has names.
 ///
 /// # Errors
 ///

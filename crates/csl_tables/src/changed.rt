@@ -6,7 +6,7 @@ ghost use Rattle.csl_tables.specs.Steps.{all_changed, is_changed, rekept, rewrit
 ghost use Rattle.csl_tables.specs.Tables.{kept_at_first};
 
 use crate::subject::Subject;
-use crate::writer::{MentionWriter, WrittenMention};
+use crate::writer::{WrittenBy, WrittenMention};
 use csl_mentions::mention::Mention;
 use csl_mentions::state::MentionState;
 use std::alloc::Global;
@@ -21,30 +21,32 @@ pub(crate) enum Changed {
 }
 
 /// Writes the mentions again whose states are changed.
-pub(crate) fn write_changed<M, W: MentionWriter<M>>(
+pub(crate) fn write_changed<W, C, M: WrittenBy<W, C>>(
     alloc: Global,
     changed: Changed,
     subjects: &[Subject<M>],
     states: &[MentionState],
-    firsts: &[W::Kept],
+    firsts: &[M::Kept],
     mentions: &mut [Mention],
-    again: &mut [Option<W::Kept>],
+    again: &mut [Option<M::Kept>],
     writer: &mut W,
-) -> Result<(), W::Error>
+    counter: &mut C,
+) -> Result<(), M::Error>
     requires states { length subjects.now ≡ length states.now }
     requires firsts { length subjects.now ≡ length firsts.now }
     requires mentions { length subjects.now ≡ length mentions.old }
     requires again { length subjects.now ≡ length again.old }
-    requires kept { firsts.now ≡ kept_at_first (keeping (W.writing writer.old)) subjects.now }
+    requires kept { firsts.now
+        ≡ kept_at_first (keeping (M.writing writer.old counter.old)) subjects.now }
     ensures again { OnOk result (mentions.new
-        ≡ all_changed (rewritten (reading (W.writing writer.old)) changed)
+        ≡ all_changed (rewritten (reading (M.writing writer.old counter.old)) changed)
         (zip subjects.now states.now) mentions.old) }
     ensures kept { OnOk result (again.new
-        ≡ all_changed (rekept (keeping (W.writing writer.old)) changed)
+        ≡ all_changed (rekept (keeping (M.writing writer.old counter.old)) changed)
         (zip subjects.now states.now) again.old) }
-    ensures asked { OnOk result (W.writing writer.new
+    ensures asked { OnOk result (M.writing writer.new counter.new
         ≡ asked_for (flat_map (tasks_of changed) (zip subjects.now states.now))
-        (W.writing writer.old)) }
+        (M.writing writer.old counter.old)) }
 {
     for k in 0..subjects.len() {
         write_if_changed(
@@ -56,35 +58,39 @@ pub(crate) fn write_changed<M, W: MentionWriter<M>>(
             &mut mentions[k],
             &mut again[k],
             writer,
+            counter,
         )?;
     }
     Ok(())
 }
 
 /// Writes a mention again, if its state is changed.
-fn write_if_changed<M, W: MentionWriter<M>>(
+fn write_if_changed<W, C, M: WrittenBy<W, C>>(
     alloc: Global,
     changed: Changed,
     subject: &Subject<M>,
     state: &MentionState,
-    first: &W::Kept,
+    first: &M::Kept,
     mention: &mut Mention,
-    again: &mut Option<W::Kept>,
+    again: &mut Option<M::Kept>,
     writer: &mut W,
-) -> Result<(), W::Error>
-    requires { first.now ≡ first_kept (W.writing writer.old) subject.now.mention }
+    counter: &mut C,
+) -> Result<(), M::Error>
+    requires { first.now ≡ first_kept (M.writing writer.old counter.old) subject.now.mention }
     ensures again { OnOk result (mention.new
-        ≡ rewritten (reading (W.writing writer.old)) changed (subject.now, state.now)
+        ≡ rewritten (reading (M.writing writer.old counter.old)) changed (subject.now, state.now)
         mention.old) }
     ensures kept { OnOk result (again.new
-        ≡ rekept (keeping (W.writing writer.old)) changed (subject.now, state.now) again.old) }
-    ensures asked { OnOk result (W.writing writer.new
-        ≡ asked_for (tasks_of changed (subject.now, state.now)) (W.writing writer.old)) }
+        ≡ rekept (keeping (M.writing writer.old counter.old)) changed (subject.now, state.now)
+        again.old) }
+    ensures asked { OnOk result (M.writing writer.new counter.new
+        ≡ asked_for (tasks_of changed (subject.now, state.now))
+        (M.writing writer.old counter.old)) }
 {
     if !is_changed(changed, state) {
         return Ok(());
     }
-    let written = writer.write_again(alloc, &subject.mention, state, first)?;
+    let written = subject.mention.write_again(alloc, state, first, writer, counter)?;
     let WrittenMention { read, kept } = written;
     mention.text = read.text;
     *again = Some(kept);

@@ -5,7 +5,7 @@ ghost use Rattle.csl_tables.specs.Steps.{AreFirsts};
 ghost use Rattle.csl_tables.specs.Tables.{first_tasks, mention_with, named_with};
 
 use crate::subject::Subject;
-use crate::writer::{MentionWriter, WrittenMention};
+use crate::writer::{WrittenBy, WrittenMention};
 use csl_mentions::mention::Mention;
 use csl_mentions::written::Written;
 use csl_telling::mention::NamedMention;
@@ -27,14 +27,15 @@ pub(crate) struct Firsts<K> {
 }
 
 /// Writes each mention once.
-pub(crate) fn write_firsts<M, W: MentionWriter<M>>(
+pub(crate) fn write_firsts<W, C, M: WrittenBy<W, C>>(
     alloc: Global,
     subjects: &[Subject<M>],
     writer: &mut W,
-) -> Result<Firsts<W::Kept>, W::Error>
-    ensures firsts { IfOk result (AreFirsts (W.writing writer.old) subjects.now) }
-    ensures asked { OnOk result (W.writing writer.new
-        ≡ asked_for (first_tasks subjects.now) (W.writing writer.old)) }
+    counter: &mut C,
+) -> Result<Firsts<M::Kept>, M::Error>
+    ensures firsts { IfOk result (AreFirsts (M.writing writer.old counter.old) subjects.now) }
+    ensures asked { OnOk result (M.writing writer.new counter.new
+        ≡ asked_for (first_tasks subjects.now) (M.writing writer.old counter.old)) }
 {
     let mut firsts = Firsts {
         mentions: Vec::new(alloc),
@@ -44,7 +45,7 @@ pub(crate) fn write_firsts<M, W: MentionWriter<M>>(
         again: Vec::new(alloc),
     };
     for subject in subjects {
-        let written = writer.write_first(alloc, &subject.mention)?;
+        let written = subject.mention.write_first(alloc, writer, counter)?;
         add_first(&mut firsts, subject, written)?;
     }
     Ok(firsts)

@@ -19,7 +19,7 @@ use crate::chosen::{choose, laters};
 use crate::firsts::{Firsts, write_firsts};
 use crate::named::told_by_names;
 use crate::subject::Subject;
-use crate::writer::MentionWriter;
+use crate::writer::WrittenBy;
 use csl_mentions::mention::Mention;
 use csl_mentions::state::MentionState;
 use csl_mentions::suffixes::suffixes_of;
@@ -50,24 +50,26 @@ pub struct Told<K> {
 /// # Errors
 ///
 /// The writer's; a want of memory among others.
-pub fn tell_apart<M, W: MentionWriter<M>>(
+pub fn tell_apart<W, C, M: WrittenBy<W, C>>(
     alloc: Global,
     subjects: &[Subject<M>],
     writer: &mut W,
-) -> Result<Told<W::Kept>, W::Error>
+    counter: &mut C,
+) -> Result<Told<M::Kept>, M::Error>
     ensures states { IfOk result (λ t. t.states.items
-        ≡ third_table (reading (W.writing writer.old)) subjects.now) }
+        ≡ third_table (reading (M.writing writer.old counter.old)) subjects.now) }
     ensures suffixes { IfOk result (λ t. t.suffixes.items
-        ≡ year_suffixes (reading (W.writing writer.old)) subjects.now) }
+        ≡ year_suffixes (reading (M.writing writer.old counter.old)) subjects.now) }
     ensures firsts { IfOk result (λ t. t.firsts.items
-        ≡ kept_at_first (keeping (W.writing writer.old)) subjects.now) }
+        ≡ kept_at_first (keeping (M.writing writer.old counter.old)) subjects.now) }
     ensures again { IfOk result (λ t. t.again.items
-        ≡ kept_again (keeping (W.writing writer.old)) subjects.now
-        (third_table (reading (W.writing writer.old)) subjects.now)) }
-    ensures asked { OnOk result (W.writing writer.new
-        ≡ asked_for (all_tasks (reading (W.writing writer.old)) subjects.now) (W.writing writer.old)) }
+        ≡ kept_again (keeping (M.writing writer.old counter.old)) subjects.now
+        (third_table (reading (M.writing writer.old counter.old)) subjects.now)) }
+    ensures asked { OnOk result (M.writing writer.new counter.new
+        ≡ asked_for (all_tasks (reading (M.writing writer.old counter.old)) subjects.now)
+        (M.writing writer.old counter.old)) }
 {
-    let mut named = tell_by_names(alloc, subjects, writer)?;
+    let mut named = tell_by_names(alloc, subjects, writer, counter)?;
     choose(alloc, &named.mentions, &named.tested, &mut named.states)?;
     write_changed(
         alloc,
@@ -78,6 +80,7 @@ pub fn tell_apart<M, W: MentionWriter<M>>(
         &mut named.mentions,
         &mut named.again,
         writer,
+        counter,
     )?;
     Ok(with_suffixes(alloc, named)?)
 }
@@ -95,28 +98,31 @@ struct Named<K> {
 }
 
 /// Writes each mention, and those that get other names again.
-fn tell_by_names<M, W: MentionWriter<M>>(
+fn tell_by_names<W, C, M: WrittenBy<W, C>>(
     alloc: Global,
     subjects: &[Subject<M>],
     writer: &mut W,
-) -> Result<Named<W::Kept>, W::Error>
+    counter: &mut C,
+) -> Result<Named<M::Kept>, M::Error>
     ensures mentions { IfOk result (λ n. n.mentions.items
-        ≡ mentions_in (reading (W.writing writer.old)) subjects.now
-        (second_table (reading (W.writing writer.old)) subjects.now)) }
+        ≡ mentions_in (reading (M.writing writer.old counter.old)) subjects.now
+        (second_table (reading (M.writing writer.old counter.old)) subjects.now)) }
     ensures tested { IfOk result (λ n. n.tested.items
-        ≡ map (λ s. (reading (W.writing writer.old) s.mention untold).tested) subjects.now) }
+        ≡ map (λ s. (reading (M.writing writer.old counter.old) s.mention untold).tested)
+        subjects.now) }
     ensures states { IfOk result (λ n. n.states.items
-        ≡ second_table (reading (W.writing writer.old)) subjects.now) }
+        ≡ second_table (reading (M.writing writer.old counter.old)) subjects.now) }
     ensures firsts { IfOk result (λ n. n.firsts.items
-        ≡ kept_at_first (keeping (W.writing writer.old)) subjects.now) }
+        ≡ kept_at_first (keeping (M.writing writer.old counter.old)) subjects.now) }
     ensures again { IfOk result (λ n. n.again.items
-        ≡ kept_again (keeping (W.writing writer.old)) subjects.now
-        (second_table (reading (W.writing writer.old)) subjects.now)) }
-    ensures asked { OnOk result (W.writing writer.new
+        ≡ kept_again (keeping (M.writing writer.old counter.old)) subjects.now
+        (second_table (reading (M.writing writer.old counter.old)) subjects.now)) }
+    ensures asked { OnOk result (M.writing writer.new counter.new
         ≡ asked_for (first_tasks subjects.now ++ tasks_where subjects.now (λ s. is_some s.names)
-        (second_table (reading (W.writing writer.old)) subjects.now)) (W.writing writer.old)) }
+        (second_table (reading (M.writing writer.old counter.old)) subjects.now))
+        (M.writing writer.old counter.old)) }
 {
-    let firsts = write_firsts(alloc, subjects, writer)?;
+    let firsts = write_firsts(alloc, subjects, writer, counter)?;
     let Firsts {
         mut mentions,
         mut named,
@@ -134,6 +140,7 @@ fn tell_by_names<M, W: MentionWriter<M>>(
         &mut mentions,
         &mut again,
         writer,
+        counter,
     )?;
     Ok(Named {
         mentions,

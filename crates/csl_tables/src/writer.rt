@@ -1,4 +1,4 @@
-//! Who writes mentions.
+//! Mentions that are written.
 use csl_mentions::state::MentionState;
 use csl_mentions::written::Written;
 use std::alloc::{AllocError, Global};
@@ -12,54 +12,58 @@ pub struct WrittenMention<K> {
     pub kept: K,
 }
 
-/// Writes mentions. What it writes follows from what it is asked for, however often and in
-/// whichever order it is asked. All that being asked may change is what it notes of it.
-pub trait MentionWriter<M> {
+/// A mention that a writer writes, and that a counter counts. What is written of it follows from
+/// what is asked for, however often and in whichever order that is. All that being asked may change
+/// is what the writer notes, and the count.
+pub trait WrittenBy<W, C> {
     ghost use Rattle.std.specs.Prelude.{◌≡◌, ◌∷◌, [], IfOk, OnOk};
     ghost use Rattle.csl_tables.specs.Asked.{MentionsWriter, asked_for, first_kept, untold};
 
-    /// Why it may write nothing; a want of memory among others.
+    /// Why nothing may be written; a want of memory among others.
     type Error: From<AllocError> + Drop;
 
-    /// What it keeps of a mention that it wrote.
+    /// What is kept of a mention that was written.
     type Kept: Drop;
 
-    /// What it notes where it is asked for something.
+    /// What is noted where a mention is asked for.
     type Note;
 
-    /// What it writes, and its notes.
-    ghost writing: { Self → MentionsWriter M Self.Kept Self.Note };
+    /// What is written of such mentions, and what was noted.
+    ghost writing: { W → C → MentionsWriter Self Self.Kept Self.Note };
 
-    /// Writes a mention where nothing tells it apart.
+    /// Writes the mention where nothing tells it apart.
     ///
     /// # Errors
     ///
     /// The writer's own.
     fn write_first(
-        &mut self,
+        &self,
         alloc: Global,
-        mention: &M,
+        writer: &mut W,
+        counter: &mut C,
     ) -> Result<WrittenMention<Self::Kept>, Self::Error>
-        ensures written { IfOk result (λ w. w ≡ (writing self.old).write mention.now untold) }
-        ensures asked { OnOk result
-            (writing self.new ≡ asked_for ((mention.now, untold) ∷ []) (writing self.old)) };
+        ensures written { IfOk result
+            (λ w. w ≡ (writing writer.old counter.old).write self.now untold) }
+        ensures asked { OnOk result (writing writer.new counter.new
+            ≡ asked_for ((self.now, untold) ∷ []) (writing writer.old counter.old)) };
 
-    /// Writes a mention again, where this tells it apart. It gets back what it kept of the mention
-    /// where nothing did.
+    /// Writes the mention again, where this tells it apart. `first` is what was kept of it where
+    /// nothing did.
     ///
     /// # Errors
     ///
     /// The writer's own.
     fn write_again(
-        &mut self,
+        &self,
         alloc: Global,
-        mention: &M,
         told: &MentionState,
         first: &Self::Kept,
+        writer: &mut W,
+        counter: &mut C,
     ) -> Result<WrittenMention<Self::Kept>, Self::Error>
-        ensures written { first.now ≡ first_kept (writing self.old) mention.now
-            → IfOk result (λ w. w ≡ (writing self.old).write mention.now told.now) }
-        ensures asked { first.now ≡ first_kept (writing self.old) mention.now
-            → OnOk result (writing self.new
-            ≡ asked_for ((mention.now, told.now) ∷ []) (writing self.old)) };
+        ensures written { first.now ≡ first_kept (writing writer.old counter.old) self.now
+            → IfOk result (λ w. w ≡ (writing writer.old counter.old).write self.now told.now) }
+        ensures asked { first.now ≡ first_kept (writing writer.old counter.old) self.now
+            → OnOk result (writing writer.new counter.new
+            ≡ asked_for ((self.now, told.now) ∷ []) (writing writer.old counter.old)) };
 }

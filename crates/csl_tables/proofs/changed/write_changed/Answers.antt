@@ -11,15 +11,15 @@ use Rattle.csl_tables.proofs.changed.write_changed.Goals as goal
 
 pub loop-k-init : goal.loop-k-init
 loop-k-init g c = record {
-  again = changed-none (rewritten (reading (g.W.MentionWriter.writing c.args.writer.now)) c.args.changed) (zip c.args.subjects.now c.args.states.now) c.args.mentions.now;
-  kept = changed-none (rekept (keeping (g.W.MentionWriter.writing c.args.writer.now)) c.args.changed) (zip c.args.subjects.now c.args.states.now) c.args.again.now;
+  again = changed-none (rewritten (reading (g.M.WrittenBy.writing c.args.writer.now c.args.counter.now)) c.args.changed) (zip c.args.subjects.now c.args.states.now) c.args.mentions.now;
+  kept = changed-none (rekept (keeping (g.M.WrittenBy.writing c.args.writer.now c.args.counter.now)) c.args.changed) (zip c.args.subjects.now c.args.states.now) c.args.again.now;
   asked = refl;
 }
 
 pub write_if_changed-requires : goal.write_if_changed-requires
 write_if_changed-requires g c =
-    let w0 = g.W.MentionWriter.writing c.args.writer.now in
-    let w1 = g.W.MentionWriter.writing c.loop-k.writer in
+    let w0 = g.M.WrittenBy.writing c.args.writer.now c.args.counter.now in
+    let w1 = g.M.WrittenBy.writing c.loop-k.writer c.loop-k.counter in
     let subjects = c.args.subjects.now in
     let k = c.loop-k.k in
     let s = c.index-subjects-k.result in
@@ -30,9 +30,9 @@ write_if_changed-requires g c =
 
 pub loop-k-preserved : goal.loop-k-preserved
 loop-k-preserved g c =
-    let w0 = g.W.MentionWriter.writing c.args.writer.now in
-    let w1 = g.W.MentionWriter.writing c.loop-k.writer in
-    let w2 = g.W.MentionWriter.writing c.write_if_changed.new.writer in
+    let w0 = g.M.WrittenBy.writing c.args.writer.now c.args.counter.now in
+    let w1 = g.M.WrittenBy.writing c.loop-k.writer c.loop-k.counter in
+    let w2 = g.M.WrittenBy.writing c.write_if_changed.new.writer c.write_if_changed.new.counter in
     let subjects = c.args.subjects.now in
     let states = c.args.states.now in
     let pairs = zip subjects states in
@@ -60,7 +60,7 @@ loop-k-preserved g c =
 
 pub returns : goal.returns
 returns g c =
-    let w0 = g.W.MentionWriter.writing c.args.writer.now in
+    let w0 = g.M.WrittenBy.writing c.args.writer.now c.args.counter.now in
     let pairs = zip c.args.subjects.now c.args.states.now in
     let test = c.loop-k-test.false in
     let past : length pairs ≤ c.loop-k.k = subst (λ n. n ≤ c.loop-k.k) (sym (zip-length c.args.subjects.now c.args.states.now c.requires.states)) test in

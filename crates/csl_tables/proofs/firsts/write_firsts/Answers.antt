@@ -9,9 +9,9 @@ use Rattle.csl_tables.proofs.firsts.write_firsts.Goals as goal
 
 pub loop-subject-preserved : goal.loop-subject-preserved
 loop-subject-preserved g c =
-    let w0 = g.W.MentionWriter.writing c.args.writer.now in
-    let w1 = g.W.MentionWriter.writing c.loop-subject.writer in
-    let w2 = g.W.MentionWriter.writing c.write_first.new.self in
+    let w0 = g.M.WrittenBy.writing c.args.writer.now c.args.counter.now in
+    let w1 = g.M.WrittenBy.writing c.loop-subject.writer c.loop-subject.counter in
+    let w2 = g.M.WrittenBy.writing c.write_first.new.writer c.write_first.new.counter in
     let subjects = c.args.subjects.now in
     let k = c.loop-subject.subject-index in
     let s = c.subject-item.result in
@@ -38,7 +38,7 @@ loop-subject-preserved g c =
 
 pub returns : goal.returns
 returns g c =
-    let w0 = g.W.MentionWriter.writing c.args.writer.now in
+    let w0 = g.M.WrittenBy.writing c.args.writer.now c.args.counter.now in
     let all = take_all c.loop-subject.subject-index c.args.subjects.now c.loop-subject-test.false in
     record {
       firsts = subst (λ ss. AreFirsts w0 ss c.loop-subject.firsts) all c.loop-subject.invariant.firsts;

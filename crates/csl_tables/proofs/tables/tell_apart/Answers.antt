@@ -14,7 +14,7 @@ use Rattle.csl_tables.proofs.tables.tell_apart.Goals as goal
 
 pub choose-requires : goal.choose-requires
 choose-requires g c =
-    let w0 = g.W.MentionWriter.writing c.args.writer.now in
+    let w0 = g.M.WrittenBy.writing c.args.writer.now c.args.counter.now in
     let ss = c.args.subjects.now in
     let named = c.in_ok-named.ensures in
     let long = mentions-length (reading w0) ss (second_table (reading w0) ss) (second-length (reading w0) ss) ∙ sym (ap length (c.deref.ensures.value ∙ named.mentions)) in
@@ -25,8 +25,8 @@ choose-requires g c =
 
 pub write_changed-requires : goal.write_changed-requires
 write_changed-requires g c =
-    let w0 = g.W.MentionWriter.writing c.args.writer.now in
-    let w1 = g.W.MentionWriter.writing c.tell_by_names.new.writer in
+    let w0 = g.M.WrittenBy.writing c.args.writer.now c.args.counter.now in
+    let w1 = g.M.WrittenBy.writing c.tell_by_names.new.writer c.tell_by_names.new.counter in
     let ss = c.args.subjects.now in
     let named = c.in_ok-named.ensures in
     let ms_are = c.deref.ensures.value ∙ named.mentions in
@@ -44,9 +44,9 @@ write_changed-requires g c =
 
 pub returns : goal.returns
 returns g c =
-    let w0 = g.W.MentionWriter.writing c.args.writer.now in
-    let w1 = g.W.MentionWriter.writing c.tell_by_names.new.writer in
-    let w2 = g.W.MentionWriter.writing c.write_changed.new.writer in
+    let w0 = g.M.WrittenBy.writing c.args.writer.now c.args.counter.now in
+    let w1 = g.M.WrittenBy.writing c.tell_by_names.new.writer c.tell_by_names.new.counter in
+    let w2 = g.M.WrittenBy.writing c.write_changed.new.writer c.write_changed.new.counter in
     let ss = c.args.subjects.now in
     let named = c.in_ok-named.ensures in
     let ms_are = c.deref.ensures.value ∙ named.mentions in

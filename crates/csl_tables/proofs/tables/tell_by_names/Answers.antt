@@ -20,8 +20,8 @@ told_by_names-requires g c =
 
 pub write_changed-requires : goal.write_changed-requires
 write_changed-requires g c =
-    let w0 = g.W.MentionWriter.writing c.args.writer.now in
-    let w1 = g.W.MentionWriter.writing c.write_firsts.new.writer in
+    let w0 = g.M.WrittenBy.writing c.args.writer.now c.args.counter.now in
+    let w1 = g.M.WrittenBy.writing c.write_firsts.new.writer c.write_firsts.new.counter in
     let ss = c.args.subjects.now in
     let first = c.in_ok-firsts.ensures.firsts in
     let ms = c.deref.result.now in
@@ -38,9 +38,9 @@ write_changed-requires g c =
 
 pub returns : goal.returns
 returns g c =
-    let w0 = g.W.MentionWriter.writing c.args.writer.now in
-    let w1 = g.W.MentionWriter.writing c.write_firsts.new.writer in
-    let w2 = g.W.MentionWriter.writing c.write_changed.new.writer in
+    let w0 = g.M.WrittenBy.writing c.args.writer.now c.args.counter.now in
+    let w1 = g.M.WrittenBy.writing c.write_firsts.new.writer c.write_firsts.new.counter in
+    let w2 = g.M.WrittenBy.writing c.write_changed.new.writer c.write_changed.new.counter in
     let ss = c.args.subjects.now in
     let first = c.in_ok-firsts.ensures.firsts in
     let ms = c.deref.result.now in
