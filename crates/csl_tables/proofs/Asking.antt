@@ -3,7 +3,7 @@ use Rattle.std.proofs.Common.{◌≡◌, List, [], ◌∷◌, ◌++◌, refl, ap
 use Rattle.csl_mentions.specs.declared.state.MentionState.{MentionState}
 use Rattle.csl_tables.specs.Asked.{MentionsWriter, asked_for, keeping, noted_all, reading}
 
-noted-append : {A N : Type 0} (noting : A → List N → List N) (xs ys : List A) (notes : List N) → noted_all noting (xs ++ ys) notes ≡ noted_all noting ys (noted_all noting xs notes)
+noted-append : {A N : Type 0} (noting : A → N → N) (xs ys : List A) (notes : N) → noted_all noting (xs ++ ys) notes ≡ noted_all noting ys (noted_all noting xs notes)
 noted-append noting [] ys notes = refl
 noted-append noting (x ∷ xs) ys notes = noted-append noting xs ys (noting x notes)
 

@@ -1,6 +1,6 @@
 -- What tells the mentions of all entries apart: by names, then by the condition, then by year
 -- suffixes, each once.
-use Rattle.std.specs.Prelude.{ℕ, Bool, false, not, ◌||◌, List, ◌++◌, None, Option, Some, filter, is_some, map, if◌then◌else◌}
+use Rattle.std.specs.Prelude.{ℕ, Bool, false, not, List, ◌++◌, None, Option, Some, filter, is_some, map, if◌then◌else◌}
 use Rattle.std.specs.List.{zip}
 use Rattle.csl_telling.specs.Told.{told_by_names}
 use Rattle.csl_telling.specs.declared.mention.MentionedName.{MentionedName}
@@ -10,12 +10,8 @@ use Rattle.csl_mentions.specs.Suffixes.{suffixes}
 use Rattle.csl_mentions.specs.declared.mention.Mention.{Mention}
 use Rattle.csl_mentions.specs.declared.state.MentionState.{MentionState}
 use Rattle.csl_mentions.specs.declared.written.Written.{Written}
-use Rattle.csl_tables.specs.Asked.{untold}
+use Rattle.csl_tables.specs.Asked.{is_told, untold}
 use Rattle.csl_tables.specs.declared.subject.Subject.{Subject}
-
--- something tells it apart
-abbrev pub is_told : MentionState → Bool
-is_told state = state.chosen || is_some state.names
 
 module _ {M : Type 0} where
   -- a mention that reads so

@@ -1,0 +1,6 @@
+//! Mentions that are written as cites, and what is kept of each that was written.
+#![tactic(auto)]
+
+pub mod kept;
+pub mod means;
+pub mod mention;
