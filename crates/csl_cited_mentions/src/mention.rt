@@ -56,8 +56,7 @@ fn written_by<T: EntryLike, P, W: CiteWriter<T, P>>(
 }
 
 impl<'t, 'p, T: EntryLike, P: Drop, W: CiteWriter<T, P>> WrittenBy<W, Renders>
-    for CiteMention<'t, 'p, T, P>
-{
+    for CiteMention<'t, 'p, T, P> {
     ghost use Rattle.csl_cited_mentions.specs.Cited.{cited};
 
     type Error = W::Error;

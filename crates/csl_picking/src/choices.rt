@@ -57,9 +57,7 @@ fn holds<T: EntryLike>(input: &Input<T>, condition: Condition) -> bool
     ensures { result ≡ holds (env_of (T.answers input.now.entry.now) input.now.setting) condition }
 {
     match condition {
-        Condition::Disambiguate => {
-            is_chosen(input.setting.cite.state, input.setting.cite.means)
-        }
+        Condition::Disambiguate => { is_chosen(input.setting.cite.state, input.setting.cite.means) }
         Condition::Position(position) => is_at(&input.setting.cite, position),
         Condition::Variable(variable) => has_variable(input, variable),
     }

@@ -90,7 +90,9 @@ fn write_if_changed<W, C, M: WrittenBy<W, C>>(
     if !is_changed(changed, state) {
         return Ok(());
     }
-    let written = subject.mention.write_again(alloc, state, first, writer, counter)?;
+    let written = subject
+        .mention
+        .write_again(alloc, state, first, writer, counter)?;
     let WrittenMention { read, kept } = written;
     mention.text = read.text;
     *again = Some(kept);

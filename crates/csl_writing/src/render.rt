@@ -154,8 +154,7 @@ impl<'a> StyleContext<'a> {
             (properties_view props.now) purpose verdict) }
     {
         let speculative = &props.speculative;
-        let writes =
-            self.writes_suffix(alloc, &speculative.disambiguation, &speculative.means)?;
+        let writes = self.writes_suffix(alloc, &speculative.disambiguation, &speculative.means)?;
         let subject = Subject {
             entry,
             context: self.locales,
@@ -271,8 +270,7 @@ impl<'a> StyleContext<'a> {
             (bibliography_view bibliography.now)) }
     {
         let speculative = &props.speculative;
-        let writes =
-            self.writes_suffix(alloc, &speculative.disambiguation, &speculative.means)?;
+        let writes = self.writes_suffix(alloc, &speculative.disambiguation, &speculative.means)?;
         let subject = Subject {
             entry,
             context: self.locales,

@@ -199,13 +199,7 @@ impl Standing {
         ensures { result ≡ stage_of self.now }
     {
         match self.disambiguation {
-            DisambiguateState::None => {
-                if self.means.are_none() {
-                    0
-                } else {
-                    1
-                }
-            }
+            DisambiguateState::None => { if self.means.are_none() { 0 } else { 1 } }
             _ => 1,
         }
     }
