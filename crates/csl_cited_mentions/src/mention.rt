@@ -5,6 +5,7 @@ ghost use Rattle.csl_lookup.specs.PropertiesView.{properties_view};
 ghost use Rattle.csl_lookup.specs.SourceView.{source_view};
 ghost use Rattle.csl_writers.specs.Desk.{after, desk};
 ghost use Rattle.csl_writers.specs.Tasks.{cite_task};
+ghost use Rattle.csl_tables.specs.Asked.{is_told};
 ghost use Rattle.csl_cited_mentions.specs.Cited.{with_properties};
 
 use crate::kept::{KeptOfMention, Noted, written_mention};
@@ -28,6 +29,13 @@ pub struct CiteMention<'t, 'p, T, P> {
     pub entry: &'t T,
     pub properties: &'t CiteProperties<'p, P>,
     pub ghost no_ring: { HasNoRing (source_view source).style.macros },
+}
+
+/// Whether something tells a mention apart.
+fn is_told(state: &MentionState) -> bool
+    ensures { result ≡ is_told state.now }
+{
+    state.chosen || state.names.is_some()
 }
 
 /// A mention as the writer writes it by these properties.
@@ -85,6 +93,9 @@ impl<'t, 'p, T: EntryLike, P: Drop, W: CiteWriter<T, P>> WrittenBy<W, Renders>
         writer: &mut W,
         counter: &mut Renders,
     ) -> Result<WrittenMention<KeptOfMention>, W::Error> {
+        if !is_told(told) {
+            return self.write_first(alloc, writer, counter);
+        }
         let properties = with_means(self.properties, told, first.usage)?;
         let cite = written_by(alloc, self, &properties, writer, counter)?;
         Ok(written_mention(alloc, &cite)?)

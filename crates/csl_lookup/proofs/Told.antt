@@ -7,9 +7,8 @@ use Rattle.std.proofs.lemmas.List.{length-take}
 use Rattle.std.proofs.lemmas.List.FromFn.{length-enumerate_from}
 use Rattle.csl_values.specs.Forms.{Forms}
 use Rattle.csl_values.specs.declared.names.NameDisambiguationProperties.{NameDisambiguationProperties}
-use Rattle.csl_lookup.specs.declared.means.Means.{Means}
 use Rattle.csl_lookup.specs.declared.state.DisambiguateState.{DisambiguateState}
-use Rattle.csl_lookup.specs.Means.{at_least, forms_in, told_forms, names_told, raised_forms}
+use Rattle.csl_lookup.specs.Means.{at_least, forms_in, told_forms, raised_forms}
 
 as_many_raised : (least forms : Forms) → length (raised_forms least forms) ≡ length forms
 as_many_raised least forms =
@@ -22,9 +21,6 @@ as_many_in DisambiguateState.None forms = refl
 as_many_in DisambiguateState.Choose forms = refl
 as_many_in (DisambiguateState.YearSuffix n) forms = refl
 
-by_either : (least : Option NameDisambiguationProperties) (s : DisambiguateState) (forms : Forms) → length (told_forms least s forms) ≡ length forms
-by_either (Some least) s forms = as_many_raised least.forms forms
-by_either None s forms = as_many_in s forms
-
-pub as_many_told : (s : DisambiguateState) (m : Means) (forms : Forms) → length (names_told s m forms) ≡ length forms
-as_many_told s m forms = by_either m.names s forms
+pub as_many_told : (least : Option NameDisambiguationProperties) (s : DisambiguateState) (forms : Forms) → length (told_forms least s forms) ≡ length forms
+as_many_told (Some least) s forms = as_many_raised least.forms forms
+as_many_told None s forms = as_many_in s forms

@@ -1,5 +1,5 @@
 -- What tells an entry from others: one means, which is a state, or several taken together.
-use Rattle.std.specs.Prelude.{ℕ, List, ◌++◌, Bool, true, false, not, ◌&&◌, Option, Some, None, is_none, length, take, drop, map, slice_get, if◌then◌else◌}
+use Rattle.std.specs.Prelude.{ℕ, ◌++◌, Bool, true, false, not, ◌&&◌, Option, Some, None, is_none, length, take, drop, map, slice_get}
 use Rattle.std.specs.List.{enumerate_from}
 use Rattle.std.specs.Ordering.{ord_max}
 use Rattle.csl_values.specs.Forms.{Forms}

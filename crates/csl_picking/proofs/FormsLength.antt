@@ -1,14 +1,14 @@
 -- The forms of names are as many as the names.
-use Rattle.std.proofs.Common.{◌≡◌, ◌-◌, ◌≤◌, ℕ, length, replicate, min, Bool, true, false, cond, arith, length-append, is_none, refl}
+use Rattle.std.proofs.Common.{◌≡◌, ◌-◌, ◌≤◌, ℕ, length, replicate, min, Bool, true, false, cond, arith, length-append, is_none, Option, refl}
 use Rattle.std.proofs.lemmas.List.{length-replicate}
 use Rattle.csl_values.specs.declared.names.DisambiguatedNameForm.{DisambiguatedNameForm}
+use Rattle.csl_values.specs.declared.names.NameDisambiguationProperties.{NameDisambiguationProperties}
 use Rattle.csl_values.specs.Forms.{Forms}
 use Rattle.csl_picking.specs.declared.notes.Notes.{Notes}
-use Rattle.csl_lookup.specs.Means.{names_told}
+use Rattle.csl_lookup.specs.declared.state.DisambiguateState.{DisambiguateState}
+use Rattle.csl_lookup.specs.Means.{told_forms}
 use Rattle.csl_lookup.proofs.Told.{as_many_told}
-use Rattle.csl_picking.specs.Env.{ReadProperties}
 use Rattle.csl_picking.specs.NameRules.{Rules, is_cut, written_count, forms_by}
-use Rattle.csl_picking.specs.Names.{first_forms}
 
 at_most : (cut : Bool) (kept count : ℕ) → cond cut (min kept count) count ≤ count
 at_most true kept count = omega arith
@@ -29,5 +29,7 @@ chosen : (b : Bool) (told forms : Forms) → length told ≡ length forms → le
 chosen true told forms h = h
 chosen false told forms h = refl
 
-pub length_of_first_forms : (c : ReadProperties) (n : Notes) (forms : Forms) → length (first_forms c n forms) ≡ length forms
-length_of_first_forms c n forms = chosen (is_none n.first_name) (names_told c.state c.means forms) forms (as_many_told c.state c.means forms)
+-- those of the first block, where means have these least forms
+pub length_of_first_forms : (least : Option NameDisambiguationProperties) (s : DisambiguateState) (n : Notes) (forms : Forms)
+    → length (cond (is_none n.first_name) (told_forms least s forms) forms) ≡ length forms
+length_of_first_forms least s n forms = chosen (is_none n.first_name) (told_forms least s forms) forms (as_many_told least s forms)

@@ -16,14 +16,8 @@ pub struct WrittenMention<K> {
 /// what is asked for, however often and in whichever order that is. All that being asked may change
 /// is what the writer notes, and the count.
 pub trait WrittenBy<W, C> {
-    ghost use Rattle.std.specs.Prelude.{◌≡◌, ◌∷◌, [], IfOk, OnOk, true};
-    ghost use Rattle.csl_tables.specs.Asked.{
-      MentionsWriter,
-      asked_for,
-      first_kept,
-      is_told,
-      untold,
-    };
+    ghost use Rattle.std.specs.Prelude.{◌≡◌, ◌∷◌, [], IfOk, OnOk};
+    ghost use Rattle.csl_tables.specs.Asked.{MentionsWriter, asked_for, first_kept, untold};
 
     /// Why nothing may be written; a want of memory among others.
     type Error: From<AllocError> + Drop;
@@ -53,8 +47,8 @@ pub trait WrittenBy<W, C> {
         ensures asked { OnOk result (writing writer.new counter.new
             ≡ asked_for ((self.now, untold) ∷ []) (writing writer.old counter.old)) };
 
-    /// Writes the mention again, where this tells it apart; it has names, or is chosen. `first` is
-    /// what was kept of it where nothing told it apart.
+    /// Writes the mention again, where this tells it apart. `first` is what was kept of it where
+    /// nothing did.
     ///
     /// # Errors
     ///
@@ -67,11 +61,9 @@ pub trait WrittenBy<W, C> {
         writer: &mut W,
         counter: &mut C,
     ) -> Result<WrittenMention<Self::Kept>, Self::Error>
-        ensures written { is_told told.now ≡ true
-            → first.now ≡ first_kept (writing writer.old counter.old) self.now
+        ensures written { first.now ≡ first_kept (writing writer.old counter.old) self.now
             → IfOk result (λ w. w ≡ (writing writer.old counter.old).write self.now told.now) }
-        ensures asked { is_told told.now ≡ true
-            → first.now ≡ first_kept (writing writer.old counter.old) self.now
+        ensures asked { first.now ≡ first_kept (writing writer.old counter.old) self.now
             → OnOk result (writing writer.new counter.new
             ≡ asked_for ((self.now, told.now) ∷ []) (writing writer.old counter.old)) };
 }

@@ -153,8 +153,11 @@ impl<'a> StyleContext<'a> {
             ≡ rendered.cite (context_source self.now) (T.answers entry.now)
             (properties_view props.now) purpose verdict) }
     {
-        let speculative = &props.speculative;
-        let writes = self.writes_suffix(alloc, &speculative.disambiguation, &speculative.means)?;
+        let writes = self.writes_suffix(
+            alloc,
+            &props.speculative.disambiguation,
+            &props.speculative.means,
+        )?;
         let subject = Subject {
             entry,
             context: self.locales,
@@ -269,8 +272,11 @@ impl<'a> StyleContext<'a> {
             (properties_view props.now))
             (bibliography_view bibliography.now)) }
     {
-        let speculative = &props.speculative;
-        let writes = self.writes_suffix(alloc, &speculative.disambiguation, &speculative.means)?;
+        let writes = self.writes_suffix(
+            alloc,
+            &props.speculative.disambiguation,
+            &props.speculative.means,
+        )?;
         let subject = Subject {
             entry,
             context: self.locales,
