@@ -3,6 +3,7 @@ pub mod StateOrder
 pub mod FirstAnswers
 pub mod Letters
 pub mod Told
+pub mod Raised
 pub mod Copies
 pub mod Equal
 pub mod GoingOn
