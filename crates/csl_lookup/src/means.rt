@@ -1,6 +1,6 @@
 //! The means that tell an entry from others where they are taken together (CSL 1.0.2,
 //! disambiguation).
-ghost use Rattle.std.specs.Prelude.{◌≡◌, IfOk, option_map, unwrap_or};
+ghost use Rattle.std.specs.Prelude.{◌≡◌, IfOk, option_map, slice_get, unwrap_or};
 ghost use Rattle.csl_lookup.specs.Means.{
   are_none,
   at_least,
@@ -86,6 +86,13 @@ fn at_least(
     }
 }
 
+// The form at a place.
+fn form_at(forms: &[DisambiguatedNameForm], i: usize) -> Option<&DisambiguatedNameForm>
+    ensures { option_map (λ f. f.now) result ≡ slice_get forms.now i }
+{
+    forms.get(i)
+}
+
 // These forms, each at least the one that is told at its place.
 fn raised_forms(
     alloc: Global,
@@ -96,7 +103,7 @@ fn raised_forms(
 {
     let mut raised = Vec::with_capacity(alloc, forms.len())?;
     for (i, form) in forms.iter().enumerate() {
-        raised.push(at_least(least.get(i), *form))?;
+        raised.push(at_least(form_at(least, i), *form))?;
     }
     Ok(Seq::new(raised))
 }
