@@ -1,7 +1,8 @@
 -- What is kept of a mention that was written as a cite.
 use Rattle.std.specs.Prelude.{Bool, List, is_some}
 use Rattle.csl_trees.specs.Child.{Child}
-use Rattle.csl_trees.specs.Tree.{find_elem, has_meta}
+use Rattle.csl_trees.specs.Metas.{has_meta}
+use Rattle.csl_trees.specs.Tree.{find_elem}
 use Rattle.csl_trees.specs.declared.elem.ElemMeta.{ElemMeta}
 use Rattle.csl_mentions.specs.Written.{written_of}
 use Rattle.csl_shown.specs.Shown.{shown_names}

@@ -46,13 +46,16 @@ pub(crate) fn with_means<'p, P: Drop>(
     ensures { IfOk result (λ p. properties_view p
         ≡ with_means (properties_view properties.now) told.now usage) }
 {
-    let copy = properties.clone()?;
+    let speculative = &properties.speculative;
     Ok(CiteProperties {
-        certain: copy.certain,
+        certain: properties.certain,
         speculative: SpeculativeCiteProperties {
+            locator: speculative.locator.clone()?,
+            citation_number: speculative.citation_number,
+            ibid: speculative.ibid,
+            disambiguation: speculative.disambiguation.clone()?,
             means: means_of(told, None)?,
             identifier_usage: usage,
-            ..copy.speculative
         },
     })
 }
