@@ -3,8 +3,7 @@ pub mod FoundView
 pub mod Entries
 pub mod Requests
 pub mod Finders
-pub mod WantedView
 pub mod JobView
 pub mod Form
+pub mod Indexes
 pub mod Faults
-pub mod DocumentView

@@ -9,24 +9,24 @@ use crate::printing::print_answer;
 use crate::recording::Recorder;
 use crate::seen::Seen;
 use crate::taking::take_each_out;
+use cite_document::document::Document;
 use cite_document::error::RunError;
-use cite_document::filling::{bibliography_request, filled_driver};
+use cite_document::filling::{bibliography_order, bibliography_request, filled_driver};
 use csl_base::entry::PlainEntry;
-use csl_base::locale::Locale;
 use csl_driver::account::Account;
+use csl_driver::driver::BibliographyDriver;
 use csl_driver::error::DriverError;
 use csl_driver::rendered::Rendered;
 use csl_driver::terms::TermTables;
 use csl_writing::layout_writer::LayoutWriter;
 use host_driver::drive::{Driven, drive};
 use host_table::table::Table;
-use json_document::document::{Job, job_in, top_of, value_of};
-use json_document::entries::entries_of;
+use json_document::document::Job;
 use json_document::finders::found_styles;
-use json_styles::locales::locales_at;
-use json_styles::styles::{NamedStyle, styles_of};
-use serde_json::Value;
+use json_document::requests::Targets;
+use json_styles::styles::NamedStyle;
 use std::alloc::Global;
+use std::convert::Infallible;
 
 /// What is done with the document.
 #[derive(Clone, Copy)]
@@ -41,24 +41,35 @@ pub enum TableWay {
     Filled(usize),
 }
 
-/// What a document asks for, with the tables of its locales.
+/// What a document asks for, with what its indexes point to.
 #[derive(Clone, Copy)]
 pub struct Asking<'a, 'e> {
     pub alloc: Global,
-    pub job: &'a Job<'e>,
-    pub files: &'a TermTables<'e>,
+    pub job: &'a Job,
+    pub targets: Targets<'a, 'e>,
 }
 
 /// What is read of a document once.
 #[derive(Clone, Copy)]
 struct Parts<'d> {
-    object: &'d Value,
-    /// As the document has them.
-    styles: &'d [NamedStyle],
-    /// With names in place of layouts.
+    document: &'d Document,
+    /// Its styles, with names in place of layouts.
     hosts: &'d [NamedStyle],
-    entries: &'d [PlainEntry],
-    locales: &'d [Locale],
+}
+
+/// A driver of a document.
+pub type Driver<'a> = BibliographyDriver<'a, PlainEntry, Infallible>;
+
+impl<'a, 'e: 'a> Asking<'a, 'e> {
+    /// The driver that has taken the requests.
+    pub fn driver(&self) -> Result<Driver<'a>, RunError> {
+        filled_driver(self.alloc, &self.job.requests, self.targets, self.job.offset)
+    }
+
+    /// The order of the bibliography.
+    pub fn order(&self) -> Result<Option<Vec<&'a PlainEntry>>, RunError> {
+        bibliography_order(self.alloc, &self.job.wanted, self.targets.entries)
+    }
 }
 
 /// An answer and its account.
@@ -67,41 +78,15 @@ pub type Answer<'a> = (Rendered, Account<'a, PlainEntry>);
 /// Does it with the document.
 pub fn by_table(
     rt: &(impl Print + Eprint + AllocGlobal),
-    document: &str,
+    text: &str,
     way: TableWay,
 ) -> Result<Seen, RunError> {
     let _ = eprintln!(rt; "prepare");
-    let value = value_of(rt.alloc(), document)?;
-    answered_in(rt, top_of(rt.alloc(), &value)?, way)
-}
-
-fn answered_in(
-    rt: &(impl Print + Eprint + AllocGlobal),
-    object: &Value,
-    way: TableWay,
-) -> Result<Seen, RunError> {
-    let styles = styles_of(rt.alloc(), object)?;
-    let entries = entries_of(rt.alloc(), object)?;
-    let locales = locales_at(rt.alloc(), object, "locales")?;
-    with_hosts(rt, object, &styles, &entries, &locales, way)
-}
-
-/// Does it with the styles of a host too.
-fn with_hosts(
-    rt: &(impl Print + Eprint + AllocGlobal),
-    object: &Value,
-    styles: &[NamedStyle],
-    entries: &[PlainEntry],
-    locales: &[Locale],
-    way: TableWay,
-) -> Result<Seen, RunError> {
-    let hosts = host_styles(rt.alloc(), object)?;
+    let document = Document::parse(rt.alloc(), text.as_bytes())?;
+    let hosts = host_styles(rt.alloc(), text)?;
     let parts = Parts {
-        object,
-        styles,
+        document: &document,
         hosts: &hosts,
-        entries,
-        locales,
     };
     by_layouts(rt, &parts, way)
 }
@@ -112,19 +97,17 @@ fn by_layouts(
     parts: &Parts<'_>,
     way: TableWay,
 ) -> Result<Seen, RunError> {
-    let found = found_styles(rt.alloc(), parts.styles, parts.object)?;
-    let job = job_in(
-        rt.alloc(),
-        &found,
-        parts.entries,
-        parts.locales,
-        parts.object,
-    )?;
-    let files = TermTables::new(rt.alloc(), job.locales)?;
+    let document = parts.document;
+    let found = found_styles(rt.alloc(), &document.styles, &document.job)?;
+    let files = TermTables::new(rt.alloc(), &document.locales)?;
     let asking = Asking {
         alloc: rt.alloc(),
-        job: &job,
-        files: &files,
+        job: &document.job,
+        targets: Targets {
+            styles: &found,
+            entries: &document.entries,
+            files: &files,
+        },
     };
     match way {
         TableWay::Finished(times) => finish_often(&asking, times),
@@ -143,8 +126,9 @@ fn finish_often(asking: &Asking<'_, '_>, times: usize) -> Result<Seen, RunError>
 /// Answers it by the layouts, and keeps nothing of that.
 fn finished(asking: &Asking<'_, '_>) -> Result<(), RunError> {
     let job = asking.job;
-    let driver = filled_driver(asking.alloc, &job.requests, asking.files, job.offset)?;
-    let request = bibliography_request(asking.alloc, job, asking.files)?;
+    let driver = asking.driver()?;
+    let order = asking.order()?;
+    let request = bibliography_request(asking.alloc, &job.wanted, &order, asking.targets)?;
     match driver.finish_with(request, job.rounds, &mut LayoutWriter::new()) {
         Ok(_) => Ok(()),
         Err(error) => Err(DriverError::from(error).into()),
@@ -157,8 +141,9 @@ fn recorded_by<'a>(
     recorder: &mut Recorder<'_>,
 ) -> Result<Answer<'a>, RunError> {
     let job = asking.job;
-    let driver = filled_driver(asking.alloc, &job.requests, asking.files, job.offset)?;
-    let request = bibliography_request(asking.alloc, job, asking.files)?;
+    let driver = asking.driver()?;
+    let order = asking.order()?;
+    let request = bibliography_request(asking.alloc, &job.wanted, &order, asking.targets)?;
     match driver.finish_with(request, job.rounds, recorder) {
         Ok(answer) => Ok(answer),
         Err(error) => Err(DriverError::from(error).into()),
@@ -173,7 +158,7 @@ fn recorded(
     way: TableWay,
 ) -> Result<Seen, RunError> {
     let _ = eprintln!(rt; "finish_with");
-    let mut recorder = Recorder::new(rt.alloc(), parts.styles);
+    let mut recorder = Recorder::new(rt.alloc(), &parts.document.styles);
     let answer = recorded_by(asking, &mut recorder)?;
     by_hosts(rt, parts, &answer, &mut recorder.table, way)
 }
@@ -187,19 +172,17 @@ fn by_hosts(
     way: TableWay,
 ) -> Result<Seen, RunError> {
     let _ = eprintln!(rt; "prepare");
-    let found = found_styles(rt.alloc(), parts.hosts, parts.object)?;
-    let job = job_in(
-        rt.alloc(),
-        &found,
-        parts.entries,
-        parts.locales,
-        parts.object,
-    )?;
-    let files = TermTables::new(rt.alloc(), job.locales)?;
+    let document = parts.document;
+    let found = found_styles(rt.alloc(), parts.hosts, &document.job)?;
+    let files = TermTables::new(rt.alloc(), &document.locales)?;
     let asking = Asking {
         alloc: rt.alloc(),
-        job: &job,
-        files: &files,
+        job: &document.job,
+        targets: Targets {
+            styles: &found,
+            entries: &document.entries,
+            files: &files,
+        },
     };
     from_table(rt, &asking, answer, table, way)
 }
@@ -264,8 +247,9 @@ pub fn driven<'a>(
     table: &Table,
 ) -> Result<Driven<'a, PlainEntry>, RunError> {
     let job = asking.job;
-    let driver = filled_driver(asking.alloc, &job.requests, asking.files, job.offset)?;
-    let request = bibliography_request(asking.alloc, job, asking.files)?;
+    let driver = asking.driver()?;
+    let order = asking.order()?;
+    let request = bibliography_request(asking.alloc, &job.wanted, &order, asking.targets)?;
     Ok(drive(asking.alloc, driver, request, job.rounds, table)?)
 }
 
