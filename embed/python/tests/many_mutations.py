@@ -103,9 +103,12 @@ class Cases:
         try:
             made = pandoc_filter.filtered(json.loads(json.dumps(page)), str)
             json.dumps(made)
-        except OSError as error:
-            # (the filter tells those of the system with their words)
+        except (OSError, gamhilon.Refused) as error:
+            # (the filter tells them with their words)
             raise FilterError(str(error)) from error
+        except (csl.StyleMissing, csl.StyleRefused, csl.CitationRefused, csl.EntriesRefused,
+                references.ReferencesError, references.ReaderMissing) as error:
+            raise Wrong(f'{type(error).__name__}, of which the filter knows nothing') from error
         finally:
             sys.setrecursionlimit(before)
         if any(block.get('t') == 'Cite' for block in parts_of(made['blocks'])):

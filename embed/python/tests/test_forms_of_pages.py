@@ -3,6 +3,7 @@ LaTeX, docx, and PDF where there is LaTeX."""
 import json
 import re
 import shutil
+import subprocess
 import zipfile
 
 import pytest
@@ -80,7 +81,15 @@ def test_docx(written, tmp_path):
     assert '<w:b' in found['2'] and '<w:i' in found['2']
 
 
-@pytest.mark.skipif(not shutil.which('pdflatex'), reason='there is no pdflatex')
+def has_latex():
+    """Whether there is a LaTeX, with what pandoc underlines by."""
+    if not shutil.which('pdflatex') or not shutil.which('kpsewhich'):
+        return False
+    return subprocess.run(['kpsewhich', 'ulem.sty'], capture_output=True).returncode == 0
+
+
+@pytest.mark.skipif(not has_latex(), reason='there is no LaTeX with ulem '
+                                            '(Debian: texlive-plain-generic)')
 def test_pdf(written, tmp_path):
     written('latex', '-o', 'out.pdf')
     assert (tmp_path / 'out.pdf').read_bytes().startswith(b'%PDF-')

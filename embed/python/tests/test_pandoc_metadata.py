@@ -182,11 +182,12 @@ def test_references_of_the_page_count_before_those_of_files(of_file):
 
 def test_an_id_that_is_none_is_told(of_file):
     """YAML reads `y` as true."""
-    inline = 'references:\n- id: y\n  title: A\n- title: B\n- id: c\n  issued: 1999'
-    out, said, status = of_file(inline, '[@c]')
+    inline = ('references:\n- id: y\n  title: A\n- title: B\n- id: c\n  issued: 1999\n'
+              '- id: {a: b}\n- id: [a]')
+    out, said, status = of_file(f'{inline}\nnocite: "@*"', '[@c]')
     assert out.startswith('(1999)') and status == 0
     assert told(said) == ['references: item 1: its id reads as true: put it in quotes',
-                          'references: item 2: it has no id']
+                          *(f'references: item {place}: it has no id' for place in (2, 4, 5))]
 
 
 # Styles

@@ -116,7 +116,7 @@ def items_of_page(value: Any, warn: Warn) -> List[Item]:
         if isinstance(item.get('id'), bool):
             read = str(item['id']).lower()
             warn(f'references: item {place + 1}: its id reads as {read}: put it in quotes')
-        elif not item.get('id'):
+        elif not isinstance(item.get('id'), str) or not item['id']:
             warn(f'references: item {place + 1}: it has no id')
         else:
             found.append(item)
