@@ -25,9 +25,9 @@ use test_styles::styles::{entry, numeric, value_style};
 
 type Item<'a> = CitationItem<'a, PlainEntry, Infallible>;
 
-type Request<'a> = CitationRequest<'a, PlainEntry, Infallible>;
+pub(crate) type Request<'a> = CitationRequest<'a, PlainEntry, Infallible>;
 
-type Driver<'a> = BibliographyDriver<'a, PlainEntry, Infallible>;
+pub(crate) type Driver<'a> = BibliographyDriver<'a, PlainEntry, Infallible>;
 
 fn entries_of(alloc: Global, keys: &[&str]) -> Result<Vec<PlainEntry>, AllocError> {
     let mut entries = Vec::new(alloc);
@@ -38,7 +38,7 @@ fn entries_of(alloc: Global, keys: &[&str]) -> Result<Vec<PlainEntry>, AllocErro
 }
 
 /// A request that cites the entry.
-fn cite<'a>(
+pub(crate) fn cite<'a>(
     alloc: Global,
     style: &'a IndependentStyle,
     cited: &'a PlainEntry,
@@ -47,20 +47,22 @@ fn cite<'a>(
     Ok(CitationRequest::from_items(items, style, &[]))
 }
 
-fn take<'a>(driver: &mut Driver<'a>, request: Request<'a>) -> Result<(), Fail> {
+/// Hands in a request.
+pub(crate) fn take<'a>(driver: &mut Driver<'a>, request: Request<'a>) -> Result<(), Fail> {
     match driver.citation(request) {
         Ok(()) => Ok(()),
         Err(_refused) => Err(Fail::new("the request was refused")),
     }
 }
 
-/// A driver that has taken a request for each of the entries.
-fn driver_of<'a>(
+/// A driver that has taken a request for each of the entries, with numbers from the offset on.
+pub(crate) fn driver_of<'a>(
     alloc: Global,
     style: &'a IndependentStyle,
     entries: &'a [PlainEntry],
+    offset: usize,
 ) -> Result<Driver<'a>, Fail> {
-    let mut driver: Driver<'a> = BibliographyDriver::new(alloc);
+    let mut driver: Driver<'a> = BibliographyDriver::new(alloc).with_citation_number_offset(offset);
     for each in entries {
         take(&mut driver, cite(alloc, style, each)?)?;
     }
@@ -115,7 +117,7 @@ fn laws() {
 /// The answer to a request for each of the keys, in the style.
 fn numbered_in(alloc: Global, style: &IndependentStyle, keys: &[&str]) -> Result<Rendered, Fail> {
     let entries = entries_of(alloc, keys)?;
-    Ok(driver_of(alloc, style, &entries)?.finish(wanted(style))?)
+    Ok(driver_of(alloc, style, &entries, 0)?.finish(wanted(style))?)
 }
 
 /// The answer in the numeric style.

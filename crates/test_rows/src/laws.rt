@@ -1,43 +1,25 @@
 //! What callers get from the laws of an answer, each once at a concrete type.
-use crate::clients::{entry_of_number, hidden_between, letters_in_answer};
+
+use crate::finish::driver_of;
 use csl_base::entry::{Date, PlainEntry};
 use csl_base::seq::Seq;
 use csl_base::style::IndependentStyle;
 use csl_base::taxonomy::DateVariable;
 use csl_driver::account::Account;
-use csl_driver::driver::BibliographyDriver;
-use csl_driver::item::CitationItem;
-use csl_driver::request::{BibliographyRequest, CitationRequest};
+use csl_driver::request::BibliographyRequest;
 use std::alloc::{AllocError, Global};
 use std::convert::Infallible;
 use std::test::Fail;
+use test_clients::clients::{entry_of_number, hidden_between, letters_in_answer};
 use test_styles::styles::{author_date, entry, numeric};
 
-/// A driver with requests that cite the entries one by one, and with numbers from 2 on.
-fn driver_of<'a>(
-    alloc: Global,
-    style: &'a IndependentStyle,
-    entries: &'a [PlainEntry],
-) -> Result<BibliographyDriver<'a, PlainEntry, Infallible>, Fail> {
-    let mut driver = BibliographyDriver::new(alloc).with_citation_number_offset(2);
-    for cited in entries {
-        let items: Vec<CitationItem<'a, PlainEntry, Infallible>> = vec![in alloc;
-            CitationItem::with_entry(cited),
-        ]?;
-        if let Err(_refused) = driver.citation(CitationRequest::from_items(items, style, &[])) {
-            return Err(Fail::new("the request was refused"));
-        }
-    }
-    Ok(driver)
-}
-
-/// The account of these.
+/// The account of requests that cite the entries one by one, with numbers from 2 on.
 fn account_of<'a>(
     alloc: Global,
     style: &'a IndependentStyle,
     entries: &'a [PlainEntry],
 ) -> Result<Account<'a, PlainEntry>, Fail> {
-    let driver = driver_of(alloc, style, entries)?;
+    let driver = driver_of(alloc, style, entries, 2)?;
     let (_rendered, account) = driver.finish_counted(BibliographyRequest::new(style, None, &[]))?;
     Ok(account)
 }
@@ -84,7 +66,7 @@ fn hidden_numbers_are_read(rt: HostRuntime) -> Result<(), Fail> {
 fn suffixes_have_letters(rt: HostRuntime) -> Result<(), Fail> {
     let entries = issued(rt.alloc(), &["a", "b"])?;
     let style = lettered(rt.alloc())?;
-    let driver = driver_of(rt.alloc(), &style, &entries)?;
+    let driver = driver_of(rt.alloc(), &style, &entries, 2)?;
     let request = BibliographyRequest::new(&style, None, &[]);
     let letters = letters_in_answer(rt.alloc(), driver, request, 0, 1)?;
     let (one, other) = letters.ok_or("no suffixes")?;

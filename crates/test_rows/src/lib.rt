@@ -3,7 +3,6 @@
 
 #[cfg(test)]
 mod cites;
-pub mod clients;
 #[cfg(test)]
 mod counting;
 #[cfg(test)]

@@ -1,4 +1,6 @@
 //! Requests of a prepared style have the answers of those of the style.
+
+use crate::finish::{Driver, Request, cite, take};
 use csl_base::entry::PlainEntry;
 use csl_base::style::IndependentStyle;
 use csl_driver::driver::BibliographyDriver;
@@ -8,20 +10,8 @@ use csl_driver::rendered::Rendered;
 use csl_driver::request::{BibliographyRequest, CitationRequest};
 use csl_driver::terms::TermTables;
 use std::alloc::{AllocError, Global};
-use std::convert::Infallible;
 use std::test::Fail;
 use test_styles::styles::{entry, numeric};
-
-type Request<'a> = CitationRequest<'a, PlainEntry, Infallible>;
-
-fn cite<'a>(
-    alloc: Global,
-    style: &'a IndependentStyle,
-    cited: &'a PlainEntry,
-) -> Result<Request<'a>, AllocError> {
-    let items = vec![in alloc; CitationItem::with_entry(cited)]?;
-    Ok(CitationRequest::new(items, style, None, &[], None))
-}
 
 fn cite_prepared<'a, 's: 'a>(
     alloc: Global,
@@ -46,11 +36,9 @@ fn answer<'a>(
     request: Request<'a>,
     wanted: BibliographyRequest<'a, 'a, PlainEntry>,
 ) -> Result<Rendered, Fail> {
-    let mut driver = BibliographyDriver::new(alloc);
-    match driver.citation(request) {
-        Ok(()) => Ok(driver.finish(wanted)?),
-        Err(_refused) => Err(Fail::new("the request was refused")),
-    }
+    let mut driver: Driver<'a> = BibliographyDriver::new(alloc);
+    take(&mut driver, request)?;
+    Ok(driver.finish(wanted)?)
 }
 
 /// The answer to a cite and for a bibliography in a style.

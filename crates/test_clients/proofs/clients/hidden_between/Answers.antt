@@ -1,6 +1,6 @@
 use Rattle.std.proofs.Common.{◌∙◌, sym}
 use Rattle.csl_collapse.specs.NumberLaws.{between}
-use Rattle.test_rows.proofs.clients.hidden_between.Goals as goal
+use Rattle.test_clients.proofs.clients.hidden_between.Goals as goal
 
 pub returns : goal.returns
 returns g c = λ cites drawn collapse p q k law shown low high hid first_is last_is.

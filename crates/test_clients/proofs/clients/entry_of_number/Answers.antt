@@ -2,8 +2,8 @@ use Rattle.std.proofs.Common.{◌≡◌, ℕ, Option, Some, None, ap, length, ma
 use Rattle.std.specs.Prelude.{nat_eq, option_map, position}
 use Rattle.std.proofs.Math.ListN.{length-map}
 use Rattle.std.proofs.lemmas.Option.{slice_get-get_or, slice_get-map}
-use Rattle.test_rows.proofs.Found.{below, is-found, stands, there}
-use Rattle.test_rows.proofs.clients.entry_of_number.Goals as goal
+use Rattle.test_clients.proofs.Found.{below, is-found, stands, there}
+use Rattle.test_clients.proofs.clients.entry_of_number.Goals as goal
 
 pub returns-in_err-place-clause-each : goal.returns-in_err-place-clause-each
 returns-in_err-place-clause-each g c = λ offset law low high.

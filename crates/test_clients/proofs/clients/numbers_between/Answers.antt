@@ -1,7 +1,7 @@
 use Rattle.std.proofs.Common.{◌≡◌, ◌+◌, ◌-◌, [], ◌∷◌, ◌++◌, ap, sym, ◌∙◌, arith}
 use Rattle.std.specs.List.{range_with_len}
 use Rattle.csl_entries.proofs.Numbers.{range-more}
-use Rattle.test_rows.proofs.clients.numbers_between.Goals as goal
+use Rattle.test_clients.proofs.clients.numbers_between.Goals as goal
 
 pub loop-number-init : goal.loop-number-init
 loop-number-init c =

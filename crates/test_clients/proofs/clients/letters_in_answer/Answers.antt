@@ -4,8 +4,8 @@ use Rattle.std.proofs.lemmas.Option.{IfSome_then}
 use Rattle.csl_driver.specs.JobView.{job_of}
 use Rattle.csl_writing.specs.LayoutWriting.{layout_writing}
 use Rattle.csl_round_laws.specs.declared.mode.RoundMode.{RoundMode}
-use Rattle.test_rows.proofs.Together.{letters-differ}
-use Rattle.test_rows.proofs.clients.letters_in_answer.Goals as goal
+use Rattle.test_clients.proofs.Together.{letters-differ}
+use Rattle.test_clients.proofs.clients.letters_in_answer.Goals as goal
 
 pub returns : goal.returns
 returns g c =

@@ -3,8 +3,8 @@ use Rattle.std.proofs.Common.{◌≡◌, List, ap, sym, ◌∙◌}
 use Rattle.std.specs.Prelude.{option_and_then, slice_get}
 use Rattle.csl_lookup.specs.States.{year_suffix}
 use Rattle.csl_lookup.specs.declared.state.DisambiguateState.{DisambiguateState}
-use Rattle.test_rows.proofs.Together.{is-read, suffixes-differ}
-use Rattle.test_rows.proofs.clients.letters_of_two.Goals as goal
+use Rattle.test_clients.proofs.Together.{is-read, suffixes-differ}
+use Rattle.test_clients.proofs.clients.letters_of_two.Goals as goal
 
 pub returns-in_ok-letters_of_suffix-in-Some-Some-2 : goal.returns-in_ok-letters_of_suffix-in-Some-Some-2
 returns-in_ok-letters_of_suffix-in-Some-Some-2 g c = record {

@@ -26,7 +26,7 @@ use Rattle.csl_round_laws.specs.RunLaws.{GetsSuffixInGroup, GetsSuffixes, shown_
 use Rattle.csl_round_laws.specs.Tables.{last_table}
 use Rattle.csl_round_laws.specs.declared.mode.RoundMode.{RoundMode}
 use Rattle.csl_round_laws.proofs.Numbered.{any-map}
-use Rattle.test_rows.specs.Clients.{GotLetters, GotSuffix, firsts, table_of_round}
+use Rattle.test_clients.specs.Clients.{GotLetters, GotSuffix, firsts, table_of_round}
 
 some-inj : {X : Type 0} (x y : X) → Some x ≡ Some y → x ≡ y
 some-inj x y h = cc

@@ -27,7 +27,7 @@ ghost use Rattle.csl_driver.specs.AnswerLaws.{HaveNumbersOnce, KeepsLaws};
 ghost use Rattle.csl_lookup.specs.States.{year_suffix};
 ghost use Rattle.csl_lookup.specs.SuffixLetters.{suffix_letters};
 ghost use Rattle.csl_round_laws.specs.declared.mode.RoundMode.{RoundMode};
-ghost use Rattle.test_rows.specs.Clients.{AreHiddenBetween, GotLetters, StandAtOnePlace};
+ghost use Rattle.test_clients.specs.Clients.{AreHiddenBetween, GotLetters, StandAtOnePlace};
 ghost use Rattle.csl_writing.specs.LayoutWriting.{layout_writing};
 
 use csl_base::entry::EntryLike;

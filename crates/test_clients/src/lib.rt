@@ -1,0 +1,4 @@
+//! Callers that rely on the laws of an answer alone.
+#![tactic(auto)]
+
+pub mod clients;
