@@ -64,16 +64,25 @@ fn numbered() -> Speculative {
     }
 }
 
+/// A cite of a page.
+fn located() -> Speculative {
+    let page = SpecificLocator(Locator::Page, LocatorPayload::Str("7"));
+    speculative(Some(page), 0, IbidState::Different)
+}
+
+/// Whether it differs from what a cite has that has none of all these.
+fn is_other(cited: Speculative) -> bool {
+    cited != speculative(None, 0, IbidState::Different)
+}
+
 /// Whether what may change of a cite differs by each of its fields.
 fn speculative_differ() -> bool {
-    let base = speculative(None, 0, IbidState::Different);
-    let page = SpecificLocator(Locator::Page, LocatorPayload::Str("7"));
-    base == speculative(None, 0, IbidState::Different)
-        && base != speculative(Some(page), 0, IbidState::Different)
-        && base != speculative(None, 1, IbidState::Different)
-        && base != speculative(None, 0, IbidState::Ibid)
-        && base != chosen()
-        && base != numbered()
+    !is_other(speculative(None, 0, IbidState::Different))
+        && is_other(located())
+        && is_other(speculative(None, 1, IbidState::Different))
+        && is_other(speculative(None, 0, IbidState::Ibid))
+        && is_other(chosen())
+        && is_other(numbered())
 }
 
 /// Whether properties differ by each of their two parts.

@@ -55,7 +55,12 @@ fn empty_cite(alloc: Global) -> Cite {
 
 /// Whether all that stands in one table was asked for, so that it stands in the other.
 fn has_all(whole: &Table, table: &Table) -> bool {
-    whole.keys().all(|key| table.contains_key(key))
+    for key in whole.keys() {
+        if !table.contains_key(key) {
+            return false;
+        }
+    }
+    true
 }
 
 /// Begins with an empty table and has the source write what is missing, until nothing is: after
