@@ -4,6 +4,7 @@ use crate::facts::first_cite;
 use crate::writer::{Asked, TaskWriter};
 use cite_walk::cite::{CiteFacts, Repetition};
 use csl_base::names::DisambiguatedNameForm;
+use csl_lookup::means::{is_chosen, suffix_told};
 use csl_lookup::state::{CollapseVerdict, DisambiguateState, IbidState};
 use host_table::key::Standing;
 
@@ -132,7 +133,7 @@ impl<'s, 'i, 'd> TaskWriter<'s, 'i, 'd> {
 
     /// Whether the condition `disambiguate` holds.
     fn disambiguates(&self, is_shown: bool, item: usize, standing: &Standing) -> bool {
-        standing.disambiguation == DisambiguateState::Choose
+        is_chosen(&standing.disambiguation, &standing.means)
             || (is_shown && self.states.is_chosen(item))
     }
 
@@ -143,7 +144,7 @@ impl<'s, 'i, 'd> TaskWriter<'s, 'i, 'd> {
         item: usize,
         standing: &Standing,
     ) -> Option<usize> {
-        let told = standing.disambiguation.year_suffix()?;
+        let told = suffix_told(&standing.disambiguation, &standing.means)?;
         if !is_shown {
             return Some(told);
         }

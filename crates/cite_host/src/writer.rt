@@ -107,7 +107,7 @@ impl<'s, 'i, 'd> TaskWriter<'s, 'i, 'd> {
                 verdict: *verdict,
             }),
             TaskPart::Item(standing) => self.write_item(item, standing),
-            TaskPart::Date => Ok(nothing(self.alloc)),
+            TaskPart::Date(_) => Ok(nothing(self.alloc)),
         }
     }
 

@@ -13,9 +13,14 @@ is_for_year (Some CitePurpose.Year) = true
 is_for_year _ = false
 
 module _ {E P : Type 0} where
-  -- the date, in place of a cite
+  -- the date, in place of a cite, with the suffix that its means have
   abbrev pub date_of : CiteTaskValue E P → DateTaskValue E
-  date_of t = record { source = t.source; entry = t.entry; place = t.place }
+  date_of t = record {
+    source = t.source;
+    entry = t.entry;
+    suffix = t.properties.speculative.means.suffix;
+    place = t.place;
+  }
 
   -- what is asked for where a cite is written: the date where it is for the year alone
   abbrev pub task_by_purpose : CiteTaskValue E P → TaskValue E P

@@ -26,8 +26,8 @@ use csl_writers::task::{CiteTask, DateTask};
 use csl_writers::writer::CiteWriter;
 use std::alloc::{AllocError, Global};
 
-/// The tree of a cite as the writer writes it for its purpose: the date where it is for the year
-/// alone.
+/// The tree of a cite as the writer writes it for its purpose: the date, with the suffix that its
+/// means have, where it is for the year alone.
 ///
 /// # Errors
 /// The writer's.
@@ -48,6 +48,7 @@ pub fn tree_by_purpose<T: EntryLike, P, W: CiteWriter<T, P>>(
             let date = DateTask {
                 source: task.source,
                 entry: task.entry,
+                suffix: task.properties.speculative.means.suffix,
                 place: task.place,
             };
             written_date(alloc, date, writer, counter)
@@ -131,6 +132,7 @@ fn last_properties<'a, T, P: Drop>(
             citation_number: speculative.citation_number,
             ibid: speculative.ibid,
             disambiguation: speculative.disambiguation.clone()?,
+            means: speculative.means.clone()?,
             identifier_usage: speculative.identifier_usage,
         },
     })

@@ -47,5 +47,6 @@ speculative_copied P d a b h =
     let ibid : b.ibid ≡ a.ibid = search rules in
     let usage : b.identifier_usage ≡ a.identifier_usage = search rules in
     let state = state_copied a.disambiguation b.disambiguation h.1.1.1.0 in
+    let means : b.means ≡ a.means = h.1.1.1.1.0 in
     let locator = some_locator_copied P d d d a.locator b.locator h.0 in
-    λ i. record { locator = locator i; citation_number = number i; ibid = ibid i; disambiguation = state i; identifier_usage = usage i }
+    λ i. record { locator = locator i; citation_number = number i; ibid = ibid i; disambiguation = state i; means = means i; identifier_usage = usage i }

@@ -8,6 +8,7 @@ use Rattle.csl_values.specs.contracts.names.DisambiguatedNameForm as form
 use Rattle.csl_values.specs.contracts.names.DisambiguatedNameFormPartialEq.TheImpl as form_eq
 use Rattle.csl_values.specs.contracts.names.NameDisambiguationPropertiesPartialEq.TheImpl as names_eq
 use Rattle.csl_lookup.specs.declared.state.DisambiguateState.{DisambiguateState}
+use Rattle.csl_lookup.specs.contracts.means.MeansPartialEq.TheImpl as means_eq
 use Rattle.csl_lookup.specs.contracts.properties.CertainCitePropertiesPartialEq.TheImpl as certain_eq
 use Rattle.csl_lookup.specs.contracts.state.IbidState as ibid
 use Rattle.csl_lookup.specs.contracts.state.IdentifierUsage as usage
@@ -45,6 +46,22 @@ states_find = record { equal = equal; self = self }
     self (DisambiguateState.NameDisambiguation x) = names_find.self x
     self DisambiguateState.Choose = refl
     self (DisambiguateState.YearSuffix m) = (unsigned_Decides m m).1 refl
+
+pub means_find : Finds (means_eq.ghosts).eq
+means_find =
+    let names = options_find names_find in
+    let numbers = options_find (finds unsigned_Decides) in
+    let truths = finds booleans_Decides in
+    record {
+      equal = λ a b e.
+          let p = both _ _ e in let q = both _ _ p.1 in
+          λ i. record {
+            names = names.equal a.names b.names p.0 i;
+            choose = truths.equal a.choose b.choose q.0 i;
+            suffix = numbers.equal a.suffix b.suffix q.1 i;
+          };
+      self = λ a. and-true _ _ (names.self a.names) (and-true _ _ (truths.self a.choose) (numbers.self a.suffix));
+    }
 
 pub certain_find : Finds (certain_eq.ghosts).eq
 certain_find =

@@ -2,6 +2,7 @@ pub mod Properties
 pub mod PropertiesView
 pub mod NoProperties
 pub mod States
+pub mod Means
 pub mod ValueLaws
 pub mod BracketPairs
 pub mod Years

@@ -4,6 +4,7 @@ use Rattle.csl_lookup.specs.declared.properties.CertainCiteProperties.{CertainCi
 use Rattle.csl_lookup.specs.declared.state.DisambiguateState.{DisambiguateState}
 use Rattle.csl_lookup.specs.declared.state.IbidState.{IbidState}
 use Rattle.csl_lookup.specs.declared.state.IdentifierUsage.{IdentifierUsage}
+use Rattle.csl_lookup.specs.Means.{no_means}
 use Rattle.csl_lookup.specs.Properties.{LocatorValue, Speculative}
 
 -- no note, neither near nor first, place 0
@@ -16,12 +17,13 @@ nothing_certain = record {
   initial_idx = 0;
 }
 
--- no disambiguation and no identifier yet
+-- nothing tells its entry apart, and no identifier is written yet
 abbrev pub speculated : {P : Type 0} → Option (LocatorValue P) → ℕ → IbidState → Speculative P
 speculated locator number ibid = record {
   locator = locator;
   citation_number = number;
   ibid = ibid;
   disambiguation = DisambiguateState.None;
+  means = no_means;
   identifier_usage = IdentifierUsage.None;
 }

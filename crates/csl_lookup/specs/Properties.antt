@@ -1,6 +1,7 @@
 -- The properties of a cite as plain data: no capacity and no address is seen.
 use Rattle.std.specs.Prelude.{ℕ, List, Option}
 use Rattle.csl_values.specs.declared.taxonomy.Locator.{Locator}
+use Rattle.csl_lookup.specs.declared.means.Means.{Means}
 use Rattle.csl_lookup.specs.declared.properties.CertainCiteProperties.{CertainCiteProperties}
 use Rattle.csl_lookup.specs.declared.state.DisambiguateState.{DisambiguateState}
 use Rattle.csl_lookup.specs.declared.state.IbidState.{IbidState}
@@ -21,6 +22,7 @@ pub record Speculative (P : Type 0) : Type 0 where
   pub citation_number : ℕ
   pub ibid : IbidState
   pub disambiguation : DisambiguateState
+  pub means : Means
   pub identifier_usage : IdentifierUsage
 
 pub record Properties (P : Type 0) : Type 0 where

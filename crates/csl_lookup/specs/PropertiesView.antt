@@ -21,6 +21,7 @@ module _ {P : Type 0} where
     citation_number = s.citation_number;
     ibid = s.ibid;
     disambiguation = s.disambiguation;
+    means = s.means;
     identifier_usage = s.identifier_usage;
   }
 

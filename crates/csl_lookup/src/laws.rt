@@ -10,6 +10,7 @@ ghost use Rattle.csl_lookup.specs.PropertiesView.{
 };
 ghost use Rattle.csl_lookup.specs.declared.locator.LocatorPayload.{LocatorPayload};
 ghost use Rattle.csl_lookup.specs.declared.locator.SpecificLocator.{SpecificLocator};
+ghost use Rattle.csl_lookup.specs.declared.means.Means.{Means};
 ghost use Rattle.csl_lookup.specs.declared.properties.CertainCiteProperties.{CertainCiteProperties};
 ghost use Rattle.csl_lookup.specs.declared.properties.CiteProperties.{CiteProperties};
 ghost use Rattle.csl_lookup.specs.declared.properties.SpeculativeCiteProperties.{
@@ -32,6 +33,7 @@ ghost use Rattle.csl_lookup.specs.ValueLaws.{
 
 use crate::brackets::Brackets;
 use crate::locator::{LocatorPayload, SpecificLocator, TransparentLocator};
+use crate::means::Means;
 use crate::properties::{CertainCiteProperties, CiteProperties, SpeculativeCiteProperties};
 use crate::purpose::CitePurpose;
 use crate::state::{CollapseVerdict, DisambiguateState, IbidState, IdentifierUsage};
@@ -72,11 +74,12 @@ pub fn suffixes_differ()
     ensures { SuffixesDiffer }
 {}
 
-/// A law: a copy of a state, of a locator and its payload, and of the properties of a cite is equal
-/// to it.
+/// A law: a copy of a state, of means, of a locator and its payload, and of the properties of a
+/// cite is equal to it.
 pub fn copies_are_equal<P: Drop>()
     ensures state { (a b : DisambiguateState)
         → ⟦<DisambiguateState as Clone>⟧.is_clone a b → b ≡ a }
+    ensures means { (a b : Means) → ⟦<Means as Clone>⟧.is_clone a b → b ≡ a }
     ensures shared { (a b : P) → ⟦<TransparentLocator<P> as Clone>⟧.is_clone a b → b ≡ a }
     ensures payload { (a b : LocatorPayload P)
         → ⟦<LocatorPayload<'static, P> as Clone>⟧.is_clone a b
@@ -91,8 +94,8 @@ pub fn copies_are_equal<P: Drop>()
         → b ≡ a }
 {}
 
-/// A law: `==` of brackets, of purposes, of states and of what is certain of a cite is true exactly
-/// of equal values.
+/// A law: `==` of brackets, of purposes, of states, of means and of what is certain of a cite is
+/// true exactly of equal values.
 pub fn state_equality_decides()
     ensures brackets { TellsEqual ⟦<Brackets as PartialEq>⟧.eq }
     ensures purpose { TellsEqual ⟦<CitePurpose as PartialEq>⟧.eq }
@@ -100,6 +103,7 @@ pub fn state_equality_decides()
     ensures ibid { TellsEqual ⟦<IbidState as PartialEq>⟧.eq }
     ensures verdict { TellsEqual ⟦<CollapseVerdict as PartialEq>⟧.eq }
     ensures state { TellsEqual ⟦<DisambiguateState as PartialEq>⟧.eq }
+    ensures means { TellsEqual ⟦<Means as PartialEq>⟧.eq }
     ensures certain { TellsEqual ⟦<CertainCiteProperties as PartialEq>⟧.eq }
 {}
 

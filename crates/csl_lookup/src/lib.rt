@@ -5,6 +5,7 @@ pub mod brackets;
 pub mod laws;
 pub mod locator;
 pub mod lookup;
+pub mod means;
 mod prepared;
 pub mod properties;
 pub mod purpose;

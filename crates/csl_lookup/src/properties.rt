@@ -4,6 +4,7 @@ ghost use Rattle.csl_lookup.specs.PropertiesView.{locator_view, speculative_view
 ghost use Rattle.csl_lookup.specs.NoProperties.{nothing_certain, speculated};
 
 use crate::locator::SpecificLocator;
+use crate::means::Means;
 use crate::state::{DisambiguateState, IbidState, IdentifierUsage};
 
 /// What is known of a cite before anything is written.
@@ -31,8 +32,10 @@ pub struct SpeculativeCiteProperties<'a, P> {
     pub citation_number: usize,
     /// Whether the cite repeats the one before it.
     pub ibid: IbidState,
-    /// By what means the entry is disambiguated from others.
+    /// By what means the entry is disambiguated from others, where one is taken at a time.
     pub disambiguation: DisambiguateState,
+    /// By what means it is, where they are taken together.
+    pub means: Means,
     /// Which identifiers the cite has written.
     pub identifier_usage: IdentifierUsage,
 }
@@ -61,6 +64,7 @@ impl<'a, P> SpeculativeCiteProperties<'a, P> {
             citation_number,
             ibid,
             disambiguation: DisambiguateState::None,
+            means: Means::none(),
             identifier_usage: IdentifierUsage::None,
         }
     }

@@ -1,13 +1,14 @@
 -- The forms of names are as many as the names.
-use Rattle.std.proofs.Common.{◌≡◌, ◌-◌, ◌≤◌, ℕ, length, replicate, take, drop, min, Bool, true, false, cond, arith, length-append, length-drop, is_none, refl}
-use Rattle.std.proofs.lemmas.List.{length-replicate, length-take}
+use Rattle.std.proofs.Common.{◌≡◌, ◌-◌, ◌≤◌, ℕ, length, replicate, min, Bool, true, false, cond, arith, length-append, is_none, Option, refl}
+use Rattle.std.proofs.lemmas.List.{length-replicate}
 use Rattle.csl_values.specs.declared.names.DisambiguatedNameForm.{DisambiguatedNameForm}
+use Rattle.csl_values.specs.declared.names.NameDisambiguationProperties.{NameDisambiguationProperties}
 use Rattle.csl_values.specs.Forms.{Forms}
 use Rattle.csl_picking.specs.declared.notes.Notes.{Notes}
 use Rattle.csl_lookup.specs.declared.state.DisambiguateState.{DisambiguateState}
-use Rattle.csl_lookup.specs.declared.state.DisambiguateState.TheVariants as state
-use Rattle.csl_picking.specs.NameRules.{Rules, is_cut, written_count, forms_by, forms_in}
-use Rattle.csl_picking.specs.Names.{first_forms}
+use Rattle.csl_lookup.specs.Means.{told_forms}
+use Rattle.csl_lookup.proofs.Told.{as_many_told}
+use Rattle.csl_picking.specs.NameRules.{Rules, is_cut, written_count, forms_by}
 
 at_most : (cut : Bool) (kept count : ℕ) → cond cut (min kept count) count ≤ count
 at_most true kept count = omega arith
@@ -24,16 +25,11 @@ length_of_forms r count =
       length-replicate (count - written_count r count) DisambiguatedNameForm.Count,
     )
 
-of_state : (s : DisambiguateState) (forms : Forms) → length (forms_in s forms) ≡ length forms
-of_state (state.NameDisambiguation own) forms =
-    omega (arith, length-append (take (length forms) own.forms) (drop (length own.forms) forms), length-take (length forms) own.forms, length-drop (length own.forms) forms)
-of_state state.None forms = refl
-of_state state.Choose forms = refl
-of_state (state.YearSuffix n) forms = refl
+chosen : (b : Bool) (told forms : Forms) → length told ≡ length forms → length (cond b told forms) ≡ length forms
+chosen true told forms h = h
+chosen false told forms h = refl
 
-chosen : (b : Bool) (s : DisambiguateState) (forms : Forms) → length (cond b (forms_in s forms) forms) ≡ length forms
-chosen true s forms = of_state s forms
-chosen false s forms = refl
-
-pub length_of_first_forms : (s : DisambiguateState) (n : Notes) (forms : Forms) → length (first_forms s n forms) ≡ length forms
-length_of_first_forms s n forms = chosen (is_none n.first_name) s forms
+-- those of the first block, where means have these least forms
+pub length_of_first_forms : (least : Option NameDisambiguationProperties) (s : DisambiguateState) (n : Notes) (forms : Forms)
+    → length (cond (is_none n.first_name) (told_forms least s forms) forms) ≡ length forms
+length_of_first_forms least s n forms = chosen (is_none n.first_name) (told_forms least s forms) forms (as_many_told least s forms)

@@ -9,15 +9,9 @@ use Rattle.csl_style_values.specs.declared.element.TestPosition.{TestPosition}
 use Rattle.csl_style_values.specs.declared.element.ChooseMatch.{ChooseMatch}
 use Rattle.csl_values.specs.declared.entry.Person.{Person}
 use Rattle.csl_picking.specs.declared.notes.Notes.{Notes}
-use Rattle.csl_lookup.specs.declared.state.DisambiguateState.{DisambiguateState}
-use Rattle.csl_lookup.specs.declared.state.DisambiguateState.TheVariants as state
 use Rattle.csl_lookup.specs.declared.state.IbidState.{IbidState}
-use Rattle.csl_picking.specs.Env.{ReadProperties, Env}
-use Rattle.csl_lookup.specs.States.{year_suffix}
-
-abbrev pub is_choose : DisambiguateState → Bool
-is_choose state.Choose = true
-is_choose _ = false
+use Rattle.csl_picking.specs.Env.{ReadProperties, Env, suffix_of}
+use Rattle.csl_lookup.specs.Means.{is_chosen}
 
 abbrev pub has_persons : List Person → Bool
 has_persons [] = false
@@ -28,7 +22,7 @@ abbrev pub has_variable : Env → Variable → Bool
 has_variable env (Variable.Name v) = has_persons (env.answers.names v)
 has_variable env (Variable.Date v) = is_some (env.answers.date v)
 has_variable env (Variable.Standard standard.CitationLabel) = is_some env.answers.label
-has_variable env (Variable.Standard standard.YearSuffix) = is_some (year_suffix env.cite.state)
+has_variable env (Variable.Standard standard.YearSuffix) = is_some (suffix_of env.cite)
 has_variable env (Variable.Standard v) = is_some (env.answers.text v)
 has_variable env (Variable.Number number.CitationNumber) = true
 has_variable env (Variable.Number number.Locator) = is_some env.cite.locator
@@ -52,7 +46,7 @@ is_at cite TestPosition.IbidWithLocator = is_repeated_elsewhere cite.ibid
 is_at cite TestPosition.NearNote = cite.is_near_note
 
 abbrev pub holds : Env → Condition → Bool
-holds env Condition.Disambiguate = is_choose env.cite.state
+holds env Condition.Disambiguate = is_chosen env.cite.state env.cite.means
 holds env (Condition.Position p) = is_at env.cite p
 holds env (Condition.Variable v) = has_variable env v
 

@@ -6,10 +6,12 @@ use Rattle.csl_values.specs.declared.taxonomy.Locator.{Locator}
 use Rattle.csl_values.specs.Answers.{Answers}
 use Rattle.csl_style_values.specs.Element.{NameOptions}
 use Rattle.csl_picking.specs.declared.notes.Form.{Form}
+use Rattle.csl_lookup.specs.declared.means.Means.{Means}
 use Rattle.csl_lookup.specs.declared.state.DisambiguateState.{DisambiguateState}
 use Rattle.csl_lookup.specs.declared.state.IbidState.{IbidState}
 use Rattle.csl_lookup.specs.declared.state.IdentifierUsage.{IdentifierUsage}
 use Rattle.csl_lookup.specs.Lookup.{Lookup, term_of}
+use Rattle.csl_lookup.specs.Means.{suffix_told}
 use Rattle.csl_picking.specs.Options.{applied_options}
 
 -- what a locator counts, and its text; none where it is the caller's own
@@ -27,7 +29,12 @@ pub record ReadProperties : Type 0 where
   pub ibid : IbidState
   pub locator : Option CiteLocator
   pub state : DisambiguateState
+  pub means : Means
   pub usage : IdentifierUsage
+
+-- the suffix of the cite's year
+abbrev pub suffix_of : ReadProperties → Option ℕ
+suffix_of cite = suffix_told cite.state cite.means
 
 pub record Env : Type 0 where
   -- what the entry answers

@@ -25,6 +25,7 @@ cite_facts c = record {
   ibid = c.ibid;
   locator = option_map locator_facts c.locator;
   state = c.state.now;
+  means = c.means.now;
   usage = c.usage;
 }
 

@@ -1,13 +1,11 @@
 -- The name options that hold in the end, and the forms that they give the names of one variable
 -- (CSL 1.0.2, name, et-al abbreviation).
-use Rattle.std.specs.Prelude.{ℕ, ◌-◌, min, max, List, [], ◌++◌, take, drop, length, replicate, Bool, false, nat_le, Option, Some, None, unwrap_or, codes, if◌then◌else◌}
+use Rattle.std.specs.Prelude.{ℕ, ◌-◌, min, max, List, [], ◌++◌, replicate, Bool, false, nat_le, Option, Some, None, unwrap_or, codes, if◌then◌else◌}
 use Rattle.csl_style_values.specs.declared.element.NameAnd.{NameAnd}
 use Rattle.csl_style_values.specs.declared.element.NameForm.{NameForm}
 use Rattle.csl_values.specs.declared.names.DisambiguatedNameForm.{DisambiguatedNameForm}
 use Rattle.csl_style_values.specs.Element.{NameOptions}
 use Rattle.csl_values.specs.Forms.{Forms}
-use Rattle.csl_lookup.specs.declared.state.DisambiguateState.{DisambiguateState}
-use Rattle.csl_lookup.specs.declared.state.DisambiguateState.TheVariants as state
 
 pub record Rules : Type 0 where
   -- the word before the last name
@@ -55,9 +53,3 @@ abbrev pub forms_by : Rules → ℕ → Forms
 forms_by r count =
     replicate (written_count r count) r.form
     ++ replicate (count - written_count r count) DisambiguatedNameForm.Count
-
--- a state of names has forms of its own for the first names
-abbrev pub forms_in : DisambiguateState → Forms → Forms
-forms_in (state.NameDisambiguation own) forms = take (length forms) own.forms
-    ++ drop (length own.forms) forms
-forms_in _ forms = forms

@@ -16,12 +16,12 @@ use Rattle.csl_values.specs.Forms.{Forms}
 use Rattle.csl_style_values.specs.PlainLook.{no_look}
 use Rattle.csl_picking.specs.declared.notes.Form.{Form}
 use Rattle.csl_picking.specs.declared.notes.Notes.{Notes}
-use Rattle.csl_lookup.specs.declared.state.DisambiguateState.{DisambiguateState}
+use Rattle.csl_lookup.specs.Means.{names_told}
 use Rattle.csl_picking.specs.Notes.{is_suppressed, with_suppressed}
-use Rattle.csl_picking.specs.Env.{Env}
+use Rattle.csl_picking.specs.Env.{ReadProperties, Env}
 use Rattle.csl_picking.specs.Conditions.{has_persons}
 use Rattle.csl_picking.specs.Options.{applied_options}
-use Rattle.csl_picking.specs.NameRules.{Rules, rules_of, forms_by, forms_in}
+use Rattle.csl_picking.specs.NameRules.{Rules, rules_of, forms_by}
 use Rattle.csl_picking.specs.NameText.{name_leaf}
 use Rattle.csl_picking.specs.Pieces.{LeafValue, text_leaf, NodeValue, Part, leaf_part, node_part, no_parts, part, node_of, plain_node}
 use Rattle.csl_picking.specs.Variables.{same_variable, words_for}
@@ -140,14 +140,15 @@ abbrev pub plain_block : Env → Rules → NameVariable → List Part
 plain_block env r v = block_parts env.term r v (forms_by r (length (env.answers.names v)))
     (env.answers.names v)
 
--- the forms of the first block; before any names were written, a state of names has its say
-abbrev pub first_forms : DisambiguateState → Notes → Forms → Forms
-first_forms state n forms = if is_none n.first_name then forms_in state forms else forms
+-- the forms of the first block; before any names were written, what is told of names has its say
+abbrev pub first_forms : ReadProperties → Notes → Forms → Forms
+first_forms cite n forms = if is_none n.first_name then names_told cite.state cite.means forms
+    else forms
 
 abbrev pub first_block : Env → Rules → Notes → NameVariable → List Part
 first_block env r n v =
     block_parts env.term r v
-    (first_forms env.cite.state n (forms_by r (length (env.answers.names v))))
+    (first_forms env.cite n (forms_by r (length (env.answers.names v))))
     (env.answers.names v)
 
 -- the blocks that give a part, with a text between them

@@ -22,9 +22,9 @@ use Rattle.csl_style_values.specs.Element.{Look}
 use Rattle.csl_picking.specs.declared.notes.Form.{Form}
 use Rattle.csl_picking.specs.declared.notes.Notes.{Notes}
 use Rattle.csl_lookup.specs.declared.state.IdentifierUsage.{IdentifierUsage}
-use Rattle.csl_picking.specs.Env.{ReadProperties, Env}
+use Rattle.csl_picking.specs.Env.{ReadProperties, Env, suffix_of}
 use Rattle.csl_lookup.specs.Years.{year_text}
-use Rattle.csl_lookup.specs.States.{with_label, with_number, year_suffix}
+use Rattle.csl_lookup.specs.States.{with_label, with_number}
 use Rattle.csl_picking.specs.Suffix.{implicit_suffix}
 use Rattle.csl_picking.specs.Pieces.{LeafValue, text_leaf, number_leaf, suffix_leaf, chunked_leaf, link_leaf, mark_leaf, Part, node_of, leaves_of, plain_node}
 use Rattle.csl_picking.specs.Picked.{Picked, nothing, without_content, gives, called_with}
@@ -77,7 +77,7 @@ locator_leaf cite = option_and_then (λ l. marked_text cite.initial_idx l.text) 
 -- what a variable's text or number gives; the printed number of a cite is one more
 abbrev pub variable_leaf : Env → Variable → Option LeafValue
 variable_leaf env (Variable.Standard standard.YearSuffix) =
-    option_map suffix_leaf (year_suffix env.cite.state)
+    option_map suffix_leaf (suffix_of env.cite)
 variable_leaf env (Variable.Standard standard.Url) =
     option_map link_leaf (env.answers.text standard.Url)
 variable_leaf env (Variable.Standard standard.CitationLabel) = text_leaves env.answers.label
@@ -93,7 +93,7 @@ variable_leaf env _ = None
 -- the suffix behind a label that the entry has
 abbrev pub suffix_behind : Env → Variable → Notes → Option ℕ
 suffix_behind env (Variable.Standard standard.CitationLabel) n = if is_some env.answers.label
-    then implicit_suffix env.explicit_suffix env.cite.state n else None
+    then implicit_suffix env.explicit_suffix env.cite n else None
 suffix_behind env _ n = None
 
 abbrev pub variable_meta : Variable → Option ElemMeta
@@ -180,9 +180,9 @@ date_leaves env v None n = []
 date_leaves env v (Some d) n =
     if writes_year env.form v n
     then leaves_of (Some (year_leaf env.term d.year))
-    (implicit_suffix env.explicit_suffix env.cite.state n)
+    (implicit_suffix env.explicit_suffix env.cite n)
     else (if writes_suffix_alone env.form
-    then leaves_of None (implicit_suffix env.explicit_suffix env.cite.state n) else [])
+    then leaves_of None (implicit_suffix env.explicit_suffix env.cite n) else [])
 
 abbrev pub pick_date : Env → DateVariable → Look → Bool → Bool → Notes → Picked
 pick_date env v look quotes strip n =

@@ -1,7 +1,6 @@
 //! The tests of a choice's branches (CSL 1.0.2, choose).
 ghost use Rattle.std.specs.Prelude.{◌≡◌};
 ghost use Rattle.csl_picking.specs.Conditions.{
-  is_choose,
   is_repeated,
   is_at,
   has_variable,
@@ -16,7 +15,8 @@ use crate::notes::Notes;
 use csl_base::element::{ChooseMatch, Condition, TestPosition};
 use csl_base::entry::EntryLike;
 use csl_base::taxonomy::{NumberVariable, StandardVariable, Variable};
-use csl_lookup::state::{DisambiguateState, IbidState};
+use csl_lookup::means::is_chosen;
+use csl_lookup::state::IbidState;
 
 // Whether the cite has a variable: of its entry, or of its own properties.
 fn has_variable<T: EntryLike>(input: &Input<T>, variable: Variable) -> bool
@@ -28,7 +28,7 @@ fn has_variable<T: EntryLike>(input: &Input<T>, variable: Variable) -> bool
         Variable::Name(v) => !entry.resolve_name_variable(v).is_empty(),
         Variable::Date(v) => entry.resolve_date_variable(v).is_some(),
         Variable::Standard(StandardVariable::CitationLabel) => entry.citation_label().is_some(),
-        Variable::Standard(StandardVariable::YearSuffix) => cite.state.year_suffix().is_some(),
+        Variable::Standard(StandardVariable::YearSuffix) => cite.suffix().is_some(),
         Variable::Standard(v) => entry.resolve_standard_variable(v).is_some(),
         Variable::Number(NumberVariable::CitationNumber) => true,
         Variable::Number(NumberVariable::Locator) => cite.locator.is_some(),
@@ -37,13 +37,6 @@ fn has_variable<T: EntryLike>(input: &Input<T>, variable: Variable) -> bool
         }
         Variable::Number(v) => entry.resolve_number_variable(v).is_some(),
     }
-}
-
-// Whether the entry is disambiguated by what the style writes where `disambiguate` holds.
-fn is_choose(state: &DisambiguateState) -> bool
-    ensures { result ≡ is_choose state.now }
-{
-    matches!(state, DisambiguateState::Choose)
 }
 
 // Whether the cite stands at a position.
@@ -64,7 +57,7 @@ fn holds<T: EntryLike>(input: &Input<T>, condition: Condition) -> bool
     ensures { result ≡ holds (env_of (T.answers input.now.entry.now) input.now.setting) condition }
 {
     match condition {
-        Condition::Disambiguate => is_choose(input.setting.cite.state),
+        Condition::Disambiguate => { is_chosen(input.setting.cite.state, input.setting.cite.means) }
         Condition::Position(position) => is_at(&input.setting.cite, position),
         Condition::Variable(variable) => has_variable(input, variable),
     }

@@ -1,10 +1,14 @@
 //! What a picking only reads.
+ghost use Rattle.std.specs.Prelude.{◌≡◌};
+ghost use Rattle.csl_picking.specs.Env.{suffix_of};
+ghost use Rattle.csl_picking.specs.InputView.{cite_facts};
 
 use crate::notes::Form;
 use csl_base::element::InheritableNameOptions;
 use csl_base::entry::EntryLike;
 use csl_base::taxonomy::{Locator, OtherTerm, Term, TermForm};
 use csl_lookup::lookup::StyleLocales;
+use csl_lookup::means::{Means, suffix_told};
 use csl_lookup::state::{DisambiguateState, IbidState, IdentifierUsage};
 
 /// A cite's locator: what it counts, and its text; none where it is the caller's own.
@@ -26,7 +30,17 @@ pub struct CiteFacts<'a> {
     pub ibid: IbidState,
     pub locator: Option<LocatorFacts<'a>>,
     pub state: &'a DisambiguateState,
+    pub means: &'a Means,
     pub usage: IdentifierUsage,
+}
+
+impl<'a> CiteFacts<'a> {
+    /// The suffix of the cite's year, from 0.
+    pub fn suffix(&self) -> Option<usize>
+        ensures { result ≡ suffix_of (cite_facts self.now) }
+    {
+        suffix_told(self.state, self.means)
+    }
 }
 
 /// What a picking reads of the style and the cite.

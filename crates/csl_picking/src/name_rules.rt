@@ -1,22 +1,15 @@
 //! The name options that hold in the end, and the forms of names (CSL 1.0.2, name, et-al
 //! abbreviation).
-ghost use Rattle.std.specs.Prelude.{◌≡◌, IfOk, option_map, unwrap_or};
+ghost use Rattle.std.specs.Prelude.{◌≡◌, IfOk, option_map};
 ghost use Rattle.std.specs.Option.{option_or};
 ghost use Rattle.csl_style_values.specs.ElementView.{text_view, options_view};
 ghost use Rattle.csl_picking.specs.Options.{applied_options};
-ghost use Rattle.csl_picking.specs.NameRules.{
-  base_form,
-  rules_of,
-  written_count,
-  forms_by,
-  forms_in,
-};
+ghost use Rattle.csl_picking.specs.NameRules.{base_form, rules_of, written_count, forms_by};
 ghost use Rattle.csl_picking.specs.NameRulesView.{rules_view};
 
 use csl_base::element::{InheritableNameOptions, NameAnd, NameForm};
 use csl_base::names::DisambiguatedNameForm;
 use csl_base::seq::Seq;
-use csl_lookup::state::DisambiguateState;
 use std::alloc::{AllocError, Global};
 
 /// The name options that hold in the end.
@@ -130,24 +123,4 @@ impl<'a> NameRules<'a> {
         forms.resize(count, DisambiguatedNameForm::Count)?;
         Ok(Seq::new(forms))
     }
-}
-
-/// The forms of a cite in this state whose rules give these ones; none of its own where the state
-/// isn't one of names.
-pub fn own_forms(
-    alloc: Global,
-    state: &DisambiguateState,
-    forms: &[DisambiguatedNameForm],
-) -> Result<Option<Seq<DisambiguatedNameForm>>, AllocError>
-    ensures { IfOk result (λ own. unwrap_or own forms.now ≡ forms_in state.now forms.now) }
-{
-    let DisambiguateState::NameDisambiguation(names) = state else {
-        return Ok(None);
-    };
-    let own = names.forms.as_slice();
-    let shared = own.len().min(forms.len());
-    let mut all = Vec::with_capacity(alloc, forms.len())?;
-    all.extend_from_slice(&own[..shared])?;
-    all.extend_from_slice(&forms[shared..])?;
-    Ok(Some(Seq::new(all)))
 }

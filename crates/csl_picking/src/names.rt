@@ -39,13 +39,13 @@ ghost use Rattle.csl_picking.specs.Pieces.{opening, closing, tokens, plain_node}
 ghost use Rattle.csl_picking.specs.PiecesView.{node_view, shape_look, tokens_of};
 ghost use Rattle.csl_picking.specs.Picked.{gives, added};
 ghost use Rattle.csl_picking.specs.HeldView.{held};
-ghost use Rattle.csl_picking.specs.InputView.{env_of};
+ghost use Rattle.csl_picking.specs.InputView.{cite_facts, env_of};
 
 use crate::held::Picking;
-use crate::input::Input;
+use crate::input::{CiteFacts, Input};
 use crate::name_blocks::{Blocks, blocks_of, written_blocks};
 use crate::name_pieces::{Block, push_block};
-use crate::name_rules::{NameRules, own_forms};
+use crate::name_rules::NameRules;
 use crate::notes::Notes;
 use crate::pieces::{Node, Piece, Shape};
 use crate::variables::called_with;
@@ -55,7 +55,7 @@ use csl_base::entry::EntryLike;
 use csl_base::names::{DisambiguatedNameForm, NameDisambiguationProperties};
 use csl_base::seq::Seq;
 use csl_base::taxonomy::NameVariable;
-use csl_lookup::state::DisambiguateState;
+use csl_lookup::means::names_told;
 use std::alloc::{AllocError, Global};
 
 /// The variable that holds the author.
@@ -137,20 +137,21 @@ fn push_others<'a, T: EntryLike>(
     Ok(is_behind)
 }
 
-// The forms of the first block where a state of names has its say.
+// The forms of the first block where what is told of names has its say.
 fn first_own_forms(
     alloc: Global,
-    state: &DisambiguateState,
+    cite: &CiteFacts,
     notes: &Notes,
     forms: &[DisambiguatedNameForm],
 ) -> Result<Option<Seq<DisambiguatedNameForm>>, AllocError>
     ensures { IfOk result
-        (λ own. unwrap_or own forms.now ≡ first_forms state.now notes.now forms.now) }
+        (λ own. unwrap_or own forms.now
+        ≡ first_forms (cite_facts cite.now) notes.now forms.now) }
 {
     if notes.first_name.is_some() {
         return Ok(None);
     }
-    own_forms(alloc, state, forms)
+    names_told(alloc, cite.state, cite.means, forms)
 }
 
 // Forms of their own, or those that the rules give.
@@ -212,8 +213,8 @@ fn push_first_block<'a, T: EntryLike>(
     let alloc = *picking.pieces.allocator();
     let persons = input.entry.resolve_name_variable(variable);
     let forms = rules.forms(alloc, persons.len())?;
-    let state = input.setting.cite.state;
-    let own = first_own_forms(alloc, state, &picking.notes, forms.as_slice())?;
+    let cite = &input.setting.cite;
+    let own = first_own_forms(alloc, cite, &picking.notes, forms.as_slice())?;
     let block = Block {
         variable,
         persons,

@@ -157,7 +157,7 @@ fn variable_leaf<'a, T: EntryLike>(input: &Input<'a, T>, variable: Variable) -> 
     let (entry, setting) = (input.entry, &input.setting);
     match variable {
         Variable::Standard(StandardVariable::YearSuffix) => {
-            let suffix = setting.cite.state.year_suffix()?;
+            let suffix = setting.cite.suffix()?;
             Some(Leaf::Suffix(suffix))
         }
         Variable::Standard(StandardVariable::Url) => {
@@ -200,13 +200,13 @@ impl<'a> Setting<'a> {
 
     // The suffix that the first date or label adds.
     fn implicit_suffix(&self, notes: &Notes) -> Option<usize>
-        ensures { result ≡ implicit_suffix self.now.explicit_suffix self.now.cite.state.now
+        ensures { result ≡ implicit_suffix self.now.explicit_suffix (cite_facts self.now.cite)
             notes.now }
     {
         if self.explicit_suffix || !notes.first_date {
             return None;
         }
-        self.cite.state.year_suffix()
+        self.cite.suffix()
     }
 }
 

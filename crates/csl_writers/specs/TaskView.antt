@@ -25,4 +25,9 @@ module _ {T P : Type 0} where
   }
 
 abbrev pub date_task_view : {T : Type 0} → DateTask T → DateTaskValue T
-date_task_view t = record { source = source_view t.source; entry = t.entry.now; place = t.place }
+date_task_view t = record {
+  source = source_view t.source;
+  entry = t.entry.now;
+  suffix = t.suffix;
+  place = t.place;
+}

@@ -25,10 +25,11 @@ pub record ItemTaskValue (E P : Type 0) : Type 0 where
   pub entry : E
   pub properties : Properties P
 
--- a date, in place of a cite that is for the year alone
+-- a date, with the suffix that means have, in place of a cite that is for the year alone
 pub record DateTaskValue (E : Type 0) : Type 0 where
   pub source : Source
   pub entry : E
+  pub suffix : Option ℕ
   pub place : LastPlace
 
 pub data TaskValue (E P : Type 0) : Type 0 where

@@ -33,10 +33,12 @@ pub struct ItemTask<'t, 'p, T, P> {
 }
 
 /// The date of an entry, in place of a cite that is for the year alone. It is written for the last
-/// time, at this place.
+/// time, at this place. It has the suffix of the year where means are taken together, and none in
+/// the other modes.
 pub struct DateTask<'t, T> {
     pub source: StyleLocales<'t>,
     pub entry: &'t T,
+    pub suffix: Option<usize>,
     pub place: Option<(usize, usize)>,
     pub ghost no_ring: { HasNoRing (source_view source).style.macros },
 }

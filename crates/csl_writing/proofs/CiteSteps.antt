@@ -14,7 +14,6 @@ use Rattle.csl_writing.specs.Plans.{cite_plan}
 use Rattle.csl_lookup.specs.Properties.{Properties}
 use Rattle.csl_writing.specs.StepsWritten.{steps_written, finished, tree_of, IsCarriedOut}
 use Rattle.csl_writing.specs.Subject.{Subject, subject, cite_of}
-use Rattle.csl_lookup.specs.States.{year_suffix}
 use Rattle.csl_styles.specs.SuffixText.{explicit_suffix}
 use Rattle.csl_context.specs.WritingState.{State, begun, flushed}
 
@@ -44,6 +43,6 @@ cite_rendered s purpose verdict a b n tree children start done out arrangement =
 
 -- what is rendered, from its parts
 pub subject_known : {P : Type 0} (source : Source) (answers : Answers) (props : Properties P) (c : env.ReadProperties) (writes : Bool)
-    → c ≡ cite_of props → writes ≡ (is_some (year_suffix props.speculative.disambiguation) && explicit_suffix source.style)
+    → c ≡ cite_of props → writes ≡ (is_some (env.suffix_of (cite_of props)) && explicit_suffix source.style)
     → (record { source = source; answers = answers; cite = c; explicit_suffix = writes }) ≡ subject source answers props
 subject_known source answers props c writes e f = λ i. record { source = source; answers = answers; cite = e i; explicit_suffix = f i }

@@ -1,5 +1,5 @@
 -- The date text: the year of an entry alone.
-use Rattle.std.specs.Prelude.{◌∷◌, [], List, ℕ, Option, None, Some, false, codes}
+use Rattle.std.specs.Prelude.{◌∷◌, [], ◌++◌, List, ℕ, Option, None, Some, false, codes}
 use Rattle.csl_values.specs.Answers.{Answers}
 use Rattle.csl_trees.specs.Child.{Child, text}
 use Rattle.csl_values.specs.Formatting.{normal}
@@ -7,6 +7,7 @@ use Rattle.csl_values.specs.declared.entry.Date.{Date}
 use Rattle.csl_values.specs.declared.taxonomy.DateVariable.{DateVariable}
 use Rattle.csl_values.specs.declared.taxonomy.OtherTerm.{OtherTerm}
 use Rattle.csl_lookup.specs.Lookup.{Source, lookup, term_of, first_answer}
+use Rattle.csl_lookup.specs.SuffixLetters.{suffix_letters}
 use Rattle.csl_picking.specs.Variables.{words_for}
 use Rattle.csl_lookup.specs.Years.{year_text}
 
@@ -26,7 +27,15 @@ date_words source (Some d) =
     year_text d.year false (long_term source OtherTerm.Ad (codes " AD"))
     (long_term source OtherTerm.Bc (codes " BC"))
 
--- the date text of an entry: one text without formatting
-unfoldable pub date_text : Source → Answers → List Child
-date_text source answers =
-    text (record { text = date_words source (date_of_entry answers); formatting = normal }) ∷ []
+-- a text, with the letters of a suffix behind it, if there is one
+abbrev pub with_suffix : Option ℕ → List ℕ → List ℕ
+with_suffix None words = words
+with_suffix (Some suffix) words = words ++ suffix_letters suffix
+
+-- the date text of an entry, with such a suffix: one text without formatting
+unfoldable pub date_text : Source → Answers → Option ℕ → List Child
+date_text source answers suffix =
+    text (record {
+      text = with_suffix suffix (date_words source (date_of_entry answers));
+      formatting = normal;
+    }) ∷ []

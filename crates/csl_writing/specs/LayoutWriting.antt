@@ -9,7 +9,7 @@ use Rattle.csl_writers.specs.declared.cite.Cite.{Cite}
 use Rattle.csl_writing.specs.CiteText.{bibliography_text, cite, date_text}
 
 abbrev pub layout_date : {E : Type 0} → (E → Answers) → DateTaskValue E → List Child
-layout_date answers t = date_text t.source (answers t.entry)
+layout_date answers t = date_text t.source (answers t.entry) t.suffix
 
 module _ {E P : Type 0} (answers : E → Answers) where
   abbrev pub layout_cite : CiteTaskValue E P → Cite
@@ -43,5 +43,5 @@ pub layout_writes_equally : {E P N : Type 0} (answers : E → Answers) (a b : E)
 layout_writes_equally answers a b e = record {
   cite = λ t. ap (λ x. cite t.source x t.properties t.purpose t.verdict) e;
   item = λ t. ap (λ x. bibliography_text t.source x t.properties) e;
-  date = λ t. ap (λ x. date_text t.source x) e;
+  date = λ t. ap (λ x. date_text t.source x t.suffix) e;
 }

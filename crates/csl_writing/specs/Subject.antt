@@ -6,8 +6,7 @@ use Rattle.csl_picking.specs.declared.notes.Form.{Form}
 use Rattle.csl_lookup.specs.declared.state.IbidState.{IbidState}
 use Rattle.csl_lookup.specs.Lookup.{Source, lookup}
 use Rattle.csl_lookup.specs.Properties.{Payload, text_payload, own_payload, LocatorValue, Properties}
-use Rattle.csl_picking.specs.Env.{CiteLocator, ReadProperties, Env, env_for}
-use Rattle.csl_lookup.specs.States.{year_suffix}
+use Rattle.csl_picking.specs.Env.{CiteLocator, ReadProperties, Env, env_for, suffix_of}
 use Rattle.csl_styles.specs.SuffixText.{explicit_suffix}
 
 pub record Subject : Type 0 where
@@ -38,6 +37,7 @@ module _ {P : Type 0} where
     ibid = p.speculative.ibid;
     locator = option_map locator_read p.speculative.locator;
     state = p.speculative.disambiguation;
+    means = p.speculative.means;
     usage = p.speculative.identifier_usage;
   }
 
@@ -46,8 +46,7 @@ module _ {P : Type 0} where
     source = source;
     answers = answers;
     cite = cite_of props;
-    explicit_suffix = is_some (year_suffix props.speculative.disambiguation)
-        && explicit_suffix source.style;
+    explicit_suffix = is_some (suffix_of (cite_of props)) && explicit_suffix source.style;
   }
 
 -- what a picking reads, under these name options and in this form, and whether it is an item of the

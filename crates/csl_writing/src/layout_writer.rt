@@ -68,7 +68,7 @@ impl<T: EntryLike, P> CiteWriter<T, P> for LayoutWriter {
         alloc: Global,
         task: &DateTask<'_, T>,
     ) -> Result<ElemChildren, AllocError> {
-        date_text(&task.source, alloc, task.entry)
+        date_text(&task.source, alloc, task.entry, task.suffix)
     }
 
     ghost equal_written_equally = { λ _ a b e. layout_writes_equally T.answers a b (T.equal_answer_equally a b e) };

@@ -1,5 +1,5 @@
 //! Rendering of cites and of items of the bibliography.
-ghost use Rattle.std.specs.Prelude.{◌≡◌, ◌&&◌, IfOk, is_some};
+ghost use Rattle.std.specs.Prelude.{◌≡◌, ◌&&◌, IfOk, None, is_some};
 ghost use Rattle.csl_style_values.specs.Ring.{HasNoRing};
 ghost use Rattle.csl_style_values.specs.StyleView.{bibliography_view, style_view};
 ghost use Rattle.csl_writing.specs.CiteText as rendered;
@@ -8,7 +8,7 @@ ghost use Rattle.csl_lookup.specs.PropertiesView.{properties_view};
 ghost use Rattle.csl_writing.specs.ContextSource.{context_source};
 ghost use Rattle.csl_writing.specs.Subject as plain;
 ghost use Rattle.csl_writing.specs.SubjectView.{subject_view};
-ghost use Rattle.csl_lookup.specs.States.{year_suffix};
+ghost use Rattle.csl_lookup.specs.Means.{suffix_told};
 ghost use Rattle.csl_styles.specs.SuffixText as suffixes;
 
 use crate::date::date_text;
@@ -24,6 +24,7 @@ use csl_base::locale::LocaleCode;
 use csl_base::style::{Bibliography, IndependentStyle};
 use csl_context::wording::{apply_suffix, begin_prefix};
 use csl_context::writing::WritingContext;
+use csl_lookup::means::{Means, suffix_told};
 use csl_lookup::properties::CiteProperties;
 use csl_lookup::purpose::CitePurpose;
 use csl_lookup::state::{CollapseVerdict, DisambiguateState};
@@ -119,17 +120,20 @@ fn render_item<'a, T: EntryLike>(
 impl<'a> StyleContext<'a> {
     // Whether the cite has a year suffix, and a text that writes it stands in a layout of the
     // style.
-    fn writes_suffix(&self, alloc: Global, state: &DisambiguateState) -> Result<bool, AllocError>
+    fn writes_suffix(
+        &self,
+        alloc: Global,
+        state: &DisambiguateState,
+        means: &Means,
+    ) -> Result<bool, AllocError>
         requires { HasNoRing (context_source self.now).style.macros }
         ensures { IfOk result (λ b. b
-            ≡ (is_some (year_suffix state.now)
+            ≡ (is_some (suffix_told state.now means.now)
             && suffixes.explicit_suffix (context_source self.now).style)) }
     {
-        match state {
-            DisambiguateState::YearSuffix(_) => self.locales.explicit_suffix(alloc),
-            DisambiguateState::None => Ok(false),
-            DisambiguateState::NameDisambiguation(_) => Ok(false),
-            DisambiguateState::Choose => Ok(false),
+        match suffix_told(state, means) {
+            Some(_) => self.locales.explicit_suffix(alloc),
+            None => Ok(false),
         }
     }
 
@@ -149,7 +153,11 @@ impl<'a> StyleContext<'a> {
             ≡ rendered.cite (context_source self.now) (T.answers entry.now)
             (properties_view props.now) purpose verdict) }
     {
-        let writes = self.writes_suffix(alloc, &props.speculative.disambiguation)?;
+        let writes = self.writes_suffix(
+            alloc,
+            &props.speculative.disambiguation,
+            &props.speculative.means,
+        )?;
         let subject = Subject {
             entry,
             context: self.locales,
@@ -241,11 +249,11 @@ impl<'a> StyleContext<'a> {
         counter: &mut Renders,
     ) -> Result<ElemChildren, AllocError>
         ensures date { IfOk result (λ tree. tree
-            ≡ rendered.date_text (context_source self.now) (T.answers entry.now)) }
+            ≡ rendered.date_text (context_source self.now) (T.answers entry.now) None) }
         ensures count { counter.new ≡ counted counter.old }
     {
         counter.add_one();
-        date_text(&self.locales, alloc, entry)
+        date_text(&self.locales, alloc, entry, None)
     }
 
     // An item of this bibliography.
@@ -264,7 +272,11 @@ impl<'a> StyleContext<'a> {
             (properties_view props.now))
             (bibliography_view bibliography.now)) }
     {
-        let writes = self.writes_suffix(alloc, &props.speculative.disambiguation)?;
+        let writes = self.writes_suffix(
+            alloc,
+            &props.speculative.disambiguation,
+            &props.speculative.means,
+        )?;
         let subject = Subject {
             entry,
             context: self.locales,

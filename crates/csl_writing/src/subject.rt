@@ -47,6 +47,7 @@ pub(crate) fn cite_facts<'a, P>(props: &'a CiteProperties<'_, P>) -> CiteFacts<'
             None => None,
         },
         state: &speculative.disambiguation,
+        means: &speculative.means,
         usage: speculative.identifier_usage,
     }
 }

@@ -1,9 +1,11 @@
 -- What identifies a task in a table.
-use Rattle.std.specs.Prelude.{ℕ, List, [], None, option_map}
+use Rattle.std.specs.Prelude.{ℕ, List, [], None, option_map, if◌then◌else◌}
 use Rattle.csl_values.specs.Answers.{Answers}
 use Rattle.csl_values.specs.declared.taxonomy.Locator.{Locator}
 use Rattle.csl_lookup.specs.Lookup.{Source, locale_in_use}
+use Rattle.csl_lookup.specs.Means.{are_none}
 use Rattle.csl_lookup.specs.Properties.{LocatorValue, Payload, Properties, own_payload, text_payload}
+use Rattle.csl_lookup.specs.declared.means.Means.{Means}
 use Rattle.csl_lookup.specs.declared.state.DisambiguateState.{DisambiguateState}
 use Rattle.host_table.specs.HostStyle.{host_style_name}
 use Rattle.host_table.specs.declared.key.Standing.{Standing}
@@ -30,6 +32,7 @@ standing_of p = record {
   citation_number = p.speculative.citation_number;
   locator = option_map located p.speculative.locator;
   disambiguation = p.speculative.disambiguation;
+  means = p.speculative.means;
   identifier_usage = p.speculative.identifier_usage;
 }
 
@@ -54,7 +57,7 @@ module _ {E P : Type 0} (answers : E → Answers) where
       (parts.Item (standing_of t.properties))
 
 abbrev pub date_key : {E : Type 0} → (E → Answers) → DateTaskValue E → TaskKey
-date_key answers t = key_of_part t.source (answers t.entry).key t.place parts.Date
+date_key answers t = key_of_part t.source (answers t.entry).key t.place (parts.Date t.suffix)
 
 abbrev pub task_key : {E P : Type 0} → (E → Answers) → TaskValue E P → TaskKey
 task_key answers (cite_task t) = cite_key answers t
@@ -62,12 +65,12 @@ task_key answers (item_task t) = item_key answers t
 task_key answers (date_task t) = date_key answers t
 
 -- when it is asked for
-abbrev pub stage_in : DisambiguateState → ℕ
-stage_in DisambiguateState.None = 0
-stage_in _ = 1
+abbrev pub stage_in : DisambiguateState → Means → ℕ
+stage_in DisambiguateState.None means = if are_none means then 0 else 1
+stage_in _ means = 1
 
 abbrev pub stage_of : Standing → ℕ
-stage_of s = stage_in s.disambiguation
+stage_of s = stage_in s.disambiguation s.means
 
 abbrev pub stage_at : TaskPart → LastPlace → ℕ
 stage_at (parts.Cite standing purpose verdict) None = stage_of standing

@@ -19,7 +19,7 @@ module _ {E P : Type 0} (table : TaskKey → Option Cite) (answers : E → Answe
     item = λ t. let part : TaskPart = parts.Item (standing_of t.properties) in
         ap (λ (x : Answers). Some
         (written_as (table (key_of_part t.source x.key None part))).children) e;
-    date = λ t.
+    date = λ t. let part : TaskPart = parts.Date t.suffix in
         ap (λ (x : Answers). (written_as
-        (table (key_of_part t.source x.key t.place parts.Date))).children) e;
+        (table (key_of_part t.source x.key t.place part))).children) e;
   }

@@ -18,6 +18,7 @@ use csl_base::taxonomy::Locator;
 use csl_base::text::Text;
 use csl_lookup::locator::{LocatorPayload, SpecificLocator};
 use csl_lookup::lookup::StyleLocales;
+use csl_lookup::means::Means;
 use csl_lookup::properties::CiteProperties;
 use csl_lookup::purpose::CitePurpose;
 use csl_lookup::state::{CollapseVerdict, DisambiguateState, IbidState, IdentifierUsage};
@@ -45,8 +46,8 @@ pub enum TaskPart {
     Cite(Standing, Option<CitePurpose>, Option<CollapseVerdict>),
     /// An item of the bibliography.
     Item(Standing),
-    /// The date alone.
-    Date,
+    /// The date alone, with the suffix that the means of its cite have.
+    Date(Option<usize>),
 }
 
 /// What is known of a cite.
@@ -66,8 +67,10 @@ pub struct Standing {
     pub citation_number: usize,
     /// What its locator counts, and its text; that of a payload of the caller's own is empty.
     pub locator: Option<(Locator, Text)>,
-    /// By what means the entry is disambiguated.
+    /// By what means the entry is disambiguated, where one is taken at a time.
     pub disambiguation: DisambiguateState,
+    /// By what means it is, where they are taken together.
+    pub means: Means,
     /// Which identifiers the cite wrote at its first rendering.
     pub identifier_usage: IdentifierUsage,
 }
@@ -105,6 +108,7 @@ fn standing_of<P>(alloc: Global, properties: &CiteProperties<'_, P>) -> Result<S
         citation_number: speculative.citation_number,
         locator,
         disambiguation: speculative.disambiguation.clone()?,
+        means: speculative.means.clone()?,
         identifier_usage: speculative.identifier_usage,
     })
 }
@@ -168,7 +172,8 @@ pub fn item_key<T: EntryLike, P>(
 pub fn date_key<T: EntryLike>(alloc: Global, task: &DateTask<'_, T>) -> Result<TaskKey, AllocError>
     ensures { IfOk result (λ k. k ≡ date_key T.answers (date_task_view task.now)) }
 {
-    key_of(alloc, &task.source, task.entry, task.place, TaskPart::Date)
+    let part = TaskPart::Date(task.suffix);
+    key_of(alloc, &task.source, task.entry, task.place, part)
 }
 
 impl TaskKey {
@@ -194,7 +199,7 @@ impl Standing {
         ensures { result ≡ stage_of self.now }
     {
         match self.disambiguation {
-            DisambiguateState::None => 0,
+            DisambiguateState::None => { if self.means.are_none() { 0 } else { 1 } }
             _ => 1,
         }
     }

@@ -9,6 +9,8 @@ use Rattle.serde_json.specs.Read.{max_depth}
 use Rattle.serde_json.specs.View.{items_of}
 use Rattle.serde_json.specs.Written.{has_float, items_have_float, members_have_float}
 use Rattle.csl_values.specs.declared.names.DisambiguatedNameForm.{DisambiguatedNameForm}
+use Rattle.csl_values.specs.declared.names.NameDisambiguationProperties.{NameDisambiguationProperties}
+use Rattle.csl_lookup.specs.declared.means.Means.{Means}
 use Rattle.csl_lookup.specs.declared.purpose.CitePurpose.{CitePurpose}
 use Rattle.csl_lookup.specs.declared.state.CollapseVerdict.{CollapseVerdict}
 use Rattle.csl_lookup.specs.declared.state.DisambiguateState.{DisambiguateState}
@@ -16,7 +18,7 @@ use Rattle.host_table.specs.declared.key.Standing.{Standing}
 use Rattle.host_table.specs.declared.key.TaskKey.{TaskKey}
 use Rattle.host_table.specs.declared.key.TaskPart.{TaskPart}
 use Rattle.json_tasks.specs.TaskNames.{form_name, purpose_name, repeats_name, usage_name, verdict_name}
-use Rattle.json_tasks.specs.TaskData.{Fields, put_if, put_fields, count_data, true_if, place_data, locator_data, state_data, standing_fields, part_fields, key_fields, task_data}
+use Rattle.json_tasks.specs.TaskData.{Fields, put_if, put_fields, count_data, true_if, place_data, locator_data, names_data, state_data, means_fields, standing_fields, part_fields, key_fields, task_data}
 
 -- it has no floats, and nests at most n deep
 pub record IsPlain (n : ℕ) (d : Data) : Type 0 where
@@ -105,6 +107,14 @@ state_plain (DisambiguateState.NameDisambiguation names) =
 state_plain DisambiguateState.Choose = text_plain _
 state_plain (DisambiguateState.YearSuffix n) = leaf _ refl (omega arith)
 
+names_plain : (names : NameDisambiguationProperties) → IsPlain 2 (names_data names)
+names_plain names =
+    let h = forms_depth names.forms in
+    leaf _ (rw (forms_floats names.forms) refl) (omega (arith, h))
+
+means_plain : (m : Means) → FieldsPlain 2 (means_fields m)
+means_plain m = (each names_data m.names names_plain, (truth m.choose, (each count_data m.suffix count_plain, tt)))
+
 standing_plain : (s : Standing) → FieldsPlain 2 (standing_fields s)
 standing_plain s = (
   each count_data s.note_number count_plain,
@@ -120,7 +130,7 @@ standing_plain s = (
             count_plain s.citation_number,
             (
               each locator_data s.locator (λ l. leaf _ refl (omega arith)),
-              (state_plain s.disambiguation, (each string (usage_name s.identifier_usage) text_plain, tt)),
+              (state_plain s.disambiguation, (each string (usage_name s.identifier_usage) text_plain, means_plain s.means)),
             ),
           ),
         ),
@@ -138,7 +148,7 @@ part_plain (TaskPart.Cite standing purpose verdict) = (
   ),
 )
 part_plain (TaskPart.Item standing) = (text_plain _, standing_plain standing)
-part_plain TaskPart.Date = (text_plain _, tt)
+part_plain (TaskPart.Date suffix) = (text_plain _, (each count_data suffix count_plain, tt))
 
 key_plain : (k : TaskKey) → FieldsPlain 2 (key_fields k)
 key_plain k = (text_plain k.style, (text_plain k.locale, (text_plain k.entry, (each place_data k.place (λ p. leaf _ refl (omega arith)), part_plain k.part))))

@@ -1,12 +1,14 @@
 -- The data of a task reads as the task.
 use Rattle.std.proofs.Common.{◌≡◌, ℕ, List, [], ◌∷◌, ◌++◌, map, Bool, true, false, cond, Option, Some, None, option_map, option_and_then, codes, refl, ap, sym, subst, ◌∙◌}
 use Rattle.std.specs.List.{list_all}
+use Rattle.std.specs.Prelude.{is_some}
 use Rattle.json_document.proofs.FirstKeyed.{first_of_none}
 use Rattle.serde_json.specs.Data.{Data, string, no_members}
-use Rattle.serde_json.specs.Find.{get, as_bool, as_str}
+use Rattle.serde_json.specs.Find.{get, as_array, as_bool, as_str}
 use Rattle.serde_json.specs.View.{items_of}
 use Rattle.csl_values.specs.declared.names.DisambiguatedNameForm.{DisambiguatedNameForm}
 use Rattle.csl_values.specs.declared.taxonomy.Locator.{Locator}
+use Rattle.csl_values.specs.declared.names.NameDisambiguationProperties.{NameDisambiguationProperties}
 use Rattle.csl_lookup.specs.declared.purpose.CitePurpose.{CitePurpose}
 use Rattle.csl_lookup.specs.declared.state.CollapseVerdict.{CollapseVerdict}
 use Rattle.csl_lookup.specs.declared.state.DisambiguateState.{DisambiguateState}
@@ -21,8 +23,8 @@ use Rattle.json_values.specs.Names.{one_of}
 use Rattle.json_values.specs.Tables.{locators, purposes}
 use Rattle.json_tasks.specs.ReadBack.{HasFittingPlace, TasksReadBack}
 use Rattle.json_tasks.specs.TaskNames.{form_name, locator_name, written_name_forms, purpose_name, ibid_states, repeats_name, usage_name, usages, verdict_name, verdicts, kinds}
-use Rattle.json_tasks.specs.TaskData.{count_data, true_if, place_data, locator_data, state_data, key_fields, task_data}
-use Rattle.json_tasks.specs.TaskForm.{cite_task_form, date_task_form, item_task_form, key_form, kind_task_form, counted_locator_form, names_state, part_form, place_form, standing_form, standing_keys, state_form, suffix_state, task_keys}
+use Rattle.json_tasks.specs.TaskData.{count_data, true_if, place_data, locator_data, names_data, state_data, key_fields, task_data}
+use Rattle.json_tasks.specs.TaskForm.{cite_task_form, date_task_form, item_task_form, key_form, kind_task_form, counted_locator_form, least_names, names_form, names_state, part_form, place_form, standing_form, standing_keys, state_form, suffix_state, task_keys}
 use Rattle.json_tasks.specs.declared.task_names.TaskKind.{TaskKind}
 use Rattle.json_tasks.proofs.Fields.{allows, field_at, found_field, fields_each}
 
@@ -100,6 +102,25 @@ absent_back : {A : Type 0} (f : Data → Option A) (g : A → Data) (o : Option 
 absent_back f g None h = refl
 absent_back f g (Some a) h = ap (option_map (λ x. Some x)) (h a)
 
+-- ---- the least forms of names, where there are any
+
+abbrev held : List DisambiguatedNameForm → Option NameDisambiguationProperties
+held forms = Some (record { forms = forms })
+
+abbrev names_in : Option Data → Option NameDisambiguationProperties
+names_in o = option_and_then held (option_and_then (all_items (one_of written_name_forms)) (option_and_then as_array o))
+
+abbrev least_in : Option Data → Option (Option NameDisambiguationProperties)
+least_in o = cond (is_some o) (option_map (λ x. Some x) (names_in o)) (Some None)
+
+least_in_back : (names : Option NameDisambiguationProperties) → least_in (option_map names_data names) ≡ Some names
+least_in_back None = refl
+least_in_back (Some names) = ap (λ o. option_map (λ x. Some x) (option_and_then held o)) (forms_back names.forms)
+
+least_back : (d : Data) (names : Option NameDisambiguationProperties) → get (codes "names") d ≡ option_map names_data names → least_names d ≡ Some names
+unfolding names_form
+least_back d names h = ap least_in h ∙ least_in_back names
+
 -- ---- what an object says of a cite
 
 record SaysStanding (d : Data) (s : Standing) : Type 0 where
@@ -112,6 +133,9 @@ record SaysStanding (d : Data) (s : Standing) : Type 0 where
   locator : get (codes "locator") d ≡ option_map locator_data s.locator
   state : get (codes "state") d ≡ state_data s.disambiguation
   usage : get (codes "usage") d ≡ option_map string (usage_name s.identifier_usage)
+  names : get (codes "names") d ≡ option_map names_data s.means.names
+  choose : get (codes "choose") d ≡ true_if s.means.choose
+  suffix : get (codes "suffix") d ≡ option_map count_data s.means.suffix
 
 then : {A B : Type 0} (o : Option A) (a : A) (f : A → Option B) (r : Option B) → o ≡ Some a → f a ≡ r → option_and_then f o ≡ r
 then o a f r e h = ap (option_and_then f) e ∙ h
@@ -127,8 +151,11 @@ standing_back d s h =
     (then (required whole (codes "number") d) s.citation_number _ _ (ap (option_and_then whole) h.number)
     (then (where_present counted_locator_form (codes "locator") d) s.locator _ _ (ap (or_default None (present counted_locator_form)) h.locator ∙ absent_back counted_locator_form locator_data s.locator locator_back)
     (then (optional DisambiguateState.None state_form (codes "state") d) s.disambiguation _ _ (ap (or_default DisambiguateState.None state_form) h.state ∙ state_back s.disambiguation)
+    (then (least_names d) s.means.names _ _ (least_back d s.means.names h.names)
+    (then (flag (codes "choose") d) s.means.choose _ _ (ap (or_default false as_bool) h.choose ∙ flag_back s.means.choose)
+    (then (where_present whole (codes "suffix") d) s.means.suffix _ _ (ap (or_default None (present whole)) h.suffix ∙ absent_back whole count_data s.means.suffix (λ n. refl))
     (then (optional IdentifierUsage.None (one_of usages) (codes "usage") d) s.identifier_usage _ _ (ap (or_default IdentifierUsage.None (one_of usages)) h.usage ∙ usage_back s.identifier_usage)
-    refl))))))))
+    refl)))))))))))
 
 -- ---- tasks, by their kinds
 
@@ -163,6 +190,9 @@ cite_says k s purpose verdict =
       locator = there t (codes "locator") ∙ first_of_none (option_map locator_data s.locator);
       state = there t (codes "state") ∙ first_of_none (state_data s.disambiguation);
       usage = there t (codes "usage") ∙ first_of_none (option_map string (usage_name s.identifier_usage));
+      names = there t (codes "names") ∙ first_of_none (option_map names_data s.means.names);
+      choose = there t (codes "choose") ∙ first_of_none (true_if s.means.choose);
+      suffix = there t (codes "suffix") ∙ first_of_none (option_map count_data s.means.suffix);
     }
 
 item_says : (k : TaskKey) (s : Standing) → SaysStanding (task_data (of_part k (TaskPart.Item s))) s
@@ -178,6 +208,9 @@ item_says k s =
       locator = there t (codes "locator") ∙ first_of_none (option_map locator_data s.locator);
       state = there t (codes "state") ∙ first_of_none (state_data s.disambiguation);
       usage = there t (codes "usage") ∙ first_of_none (option_map string (usage_name s.identifier_usage));
+      names = there t (codes "names") ∙ first_of_none (option_map names_data s.means.names);
+      choose = there t (codes "choose") ∙ first_of_none (true_if s.means.choose);
+      suffix = there t (codes "suffix") ∙ first_of_none (option_map count_data s.means.suffix);
     }
 
 record SaysKey (d : Data) (k : TaskKey) : Type 0 where
@@ -203,8 +236,8 @@ key_says k (TaskPart.Item s) =
       entry = there t (codes "entry");
       place = there t (codes "place") ∙ first_of_none (option_map place_data k.place);
     }
-key_says k TaskPart.Date =
-    let t = of_part k TaskPart.Date in
+key_says k (TaskPart.Date suffix) =
+    let t = of_part k (TaskPart.Date suffix) in
     record {
       style = there t (codes "style");
       locale = there t (codes "locale");
@@ -240,12 +273,15 @@ item_back k s =
     then (object_with keys d) d _ _ (only t keys refl)
     (ap (option_map TaskPart.Item) (standing_back d s (item_says t s)))
 
-date_back : (k : TaskKey) → date_task_form (task_data (of_part k TaskPart.Date)) ≡ Some TaskPart.Date
+date_back : (k : TaskKey) (suffix : Option ℕ) → date_task_form (task_data (of_part k (TaskPart.Date suffix))) ≡ Some (TaskPart.Date suffix)
 unfolding date_task_form
-date_back k =
-    let t = of_part k TaskPart.Date in
-    let keys = task_keys ++ codes "place" ∷ [] in
-    then (object_with keys (task_data t)) (task_data t) _ _ (only t keys refl) refl
+date_back k suffix =
+    let t = of_part k (TaskPart.Date suffix) in
+    let d = task_data t in
+    let keys = task_keys ++ codes "place" ∷ codes "suffix" ∷ [] in
+    then (object_with keys d) d _ _ (only t keys refl)
+    (ap (option_map TaskPart.Date)
+    (ap (or_default None (present whole)) (there t (codes "suffix") ∙ first_of_none (option_map count_data suffix)) ∙ absent_back whole count_data suffix (λ n. refl)))
 
 kind_read : (d : Data) (kind : TaskKind) (name : List ℕ) → get (codes "kind") d ≡ Some (string name) → one_of kinds (string name) ≡ Some kind
     → part_form d ≡ kind_task_form kind d
@@ -259,9 +295,9 @@ part_back k (TaskPart.Item s) h =
     let t = item_at k s None in
     subst (λ (place : LastPlace). part_form (task_data (item_at k s place)) ≡ Some (TaskPart.Item s)) (sym h)
     (kind_read (task_data t) TaskKind.Item (codes "item") (there t (codes "kind")) refl ∙ item_back k s)
-part_back k TaskPart.Date h =
-    let t = of_part k TaskPart.Date in
-    kind_read (task_data t) TaskKind.Date (codes "date") (there t (codes "kind")) refl ∙ date_back k
+part_back k (TaskPart.Date suffix) h =
+    let t = of_part k (TaskPart.Date suffix) in
+    kind_read (task_data t) TaskKind.Date (codes "date") (there t (codes "kind")) refl ∙ date_back k suffix
 
 key_back : (k : TaskKey) (part : TaskPart) → HasFittingPlace part k.place → key_form (task_data (of_part k part)) ≡ Some (of_part k part)
 unfolding key_form

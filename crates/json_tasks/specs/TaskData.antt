@@ -3,7 +3,9 @@ use Rattle.std.specs.Prelude.{ℕ, List, [], ◌∷◌, Bool, true, Option, Some
 use Rattle.serde_json.specs.Data.{Data, boolean, number, unsigned, string, array, object, no_items, item, Members, no_members, put}
 use Rattle.serde_json.specs.View.{items_of}
 use Rattle.csl_values.specs.declared.names.DisambiguatedNameForm.{DisambiguatedNameForm}
+use Rattle.csl_values.specs.declared.names.NameDisambiguationProperties.{NameDisambiguationProperties}
 use Rattle.csl_values.specs.declared.taxonomy.Locator.{Locator}
+use Rattle.csl_lookup.specs.declared.means.Means.{Means}
 use Rattle.csl_lookup.specs.declared.state.DisambiguateState.{DisambiguateState}
 use Rattle.host_table.specs.declared.key.Standing.{Standing}
 use Rattle.host_table.specs.declared.key.TaskKey.{TaskKey}
@@ -41,6 +43,9 @@ locator_data l = array (item (string (locator_name l.0)) (item (string l.1) no_i
 abbrev pub forms_data : List DisambiguatedNameForm → Data
 forms_data forms = array (items_of (map (λ form. string (form_name form)) forms))
 
+abbrev pub names_data : NameDisambiguationProperties → Data
+names_data names = forms_data names.forms
+
 abbrev pub one_member : List ℕ → Data → Data
 one_member key d = object (put key d no_members)
 
@@ -53,6 +58,13 @@ state_data (DisambiguateState.YearSuffix n) = Some (one_member (codes "suffix") 
 
 -- ---- the fields
 
+abbrev pub means_fields : Means → Fields
+means_fields m =
+    (codes "names", option_map names_data m.names)
+    ∷ (codes "choose", true_if m.choose)
+    ∷ (codes "suffix", option_map count_data m.suffix)
+    ∷ []
+
 abbrev pub standing_fields : Standing → Fields
 standing_fields s =
     (codes "note", option_map count_data s.note_number)
@@ -64,7 +76,7 @@ standing_fields s =
     ∷ (codes "locator", option_map locator_data s.locator)
     ∷ (codes "state", state_data s.disambiguation)
     ∷ (codes "usage", option_map string (usage_name s.identifier_usage))
-    ∷ []
+    ∷ means_fields s.means
 
 abbrev pub kind_field : List ℕ → List ℕ × Option Data
 kind_field kind = (codes "kind", Some (string kind))
@@ -76,7 +88,8 @@ part_fields (TaskPart.Cite standing purpose verdict) =
     ∷ (codes "verdict", option_map (λ v. string (verdict_name v)) verdict)
     ∷ standing_fields standing
 part_fields (TaskPart.Item standing) = kind_field (codes "item") ∷ standing_fields standing
-part_fields TaskPart.Date = kind_field (codes "date") ∷ []
+part_fields (TaskPart.Date suffix) =
+    kind_field (codes "date") ∷ (codes "suffix", option_map count_data suffix) ∷ []
 
 abbrev pub key_fields : TaskKey → Fields
 key_fields k =

@@ -3,6 +3,7 @@ use Rattle.std.specs.Prelude.{ℕ, List, [], ◌∷◌, ◌++◌, Option, Some, 
 use Rattle.std.specs.Cmp.Lexicographic.{pointwise}
 use Rattle.serde_json.specs.Data.{Data}
 use Rattle.serde_json.specs.Find.{get, as_str}
+use Rattle.csl_values.specs.declared.names.NameDisambiguationProperties.{NameDisambiguationProperties}
 use Rattle.csl_values.specs.declared.taxonomy.Locator.{Locator}
 use Rattle.csl_lookup.specs.declared.state.DisambiguateState.{DisambiguateState}
 use Rattle.csl_lookup.specs.declared.state.IbidState.{IbidState}
@@ -47,6 +48,17 @@ object_state d = if is_some (get (codes "names") d) then names_state d else suff
 unfoldable pub state_form : Data → Option DisambiguateState
 state_form d = elim (as_str d) [ Some s ↦ state_named s | None ↦ object_state d ]
 
+-- ---- what of the means is there
+
+unfoldable pub names_form : Data → Option NameDisambiguationProperties
+names_form o = do
+  forms ← items_of_key (one_of written_name_forms) (codes "names") o
+  Some (record { forms = forms })
+
+abbrev pub least_names : Data → Option (Option NameDisambiguationProperties)
+least_names o =
+    if is_some (get (codes "names") o) then option_map (λ x. Some x) (names_form o) else Some None
+
 -- ---- what is known of a cite
 
 unfoldable pub standing_form : Data → Option Standing
@@ -59,6 +71,9 @@ standing_form o = do
   number ← required whole (codes "number") o
   locator ← where_present counted_locator_form (codes "locator") o
   state ← optional DisambiguateState.None state_form (codes "state") o
+  names ← least_names o
+  choose ← flag (codes "choose") o
+  suffix ← where_present whole (codes "suffix") o
   usage ← optional IdentifierUsage.None (one_of usages) (codes "usage") o
   Some (record {
     note_number = note;
@@ -69,6 +84,7 @@ standing_form o = do
     citation_number = number;
     locator = locator;
     disambiguation = state;
+    means = record { names = names; choose = choose; suffix = suffix };
     identifier_usage = usage;
   })
 
@@ -80,7 +96,8 @@ task_keys = codes "kind" ∷ codes "style" ∷ codes "locale" ∷ codes "entry" 
 abbrev pub standing_keys : List (List ℕ)
 standing_keys = codes "note" ∷ codes "first_note" ∷ codes "near_note" ∷ codes "first"
     ∷ codes "repeats"
-    ∷ codes "number" ∷ codes "locator" ∷ codes "state" ∷ codes "usage" ∷ []
+    ∷ codes "number" ∷ codes "locator" ∷ codes "state" ∷ codes "names" ∷ codes "choose"
+    ∷ codes "suffix" ∷ codes "usage" ∷ []
 
 unfoldable pub cite_task_form : Data → Option TaskPart
 cite_task_form d = do
@@ -98,8 +115,8 @@ item_task_form d = do
 
 unfoldable pub date_task_form : Data → Option TaskPart
 date_task_form d = do
-  o ← object_with (task_keys ++ codes "place" ∷ []) d
-  Some TaskPart.Date
+  o ← object_with (task_keys ++ codes "place" ∷ codes "suffix" ∷ []) d
+  option_map TaskPart.Date (where_present whole (codes "suffix") o)
 
 abbrev pub kind_task_form : TaskKind → Data → Option TaskPart
 kind_task_form TaskKind.Cite d = cite_task_form d

@@ -21,6 +21,8 @@ ghost use Rattle.json_tasks.specs.TaskData.{
   count_data,
   forms_data,
   locator_data,
+  means_fields,
+  names_data,
   one_member,
   part_fields,
   place_data,
@@ -35,9 +37,10 @@ ghost use Rattle.json_tasks.specs.TaskData.{
 use crate::task_names::{
     form_name, locator_name, purpose_name, repeats_name, usage_name, verdict_name,
 };
-use csl_base::names::DisambiguatedNameForm;
+use csl_base::names::{DisambiguatedNameForm, NameDisambiguationProperties};
 use csl_base::taxonomy::Locator;
 use csl_base::text::Text;
+use csl_lookup::means::Means;
 use csl_lookup::purpose::CitePurpose;
 use csl_lookup::state::{CollapseVerdict, DisambiguateState};
 use host_table::key::{Standing, TaskKey, TaskPart};
@@ -141,6 +144,18 @@ fn forms_value(alloc: Global, forms: &[DisambiguatedNameForm]) -> Result<Value, 
     Ok(Value::from(items))
 }
 
+fn names_value(
+    alloc: Global,
+    names: &Option<NameDisambiguationProperties>,
+) -> Result<Option<Value>, AllocError>
+    ensures { IfOk result (λ v. option_map view v ≡ option_map names_data names.now) }
+{
+    match names {
+        Some(names) => Ok(Some(forms_value(alloc, names.forms.as_slice())?)),
+        None => Ok(None),
+    }
+}
+
 /// An object of one member.
 fn one_member(alloc: Global, key: &str, value: Value) -> Result<Value, AllocError>
     ensures { IfOk result (λ v. view v ≡ one_member key.now (view value)) }
@@ -198,6 +213,20 @@ fn put_text(
     serde_json::put(members, alloc, key, text)
 }
 
+fn put_means(
+    members: &mut Map<String, Value>,
+    alloc: Global,
+    means: &Means,
+) -> Result<(), AllocError>
+    ensures { OnOk result (members_view members.new.entries
+        ≡ put_fields (means_fields means.now) (members_view members.old.entries)) }
+{
+    let names = names_value(alloc, &means.names)?;
+    put_if(members, alloc, "names", names)?;
+    put_if(members, alloc, "choose", true_value(means.choose))?;
+    put_if(members, alloc, "suffix", count_value(means.suffix))
+}
+
 fn put_standing(
     members: &mut Map<String, Value>,
     alloc: Global,
@@ -233,7 +262,8 @@ fn put_standing(
     let state = state_value(alloc, &standing.disambiguation)?;
     put_if(members, alloc, "state", state)?;
     let usage = name_value(alloc, usage_name(standing.identifier_usage))?;
-    put_if(members, alloc, "usage", usage)
+    put_if(members, alloc, "usage", usage)?;
+    put_means(members, alloc, &standing.means)
 }
 
 fn put_part(
@@ -257,7 +287,10 @@ fn put_part(
             put_text(members, alloc, "kind", "item")?;
             put_standing(members, alloc, standing)
         }
-        TaskPart::Date => put_text(members, alloc, "kind", "date"),
+        TaskPart::Date(suffix) => {
+            put_text(members, alloc, "kind", "date")?;
+            put_if(members, alloc, "suffix", count_value(*suffix))
+        }
     }
 }
 

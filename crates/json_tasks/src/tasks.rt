@@ -11,7 +11,9 @@ ghost use Rattle.json_tasks.specs.TaskForm.{
   date_task_form,
   item_task_form,
   key_form,
+  least_names,
   counted_locator_form,
+  names_form,
   names_state,
   object_state,
   part_form,
@@ -28,6 +30,7 @@ use csl_base::names::NameDisambiguationProperties;
 use csl_base::seq::Seq;
 use csl_base::taxonomy::Locator;
 use csl_base::text::Text;
+use csl_lookup::means::Means;
 use csl_lookup::state::{DisambiguateState, IbidState, IdentifierUsage};
 use host_table::key::{Standing, TaskKey, TaskPart};
 use json_document::requests::locator_kind;
@@ -185,6 +188,33 @@ fn state_at(alloc: Global, object: &Value) -> Result<DisambiguateState, ReadErro
     }
 }
 
+// ---- means
+
+#[tactic(auto, unfolding(crate::specs::TaskForm::names_form))]
+fn names_of(alloc: Global, object: &Value) -> Result<NameDisambiguationProperties, ReadError>
+    ensures read { Reads (λ n. n) result (names_form (view object.now)) }
+    ensures fault { Faults result (view object.now) }
+{
+    let forms = names_at(alloc, NAME_FORMS, object, "names")?;
+    Ok(NameDisambiguationProperties {
+        forms: Seq::new(forms),
+    })
+}
+
+/// The least forms of names under the key `names`, if it is there.
+fn least_names(
+    alloc: Global,
+    object: &Value,
+) -> Result<Option<NameDisambiguationProperties>, ReadError>
+    ensures read { Reads (λ n. n) result (least_names (view object.now)) }
+    ensures fault { Faults result (view object.now) }
+{
+    if object.get("names").is_some() {
+        return Ok(Some(names_of(alloc, object)?));
+    }
+    Ok(None)
+}
+
 // ---- tasks
 
 #[tactic(auto, unfolding(crate::specs::TaskForm::standing_form))]
@@ -200,6 +230,9 @@ fn standing_of(alloc: Global, object: &Value) -> Result<Standing, ReadError>
     let citation_number = whole_at(alloc, object, "number")?;
     let locator = optional_locator(alloc, object)?;
     let disambiguation = state_at(alloc, object)?;
+    let names = least_names(alloc, object)?;
+    let choose = flag(alloc, object, "choose")?;
+    let suffix = optional_number(alloc, object, "suffix")?;
     let identifier_usage = name_or(alloc, USAGES, object, "usage", IdentifierUsage::None)?;
     Ok(Standing {
         note_number,
@@ -210,6 +243,11 @@ fn standing_of(alloc: Global, object: &Value) -> Result<Standing, ReadError>
         citation_number,
         locator,
         disambiguation,
+        means: Means {
+            names,
+            choose,
+            suffix,
+        },
         identifier_usage,
     })
 }
@@ -234,6 +272,9 @@ fn cite_part(alloc: Global, value: &Value) -> Result<TaskPart, ReadError>
             "number",
             "locator",
             "state",
+            "names",
+            "choose",
+            "suffix",
             "usage",
             "place",
             "purpose",
@@ -267,6 +308,9 @@ fn item_part(alloc: Global, value: &Value) -> Result<TaskPart, ReadError>
             "number",
             "locator",
             "state",
+            "names",
+            "choose",
+            "suffix",
             "usage",
         ],
         value,
@@ -279,8 +323,12 @@ fn date_part(alloc: Global, value: &Value) -> Result<TaskPart, ReadError>
     ensures read { Reads (λ p. p) result (date_task_form (view value.now)) }
     ensures fault { Faults result (view value.now) }
 {
-    object_with(alloc, &["kind", "style", "locale", "entry", "place"], value)?;
-    Ok(TaskPart::Date)
+    let object = object_with(
+        alloc,
+        &["kind", "style", "locale", "entry", "place", "suffix"],
+        value,
+    )?;
+    Ok(TaskPart::Date(optional_number(alloc, object, "suffix")?))
 }
 
 fn part_of(alloc: Global, value: &Value) -> Result<TaskPart, ReadError>

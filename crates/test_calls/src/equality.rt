@@ -3,6 +3,7 @@
 use csl_base::entry::PlainEntry;
 use csl_base::taxonomy::Locator;
 use csl_driver::locator::{LocatorPayload, SpecificLocator};
+use csl_driver::means::Means;
 use csl_driver::properties::{CertainCiteProperties, CiteProperties, SpeculativeCiteProperties};
 use csl_driver::request::{BibliographyRequest, CitationRequest};
 use csl_driver::state::{DisambiguateState, IbidState, IdentifierUsage};
@@ -56,6 +57,18 @@ fn chosen() -> Speculative {
     }
 }
 
+/// A cite that is disambiguated by a suffix, where means are taken together.
+fn told() -> Speculative {
+    SpeculativeCiteProperties {
+        means: Means {
+            names: None,
+            choose: false,
+            suffix: Some(0),
+        },
+        ..speculative(None, 0, IbidState::Different)
+    }
+}
+
 /// A cite that has written its number.
 fn numbered() -> Speculative {
     SpeculativeCiteProperties {
@@ -73,6 +86,7 @@ fn speculative_differ() -> bool {
         && base != speculative(None, 1, IbidState::Different)
         && base != speculative(None, 0, IbidState::Ibid)
         && base != chosen()
+        && base != told()
         && base != numbered()
 }
 

@@ -27,6 +27,7 @@ use csl_driver::driver::BibliographyDriver;
 use csl_driver::item::CitationItem;
 use csl_driver::locator::{LocatorPayload, SpecificLocator};
 use csl_driver::lookup::StyleContext;
+use csl_driver::means::{Means, is_chosen, suffix_told};
 use csl_driver::passes::{collapse_items, with_last};
 use csl_driver::properties::{CiteProperties, SpeculativeCiteProperties};
 use csl_driver::purpose::CitePurpose;
@@ -206,6 +207,26 @@ fn states(rt: &impl Eprint) -> bool {
     named(rt, "max");
     let greatest = DisambiguateState::Choose.max(suffix);
     mixed && !names && !choose && !other && greatest == DisambiguateState::YearSuffix(1)
+}
+
+/// Whether a test of `disambiguate` and a suffix are told by a state, by means, and by neither.
+fn told(rt: &impl Eprint) -> bool {
+    named(rt, "none");
+    let none = Means::none();
+    named(rt, "are_none");
+    let are_none = none.are_none();
+    let state = DisambiguateState::None;
+    named(rt, "is_chosen");
+    let chosen = is_chosen(&DisambiguateState::Choose, &none);
+    named(rt, "suffix_told");
+    let suffix = suffix_told(&DisambiguateState::YearSuffix(1), &none);
+    let means = Means {
+        names: None,
+        choose: true,
+        suffix: Some(2),
+    };
+    let by_state = are_none && chosen && suffix == Some(1);
+    by_state && is_chosen(&state, &means) && suffix_told(&state, &means) == Some(2)
 }
 
 // ---- locales
@@ -517,7 +538,11 @@ fn calls_of_values(
     entry: &PlainEntry,
     files: &[Locale],
 ) -> Result<bool, AllocError> {
-    let are_small = brackets_and_counts(rt) && properties(rt) && forms(rt)? && states(rt);
+    let are_small = brackets_and_counts(rt)
+        && properties(rt)
+        && forms(rt)?
+        && states(rt)
+        && told(rt);
     Ok(are_small && locales(rt, style, entry, files)? && contexts(rt, style, entry)?)
 }
 

@@ -55,6 +55,7 @@ pub mod of_writing {
     };
     pub use csl_writing::locator::{LocatorPayload, SpecificLocator, TransparentLocator};
     pub use csl_writing::lookup::StyleContext;
+    pub use csl_writing::means::{Means, is_chosen, names_told, suffix_told};
     pub use csl_writing::picking::{macros_unfold, suffixes_unfold};
     pub use csl_writing::prepared::PreparedStyle;
     pub use csl_writing::properties::{
@@ -139,6 +140,7 @@ pub mod of_driver {
     pub use csl_driver::locator::SpecificLocator;
     pub use csl_driver::locator::TransparentLocator;
     pub use csl_driver::lookup::StyleContext;
+    pub use csl_driver::means::Means;
     pub use csl_driver::names::DisambiguatedNameForm;
     pub use csl_driver::names::NameDisambiguationProperties;
     pub use csl_driver::names::forms_are_in_order;

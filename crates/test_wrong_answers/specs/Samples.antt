@@ -12,6 +12,7 @@ use Rattle.csl_style_values.specs.declared.style.DisambiguationRule.{Disambiguat
 use Rattle.csl_style_values.specs.declared.style.StyleClass.{StyleClass}
 use Rattle.csl_values.specs.declared.taxonomy.NameVariable.{NameVariable}
 use Rattle.csl_lookup.specs.declared.state.DisambiguateState.{DisambiguateState}
+use Rattle.csl_lookup.specs.Means.{no_means}
 use Rattle.csl_lookup.specs.declared.state.IbidState.{IbidState}
 use Rattle.csl_lookup.specs.declared.state.IdentifierUsage.{IdentifierUsage}
 use Rattle.csl_passes.specs.Renders.{CiteRender, ItemRender}
@@ -77,6 +78,7 @@ sample_cite n number tree = record {
       citation_number = number;
       ibid = IbidState.Different;
       disambiguation = DisambiguateState.None;
+      means = no_means;
       identifier_usage = IdentifierUsage.None;
     };
   };

@@ -8,6 +8,7 @@ returns g c =
     let speculative = speculative_copied g.row.P any in
     record {
       state = state_copied;
+      means = λ a b h. h;
       shared = λ a b h. h;
       payload = payload_copied g.row.P any;
       locator = locator_copied g.row.P any;

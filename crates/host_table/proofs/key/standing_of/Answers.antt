@@ -14,6 +14,7 @@ returns g c =
       | in-None w ↦ w.locator-is ∙ ap (λ l. option_map located (option_map locator_view l)) (sym w.in-None.is)
     ] in
     let state : c.in_ok-clone.field-0 ≡ c.args.properties.now.speculative.disambiguation = state_copied _ _ c.in_ok-clone.ensures.cases in
+    let means : c.in_ok-clone-2.field-0 ≡ c.args.properties.now.speculative.means = c.in_ok-clone-2.ensures.cases in
     λ i. record {
       note_number = c.args.properties.now.certain.note_number;
       first_note_number = c.args.properties.now.certain.first_note_number;
@@ -23,5 +24,6 @@ returns g c =
       citation_number = c.args.properties.now.speculative.citation_number;
       locator = locator i;
       disambiguation = state i;
+      means = means i;
       identifier_usage = c.args.properties.now.speculative.identifier_usage;
     }

@@ -1,4 +1,4 @@
-use Rattle.std.proofs.Common.{◌≡◌, ap, sym, refl, true≢false}
+use Rattle.std.proofs.Common.{◌≡◌, ap, sym, true≢false}
 use Rattle.std.specs.Cmp.{booleans_Decides, unsigned_Decides}
 use Rattle.csl_values.proofs.Told.{option_told}
 use Rattle.csl_values.specs.Finds.{both, and-true, decides, finds, pairs_find, texts_find}
@@ -16,7 +16,7 @@ returns-clause-standing c a b =
     let states = c.state_equality_decides.ensures in
     let notes = option_told unsigned_Decides in
     let locators = option_told (decides (pairs_find (finds words.locator) texts_find)) in (
-      λ e. let p = both _ _ e in let q = both _ _ p.1 in let r = both _ _ q.1 in let s = both _ _ r.1 in let t = both _ _ s.1 in let u = both _ _ t.1 in let v = both _ _ u.1 in let w = both _ _ v.1 in
+      λ e. let p = both _ _ e in let q = both _ _ p.1 in let r = both _ _ q.1 in let s = both _ _ r.1 in let t = both _ _ s.1 in let u = both _ _ t.1 in let v = both _ _ u.1 in let w = both _ _ v.1 in let x = both _ _ w.1 in
           λ i. record {
             note_number = (notes a.note_number b.note_number).0 p.0 i;
             first_note_number = (notes a.first_note_number b.first_note_number).0 q.0 i;
@@ -26,7 +26,8 @@ returns-clause-standing c a b =
             citation_number = (unsigned_Decides a.citation_number b.citation_number).0 u.0 i;
             locator = (locators a.locator b.locator).0 v.0 i;
             disambiguation = (states.state a.disambiguation b.disambiguation).0 w.0 i;
-            identifier_usage = (states.usage a.identifier_usage b.identifier_usage).0 w.1 i;
+            means = (states.means a.means b.means).0 x.0 i;
+            identifier_usage = (states.usage a.identifier_usage b.identifier_usage).0 x.1 i;
           },
       λ e.
           and-true _ _ ((notes a.note_number b.note_number).1 (ap (λ x. x.note_number) e))
@@ -37,7 +38,8 @@ returns-clause-standing c a b =
           (and-true _ _ ((unsigned_Decides a.citation_number b.citation_number).1 (ap (λ x. x.citation_number) e))
           (and-true _ _ ((locators a.locator b.locator).1 (ap (λ x. x.locator) e))
           (and-true _ _ ((states.state a.disambiguation b.disambiguation).1 (ap (λ x. x.disambiguation) e))
-          ((states.usage a.identifier_usage b.identifier_usage).1 (ap (λ x. x.identifier_usage) e))))))))),
+          (and-true _ _ ((states.means a.means b.means).1 (ap (λ x. x.means) e))
+          ((states.usage a.identifier_usage b.identifier_usage).1 (ap (λ x. x.identifier_usage) e)))))))))),
     )
 
 parts_told : TellsEqual (standing_eq.ghosts).eq → TellsEqual (purpose_eq.ghosts).eq → TellsEqual (verdict_eq.ghosts).eq → TellsEqual (part_eq.ghosts).eq
@@ -54,7 +56,10 @@ parts_told standing purpose verdict (parts.Item s) (parts.Item t) = (
   λ e. ap parts.Item ((standing s t).0 e),
   λ e. let same : s ≡ t = cc in (standing s t).1 same,
 )
-parts_told standing purpose verdict parts.Date parts.Date = (λ e. refl, λ e. refl)
+parts_told standing purpose verdict (parts.Date m) (parts.Date n) = (
+  λ e. ap parts.Date ((option_told unsigned_Decides m n).0 e),
+  λ e. let same : m ≡ n = cc in (option_told unsigned_Decides m n).1 same,
+)
 parts_told standing purpose verdict _ _ = (λ e. absurd (true≢false (sym e)), λ e. cc)
 
 pub returns-clause-part : goal.returns-clause-part

@@ -1,0 +1,92 @@
+//! A writer of cites that is asked for mentions.
+ghost use Rattle.std.specs.Prelude.{◌≡◌, ◌∷◌, [], IfOk, OnOk};
+ghost use Rattle.csl_lookup.specs.PropertiesView.{properties_view};
+ghost use Rattle.csl_writers.specs.Desk.{after, desk};
+ghost use Rattle.csl_writers.specs.Tasks.{cite_task};
+ghost use Rattle.csl_tables.specs.Asked.{is_told};
+ghost use Rattle.csl_cited_mentions.specs.Cited.{with_properties};
+
+use crate::kept::{KeptOfMention, Noted, written_mention};
+use crate::means::with_means;
+use crate::mention::CiteMention;
+use csl_base::entry::EntryLike;
+use csl_lookup::properties::CiteProperties;
+use csl_mentions::state::MentionState;
+use csl_tables::writer::{WrittenBy, WrittenMention};
+use csl_writers::asking::written_cite;
+use csl_writers::cite::Cite;
+use csl_writers::counter::Renders;
+use csl_writers::task::CiteTask;
+use csl_writers::writer::CiteWriter;
+use std::alloc::Global;
+
+/// Whether something tells a mention apart.
+fn is_told(state: &MentionState) -> bool
+    ensures { result ≡ is_told state.now }
+{
+    state.chosen || state.names.is_some()
+}
+
+/// A mention as the writer writes it by these properties.
+fn written_by<T: EntryLike, P, W: CiteWriter<T, P>>(
+    alloc: Global,
+    mention: &CiteMention<'_, '_, T, P>,
+    properties: &CiteProperties<'_, P>,
+    writer: &mut W,
+    counter: &mut Renders,
+) -> Result<Cite, W::Error>
+    ensures cite { IfOk result (λ c. c ≡ (W.state writer.old).cite
+        (with_properties mention.now (properties_view properties.now))) }
+    ensures asked { OnOk result (desk (W.state writer.new) counter.new
+        ≡ after (cite_task (with_properties mention.now (properties_view properties.now)) ∷ [])
+        (desk (W.state writer.old) counter.old)) }
+{
+    let task = CiteTask {
+        source: mention.source,
+        entry: mention.entry,
+        properties,
+        purpose: None,
+        verdict: None,
+        place: None,
+    };
+    written_cite(alloc, task, writer, counter)
+}
+
+impl<'t, 'p, T: EntryLike, P: Drop, W: CiteWriter<T, P>> WrittenBy<W, Renders>
+    for CiteMention<'t, 'p, T, P> {
+    ghost use Rattle.csl_cited_mentions.specs.Cited.{cited};
+
+    type Error = W::Error;
+
+    type Kept = KeptOfMention;
+
+    type Notes = Noted<W::Note>;
+
+    ghost writing = { λ w n. cited (W.state w) n };
+
+    fn write_first(
+        &self,
+        alloc: Global,
+        writer: &mut W,
+        counter: &mut Renders,
+    ) -> Result<WrittenMention<KeptOfMention>, W::Error> {
+        let cite = written_by(alloc, self, self.properties, writer, counter)?;
+        Ok(written_mention(alloc, &cite)?)
+    }
+
+    fn write_again(
+        &self,
+        alloc: Global,
+        told: &MentionState,
+        first: &KeptOfMention,
+        writer: &mut W,
+        counter: &mut Renders,
+    ) -> Result<WrittenMention<KeptOfMention>, W::Error> {
+        if !is_told(told) {
+            return self.write_first(alloc, writer, counter);
+        }
+        let properties = with_means(self.properties, told, first.usage)?;
+        let cite = written_by(alloc, self, &properties, writer, counter)?;
+        Ok(written_mention(alloc, &cite)?)
+    }
+}

@@ -1,0 +1,4 @@
+pub mod Notes
+pub mod Known
+pub mod Repeats
+pub mod Noted

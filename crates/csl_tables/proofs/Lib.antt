@@ -1,0 +1,5 @@
+pub mod Asking
+pub mod Changing
+pub mod Walking
+pub mod Groups
+pub mod Joined
