@@ -1,6 +1,7 @@
 -- What the driver answers to a document's requests, and what it refuses, is of the document.
 use Rattle.csl_writing.specs.LayoutWriting.{layout_writing}
 use Rattle.std.proofs.Common.{◌≡◌, ℕ, Bool, List, Some, refl, ap, sym, ◌∙◌, subst}
+use Rattle.std.specs.declared.alloc.AllocError.{AllocError}
 use Rattle.std.specs.declared.convert.Infallible.{Infallible}
 use Rattle.csl_values.specs.PlainEntry.{plain_answers}
 use Rattle.csl_values.specs.declared.entry.PlainEntry.{PlainEntry}
@@ -8,10 +9,13 @@ use Rattle.csl_driver.specs.Answer.{rendered}
 use Rattle.csl_passes.specs.Request.{Wanted}
 use Rattle.csl_round_laws.specs.declared.mode.RoundMode.{RoundMode}
 use Rattle.csl_driver.specs.Driver.{Driver}
-use Rattle.csl_driver.specs.Promised.{CanBeAnswered}
+use Rattle.csl_driver.specs.OwnError.{own_error}
+use Rattle.csl_driver.specs.Promised.{CanBeAnswered, RefusesWith}
 use Rattle.csl_driver.specs.Rings.{IsFirstRingOf, NoRingAtAll, Overflows, Refuses}
 use Rattle.csl_driver.specs.declared.error.DriverError.{DriverError}
 use Rattle.csl_driver.specs.declared.error.DriverError.TheVariants as drivers
+use Rattle.csl_driver.specs.declared.error.FinishError.{FinishError}
+use Rattle.csl_driver.specs.declared.error.FinishError.TheVariants as finishes
 use Rattle.csl_driver.specs.declared.error.RingLocation.{RingLocation}
 use Rattle.csl_assembly.specs.declared.rendered.Rendered.{Rendered}
 use Rattle.json_document.specs.Form.{Document}
@@ -44,3 +48,8 @@ module _ (v : Driver PlainEntry Infallible) (w : Wanted PlainEntry) (d : Documen
   refused-for document x same (drivers.MacroRing place i) h = (x, refl, subst (HasFirstRing place i) (sym same) (first_ring place i h))
   refused-for document x same drivers.NumberOverflow h = (x, refl, subst HasTooLargeNumbers (sym same) (too_large h))
   refused-for document x same (drivers.OutOfMemory e) h = tt
+
+  -- and so is what it refuses with its own writer
+  pub refused-with : {D : Type 0} (document : D → Document) (x : D) → document x ≡ d → (e : FinishError AllocError) → RefusesWith same_plain_entry (record { wanted = w; requests = v.requests; offset = v.offset }) e → IsRefusedFor document (refused (own_error e)) (Some x)
+  refused-with document x same (finishes.Driver e) h = refused-for document x same e h
+  refused-with document x same (finishes.Writer a) h = tt

@@ -1,13 +1,12 @@
 -- Which documents are within limits.
 use Rattle.std.specs.Prelude.{◌≡◌, ℕ, List, map, Option, Some, None, Result, Ok, Err, option_map, ⊤}
 use Rattle.std.specs.List.{All, Any}
-use Rattle.serde_json.specs.Read.{read}
 use Rattle.csl_style_values.specs.Ring.{HasNoRing}
 use Rattle.csl_style_values.specs.Style.{StyleValue}
 use Rattle.csl_limits.specs.Limited.{Exceeds, IsWithinLimits}
 use Rattle.csl_limits.specs.declared.limits.Excess.TheVariants as excess
 use Rattle.csl_limits.specs.declared.limits.Limits.{Limits}
-use Rattle.json_document.specs.Form.{top_form, utf8_text}
+use Rattle.json_document.specs.Form.{top_form, value_in}
 use Rattle.json_styles.specs.Styles.{NamedStyle, styles_form}
 use Rattle.json_values.specs.Words.{◌>>=◌}
 use Rattle.json_values.specs.declared.error.ReadError.{ReadError}
@@ -19,8 +18,7 @@ use Rattle.cite_document.specs.declared.limits.LimitError.TheVariants as errors
 -- the rest of the document only the keys are read
 unfoldable pub named_styles_in : List ℕ → Option (List NamedStyle)
 named_styles_in bytes = do
-  text ← utf8_text bytes
-  value ← read text
+  value ← value_in bytes
   object ← top_form value
   styles_form object
 

@@ -2,7 +2,7 @@
 ghost use Rattle.std.specs.Prelude.{◌≡◌};
 ghost use Rattle.cite_document.specs.Status.{status};
 
-use csl_driver::error::{DriverError, RingLocation};
+use csl_driver::error::{DriverError, FinishError, RingLocation};
 use json_values::error::ReadError;
 use std::alloc::{AllocError, AllocFailed};
 use thiserror::Error;
@@ -98,5 +98,17 @@ impl From<DriverError> for RunError {
             DriverError::NumberOverflow => RunError::NumberOverflow,
             DriverError::OutOfMemory(_) => RunError::OutOfMemory,
         }
+    }
+}
+
+impl From<FinishError<AllocError>> for RunError {
+    ghost use Rattle.std.specs.Prelude.{◌≡◌};
+    ghost use Rattle.csl_driver.specs.OwnError.{own_error};
+    ghost use Rattle.cite_document.specs.Status.{refused};
+
+    ghost from_gives = { λ finish e. e ≡ refused (own_error finish) };
+
+    fn from(error: FinishError<AllocError>) -> RunError {
+        RunError::from(DriverError::from(error))
     }
 }

@@ -3,8 +3,7 @@ ghost use Rattle.std.specs.Prelude.{◌≡◌, ◌++◌, IfOk, OnOk, string_byte
 ghost use Rattle.std.specs.Fmt.{decimal};
 ghost use Rattle.std.specs.List.{flat_map};
 ghost use Rattle.std.specs.Str.{chars};
-ghost use Rattle.json_document.specs.Faults.{value_in};
-ghost use Rattle.json_document.specs.Form.{form};
+ghost use Rattle.json_document.specs.Form.{form, value_in};
 ghost use Rattle.cite_document.specs.FaultText.{
   escaped,
   fault_text,

@@ -14,7 +14,7 @@ ghost use Rattle.cite_document.specs.Limited.{
 use csl_base::style::IndependentStyle;
 use csl_limits::limits::{Excess, Limits};
 use csl_styles::prepared::PreparedStyle;
-use json_document::document::{top_of, utf8_text, value_of};
+use json_document::document::{read_value, top_of};
 use json_styles::styles::{NamedStyle, styles_of};
 use json_values::error::ReadError;
 use std::alloc::{AllocError, Global};
@@ -91,8 +91,7 @@ pub fn check_limits(alloc: Global, bytes: &[u8], limits: &Limits) -> Result<(), 
 fn styles_of_bytes(alloc: Global, bytes: &[u8]) -> Result<Vec<NamedStyle>, ReadError>
     ensures { Reads (λ v. named_styles_view v.items) result (named_styles_in bytes.now) }
 {
-    let text = utf8_text(alloc, bytes)?;
-    let value = value_of(alloc, text)?;
+    let value = read_value(alloc, bytes)?;
     let object = top_of(alloc, &value)?;
     styles_of(alloc, object)
 }

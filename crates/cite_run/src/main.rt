@@ -10,16 +10,13 @@ use cite_document::running::run;
 use std::io;
 use std::process::ExitCode;
 
-fn answer(rt: &(impl Input + Print + AllocGlobal)) -> Result<(), RunError> {
-    // a reading that fails is a failed input for whatever cause, want of memory too
-    let Ok(bytes) = read_input(rt.alloc(), &mut rt.reader()) else {
-        return Err(RunError::Output);
-    };
-    run(rt.alloc(), &bytes, &mut io::writer(rt))
-}
-
 fn main(rt: HostRuntime) -> ExitCode {
-    match answer(&rt) {
+    let result = match read_input(rt.alloc(), &mut rt.reader()) {
+        Ok(bytes) => run(rt.alloc(), &bytes, &mut io::writer(&rt)),
+        // a reading that fails is a failed input for whatever cause, want of memory too
+        Err(_) => Err(RunError::Output),
+    };
+    match result {
         Ok(()) => ExitCode::SUCCESS,
         Err(error) => {
             let _ = eprintln!(rt; "{error}");

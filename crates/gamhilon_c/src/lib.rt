@@ -8,8 +8,7 @@ mod buffer;
 mod ring;
 mod texts;
 
-ghost use Rattle.json_document.specs.Faults.{value_in};
-ghost use Rattle.json_document.specs.Form.{form};
+ghost use Rattle.json_document.specs.Form.{form, value_in};
 ghost use Rattle.cite_document.specs.Limited.{styles_in};
 ghost use Rattle.cite_document.specs.Print.{json_text, print};
 ghost use Rattle.host_document.specs.DrivenForm.{driven_form};

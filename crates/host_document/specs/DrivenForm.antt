@@ -1,14 +1,13 @@
 -- The driven document that some bytes are.
 use Rattle.std.specs.Prelude.{ℕ, List, [], ◌∷◌, Option, Some, None, codes}
 use Rattle.serde_json.specs.Data.{Data}
-use Rattle.serde_json.specs.Read.{read}
 use Rattle.csl_values.specs.declared.entry.PlainEntry.{PlainEntry}
 use Rattle.host_table.specs.declared.key.TaskKey.{TaskKey}
 use Rattle.csl_writers.specs.declared.cite.Cite.{Cite}
 use Rattle.json_values.specs.Words.{◌>>=◌, object_with, items_of_key, optional}
 use Rattle.json_styles.specs.Styles.{NamedStyle, style_named}
 use Rattle.json_document.specs.Entries.{entry_form, entry_named}
-use Rattle.json_document.specs.Form.{Document, asked_form, utf8_text}
+use Rattle.json_document.specs.Form.{Document, asked_form, value_in}
 use Rattle.json_tasks.specs.WrittenForm.{table_form}
 use Rattle.host_document.specs.DrivenStyles.{driven_styles_form}
 
@@ -47,6 +46,5 @@ driven_document_form d = do
 -- the driven document that the bytes are, or none
 unfoldable pub driven_form : List ℕ → Option DrivenDocument
 driven_form bytes = do
-  text ← utf8_text bytes
-  value ← read text
+  value ← value_in bytes
   driven_document_form value

@@ -2,7 +2,8 @@
 ghost use Rattle.std.specs.Prelude.{◌≡◌, IfOk, IsSome, MatchOption, None};
 ghost use Rattle.serde_json.specs.View.{view};
 ghost use Rattle.json_values.specs.Reads.{Faults};
-ghost use Rattle.json_document.specs.Faults.{FaultsIn, IsFaultIn, Judges, value_in};
+ghost use Rattle.json_document.specs.Faults.{FaultsIn, IsFaultIn, Judges};
+ghost use Rattle.json_document.specs.Form.{value_in};
 ghost use Rattle.cite_document.specs.TellsFault.{TellsFault};
 ghost use Rattle.host_document.specs.DrivenForm.{driven_document_form, driven_form};
 
@@ -10,7 +11,7 @@ use crate::reading::{driven_top_of, table_at};
 use crate::styles::driven_styles_of;
 use cite_document::error::RunError;
 use cite_document::faults::print_fault;
-use json_document::document::{job_in, utf8_text, value_of};
+use json_document::document::{job_in, read_value};
 use json_document::entries::entries_of;
 use json_document::finders::found_styles;
 use json_values::error::ReadError;
@@ -33,13 +34,12 @@ fn read_through(alloc: Global, value: &Value) -> Result<(), ReadError>
     Ok(())
 }
 
-#[tactic(auto, unfolding(crate::specs::DrivenForm::driven_form, json_document::specs::Faults::value_in))]
+#[tactic(auto, unfolding(crate::specs::DrivenForm::driven_form))]
 fn read_bytes(alloc: Global, bytes: &[u8]) -> Result<(), ReadError>
     ensures read { Judges result (driven_form bytes.now) }
     ensures fault { FaultsIn result (value_in bytes.now) }
 {
-    let text = utf8_text(alloc, bytes)?;
-    let value = value_of(alloc, text)?;
+    let value = read_value(alloc, bytes)?;
     read_through(alloc, &value)
 }
 

@@ -1,8 +1,6 @@
 -- Where a document is wrong.
-use Rattle.std.specs.Prelude.{◌≡◌, ℕ, List, [], Option, Some, None, IsSome, Result, Ok, Err}
+use Rattle.std.specs.Prelude.{◌≡◌, [], Option, Some, None, IsSome, Result, Ok, Err}
 use Rattle.serde_json.specs.Data.{Data}
-use Rattle.serde_json.specs.Read.{read}
-use Rattle.json_values.specs.Words.{◌>>=◌}
 use Rattle.json_values.specs.Faults.{IsFaultOf}
 use Rattle.json_values.specs.Reads.{Fails}
 use Rattle.json_values.specs.declared.error.ReadError.{ReadError}
@@ -10,7 +8,6 @@ use Rattle.json_values.specs.declared.error.ReadError.TheVariants as errors
 use Rattle.json_values.specs.declared.fault.Fault.{Fault}
 use Rattle.json_values.specs.declared.fault.Found.{Found}
 use Rattle.json_values.specs.declared.fault.Found.TheVariants as found
-use Rattle.json_document.specs.Form.{utf8_text}
 
 -- that is said of a text, and not of a value
 abbrev pub IsOfText : Found → Type 0
@@ -31,12 +28,6 @@ IsTextError errors.OutOfMemory = Unit {0}
 abbrev pub TextFaults : {X : Type 0} → Result X ReadError → Type 0
 TextFaults (Ok x) = Unit {0}
 TextFaults (Err e) = IsTextError e
-
--- the value that the bytes are, or none
-unfoldable pub value_in : List ℕ → Option Data
-value_in bytes = do
-  text ← utf8_text bytes
-  read text
 
 -- the fault is one of the value, or of the text that is none
 abbrev pub IsFaultIn : Fault → Option Data → Type 0

@@ -69,9 +69,14 @@ document_form d = do
 abbrev pub utf8_text : List ℕ → Option (List ℕ)
 utf8_text bytes = if is_utf8 bytes then Some bytes else None
 
+-- the value that the bytes are, or none
+unfoldable pub value_in : List ℕ → Option Data
+value_in bytes = do
+  text ← utf8_text bytes
+  read text
+
 -- the document that the bytes are, or none
 unfoldable pub form : List ℕ → Option Document
 form bytes = do
-  text ← utf8_text bytes
-  value ← read text
+  value ← value_in bytes
   document_form value

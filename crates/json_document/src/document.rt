@@ -7,8 +7,8 @@ ghost use Rattle.json_document.specs.Finders.{entry_in, style_in};
 ghost use Rattle.json_document.specs.FoundView.{found_views};
 ghost use Rattle.json_styles.specs.Styles.{style_named};
 ghost use Rattle.json_document.specs.Entries.{entry_named};
-ghost use Rattle.json_document.specs.Faults.{IsOfText, IsTextError, TextFaults};
-ghost use Rattle.json_document.specs.Form.{asked_form, top_form, utf8_text};
+ghost use Rattle.json_document.specs.Faults.{FaultsIn, IsOfText, IsTextError, TextFaults};
+ghost use Rattle.json_document.specs.Form.{asked_form, top_form, utf8_text, value_in};
 ghost use Rattle.json_document.specs.Requests.{wanted_form};
 ghost use Rattle.json_document.specs.WantedView.{asked_bibliography_view};
 ghost use Rattle.json_values.specs.Words.{required};
@@ -95,6 +95,16 @@ pub fn value_of(alloc: Global, text: &str) -> Result<Value, ReadError>
             Err(wrong_text(alloc, found, fault::Wanted::Json))
         }
     }
+}
+
+/// The JSON value that the bytes are.
+#[tactic(auto, unfolding(crate::specs::Form::value_in))]
+pub fn read_value(alloc: Global, bytes: &[u8]) -> Result<Value, ReadError>
+    ensures read { Reads view result (value_in bytes.now) }
+    ensures fault { FaultsIn result (value_in bytes.now) }
+{
+    let text = utf8_text(alloc, bytes)?;
+    value_of(alloc, text)
 }
 
 /// The object that the document is.

@@ -2,10 +2,10 @@
 ghost use Rattle.std.specs.Prelude.{◌≡◌, IfOk, IsSome, MatchOption, None};
 ghost use Rattle.serde_json.specs.View.{view};
 ghost use Rattle.json_values.specs.Reads.{Faults};
-ghost use Rattle.json_document.specs.Faults.{FaultsIn, IsFaultIn, Judges, value_in};
-ghost use Rattle.json_document.specs.Form.{document_form, form};
+ghost use Rattle.json_document.specs.Faults.{FaultsIn, IsFaultIn, Judges};
+ghost use Rattle.json_document.specs.Form.{document_form, form, value_in};
 
-use crate::document::{job_in, top_of, utf8_text, value_of};
+use crate::document::{job_in, read_value, top_of};
 use crate::entries::entries_of;
 use crate::finders::found_styles;
 use json_styles::locales::locales_at;
@@ -30,13 +30,12 @@ fn read_through(alloc: Global, value: &Value) -> Result<(), ReadError>
     Ok(())
 }
 
-#[tactic(auto, unfolding(crate::specs::Form::form, crate::specs::Faults::value_in))]
+#[tactic(auto, unfolding(crate::specs::Form::form))]
 fn read_bytes(alloc: Global, bytes: &[u8]) -> Result<(), ReadError>
     ensures read { Judges result (form bytes.now) }
     ensures fault { FaultsIn result (value_in bytes.now) }
 {
-    let text = utf8_text(alloc, bytes)?;
-    let value = value_of(alloc, text)?;
+    let value = read_value(alloc, bytes)?;
     read_through(alloc, &value)
 }
 

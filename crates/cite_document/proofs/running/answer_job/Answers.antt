@@ -5,8 +5,8 @@ use Rattle.csl_driver.specs.DriverView.{driver_view}
 use Rattle.csl_passes.specs.RequestView.{wanted_view}
 use Rattle.json_document.specs.JobView.{asked_requests_view}
 use Rattle.json_document.specs.DocumentView.{document_view}
-use Rattle.cite_document.specs.Run.{accepted, same_plain_entry, wanted_of}
-use Rattle.cite_document.proofs.Refusals.{has_answer, is_answer, refused-for}
+use Rattle.cite_document.specs.Run.{accepted, wanted_of}
+use Rattle.cite_document.proofs.Refusals.{has_answer, is_answer, refused-with}
 use Rattle.cite_document.proofs.running.answer_job.Goals as goal
 
 pub returns : goal.returns
@@ -19,8 +19,8 @@ returns c =
     c.in_ok-driver.ensures.filled
     ∙ (λ i. record { requests = accepted (asked_requests_view (map locale_view (c.in_ok-files.ensures i)) (c.deref.ensures.value i)); offset = job.offset }) in
     let wanted : w ≡ wanted_of d = c.in_ok-request.ensures ∙ (λ i. record (wanted_of d) { locales = map locale_view (c.in_ok-files.ensures i) }) in
-    let a = has_answer v w d made wanted c.in_ok-rendered.ensures.possible in
-    (d, refl, (a, is_answer v w d made wanted job.rounds c.in_ok-rendered.rendered refl c.in_ok-rendered.ensures.answer))
+    let a = has_answer v w d made wanted c.in_ok-rendered.ensures.finished.possible in
+    (d, refl, (a, is_answer v w d made wanted job.rounds c.in_ok-rendered.rendered refl c.in_ok-rendered.ensures.finished.answer.exact.ok))
 
 pub returns-in_err-rendered : goal.returns-in_err-rendered
 returns-in_err-rendered c =
@@ -32,5 +32,5 @@ returns-in_err-rendered c =
     c.in_ok-driver.ensures.filled
     ∙ (λ i. record { requests = accepted (asked_requests_view (map locale_view (c.in_ok-files.ensures i)) (c.deref.ensures.value i)); offset = job.offset }) in
     let wanted : w ≡ wanted_of d = c.in_ok-request.ensures ∙ (λ i. record (wanted_of d) { locales = map locale_view (c.in_ok-files.ensures i) }) in
-    let h = refused-for v w d made wanted (λ x. x) d refl c.in_err-rendered.field-0.0 c.in_err-rendered.ensures.refused in
+    let h = refused-with v w d made wanted (λ x. x) d refl c.in_err-rendered.field-0.0 c.in_err-rendered.ensures.finished.refused in
     search (rules, h)
