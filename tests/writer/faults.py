@@ -20,6 +20,9 @@ LOCALE = ('<locale xmlns="http://purl.org/net/xbiblio/csl" version="1.0" xml:lan
 DEPENDENT = ('<style xmlns="http://purl.org/net/xbiblio/csl" version="1.0"><info><title>D</title><id>D</id>'
              '<link href="http://www.zotero.org/styles/s" rel="independent-parent"/><updated>2026-01-01T00:00:00+00:00</updated>'
              '</info></style>')
+MARK = b'\xef\xbb\xbf'
+# Lists that nest one level too deep: the reader stops behind the bracket that opens it.
+DEEP = '[' * 128 + ']' * 128
 PAGE = '<!DOCTYPE html>\n<html>\n<head>\n<meta charset="utf-8">\n<title>References</title>\n</head>\n<body>\n%s</body>\n</html>\n'
 
 
@@ -131,6 +134,14 @@ FAULTS = [
     cited('an odd style', 0, ['FILE/s.csl:3:42: warning: …'], out='A\n', s=STYLE.replace('<text variable="title"/>', '<text variable="title" colour="red"/>')),
     # References
     cited('references that are no JSON', 2, ['FILE/r.json: error: no JSON from line 2, column 1'], r='[\n}'),
+    cited('references that nest too deep', 2, ['FILE/r.json: error: nested deeper than 127 levels from line 1, column 129'], r=DEEP),
+    cited('references that stop too deep', 2, ['FILE/r.json: error: nested deeper than 127 levels from line 1, column 128'], r='[' * 128),
+    cited('references that are wrong before they nest too deep', 2, ['FILE/r.json: error: no JSON from line 1, column 2'], r='[!' + DEEP),
+    cited('references with brackets in a text', 2, ['FILE/r.json: error: no JSON from line 2, column 1'], r='["\\"%s"\n}' % ('[' * 200)),
+    cited('references with one list behind the other', 2, ['FILE/r.json: error: no JSON from line 1, column 602'],
+          r='[' + '[],' * 200 + '}'),
+    cited('references behind a byte order mark', 2, ['FILE/r.json: error: begins with a byte order mark'], r=MARK + REFERENCES.encode()),
+    cited('bytes behind a byte order mark', 2, ['FILE/r.json: error: no UTF-8 from byte 3'], r=MARK + b'\xff'),
     cited('references that are no list', 2, ['FILE/r.json: error: : found a number, wanted a list of items, or an object that has one '
                                              'under `items`'], r='7'),
     cited('an item without an id', 2, ['FILE/r.json: error: /1: found no `id`, wanted an `id`, which is a text or a number'],
@@ -153,6 +164,9 @@ FAULTS = [
           s=style_of('<names variable="author"><name et-al-min="3" et-al-use-first="1" delimiter-precedes-et-al="never"/></names>')),
     # Citations
     cited('citations that are no JSON', 2, ['FILE/c.json: error: no JSON from line 1, column 3'], c='[[!'),
+    cited('citations that nest too deep', 2, ['FILE/c.json: error: nested deeper than 127 levels from line 129, column 1'],
+          c='[\n' * 200),
+    cited('citations behind a byte order mark', 2, ['FILE/c.json: error: begins with a byte order mark'], c=MARK + CITATIONS.encode()),
     cited('no list of citations', 2, ['FILE/c.json: error: wanted a list of citations'], c='{}'),
     cited('no list of cites', 2, ['FILE/c.json: error: /1: wanted a citation, which is a list of cites'], c='[[], 7]'),
     cited('a cite that is a text', 2, ['FILE/c.json: error: /0/1: wanted a cite, which is an object'], c='[[{"id": "a"}, "a"]]'),
@@ -215,6 +229,9 @@ FAULTS = [
     rendered('a document without requests', 0, [], DOCUMENT),
     Fault('no such document', ['render', 'FILE/none'], 1, ['FILE/none: …']),
     rendered('a document that is no JSON', 2, ['FILE/d.json: error: : found no JSON from line 1, column …'], '{]'),
+    rendered('a document that nests too deep', 2, ['FILE/d.json: error: nested deeper than 127 levels from line 1, column 139'],
+             '{"styles": %s}' % DEEP[1:-1]),
+    rendered('a document behind a byte order mark', 2, ['FILE/d.json: error: begins with a byte order mark'], MARK + DOCUMENT.encode()),
     rendered('a document that is no UTF-8', 2, ['FILE/d.json: error: : found no UTF-8 from byte 0, wanted UTF-8'], b'\xff'),
     rendered('references for a document', 2, ['FILE/d.json: error: : found a list, wanted an object'], REFERENCES),
     rendered('a document without its style', 2,
@@ -256,6 +273,10 @@ FAULTS = [
           {'d.json': DOCUMENT.replace('"style": "s"', '"style": "t"')}),
     Fault('check of an object that is no JSON', ['check', 'FILE/d.json'], 2, ['FILE/d.json: error: : found no JSON from line 1, column …'],
           {'d.json': '{]'}),
+    Fault('check of what nests too deep or begins with a byte order mark', ['check', 'FILE/r.json', 'FILE/d.json', 'FILE/m.json'], 2,
+          ['FILE/r.json: error: nested deeper than 127 levels from line 1, column 129',
+           'FILE/d.json: error: nested deeper than 127 levels from line 1, column 139', 'FILE/m.json: error: begins with a byte order mark'],
+          {'r.json': DEEP, 'd.json': '{"styles": %s}' % DEEP[1:-1], 'm.json': MARK + DOCUMENT.encode()}),
     Fault('check of references that are odd and wrong', ['check', 'FILE/r.json', 'FILE/w.json'], 2,
           ['FILE/r.json: warning: /0: no type, taken for a document', 'FILE/w.json: error: /0: found a number, wanted an item, which is an object'],
           {'r.json': '[{"id": "a"}]', 'w.json': '[7]'}, out='FILE/r.json: 1 reference\n'),

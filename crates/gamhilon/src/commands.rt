@@ -1,6 +1,7 @@
 //! Citations and bibliographies.
 use crate::error::CommandError;
 use crate::files::bytes_of;
+use crate::json_causes::json_refused;
 use crate::locales::locales_of;
 use crate::printing::{print_bibliography, print_citations, print_json};
 use crate::references::references_of;
@@ -113,7 +114,7 @@ fn citations_at(
     match read_citations(rt.alloc(), &bytes) {
         Ok(read) => Ok(read),
         Err(CitationsError::OutOfMemory) => Err(CommandError::OutOfMemory),
-        Err(error) => Err(refused(rt.alloc(), path, &error)?),
+        Err(error) => Err(json_refused(rt.alloc(), path, &bytes, &error)?),
     }
 }
 

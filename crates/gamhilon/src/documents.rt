@@ -2,6 +2,7 @@
 use crate::document_error::DocumentError;
 use crate::error::CommandError;
 use crate::files::bytes_of;
+use crate::json_causes::json_cause;
 use crate::reports::{document_refused, refused};
 use cite_command::arguments::{DocumentFormat, DocumentOptions};
 use cite_document::error::RunError;
@@ -119,11 +120,14 @@ pub(crate) fn document_fault(alloc: Global, bytes: &[u8]) -> Result<Option<Strin
     let Ok(fault) = Value::from_str(alloc, fault.as_str()) else {
         return Err(CommandError::OutOfMemory);
     };
-    Ok(Some(in_words(alloc, &fault)?))
+    Ok(Some(in_words(alloc, bytes, &fault)?))
 }
 
-/// A fault of a document, told as JSON, in the words of faults of references.
-fn in_words(alloc: Global, fault: &Value) -> Result<String, AllocError> {
+/// A fault of these bytes, told as JSON, in the words of faults of references.
+fn in_words(alloc: Global, bytes: &[u8], fault: &Value) -> Result<String, AllocError> {
+    if let Some(cause) = json_cause(alloc, bytes)? {
+        return Ok(cause);
+    }
     let pointer = text_at(fault, "pointer");
     let found = text_at(fault, "found");
     let wanted = text_at(fault, "wanted");

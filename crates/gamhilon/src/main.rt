@@ -10,6 +10,7 @@ mod document_error;
 mod documents;
 mod error;
 mod files;
+mod json_causes;
 mod locales;
 mod packaged;
 mod printing;

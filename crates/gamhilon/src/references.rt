@@ -1,7 +1,8 @@
 //! The references of a command.
 use crate::error::CommandError;
 use crate::files::bytes_of;
-use crate::reports::{refused, show_warning};
+use crate::json_causes::json_refused;
+use crate::reports::show_warning;
 use cite_command::arguments::Options;
 use csl_json::fault::ReferencesError;
 use csl_json::reading::{ReadReferences, read_references};
@@ -45,7 +46,7 @@ pub(crate) fn references_in(
     match read_references(alloc, bytes) {
         Ok(read) => Ok(read),
         Err(ReferencesError::OutOfMemory) => Err(CommandError::OutOfMemory),
-        Err(error) => Err(refused(alloc, path, &error)?),
+        Err(error) => Err(json_refused(alloc, path, bytes, &error)?),
     }
 }
 

@@ -8,7 +8,6 @@ import signal
 import subprocess
 import sys
 import tarfile
-import time
 import zipfile
 from xml.etree import ElementTree
 
@@ -244,17 +243,22 @@ def test_words_that_are_none_are_told(tree, monkeypatch):
 
 
 def test_an_interrupt_has_no_traceback(tree):
-    root = tree(60)
-    words = [sys.executable, 'embed/build.py']
-    process = subprocess.Popen(words, cwd=root, stdout=subprocess.PIPE, stderr=subprocess.PIPE,
-                               start_new_session=True, preexec_fn=heed_interrupts)
-    assert b'rt lib' in process.stdout.readline()
-    while not os.path.isdir(root / 'crates' / 'one' / 'out'):
-        assert process.poll() is None
-        time.sleep(0.05)
-    os.killpg(process.pid, signal.SIGINT)
-    assert process.wait(timeout=60) == 130
-    # (what of the made-up toolchain outlives it would hold the pipe open)
-    with contextlib.suppress(ProcessLookupError):
-        os.killpg(process.pid, signal.SIGKILL)
-    assert process.communicate(timeout=60)[1] == b''
+    root = tree(900)
+    build = root / 'embed' / 'build.py'
+    build.write_text(build.read_text().replace('PAUSE = 30\n', 'PAUSE = 0.2\n'))
+    process = subprocess.Popen([sys.executable, build], cwd=root, stdout=subprocess.PIPE,
+                               stderr=subprocess.PIPE, start_new_session=True,
+                               preexec_fn=heed_interrupts)
+    try:
+        assert b'rt lib' in process.stdout.readline()
+        # (it tells how far it is once it waits for the toolchain)
+        assert b'libraries stand' in process.stdout.readline()
+        os.killpg(process.pid, signal.SIGINT)
+        # (a machine that does much else may leave it no time for minutes)
+        assert process.wait(timeout=600) == 130
+    finally:
+        # (what of the made-up toolchain outlives it would hold the pipe open)
+        with contextlib.suppress(ProcessLookupError):
+            os.killpg(process.pid, signal.SIGKILL)
+        _, error = process.communicate(timeout=600)
+    assert error == b''

@@ -15,17 +15,24 @@ WORKS = [f'{STYLES}/references.json', f'{STYLES}/citations.json']
 
 
 @pytest.fixture
-def both(cites, tmp_path):
-    """Runs the program and the command, and gives the status and the output of each."""
+def each(cites, tmp_path):
+    """Runs the program and the command, and gives what came of each."""
     if not os.access(PROGRAM, os.X_OK):
         pytest.skip('the program is not built (rt ci gamhilon)')
 
     def run(*words, given=b''):
         environment = {**os.environ, 'PYTHONPATH': SOURCE}
-        done = [subprocess.run([*program, *words], input=given, capture_output=True, cwd=tmp_path,
+        return [subprocess.run([*program, *words], input=given, capture_output=True, cwd=tmp_path,
                                env=environment, timeout=120)
                 for program in ([PROGRAM], [sys.executable, '-m', 'gamhilon'])]
-        return [(told.returncode, told.stdout.decode()) for told in done]
+    return run
+
+
+@pytest.fixture
+def both(each):
+    """Runs the program and the command, and gives the status and the output of each."""
+    def run(*words, given=b''):
+        return [(told.returncode, told.stdout.decode()) for told in each(*words, given=given)]
     return run
 
 
@@ -87,6 +94,37 @@ def test_exit_statuses_are_the_same(both, tmp_path, words, status):
     (tmp_path / 'else.json').write_text('[[{"id": "else"}]]')
     (tmp_path / 'text.json').write_text('[')
     assert [told[0] for told in both(*words)] == [status, status]
+
+
+@pytest.mark.parametrize('document, why', [
+    (b'{"styles": ' + b'[' * 127 + b']' * 127 + b'}',
+     'nested deeper than 127 levels from line 1, column 139'),
+    (b'{"styles":\n' + b'[' * 127, 'nested deeper than 127 levels from line 2, column 127'),
+    (b'\xef\xbb\xbf{}', 'begins with a byte order mark'),
+])
+@pytest.mark.parametrize('command', ['check', 'render'])
+def test_why_a_document_is_no_json_is_told_the_same(each, has, tmp_path, command, document, why):
+    has('render')
+    (tmp_path / 'd.json').write_bytes(document)
+    program, own = each(command, 'd.json')
+    assert program.returncode == own.returncode == 2 and program.stdout == own.stdout == b''
+    assert program.stderr.decode() == f'd.json: error: {why}\n'
+    assert own.stderr.decode() == f'gamhilon: d.json: {why}\n'
+
+
+@pytest.mark.parametrize('words', [
+    ['bibliography', '--style', f'{STYLES}/notes.csl', 'deep.json'],
+    ['cite', '--style', f'{STYLES}/notes.csl', WORKS[0], 'deep.json'], ['check', 'deep.json'],
+])
+def test_references_and_citations_that_nest_too_deep_are_told_the_same(each, tmp_path, words):
+    """This package tells no place of them, and reads some that nest deeper than the program
+    reads."""
+    (tmp_path / 'deep.json').write_text('[' * 100000)
+    program, own = each(*words)
+    why = 'nested deeper than 127 levels'
+    assert program.returncode == own.returncode == 2 and program.stdout == own.stdout == b''
+    assert program.stderr.decode() == f'deep.json: error: {why} from line 1, column 129\n'
+    assert own.stderr.decode() == f'gamhilon: deep.json: {why}\n'
 
 
 def test_files_are_the_same_things(both, tmp_path):

@@ -1,0 +1,135 @@
+//! Why a file is no JSON though it may look like it.
+use crate::error::CommandError;
+use crate::reports::refused;
+use serde_json::Value;
+use std::alloc::{AllocError, Global};
+use std::fmt;
+
+/// The byte order mark, U+FEFF, in UTF-8.
+const BYTE_ORDER_MARK: &[u8] = b"\xef\xbb\xbf";
+
+/// How many lists and objects may be open at once.
+const MAX_DEPTH: usize = 127;
+
+/// What is wrong with a file of JSON of which its reader tells this.
+///
+/// # Errors
+///
+/// Where memory is refused.
+pub(crate) fn json_refused<W: fmt::Display>(
+    alloc: Global,
+    path: &str,
+    bytes: &[u8],
+    why: &W,
+) -> Result<CommandError, AllocError> {
+    match json_cause(alloc, bytes)? {
+        Some(cause) => refused(alloc, path, &cause),
+        None => refused(alloc, path, why),
+    }
+}
+
+/// Why bytes are no JSON, where they begin with a byte order mark or nest too deep: the reader
+/// tells the place alone.
+///
+/// # Errors
+///
+/// Where memory is refused.
+pub(crate) fn json_cause(alloc: Global, bytes: &[u8]) -> Result<Option<String>, AllocError> {
+    let Ok(text) = str::from_utf8(bytes) else {
+        return Ok(None);
+    };
+    match Value::from_str(alloc, text) {
+        Ok(_) => Ok(None),
+        Err(error) if error.is_memory() => Err(AllocError),
+        Err(error) => cause_at(alloc, bytes, error.line(), error.column()),
+    }
+}
+
+/// Why bytes are no JSON from a place on.
+fn cause_at(
+    alloc: Global,
+    bytes: &[u8],
+    line: usize,
+    column: usize,
+) -> Result<Option<String>, AllocError> {
+    if bytes.starts_with(BYTE_ORDER_MARK) {
+        return Ok(Some(String::from_str(alloc, "begins with a byte order mark")?));
+    }
+    if !nests_too_deep(bytes, line, column) {
+        return Ok(None);
+    }
+    Ok(Some(format!(in alloc;
+        "nested deeper than {MAX_DEPTH} levels from line {line}, column {column}"
+    )?))
+}
+
+/// Whether more lists and objects than may be are open at once, up to a place: the line counted
+/// from 1, and the bytes of that line.
+fn nests_too_deep(bytes: &[u8], line: usize, column: usize) -> bool {
+    let mut walk = Walk {
+        line: 1,
+        column: 0,
+        depth: 0,
+        is_in_text: false,
+        is_escaped: false,
+    };
+    for byte in bytes {
+        if walk.line == line && walk.column == column {
+            return false;
+        }
+        walk = walk.past(*byte);
+        if walk.depth > MAX_DEPTH {
+            return true;
+        }
+    }
+    false
+}
+
+/// What stands before a place of JSON.
+#[derive(Clone, Copy)]
+struct Walk {
+    line: usize,
+    column: usize,
+    /// How many lists and objects are open.
+    depth: usize,
+    is_in_text: bool,
+    /// Whether the next byte is escaped by a backslash.
+    is_escaped: bool,
+}
+
+impl Walk {
+    /// What stands behind the next byte.
+    fn past(self, byte: u8) -> Walk {
+        let walk = Walk {
+            column: self.column.saturating_add(1),
+            is_escaped: false,
+            ..self
+        };
+        match byte {
+            _ if self.is_escaped => walk,
+            b'\n' => Walk {
+                line: self.line.saturating_add(1),
+                column: 0,
+                ..walk
+            },
+            b'"' => Walk {
+                is_in_text: !self.is_in_text,
+                ..walk
+            },
+            b'\\' => Walk {
+                is_escaped: true,
+                ..walk
+            },
+            _ if self.is_in_text => walk,
+            b'[' | b'{' => Walk {
+                depth: self.depth.saturating_add(1),
+                ..walk
+            },
+            b']' | b'}' => Walk {
+                depth: self.depth.saturating_sub(1),
+                ..walk
+            },
+            _ => walk,
+        }
+    }
+}
