@@ -381,17 +381,17 @@ fn counts_collapsed(alloc: Global, style: &IndependentStyle) -> Result<bool, Ami
     Ok(0 < cut && cut < cite && renders == 4 && asked_of(&entries) == wanted)
 }
 
-/// Whether this is so of cites that read alike.
+/// Whether the renders of cites that read alike are counted.
 fn counts_cites_alone(alloc: Global) -> Result<bool, Amiss> {
     counts_cites(alloc, &titles_and_years(alloc)?)
 }
 
-/// Whether it is so of cites for each purpose, and of items.
+/// Whether those of cites for each purpose, and of items, are.
 fn counts_listed(alloc: Global) -> Result<bool, Amiss> {
     counts_all(alloc, &listing_titles(alloc)?)
 }
 
-/// Whether it is so of cites that are cut.
+/// Whether those of cites that are cut are.
 fn counts_cut(alloc: Global) -> Result<bool, Amiss> {
     counts_collapsed(alloc, &collapsing_years(alloc)?)
 }

@@ -38,7 +38,8 @@ fn is_told(rt: &impl Print, name: &str, ended: Result<bool, Amiss>) -> bool {
         Ok(false) => (false, "not as it should be"),
         Err(amiss) => (false, amiss.0),
     };
-    println!(rt; "{name}: {words}").is_ok() && holds
+    let told = println!(rt; "{name}: {words}");
+    told.is_ok() && holds
 }
 
 /// Runs the cases, and prints how each ended. Whether all are as they should be.
