@@ -1,5 +1,0 @@
-//! Repeated authors of a bibliography, where works are told apart as CSL 1.0.2 has it: which
-//! names of an item a text stands for (CSL 1.0.2, reference grouping).
-#![tactic(auto)]
-
-pub mod repeated;

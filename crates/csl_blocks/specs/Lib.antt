@@ -1,4 +1,0 @@
-pub mod Blocks
-pub mod Firsts
-pub mod Years
-pub mod Collapsed

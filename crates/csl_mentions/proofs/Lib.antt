@@ -1,4 +1,0 @@
-pub mod Classing
-pub mod Stepping
-pub mod Numbering
-pub mod Naming

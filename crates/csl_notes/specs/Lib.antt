@@ -1,4 +1,0 @@
-pub mod Notes
-pub mod Known
-pub mod Repeats
-pub mod Noted

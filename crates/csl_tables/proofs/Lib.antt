@@ -1,5 +1,0 @@
-pub mod Asking
-pub mod Changing
-pub mod Walking
-pub mod Groups
-pub mod Joined
