@@ -13,6 +13,17 @@ use Rattle.csl_mentions.specs.declared.written.Written.{Written}
 use Rattle.csl_tables.specs.Asked.{is_told, untold}
 use Rattle.csl_tables.specs.declared.subject.Subject.{Subject}
 
+-- the same mention, where something else is asked for
+abbrev pub with_mention : {M N : Type 0} → (M → N) → Subject M → Subject N
+with_mention f s = record {
+  mention = f s.mention;
+  entry = s.entry;
+  is_first = s.is_first;
+  adds_names = s.adds_names;
+  rule = s.rule;
+  adds_suffix = s.adds_suffix;
+}
+
 module _ {M : Type 0} where
   -- a mention that reads so
   abbrev pub mention_with : Subject M → List ℕ → Mention
