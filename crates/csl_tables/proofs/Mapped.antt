@@ -24,7 +24,7 @@ module _ {M N : Type 0} (f : M → N) where
 
   -- what is asked for first, and where a table changed a state
   first-tasks : (ss : List (Subject M)) → map (task_as f) (first_tasks ss) ≡ first_tasks (map (with_mention f) ss)
-  first-tasks ss = map-map (task_as f) (λ s. (s.mention, untold)) ss ∙ sym (map-map (λ s. (s.mention, untold)) (with_mention f) ss)
+  first-tasks ss = map-map (task_as f) (λ (s : Subject M). (s.mention, untold)) ss ∙ sym (map-map (λ (s : Subject N). (s.mention, untold)) (with_mention f) ss)
 
   changed-tasks : (changed : MentionState → Bool) (ss : List (Subject M)) (table : List MentionState)
       → map (task_as f) (tasks_where ss changed table) ≡ tasks_where (map (with_mention f) ss) changed table
@@ -41,7 +41,7 @@ module _ {M N : Type 0} (f : M → N) where
   -- what is kept
   module _ {K : Type 0} (keep : M → MentionState → K) (other : N → MentionState → K) (same : keep ≡ (λ mention state. other (f mention) state)) where
     pub kept-at-first-mapped : (ss : List (Subject M)) → kept_at_first keep ss ≡ kept_at_first other (map (with_mention f) ss)
-    kept-at-first-mapped ss = (λ i. kept_at_first (same i) ss) ∙ sym (map-map (λ s. other s.mention untold) (with_mention f) ss)
+    kept-at-first-mapped ss = (λ i. kept_at_first (same i) ss) ∙ sym (map-map (λ (s : Subject N). other s.mention untold) (with_mention f) ss)
 
     pub kept-again-mapped : (ss : List (Subject M)) (table : List MentionState) → kept_again keep ss table ≡ kept_again other (map (with_mention f) ss) table
     kept-again-mapped ss table = (λ i. kept_again (same i) ss table) ∙ in-table (λ p. kept_in other p.0 p.1) ss table
@@ -54,7 +54,7 @@ module _ {M N : Type 0} (f : M → N) where
       -- the mentions with their names
       named-mapped : named write ss ≡ (λ s. named other (map (with_mention f) ss) (with_mention f s))
       named-mapped =
-          let firsts = mentions-mapped ss (first_table ss) (first_table (map (with_mention f) ss)) (sym (map-map (λ s. untold) (with_mention f) ss)) in
+          let firsts = mentions-mapped ss (first_table ss) (first_table (map (with_mention f) ss)) (sym (map-map (λ (s : Subject N). untold) (with_mention f) ss)) in
           λ i s. named_in (same i) (group_of (firsts i) (mention_in (same i) s untold)) s
 
       pub second-mapped : second_table write ss ≡ second_table other (map (with_mention f) ss)
