@@ -4,7 +4,7 @@ use Rattle.csl_lookup.specs.Properties.{Properties}
 use Rattle.csl_lookup.specs.PropertiesView.{properties_view}
 use Rattle.csl_lookup.specs.SourceView.{source_view}
 use Rattle.csl_mentions.specs.declared.state.MentionState.{MentionState}
-use Rattle.csl_tables.specs.Asked.{MentionsWriter, is_told}
+use Rattle.csl_tables.specs.Asked.{MentionsWriter, asked_as, is_told}
 use Rattle.csl_writers.specs.Counted.{counted}
 use Rattle.csl_writers.specs.Tasks.{CiteTaskValue, cite_task}
 use Rattle.csl_writers.specs.Writing.{WriterState}
@@ -31,21 +31,29 @@ module _ {E P : Type 0} where
   first_task m = with_properties m (properties_view m.properties.now)
 
 module _ {E P N : Type 0} (w : WriterState E P N) where
-  -- in a state: where that tells it apart, with the usage that it noted where nothing did
-  abbrev pub task_in : CiteMention E P → MentionState → CiteTaskValue E P
-  task_in m state =
+  -- a cite that is written in a state: where that tells it apart, with the usage that it noted
+  -- where nothing did
+  abbrev pub task_again : CiteTaskValue E P → MentionState → CiteTaskValue E P
+  task_again t state =
       if is_told state
-      then with_properties m (with_means (properties_view m.properties.now) state
-      (w.cite (first_task m)).identifier_usage)
-      else first_task m
+      then record t { properties = with_means t.properties state (w.cite t).identifier_usage }
+      else t
 
-  -- mentions that are written as cites, so many of which were counted
-  abbrev pub cited : ℕ → MentionsWriter (CiteMention E P) KeptOfMention (Noted N)
-  cited count = record {
-    write = λ m state. written_mention (w.cite (task_in m state));
+  -- the same of a mention
+  abbrev pub task_in : CiteMention E P → MentionState → CiteTaskValue E P
+  task_in m = task_again (first_task m)
+
+  -- cites that are written in states, so many of which were counted
+  abbrev pub cites : ℕ → MentionsWriter (CiteTaskValue E P) KeptOfMention (Noted N)
+  cites count = record {
+    write = λ t state. written_mention (w.cite (task_again t state));
     noting = λ p noted. record {
-      notes = w.noting (cite_task (task_in p.0 p.1)) noted.notes;
+      notes = w.noting (cite_task (task_again p.0 p.1)) noted.notes;
       count = counted noted.count;
     };
     notes = record { notes = w.notes; count = count };
   }
+
+  -- mentions that are written as these
+  abbrev pub cited : ℕ → MentionsWriter (CiteMention E P) KeptOfMention (Noted N)
+  cited count = asked_as first_task (cites count)

@@ -3,3 +3,4 @@ pub mod Changing
 pub mod Walking
 pub mod Groups
 pub mod Joined
+pub mod Mapped

@@ -41,3 +41,16 @@ noted_all noting (task ∷ tasks) notes = noted_all noting tasks (noting task no
 abbrev pub asked_for : {M K N : Type 0} → List (M × MentionState) → MentionsWriter M K N
     → MentionsWriter M K N
 asked_for tasks w = record w { notes = noted_all w.noting tasks w.notes }
+
+module _ {M N : Type 0} (f : M → N) where
+  -- the same where something else is asked for
+  abbrev pub task_as : M × MentionState → N × MentionState
+  task_as p = (f p.0, p.1)
+
+  -- a writer that is asked for something else: it writes what another one writes of that
+  abbrev pub asked_as : {K L : Type 0} → MentionsWriter N K L → MentionsWriter M K L
+  asked_as w = record {
+    write = λ mention. w.write (f mention);
+    noting = λ task. w.noting (task_as task);
+    notes = w.notes;
+  }

@@ -5,13 +5,24 @@ use Rattle.std.specs.List.{zip}
 use Rattle.csl_telling.specs.Told.{told_by_names}
 use Rattle.csl_telling.specs.declared.mention.MentionedName.{MentionedName}
 use Rattle.csl_telling.specs.declared.mention.NamedMention.{NamedMention}
-use Rattle.csl_mentions.specs.Groups.{group_of, is_chosen}
+use Rattle.csl_mentions.specs.Groups.{group_of, is_chosen, text_of}
 use Rattle.csl_mentions.specs.Suffixes.{suffixes}
 use Rattle.csl_mentions.specs.declared.mention.Mention.{Mention}
 use Rattle.csl_mentions.specs.declared.state.MentionState.{MentionState}
 use Rattle.csl_mentions.specs.declared.written.Written.{Written}
 use Rattle.csl_tables.specs.Asked.{is_told, untold}
 use Rattle.csl_tables.specs.declared.subject.Subject.{Subject}
+
+-- the same mention, where something else is asked for
+abbrev pub with_mention : {M N : Type 0} → (M → N) → Subject M → Subject N
+with_mention f s = record {
+  mention = f s.mention;
+  entry = s.entry;
+  is_first = s.is_first;
+  adds_names = s.adds_names;
+  rule = s.rule;
+  adds_suffix = s.adds_suffix;
+}
 
 module _ {M : Type 0} where
   -- a mention that reads so
@@ -96,10 +107,17 @@ module _ {M : Type 0} (write : M → MentionState → Written) (subjects : List 
   abbrev pub third_table : List MentionState
   third_table = map (λ p. with_choice p.0 p.1) (zip subjects second_table)
 
-  -- the year suffix of each entry, in the order of the bibliography, by the later mentions as
-  -- they read then
+  -- the mentions as they read then
+  abbrev pub mentions_told : List Mention
+  mentions_told = mentions_in write subjects third_table
+
+  -- what each reads as, by the index of the first one with its text
+  abbrev pub texts_told : List (Option ℕ)
+  texts_told = map (text_of mentions_told) mentions_told
+
+  -- the year suffix of each entry, in the order of the bibliography, by the later mentions
   abbrev pub year_suffixes : List (Option ℕ)
-  year_suffixes = suffixes (filter (λ m. not m.is_first) (mentions_in write subjects third_table))
+  year_suffixes = suffixes (filter (λ m. not m.is_first) mentions_told)
 
   -- all that is written: each mention is once, and again where it has other names, and where it
   -- is chosen

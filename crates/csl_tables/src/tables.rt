@@ -1,6 +1,7 @@
 //! The tables of all mentions, one after another (CSL 1.0.2, disambiguation).
 ghost use Rattle.std.specs.Prelude.{◌≡◌, ◌++◌, IfOk, OnOk, filter, is_some, map, not};
 ghost use Rattle.csl_tables.specs.Asked.{asked_for, keeping, reading, untold};
+ghost use Rattle.csl_mentions.specs.Groups.{text_of};
 ghost use Rattle.csl_mentions.specs.Suffixes.{suffixes};
 ghost use Rattle.csl_tables.specs.Tables.{
   all_tasks,
@@ -10,6 +11,7 @@ ghost use Rattle.csl_tables.specs.Tables.{
   mentions_in,
   second_table,
   tasks_where,
+  texts_told,
   third_table,
   year_suffixes,
 };
@@ -20,6 +22,7 @@ use crate::firsts::{Firsts, write_firsts};
 use crate::named::told_by_names;
 use crate::subject::Subject;
 use crate::writer::WrittenBy;
+use csl_mentions::groups::texts_of;
 use csl_mentions::mention::Mention;
 use csl_mentions::state::MentionState;
 use csl_mentions::suffixes::suffixes_of;
@@ -32,6 +35,9 @@ pub struct Told<K> {
     pub states: Vec<MentionState>,
     /// The year suffix of each entry that has a later mention, in their order.
     pub suffixes: Vec<Option<usize>>,
+    /// What each mention reads as in the end, if it has a text: the index of the first mention
+    /// with its text.
+    pub texts: Vec<Option<usize>>,
     /// What the writer kept of each mention where nothing told it apart.
     pub firsts: Vec<K>,
     /// What it kept of those that something tells apart, as it wrote them last.
@@ -60,6 +66,8 @@ pub fn tell_apart<W, C, M: WrittenBy<W, C>>(
         ≡ third_table (reading (M.writing writer.old counter.old)) subjects.now) }
     ensures suffixes { IfOk result (λ t. t.suffixes.items
         ≡ year_suffixes (reading (M.writing writer.old counter.old)) subjects.now) }
+    ensures texts { IfOk result (λ t. t.texts.items
+        ≡ texts_told (reading (M.writing writer.old counter.old)) subjects.now) }
     ensures firsts { IfOk result (λ t. t.firsts.items
         ≡ kept_at_first (keeping (M.writing writer.old counter.old)) subjects.now) }
     ensures again { IfOk result (λ t. t.again.items
@@ -151,11 +159,13 @@ fn tell_by_names<W, C, M: WrittenBy<W, C>>(
     })
 }
 
-/// The states of mentions, and the year suffixes by the later ones.
+/// The states of mentions and their texts, and the year suffixes by the later ones.
 fn with_suffixes<K: Drop>(alloc: Global, named: Named<K>) -> Result<Told<K>, AllocError>
     ensures states { IfOk result (λ t. t.states.items ≡ named.states.items) }
     ensures suffixes { IfOk result (λ t. t.suffixes.items
         ≡ suffixes (filter (λ m. not m.is_first) named.mentions.items)) }
+    ensures texts { IfOk result (λ t. t.texts.items
+        ≡ map (text_of named.mentions.items) named.mentions.items) }
     ensures firsts { IfOk result (λ t. t.firsts ≡ named.firsts) }
     ensures again { IfOk result (λ t. t.again ≡ named.again) }
 {
@@ -166,11 +176,13 @@ fn with_suffixes<K: Drop>(alloc: Global, named: Named<K>) -> Result<Told<K>, All
         firsts,
         again,
     } = named;
+    let texts = texts_of(alloc, &mentions)?;
     let laters = laters(alloc, mentions)?;
     let suffixes = suffixes_of(alloc, &laters)?;
     Ok(Told {
         states,
         suffixes,
+        texts,
         firsts,
         again,
     })

@@ -2,7 +2,7 @@ use Rattle.std.proofs.Common.{ap, filter, length, map, not, sym, zip, ◌++◌, 
 use Rattle.std.specs.Prelude.{flat_map, is_some}
 use Rattle.std.proofs.Math.ListN.{length-map}
 use Rattle.std.proofs.lemmas.List.{with_items_is}
-use Rattle.csl_mentions.specs.Groups.{group_of}
+use Rattle.csl_mentions.specs.Groups.{group_of, text_of}
 use Rattle.csl_mentions.specs.Suffixes.{suffixes}
 use Rattle.csl_tables.specs.Asked.{asked_for, keeping, reading}
 use Rattle.csl_tables.specs.Steps.{all_changed, chosen_by, rekept, rewritten, tasks_of}
@@ -71,6 +71,7 @@ returns g c =
       again = ap (λ v. v.items) c.in_ok-with_suffixes.ensures.again ∙ held ∙ lasts;
       states = c.in_ok-with_suffixes.ensures.states ∙ kept ∙ third;
       suffixes = c.in_ok-with_suffixes.ensures.suffixes ∙ ap (λ ms. suffixes (filter (λ m. not m.is_first) ms)) (read ∙ again);
+      texts = c.in_ok-with_suffixes.ensures.texts ∙ ap (λ ms. map (text_of ms) ms) (read ∙ again);
       asked = asked-more w0 w1 w2 before (flat_map (tasks_of Changed.Choice) (zip ss c.deref-3.result.now)) named.asked c.in_ok-write_changed.ensures.asked
           ∙ ap (λ ts. asked_for (before ++ ts) w0) (ap (λ ts. flat_map (tasks_of Changed.Choice) (zip ss ts)) told ∙ tasks-are Changed.Choice (zip ss (third_table (reading w0) ss)));
     }
